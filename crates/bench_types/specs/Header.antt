@@ -1,0 +1,39 @@
+-- Which headers a session may start from. The numbers are those of `configNUMBER_OF_CORES`,
+-- `configMAX_PRIORITIES` and the arguments of `xTaskCreateAffinitySet` (FreeRTOS SMP documentation).
+use Rattle.std.specs.Prelude.{ℕ, ◌%◌, ◌^◌, List, [], ◌∷◌, length, Bool, false, not, ◌&&◌, ◌||◌, nat_lt, nat_le, bytes_eq, Result, Ok, Err, if◌then◌else◌, ⊤}
+use Rattle.std.specs.List.{list_all, list_any}
+use Rattle.bench_types.specs.Name.{is_within}
+use Rattle.bench_types.specs.declared.fault.Fault.{Fault}
+use Rattle.bench_types.specs.declared.fault.Fault.TheVariants.{BadHeader}
+use Rattle.bench_types.specs.declared.header.Config.{Config}
+use Rattle.bench_types.specs.declared.header.TaskArgs.{TaskArgs}
+use Rattle.bench_types.specs.declared.header.Header.{Header}
+
+-- 2 to 8 cores, 1 to 32 priorities, at most 32 mutexes, no time slicing yet
+abbrev pub has_valid_config : Config → Bool
+has_valid_config config = is_within 2 8 config.cores && is_within 1 32 config.priorities && not config.slicing && nat_le config.mutexes 32
+
+-- the bits of a core affinity mask that mean a core
+abbrev pub cores_of_mask : ℕ → ℕ → ℕ
+cores_of_mask cores mask = mask % 2 ^ cores
+
+-- a priority below their number, and a core to run on
+abbrev pub has_valid_args : Config → TaskArgs → Bool
+has_valid_args config args = nat_lt args.priority config.priorities && nat_lt 0 (cores_of_mask config.cores args.mask)
+
+-- some task has the name
+abbrev pub is_taken : List ℕ → List TaskArgs → Bool
+is_taken name tasks = list_any (λ task. bytes_eq name task.name) tasks
+
+-- some task has the name of one before it
+abbrev pub repeats_name : List TaskArgs → Bool
+repeats_name [] = false
+repeats_name (task ∷ tasks) = is_taken task.name tasks || repeats_name tasks
+
+-- 1 to 64 user tasks with valid arguments and distinct names under valid settings
+abbrev pub is_header : Header → Bool
+is_header header = has_valid_config header.config && is_within 1 64 (length header.tasks) && list_all (has_valid_args header.config) header.tasks && not (repeats_name header.tasks)
+
+-- F1 is the one fault of a header
+abbrev pub header_check : Header → Result ⊤ Fault
+header_check header = if is_header header then Ok tt else Err BadHeader

@@ -1,0 +1,66 @@
+-- Which steps a session of a header may have.
+use Rattle.std.specs.Prelude.{◌≡◌, ℕ, ◌+◌, ◌^◌, ◌<◌, length, nat_lt, nat_le, ◌&&◌, Result, Ok, Err, if◌then◌else◌, ⊤}
+use Rattle.bench_types.specs.declared.fault.Fault.{Fault}
+use Rattle.bench_types.specs.declared.fault.Fault.TheVariants.{BadCore, BadTask}
+use Rattle.bench_types.specs.declared.header.Header.{Header}
+use Rattle.bench_types.specs.declared.kernel_data.Settings.{Settings}
+use Rattle.bench_types.specs.declared.step.Step.{Step}
+use Rattle.bench_types.specs.declared.step.Step.TheVariants as step
+use Rattle.bench_types.specs.declared.step.Call.{Call}
+use Rattle.bench_types.specs.declared.step.Call.TheVariants as call
+
+-- what a kernel keeps of its header's settings; the number of tasks counts the idle tasks too
+abbrev pub settings_of : Header → Settings
+settings_of header = record {
+  cores = header.config.cores;
+  priorities = header.config.priorities;
+  slicing = header.config.slicing;
+  mutexes = header.config.mutexes;
+  tasks = header.config.cores + length header.tasks;
+}
+
+-- F2: there is no such core
+abbrev pub core_check : Settings → ℕ → Result ⊤ Fault
+core_check settings core = if nat_lt core settings.cores then Ok tt else Err BadCore
+
+-- F3: an idle task, or no task
+abbrev pub task_check : Settings → ℕ → Result ⊤ Fault
+task_check settings task = if nat_le settings.cores task && nat_lt task settings.tasks then Ok tt else Err BadTask
+
+-- the fault of a call's arguments
+abbrev pub call_check : Settings → Call → Result ⊤ Fault
+call_check settings call.Yield = Ok tt
+call_check settings (call.Delay ticks) = Ok tt
+call_check settings call.Finish = Ok tt
+
+-- the second where the first is no fault
+infixl 10 ◌>>◌
+abbrev pub ◌>>◌ : Result ⊤ Fault → Result ⊤ Fault → Result ⊤ Fault
+Ok done >> next = next
+Err fault >> next = Err fault
+
+-- the faults of a step, in the order in which they are tried
+abbrev pub step_check : Settings → Step → Result ⊤ Fault
+step_check settings step.Tick = Ok tt
+step_check settings (step.Switch core) = core_check settings core
+step_check settings (step.Call core task call) = core_check settings core >> task_check settings task >> call_check settings call
+
+-- every number of a call is one of 32 bits
+abbrev pub IsOfWords : Call → Type 0
+IsOfWords call.Yield = ⊤
+IsOfWords (call.Delay ticks) = ticks < 2 ^ 32
+IsOfWords call.Finish = ⊤
+
+abbrev pub IsStepOfWords : Step → Type 0
+IsStepOfWords step.Tick = ⊤
+IsStepOfWords (step.Switch core) = core < 2 ^ 32
+IsStepOfWords (step.Call core task call) = IsOfWords call
+
+-- a call and a step that were checked against the settings
+pub record IsCheckedCall (settings : Settings) (call : Call) : Type 0 where
+  pub passes : call_check settings call ≡ Ok tt
+  pub words : IsOfWords call
+
+pub record IsCheckedStep (settings : Settings) (step : Step) : Type 0 where
+  pub passes : step_check settings step ≡ Ok tt
+  pub words : IsStepOfWords step

@@ -1,0 +1,258 @@
+ghost use Rattle.std.specs.Prelude.{◌≡◌, ◌<◌, ◌≤◌, ◌^◌, ◌+◌, IfOk, length};
+ghost use Rattle.std.specs.List.{list_all};
+ghost use Rattle.bench_types.specs.Header.{header_check, has_valid_config, has_valid_args, is_taken, repeats_name};
+
+use crate::{Fault, Items, Name};
+use std::alloc::{AllocError, Global};
+
+/// The settings of a session.
+#[derive(Clone, Copy, Debug, PartialEq, Eq, Hash)]
+pub struct Config {
+    /// How many cores there are, 2 to 8 (`configNUMBER_OF_CORES`).
+    pub cores: u32,
+    /// How many priorities there are, 1 to 32 (`configMAX_PRIORITIES`). A larger number is a higher priority.
+    pub priorities: u32,
+    /// Whether tasks of one priority share the cores by turns (`configUSE_TIME_SLICING`). It has to be false yet.
+    pub slicing: bool,
+    /// The tick count at the start, in ticks.
+    pub tick: u32,
+    /// How many mutexes there are, 0 to 32.
+    pub mutexes: u32,
+}
+
+/// What a user task is created with.
+#[derive(Debug, Drop)]
+pub struct TaskArgs {
+    pub name: Name,
+    /// Below the number of priorities.
+    pub priority: u32,
+    /// The core affinity mask: bit c allows core c. Bits at or above the number of cores mean nothing.
+    pub mask: u32,
+}
+
+/// What a session starts from.
+///
+/// Tasks 0 to N - 1 are the idle tasks of N cores. The user tasks are numbered from N in the order of `tasks`.
+#[derive(Debug, Drop)]
+pub struct Header {
+    pub config: Config,
+    /// The user tasks, 1 to 64 of them, with distinct names.
+    pub tasks: Items<TaskArgs>,
+}
+
+impl TaskArgs {
+    /// A second value of the same arguments. It takes no memory.
+    pub fn copy(&self) -> Self
+        ensures { result ≡ self.now }
+    {
+        TaskArgs {
+            name: self.name.copy(),
+            priority: self.priority,
+            mask: self.mask,
+        }
+    }
+}
+
+impl Header {
+    /// F1 where a number is outside its limits, a priority or a mask fits none of the cores and priorities, or a
+    /// name is repeated.
+    pub fn check(&self) -> Result<(), Fault>
+        ensures { result ≡ header_check self.now }
+    {
+        let tasks = self.tasks.as_slice();
+        let fits = is_valid_config(&self.config)
+            && 1 <= tasks.len()
+            && tasks.len() <= 64
+            && are_valid_args(&self.config, tasks)
+            && !has_repeated_name(tasks);
+        if fits { Ok(()) } else { Err(Fault::BadHeader) }
+    }
+
+    /// A second value of the same header.
+    pub fn copy(&self, alloc: Global) -> Result<Self, AllocError>
+        ensures { IfOk result (λ copy. copy ≡ self.now) }
+    {
+        let tasks = self.tasks.as_slice();
+        let mut copies = Vec::with_capacity(alloc, tasks.len())?;
+        for task in tasks {
+            copies.push(task.copy())?;
+        }
+        Ok(Header {
+            config: self.config,
+            tasks: Items::new(copies),
+        })
+    }
+}
+
+fn is_valid_config(config: &Config) -> bool
+    ensures { result ≡ has_valid_config config.now }
+{
+    2 <= config.cores
+        && config.cores <= 8
+        && 1 <= config.priorities
+        && config.priorities <= 32
+        && !config.slicing
+        && config.mutexes <= 32
+}
+
+fn are_valid_args(config: &Config, tasks: &[TaskArgs]) -> bool
+    requires { config.now.cores ≤ 8 }
+    ensures { result ≡ list_all (has_valid_args config.now) tasks.now }
+{
+    tasks.iter().all(|task| is_valid_args(config, task))
+}
+
+fn is_valid_args(config: &Config, task: &TaskArgs) -> bool
+    requires { config.now.cores ≤ 8 }
+    ensures { result ≡ has_valid_args config.now task.now }
+{
+    task.priority < config.priorities && task.mask % (1 << config.cores) != 0
+}
+
+fn has_repeated_name(tasks: &[TaskArgs]) -> bool
+    ensures { result ≡ repeats_name tasks.now }
+{
+    for (place, task) in tasks.iter().enumerate() {
+        if is_taken_by(&tasks[place + 1..], &task.name) {
+            return true;
+        }
+    }
+    false
+}
+
+fn is_taken_by(tasks: &[TaskArgs], name: &Name) -> bool
+    ensures { result ≡ is_taken name.now tasks.now }
+{
+    tasks.iter().any(|task| *name == task.name)
+}
+
+#[cfg(test)]
+mod tests {
+    use super::*;
+    use crate::samples::{self, CONFIG};
+    use std::test::Fail;
+
+    /// What the check answers for a header, and for what is none.
+    fn answer(is_header: bool) -> Result<(), Fault> {
+        if is_header {
+            Ok(())
+        } else {
+            Err(Fault::BadHeader)
+        }
+    }
+
+    #[test]
+    fn limits_the_settings(rt: HostRuntime) -> Result<(), Fail> {
+        for (cores, priorities, mutexes, fits) in [
+            (1, 5, 2, false),
+            (2, 5, 2, true),
+            (8, 5, 2, true),
+            (9, 5, 2, false),
+            (2, 0, 2, false),
+            (2, 1, 2, true),
+            (2, 32, 2, true),
+            (2, 33, 2, false),
+            (2, 5, 0, true),
+            (2, 5, 32, true),
+            (2, 5, 33, false),
+        ] {
+            let config = Config {
+                cores,
+                priorities,
+                mutexes,
+                ..CONFIG
+            };
+            let header = samples::header(rt.alloc(), config, &[("A", 0, 3)])?;
+            assert_eq!(rt; header.check(), answer(fits), "at {config:?}");
+        }
+        Ok(())
+    }
+
+    #[test]
+    fn takes_each_tick_but_no_slicing(rt: HostRuntime) -> Result<(), Fail> {
+        for (slicing, tick, fits) in [
+            (false, 0, true),
+            (false, 4_294_967_295, true),
+            (true, 0, false),
+        ] {
+            let config = Config {
+                slicing,
+                tick,
+                ..CONFIG
+            };
+            let header = samples::header(rt.alloc(), config, &[("A", 0, 3)])?;
+            assert_eq!(rt; header.check(), answer(fits), "at {config:?}");
+        }
+        Ok(())
+    }
+
+    #[test]
+    fn limits_the_number_of_tasks(rt: HostRuntime) -> Result<(), Fail> {
+        for (count, fits) in [(0, false), (1, true), (64, true), (65, false)] {
+            let header = samples::crowd(rt.alloc(), count)?;
+            assert_eq!(rt; header.check(), answer(fits), "at {count}");
+        }
+        Ok(())
+    }
+
+    #[test]
+    fn limits_priority_and_mask(rt: HostRuntime) -> Result<(), Fail> {
+        for (priority, mask, fits) in [
+            (4, 3, true),
+            (5, 3, false),
+            (1, 0, false),
+            (1, 1, true),
+            (1, 2, true),
+            (1, 4, false),
+            (1, 0xFFFF_FFFC, false),
+            (1, 0xFFFF_FFFE, true),
+        ] {
+            let header = samples::header(
+                rt.alloc(),
+                CONFIG,
+                &[("A", 0, 3), ("B", priority, mask)],
+            )?;
+            assert_eq!(rt; header.check(), answer(fits), "at {priority} and {mask}");
+        }
+        Ok(())
+    }
+
+    #[test]
+    fn takes_the_last_core_of_eight(rt: HostRuntime) -> Result<(), Fail> {
+        let config = Config { cores: 8, ..CONFIG };
+        for (mask, fits) in [(0x80, true), (0x100, false)] {
+            let header = samples::header(rt.alloc(), config, &[("A", 0, mask)])?;
+            assert_eq!(rt; header.check(), answer(fits), "at {mask}");
+        }
+        Ok(())
+    }
+
+    #[test]
+    fn refuses_a_repeated_name(rt: HostRuntime) -> Result<(), Fail> {
+        for (names, fits) in [
+            (["A", "B", "C", "a"], true),
+            (["A", "A", "B", "C"], false),
+            (["A", "B", "C", "C"], false),
+            (["A", "B", "C", "A"], false),
+        ] {
+            let tasks = names.map(|name| (name, 1, 3));
+            let header = samples::header(rt.alloc(), CONFIG, tasks.as_slice())?;
+            assert_eq!(rt; header.check(), answer(fits), "at {names:?}");
+        }
+        Ok(())
+    }
+
+    #[test]
+    fn copies(rt: HostRuntime) -> Result<(), Fail> {
+        let header = samples::header(rt.alloc(), CONFIG, &[("A", 0, 3), ("B", 4, 0xFFFF_FFFE)])?;
+        let copy = header.copy(rt.alloc())?;
+        assert_eq!(rt; copy.config, header.config);
+        assert_eq!(rt; copy.tasks.as_slice().len(), 2);
+        for (left, right) in copy.tasks.as_slice().iter().zip(header.tasks.as_slice()) {
+            assert_eq!(rt; left.name.as_str(), right.name.as_str());
+            assert_eq!(rt; left.priority, right.priority);
+            assert_eq!(rt; left.mask, right.mask);
+        }
+        Ok(())
+    }
+}

@@ -1,0 +1,38 @@
+/// What a kernel keeps of the settings that it started with.
+#[derive(Clone, Copy, Debug, PartialEq, Eq, Hash)]
+pub struct Settings {
+    pub cores: u32,
+    pub priorities: u32,
+    pub slicing: bool,
+    pub mutexes: u32,
+    /// All tasks, the idle tasks too.
+    pub tasks: u32,
+}
+
+/// What can be seen of a core.
+#[derive(Clone, Copy, Debug, PartialEq, Eq, Hash)]
+pub struct CoreLook {
+    /// The core's current task (`pxCurrentTCBs`).
+    pub current: u32,
+    /// The core asked itself to switch (`xYieldPendings`).
+    pub pend: bool,
+    /// Another core asked it to switch (`prvYieldCore`).
+    pub asked: bool,
+}
+
+/// What the control block of a task holds, beside its places in lists.
+#[derive(Clone, Copy, Debug, PartialEq, Eq, Hash)]
+pub struct TaskControl {
+    /// The priority in use.
+    pub in_use: u32,
+    /// The core affinity mask, cut to the bits that mean a core (`uxCoreAffinityMask`).
+    pub mask: u32,
+}
+
+/// A task that waits for some ticks.
+#[derive(Clone, Copy, Debug, PartialEq, Eq, Hash)]
+pub struct Delayed {
+    pub task: u32,
+    /// The ticks that are left.
+    pub left: u32,
+}

@@ -1,0 +1,20 @@
+//! What a session is made of: its settings and tasks, its steps, their replies, and the checks of their limits.
+#![tactic(auto)]
+
+mod fault;
+mod header;
+mod items;
+mod kernel_data;
+mod name;
+mod reply;
+#[cfg(test)]
+mod samples;
+mod step;
+
+pub use fault::Fault;
+pub use header::{Config, Header, TaskArgs};
+pub use items::Items;
+pub use kernel_data::{CoreLook, Delayed, Settings, TaskControl};
+pub use name::Name;
+pub use reply::{Refusal, Reply, Row};
+pub use step::{Call, Step};

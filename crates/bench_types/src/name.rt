@@ -1,0 +1,158 @@
+ghost use Rattle.std.specs.Prelude.{◌≡◌, IsTrue, Ok, Err, if◌then◌else◌, length};
+ghost use Rattle.std.specs.List.{list_all};
+ghost use Rattle.bench_types.specs.Name.{is_name, is_name_byte, is_within};
+
+use crate::Fault;
+use arrayvec::ArrayString;
+use std::marker::Model;
+
+/// The name of a user task: 1 to 15 bytes, each from `!` to `~`, that do not begin with `IDLE`.
+///
+/// The limit is that of `configMAX_TASK_NAME_LEN` 16, which counts the closing zero byte (FreeRTOS Reference
+/// Manual, `xTaskCreate`). Names that begin with `IDLE` belong to the idle tasks.
+#[derive(Debug, Drop)]
+pub struct Name {
+    text: ArrayString<15>,
+}
+
+impl Model for Name {
+    ghost use Rattle.std.specs.Prelude.{List, ℕ, IsTrue};
+
+    ghost Value = { List ℕ };
+
+    ghost use Rattle.bench_types.specs.Name.{is_name};
+
+    ghost view = { λ name. name.text.bytes };
+
+    ghost invariant = { λ name. IsTrue (is_name name.text.bytes) };
+}
+
+impl Name {
+    /// The name that the text spells, or F1 where it spells none.
+    pub fn new(text: &str) -> Result<Self, Fault>
+        ensures { result ≡ (if is_name text.now then Ok text.now else Err Fault.BadHeader) }
+    {
+        if !spells_name(text.as_bytes()) {
+            return Err(Fault::BadHeader);
+        }
+        match ArrayString::from(text) {
+            Ok(text) => Ok(Name { text }),
+            Err(_) => unreachable!(),
+        }
+    }
+
+    /// The name as text.
+    pub fn as_str(&self) -> &str
+        ensures text { result.now ≡ self.now }
+        ensures name { IsTrue (is_name result.now) }
+    {
+        self.text.as_str()
+    }
+
+    /// A second value of the same name. It takes no memory.
+    pub fn copy(&self) -> Self
+        ensures { result ≡ self.now }
+    {
+        Name { text: self.text }
+    }
+}
+
+impl PartialEq for Name {
+    ghost use Rattle.std.specs.Prelude.{bytes_eq};
+    ghost use Rattle.std.specs.Cmp.{partial_equiv_from_equiv};
+    ghost use Rattle.std.specs.Cmp.Lexicographic.{nat_list_eq_equiv};
+
+    ghost eq = { bytes_eq };
+
+    ghost laws = { partial_equiv_from_equiv nat_list_eq_equiv };
+
+    fn eq(&self, other: &Self) -> bool {
+        self.as_str() == other.as_str()
+    }
+}
+
+impl Eq for Name {
+    ghost use Rattle.std.specs.Cmp.Lexicographic.{nat_list_eq_equiv};
+
+    ghost laws = { nat_list_eq_equiv };
+}
+
+fn spells_name(bytes: &[u8]) -> bool
+    ensures { result ≡ is_name bytes.now }
+{
+    has_name_length(bytes) && is_printable(bytes) && !bytes.starts_with(b"IDLE")
+}
+
+fn has_name_length(bytes: &[u8]) -> bool
+    ensures { result ≡ is_within 1 15 (length bytes.now) }
+{
+    1 <= bytes.len() && bytes.len() <= 15
+}
+
+fn is_printable(bytes: &[u8]) -> bool
+    ensures { result ≡ list_all is_name_byte bytes.now }
+{
+    bytes.iter().all(|byte| b'!' <= *byte && *byte <= b'~')
+}
+
+#[cfg(test)]
+mod tests {
+    use super::*;
+    use std::test::Fail;
+
+    #[test]
+    fn keeps_the_text(rt: HostRuntime) -> Result<(), Fail> {
+        for text in [
+            "A",
+            "ABCDEFGHIJKLMNO",
+            "!",
+            "~",
+            "!A~",
+            "idle",
+            "AIDLE",
+            "IDL",
+        ] {
+            let name = Name::new(text)?;
+            assert_eq!(rt; name.as_str(), text);
+            assert_eq!(rt; name.copy().as_str(), text);
+        }
+        Ok(())
+    }
+
+    #[test]
+    fn refuses_other_texts(rt: HostRuntime) {
+        for text in [
+            "",
+            "ABCDEFGHIJKLMNOP",
+            "A B",
+            " ",
+            "A\x7F",
+            "\u{E9}",
+            "IDLE",
+            "IDLE0",
+        ] {
+            assert_eq!(rt;
+                Name::new(text).err(),
+                Some(Fault::BadHeader),
+                "at {text:?}"
+            );
+        }
+    }
+
+    #[test]
+    fn compares_the_texts(rt: HostRuntime) -> Result<(), Fail> {
+        for (left, right, is_same) in [
+            ("A", "A", true),
+            ("A", "a", false),
+            ("A", "AB", false),
+            ("ABC", "ABD", false),
+        ] {
+            assert_eq!(rt;
+                Name::new(left)? == Name::new(right)?,
+                is_same,
+                "at {left:?} and {right:?}"
+            );
+        }
+        Ok(())
+    }
+}

@@ -1,0 +1,30 @@
+use arrayvec::ArrayVec;
+
+/// The current task of each core, core 0 first.
+pub type Row = ArrayVec<u32, 8>;
+
+/// What a step answers.
+#[derive(Clone, Copy, Debug, PartialEq, Eq, Hash)]
+pub enum Reply {
+    /// The step was made.
+    Done,
+    /// The call was made, and its task waits.
+    Blocked,
+    /// The step was not made, and nothing changed.
+    Refused(Refusal),
+}
+
+/// Why a step was not made, with the code that the texts give it.
+#[derive(Clone, Copy, Debug, PartialEq, Eq, Hash)]
+pub enum Refusal {
+    /// E2: the task of the call is not the current task of the core.
+    Displaced,
+    /// E3: the core of the call is due to switch.
+    SwitchDue,
+    /// E4: the task has an unfinished call, and this is another one.
+    InCall,
+    /// E5: the task has no unfinished call to finish.
+    NotInCall,
+    /// E10: the core of the switch is not due.
+    NotDue,
+}

@@ -1,0 +1,131 @@
+ghost use Rattle.std.specs.Prelude.{◌≡◌};
+ghost use Rattle.bench_types.specs.Step.{settings_of, call_check, core_check, step_check, task_check};
+
+use crate::{Fault, Header};
+
+/// One event of a session.
+#[derive(Clone, Copy, Debug, PartialEq, Eq, Hash)]
+pub enum Step {
+    /// The tick interrupt, which core 0 serves.
+    Tick,
+    /// The switch of a core to the task that it selects.
+    Switch { core: u32 },
+    /// A call of the kernel that the task makes on the core.
+    Call { core: u32, task: u32, call: Call },
+}
+
+/// A call of the kernel.
+#[derive(Clone, Copy, Debug, PartialEq, Eq, Hash)]
+pub enum Call {
+    /// `taskYIELD`.
+    Yield,
+    /// `vTaskDelay`, of so many ticks.
+    Delay(u32),
+    /// The return of the task's unfinished call, once the task runs again.
+    Finish,
+}
+
+impl Step {
+    /// F2 where the core is none, else F3 where the caller is no user task, else the fault of the call.
+    pub fn check(&self, header: &Header) -> Result<(), Fault>
+        ensures { result ≡ step_check (settings_of header.now) self.now }
+    {
+        match self {
+            Step::Tick => Ok(()),
+            Step::Switch { core } => check_core(*core, header),
+            Step::Call { core, task, call } => {
+                check_core(*core, header)?;
+                check_task(*task, header)?;
+                call.check(header)
+            }
+        }
+    }
+}
+
+impl Call {
+    /// The fault of the call's arguments. No call so far has an argument that can be at fault.
+    pub fn check(&self, header: &Header) -> Result<(), Fault>
+        ensures { result ≡ call_check (settings_of header.now) self.now }
+    {
+        match self {
+            Call::Yield | Call::Delay(_) | Call::Finish => Ok(()),
+        }
+    }
+}
+
+fn check_core(core: u32, header: &Header) -> Result<(), Fault>
+    ensures { result ≡ core_check (settings_of header.now) core }
+{
+    if core < header.config.cores {
+        Ok(())
+    } else {
+        Err(Fault::BadCore)
+    }
+}
+
+fn check_task(task: u32, header: &Header) -> Result<(), Fault>
+    ensures { result ≡ task_check (settings_of header.now) task }
+{
+    let tasks = header.tasks.as_slice();
+    let is_user = header.config.cores <= task
+        && ((task - header.config.cores) as usize) < tasks.len();
+    if is_user { Ok(()) } else { Err(Fault::BadTask) }
+}
+
+#[cfg(test)]
+mod tests {
+    use super::*;
+    use crate::samples;
+    use std::test::Fail;
+
+    #[test]
+    fn limits_the_cores(rt: HostRuntime) -> Result<(), Fail> {
+        let header = samples::crowd(rt.alloc(), 3)?;
+        for (core, answer) in [(0, Ok(())), (1, Ok(())), (2, Err(Fault::BadCore))] {
+            let call = Step::Call {
+                core,
+                task: 2,
+                call: Call::Yield,
+            };
+            assert_eq!(rt; Step::Switch { core }.check(&header), answer, "at {core}");
+            assert_eq!(rt; call.check(&header), answer, "at {core}");
+        }
+        Ok(())
+    }
+
+    #[test]
+    fn limits_the_caller(rt: HostRuntime) -> Result<(), Fail> {
+        let header = samples::crowd(rt.alloc(), 3)?;
+        for (core, task, answer) in [
+            (0, 0, Err(Fault::BadTask)),
+            (0, 1, Err(Fault::BadTask)),
+            (0, 2, Ok(())),
+            (0, 4, Ok(())),
+            (0, 5, Err(Fault::BadTask)),
+            (2, 5, Err(Fault::BadCore)),
+        ] {
+            let step = Step::Call {
+                core,
+                task,
+                call: Call::Finish,
+            };
+            assert_eq!(rt; step.check(&header), answer, "at {core} and {task}");
+        }
+        Ok(())
+    }
+
+    #[test]
+    fn takes_every_tick_and_call(rt: HostRuntime) -> Result<(), Fail> {
+        let header = samples::crowd(rt.alloc(), 1)?;
+        assert_eq!(rt; Step::Tick.check(&header), Ok(()));
+        for call in [
+            Call::Yield,
+            Call::Delay(0),
+            Call::Delay(4_294_967_295),
+            Call::Finish,
+        ] {
+            assert_eq!(rt; call.check(&header), Ok(()), "at {call:?}");
+        }
+        Ok(())
+    }
+}

@@ -1,0 +1,13 @@
+pub mod Choices
+pub mod Examples
+pub mod Filters
+pub mod Ranks
+pub mod Restamps
+pub mod SeenMoves
+pub mod SeenSteps
+pub mod Selects
+pub mod SlowRuns
+pub mod SlowTicks
+pub mod SoundSteps
+pub mod Stamped
+pub mod Starts

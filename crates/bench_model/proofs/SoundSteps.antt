@@ -1,0 +1,466 @@
+-- Every checked step keeps a sound table sound.
+use Rattle.std.proofs.Common.{◌≡◌, ◌≢◌, ℕ, suc, ◌+◌, ◌<◌, ◌≤◌, ◌^◌, Bool, true, false, cond, not, eqb, ◌&&◌, ◌||◌, List, [], ◌∷◌, length, Option, Some, None, Result, Ok, Err, leb, refl, sym, ap, subst, ◌∙◌, arith, inl, inr}
+use Rattle.std.specs.Prelude.{unwrap_or, slice_set, IsSome}
+use Rattle.std.specs.Option.{option_map_or}
+use Rattle.std.specs.List.{fold, AllByRecursion}
+use Rattle.std.proofs.lemmas.Bool.Decides.{nat_tests}
+use Rattle.std.proofs.lemmas.Bool.{cases_eq}
+use Rattle.std.proofs.lemmas.List.{length-set, get_or-set_same, get_or-set_other}
+use Rattle.bench_types.specs.declared.reply.Reply.{Reply}
+use Rattle.bench_types.specs.declared.reply.Reply.TheVariants.{Done, Refused}
+use Rattle.bench_types.specs.declared.reply.Reply.TheVariants as reply
+use Rattle.bench_types.specs.declared.fault.Fault.{Fault}
+use Rattle.bench_types.specs.declared.reply.Refusal.{Refusal}
+use Rattle.bench_types.specs.declared.step.Step.{Step}
+use Rattle.bench_types.specs.declared.step.Step.TheVariants.{Tick, Switch}
+use Rattle.bench_types.specs.declared.step.Step.TheVariants as steps
+use Rattle.bench_types.specs.declared.step.Call.{Call}
+use Rattle.bench_types.specs.declared.step.Call.TheVariants.{Yield, Delay, Finish}
+use Rattle.bench_types.specs.declared.kernel_data.CoreLook.{CoreLook}
+use Rattle.bench_types.specs.declared.kernel_data.Settings.{Settings}
+use Rattle.bench_types.specs.Step.{IsCheckedStep, IsCheckedCall, core_check, task_check, call_check, ◌>>◌}
+use Rattle.bench_model.specs.declared.row.Standing.{Standing}
+use Rattle.bench_model.specs.declared.row.Standing.TheVariants.{Ready, Blocked}
+use Rattle.bench_model.specs.declared.row.TaskRow.{TaskRow}
+use Rattle.bench_model.specs.Search.{numbers, has}
+use Rattle.bench_model.specs.Control.{Control, core_at, with_core, current, is_due, may_select, asked_by, ask, run_on}
+use Rattle.bench_model.specs.State.{selected, call_at, refusal, switched, ticked, yielded, blocked, called, performed, after}
+use Rattle.bench_model.specs.Table.{Stamps, Table, table_moves, row_at, stamp_of, is_ready, stands_ready, wakes_at, tasks_of, restamped, pick, make_ready, delay, advance, due}
+use Rattle.bench_model.specs.Sound.{IsInPlace, IsStamped, IsPlaced, WakesInTime, IsSound}
+use Rattle.bench_model.proofs.Filters.{All-weaker}
+use Rattle.bench_model.proofs.Stamped.{numbers_have, has-by_stamp}
+use Rattle.bench_model.proofs.Restamps.{row_same, row_other, moved_length, moved_once}
+use Rattle.bench_model.proofs.Selects.{selects, list_any_at}
+use Rattle.bench_model.proofs.SeenSteps.{in_place, queued, queued_once, make_ready_once, due_below}
+
+module _ (control : Control) (core : ℕ) (look : CoreLook) where
+  abbrev changed : Control
+  changed = with_core core look control
+
+  look_same : core < length control.cores → core_at changed core ≡ look
+  look_same below = get_or-set_same control.cores core look (record { current = 0; pend = false; asked = false }) below
+
+  look_other : (other : ℕ) → other ≢ core → core_at changed other ≡ core_at control other
+  look_other other away = get_or-set_other control.cores core other look (record { current = 0; pend = false; asked = false }) away
+
+  cores_length : length changed.cores ≡ length control.cores
+  cores_length = length-set control.cores core look
+
+-- a task that was set to stand so
+module _ (stamps : Stamps) (task : ℕ) (standing : Standing) (below : task < length stamps.rows) where
+  abbrev moved : Stamps
+  moved = restamped task standing stamps
+
+  standing_same : (row_at moved task).standing ≡ standing
+  standing_same = ap (λ (r : TaskRow). r.standing) (row_same stamps task standing below)
+
+  standing_other : (i : ℕ) → i ≢ task → (row_at moved i).standing ≡ (row_at stamps i).standing
+  standing_other i away = ap (λ (r : TaskRow). r.standing) (row_other stamps task standing below i away)
+
+  ready_other : (i : ℕ) → i ≢ task → is_ready i moved ≡ is_ready i stamps
+  ready_other i away = ap stands_ready (standing_other i away)
+
+-- a ready task stays ready when some task is made ready
+make_ready_keeps : (stamps : Stamps) (task i : ℕ) → task < length stamps.rows → is_ready i stamps ≡ true → is_ready i (make_ready task stamps) ≡ true
+unfolding make_ready
+make_ready_keeps stamps task i below ready = elim (cases_eq i task) [
+  | inl here ↦ ap (λ j. is_ready j (restamped task Ready stamps)) here ∙ ap stands_ready (standing_same stamps task Ready below)
+  | inr away ↦ ready_other stamps task Ready below i away ∙ ready
+]
+
+-- what is blocked after some task was made ready was so before, and is another
+make_ready_blocked : (stamps : Stamps) (task i wake : ℕ) → task < length stamps.rows → (row_at (make_ready task stamps) i).standing ≡ Blocked wake → ((row_at stamps i).standing ≡ Blocked wake) × (i ≢ task)
+unfolding make_ready
+make_ready_blocked stamps task i wake below waits = elim (cases_eq i task) [
+  | inl here ↦ absurd (cc (sym (standing_same stamps task Ready below) ∙ ap (λ j. (row_at (restamped task Ready stamps) j).standing) (sym here) ∙ waits))
+  | inr away ↦ (sym (standing_other stamps task Ready below i away) ∙ waits, away)
+]
+
+make_ready_length : (stamps : Stamps) (task : ℕ) → task < length stamps.rows → length (make_ready task stamps).rows ≡ length stamps.rows
+unfolding make_ready
+make_ready_length stamps task below = moved_length stamps task Ready below
+
+pub make_ready_tick : (stamps : Stamps) (task : ℕ) → (make_ready task stamps).tick ≡ stamps.tick
+unfolding make_ready
+make_ready_tick stamps task = refl
+
+false_before : (b : Bool) → (b ≡ true → ⊥) → b ≡ false
+false_before true not_true = absurd (not_true refl)
+false_before false not_true = refl
+
+abbrev running_look : ℕ → CoreLook
+running_look task = record { current = task; pend = false; asked = false }
+
+-- making a task ready keeps the places of all
+make_ready_placed : (control : Control) (stamps : Stamps) (task : ℕ) → task < length stamps.rows → IsPlaced control stamps → IsPlaced control (make_ready task stamps)
+make_ready_placed control stamps task below place = record {
+  is_task = λ c low. omega (arith, place.is_task c low, make_ready_length stamps task below);
+  on_one_core = place.on_one_core;
+  blocked_is_due = λ c low waits. place.blocked_is_due c low (false_before (is_ready (current control c) stamps) (λ ready. cc (make_ready_keeps stamps task (current control c) below ready, waits)));
+  idle_is_ready = λ i low. make_ready_keeps stamps task i below (place.idle_is_ready i low);
+}
+
+make_ready_in_time : (stamps : Stamps) (task : ℕ) → task < length stamps.rows → WakesInTime stamps → WakesInTime (make_ready task stamps)
+make_ready_in_time stamps task below in_time i wake low waits =
+    let before = make_ready_blocked stamps task i wake below waits in
+    let bounds = in_time i wake (omega (arith, make_ready_length stamps task below)) before.0 in
+    let same = make_ready_tick stamps task in
+    (omega (arith, same, bounds.0), omega (arith, same, bounds.1))
+
+-- a ready task runs on a core that may select it
+run_placed : (control : Control) (core task : ℕ) (stamps : Stamps) → IsPlaced control stamps → core < length control.cores → task < length stamps.rows → is_ready task stamps ≡ true → may_select control core task ≡ true → IsPlaced (run_on core task control) stamps
+run_placed control core task stamps place below low ready may = record {
+  is_task = λ c h. elim (cases_eq c core) [
+    | inl here ↦ subst (λ i. i < length stamps.rows) (sym (current_here c here)) low
+    | inr away ↦ subst (λ i. i < length stamps.rows) (sym (current_away c away)) (place.is_task c (omega (arith, cores_length control core (running_look task))))
+  ];
+  on_one_core = λ c d h k same. elim (cases_eq c core) [
+    | inl here ↦ elim (cases_eq d core) [
+      | inl there ↦ here ∙ sym there
+      | inr away ↦ absurd (alone d (omega (arith, cores_length control core (running_look task))) away (sym (current_away d away) ∙ sym same ∙ current_here c here))
+    ]
+    | inr off ↦ elim (cases_eq d core) [
+      | inl there ↦ absurd (alone c (omega (arith, cores_length control core (running_look task))) off (sym (current_away c off) ∙ same ∙ current_here d there))
+      | inr away ↦ place.on_one_core c d (omega (arith, cores_length control core (running_look task))) (omega (arith, cores_length control core (running_look task))) (sym (current_away c off) ∙ same ∙ current_away d away)
+    ]
+  ];
+  blocked_is_due = λ c h waits. elim (cases_eq c core) [
+    | inl here ↦ absurd (cc (ap (λ i. is_ready i stamps) (current_here c here), ready, waits))
+    | inr away ↦ ap (λ (l : CoreLook). l.pend || l.asked) (look_other control core (running_look task) c away) ∙ place.blocked_is_due c (omega (arith, cores_length control core (running_look task))) (ap (λ i. is_ready i stamps) (sym (current_away c away)) ∙ waits)
+  ];
+  idle_is_ready = λ i h. place.idle_is_ready i (omega (arith, cores_length control core (running_look task)));
+}
+  where
+    current_here : (c : ℕ) → c ≡ core → current (run_on core task control) c ≡ task
+    current_here c here = ap (current (run_on core task control)) here ∙ ap (λ (l : CoreLook). l.current) (look_same control core (running_look task) below)
+
+    current_away : (c : ℕ) → c ≢ core → current (run_on core task control) c ≡ current control c
+    current_away c away = ap (λ (l : CoreLook). l.current) (look_other control core (running_look task) c away)
+
+    alone : (d : ℕ) → d < length control.cores → d ≢ core → current control d ≡ task → ⊥
+    alone d h away same =
+        let seen = list_any_at (λ other. not (eqb other core) && eqb (current control other) task) d (numbers (length control.cores)) (numbers_have (length control.cores) d h) (grind (arith, nat_tests, away, same)) in
+        absurd (grind (arith, seen, may))
+
+queued_placed : (control : Control) (stamps : Stamps) (task : ℕ) → task < length stamps.rows → IsPlaced control stamps → IsPlaced control (queued stamps task)
+queued_placed control stamps task below place = either (is_ready task stamps)
+  where
+    either : (b : Bool) → IsPlaced control (cond b (make_ready task stamps) stamps)
+    either true = make_ready_placed control stamps task below place
+    either false = place
+
+queued_in_time : (stamps : Stamps) (task : ℕ) → task < length stamps.rows → WakesInTime stamps → WakesInTime (queued stamps task)
+queued_in_time stamps task below in_time = either (is_ready task stamps)
+  where
+    either : (b : Bool) → WakesInTime (cond b (make_ready task stamps) stamps)
+    either true = make_ready_in_time stamps task below in_time
+    either false = in_time
+
+queued_length : (stamps : Stamps) (task : ℕ) → task < length stamps.rows → length (queued stamps task).rows ≡ length stamps.rows
+queued_length stamps task below = either (is_ready task stamps)
+  where
+    either : (b : Bool) → length (cond b (make_ready task stamps) stamps).rows ≡ length stamps.rows
+    either true = make_ready_length stamps task below
+    either false = refl
+
+pub switched_sound : (core : ℕ) (table : Table) → IsSound table → core < length table.control.cores → IsSound (switched table_moves core table)
+unfolding switched
+switched_sound core table sound below =
+    let control = table.control in
+    let left = current control core in
+    let low = sound.in_place.is_task core below in
+    let orders = queued table.orders left in
+    let same = queued_length table.orders left low in
+    let place = queued_placed control table.orders left low sound.in_place in
+    let found = selects control core orders (queued_once table.orders left sound.stamped low) below (omega (arith, same, sound.sized.cores, sound.sized.rows, sound.sized.idle_tasks)) place.idle_is_ready in
+    let now = ap (λ o. unwrap_or o left) found.1 in
+    record {
+      sized = record {
+        cores = cores_length control core _ ∙ sound.sized.cores;
+        controls = sound.sized.controls;
+        calls = sound.sized.calls;
+        rows = same ∙ sound.sized.rows;
+        some_core = sound.sized.some_core;
+        idle_tasks = sound.sized.idle_tasks;
+      };
+      stamped = queued_once table.orders left sound.stamped low;
+      in_place = subst (λ task. IsPlaced (run_on core task control) orders) (sym now) (run_placed control core found.0 orders place below found.2 found.3 found.4);
+      in_time = queued_in_time table.orders left low sound.in_time;
+      priorities = sound.priorities;
+      calls = sound.calls;
+    }
+
+-- the tasks that are woken in turn
+abbrev pub woken : Stamps → List ℕ → Stamps
+woken stamps tasks = fold (λ orders task. make_ready task orders) stamps tasks
+
+woken_low : (stamps : Stamps) (task : ℕ) (tasks : List ℕ) → task < length stamps.rows → AllByRecursion (λ i. i < length stamps.rows) tasks → AllByRecursion (λ i. i < length (make_ready task stamps).rows) tasks
+woken_low stamps task tasks below all = All-weaker (λ i. i < length stamps.rows) (λ i. i < length (make_ready task stamps).rows) (λ i h. omega (arith, make_ready_length stamps task below)) tasks all
+
+woken_length : (tasks : List ℕ) (stamps : Stamps) → AllByRecursion (λ i. i < length stamps.rows) tasks → length (woken stamps tasks).rows ≡ length stamps.rows
+woken_length [] stamps all = refl
+woken_length (task ∷ tasks) stamps all = woken_length tasks (make_ready task stamps) (woken_low stamps task tasks all.0 all.1) ∙ make_ready_length stamps task all.0
+
+pub woken_tick : (tasks : List ℕ) (stamps : Stamps) → (woken stamps tasks).tick ≡ stamps.tick
+woken_tick [] stamps = refl
+woken_tick (task ∷ tasks) stamps = woken_tick tasks (make_ready task stamps) ∙ make_ready_tick stamps task
+
+woken_stamped : (tasks : List ℕ) (stamps : Stamps) → AllByRecursion (λ i. i < length stamps.rows) tasks → IsStamped stamps → IsStamped (woken stamps tasks)
+woken_stamped [] stamps all stamped = stamped
+woken_stamped (task ∷ tasks) stamps all stamped = woken_stamped tasks (make_ready task stamps) (woken_low stamps task tasks all.0 all.1) (make_ready_once stamps task stamped all.0)
+
+woken_placed : (control : Control) (tasks : List ℕ) (stamps : Stamps) → AllByRecursion (λ i. i < length stamps.rows) tasks → IsPlaced control stamps → IsPlaced control (woken stamps tasks)
+woken_placed control [] stamps all place = place
+woken_placed control (task ∷ tasks) stamps all place = woken_placed control tasks (make_ready task stamps) (woken_low stamps task tasks all.0 all.1) (make_ready_placed control stamps task all.0 place)
+
+-- what still waits waited before, and is none of them
+woken_blocked : (tasks : List ℕ) (stamps : Stamps) → AllByRecursion (λ i. i < length stamps.rows) tasks → (i wake : ℕ) → (row_at (woken stamps tasks) i).standing ≡ Blocked wake → ((row_at stamps i).standing ≡ Blocked wake) × (has i tasks ≡ false)
+woken_blocked [] stamps all i wake waits = (waits, refl)
+woken_blocked (task ∷ tasks) stamps all i wake waits =
+    let rest = woken_blocked tasks (make_ready task stamps) (woken_low stamps task tasks all.0 all.1) i wake waits in
+    let first = make_ready_blocked stamps task i wake all.0 rest.0 in
+    (first.0, grind (arith, nat_tests, first.1, rest.1))
+
+-- a task that waits until the tick count is due then
+waits_due : (stamps : Stamps) (i : ℕ) → IsStamped stamps → i < length stamps.rows → (row_at stamps i).standing ≡ Blocked stamps.tick → has i (due stamps) ≡ true
+unfolding due
+waits_due stamps i stamped low waits =
+    let passes : wakes_at stamps.tick (row_at stamps i).standing ≡ true = ap (wakes_at stamps.tick) waits ∙ grind (arith, nat_tests) in
+    has-by_stamp (stamp_of stamps) (λ task. wakes_at stamps.tick (row_at stamps task).standing) (tasks_of stamps) i stamps.next ∙ grind (arith, nat_tests, passes, stamped.given i low, numbers_have (length stamps.rows) i low)
+
+pub advanced_stamped : (stamps : Stamps) → IsStamped stamps → IsStamped (advance stamps)
+unfolding advance
+advanced_stamped stamps stamped = record { given = stamped.given; once = stamped.once }
+
+advanced_placed : (control : Control) (stamps : Stamps) → IsPlaced control stamps → IsPlaced control (advance stamps)
+unfolding advance
+advanced_placed control stamps place = record { is_task = place.is_task; on_one_core = place.on_one_core; blocked_is_due = place.blocked_is_due; idle_is_ready = place.idle_is_ready }
+
+advanced_row : (stamps : Stamps) (i : ℕ) → row_at (advance stamps) i ≡ row_at stamps i
+unfolding advance
+advanced_row stamps i = refl
+
+advanced_length : (stamps : Stamps) → length (advance stamps).rows ≡ length stamps.rows
+unfolding advance
+advanced_length stamps = refl
+
+pub advanced_tick : (stamps : Stamps) → (advance stamps).tick ≡ suc stamps.tick
+unfolding advance
+advanced_tick stamps = refl
+
+-- what waits and is not due waits on
+still_in_time : (stamps : Stamps) → IsStamped stamps → WakesInTime stamps → WakesInTime (woken (advance stamps) (due (advance stamps)))
+unfolding advance
+still_in_time stamps stamped in_time i wake low waits =
+    let later = advance stamps in
+    let before = woken_blocked (due later) later (due_below later) i wake waits in
+    let within : i < length later.rows = omega (arith, woken_length (due later) later (due_below later)) in
+    let bounds = in_time i wake (omega (arith, advanced_length stamps)) before.0 in
+    let not_now : wake ≡ later.tick → ⊥ = λ now. cc (waits_due later i (advanced_stamped stamps stamped) within (before.0 ∙ ap (λ w. Blocked w) now), before.1) in
+    let same = woken_tick (due later) later in
+    (omega (arith, same, advanced_tick stamps, bounds.0, not_now), omega (arith, same, advanced_tick stamps, bounds.1))
+
+pub ticked_sound : (table : Table) → IsSound table → IsSound (ticked table_moves table)
+unfolding ticked
+ticked_sound table sound =
+    let later = advance table.orders in
+    let low = due_below later in
+    record {
+      sized = record {
+        cores = sound.sized.cores;
+        controls = sound.sized.controls;
+        calls = sound.sized.calls;
+        rows = woken_length (due later) later low ∙ advanced_length table.orders ∙ sound.sized.rows;
+        some_core = sound.sized.some_core;
+        idle_tasks = sound.sized.idle_tasks;
+      };
+      stamped = woken_stamped (due later) later low (advanced_stamped table.orders sound.stamped);
+      in_place = woken_placed table.control (due later) later low (advanced_placed table.control table.orders sound.in_place);
+      in_time = still_in_time table.orders sound.stamped sound.in_time;
+      priorities = sound.priorities;
+      calls = sound.calls;
+    }
+
+-- a core that asked itself
+module _ (control : Control) (core : ℕ) (below : core < length control.cores) where
+  asked_here : core_at (ask core core control) core ≡ record (core_at control core) { pend = true }
+  asked_here = look_same control core (asked_by core core (core_at control core)) below ∙ grind (arith, nat_tests)
+
+  asked_current : (c : ℕ) → current (ask core core control) c ≡ current control c
+  asked_current c = elim (cases_eq c core) [
+    | inl here ↦ ap (current (ask core core control)) here ∙ ap (λ (l : CoreLook). l.current) asked_here ∙ ap (current control) (sym here)
+    | inr away ↦ ap (λ (l : CoreLook). l.current) (look_other control core (asked_by core core (core_at control core)) c away)
+  ]
+
+  asked_due : is_due (ask core core control) core ≡ true
+  asked_due = ap (λ (l : CoreLook). l.pend || l.asked) asked_here
+
+  asked_others : (c : ℕ) → c ≢ core → is_due (ask core core control) c ≡ is_due control c
+  asked_others c away = ap (λ (l : CoreLook). l.pend || l.asked) (look_other control core (asked_by core core (core_at control core)) c away)
+
+  asked_length : length (ask core core control).cores ≡ length control.cores
+  asked_length = cores_length control core (asked_by core core (core_at control core))
+
+  asked_placed : (stamps : Stamps) → IsPlaced control stamps → IsPlaced (ask core core control) stamps
+  asked_placed stamps place = record {
+    is_task = λ c low. subst (λ i. i < length stamps.rows) (sym (asked_current c)) (place.is_task c (omega (arith, asked_length)));
+    on_one_core = λ c d low high same. place.on_one_core c d (omega (arith, asked_length)) (omega (arith, asked_length)) (sym (asked_current c) ∙ same ∙ asked_current d);
+    blocked_is_due = λ c low waits. elim (cases_eq c core) [
+      | inl here ↦ ap (is_due (ask core core control)) here ∙ asked_due
+      | inr away ↦ asked_others c away ∙ place.blocked_is_due c (omega (arith, asked_length)) (ap (λ i. is_ready i stamps) (sym (asked_current c)) ∙ waits)
+    ];
+    idle_is_ready = λ i low. place.idle_is_ready i (omega (arith, asked_length));
+  }
+
+  -- its task waits from now on
+  waiting_placed : (stamps : Stamps) (task : ℕ) (standing : Standing) → task < length stamps.rows → current control core ≡ task → length control.cores ≤ task → IsPlaced control stamps → IsPlaced (ask core core control) (restamped task standing stamps)
+  waiting_placed stamps task standing low here user place = record {
+    is_task = λ c h. omega (arith, moved_length stamps task standing low, asked_current c, place.is_task c (omega (arith, asked_length)));
+    on_one_core = (asked_placed stamps place).on_one_core;
+    blocked_is_due = λ c h waits. elim (cases_eq c core) [
+      | inl on ↦ ap (is_due (ask core core control)) on ∙ asked_due
+      | inr away ↦ asked_others c away ∙ place.blocked_is_due c (omega (arith, asked_length)) (sym (ready_other stamps task standing low (current control c) (λ same. away (place.on_one_core c core (omega (arith, asked_length)) below (same ∙ sym here)))) ∙ ap (λ i. is_ready i (restamped task standing stamps)) (sym (asked_current c)) ∙ waits)
+    ];
+    idle_is_ready = λ i h. ready_other stamps task standing low i (λ same. absurd (omega (arith, asked_length))) ∙ place.idle_is_ready i (omega (arith, asked_length));
+  }
+
+pub yielded_sound : (core : ℕ) (table : Table) → IsSound table → core < length table.control.cores → IsSound (yielded table_moves core table)
+unfolding yielded
+yielded_sound core table sound below = record {
+  sized = record {
+    cores = asked_length table.control core below ∙ sound.sized.cores;
+    controls = sound.sized.controls;
+    calls = sound.sized.calls;
+    rows = sound.sized.rows;
+    some_core = sound.sized.some_core;
+    idle_tasks = sound.sized.idle_tasks;
+  };
+  stamped = sound.stamped;
+  in_place = asked_placed table.control core below table.orders sound.in_place;
+  in_time = sound.in_time;
+  priorities = sound.priorities;
+  calls = sound.calls;
+}
+
+-- the unfinished calls stay checked where one begins or ends
+call_set : (settings : Settings) (calls : List (Option Call)) (task : ℕ) (given : Option Call) → task < length calls → ((call : Call) → given ≡ Some call → IsCheckedCall settings call) → ((i : ℕ) (call : Call) → call_at calls i ≡ Some call → IsCheckedCall settings call) → (i : ℕ) (call : Call) → call_at (slice_set calls task given) i ≡ Some call → IsCheckedCall settings call
+call_set settings calls task given below one all i call found = elim (cases_eq i task) [
+  | inl here ↦ one call (sym (get_or-set_same calls task given None below) ∙ ap (call_at (slice_set calls task given)) (sym here) ∙ found)
+  | inr away ↦ all i call (sym (get_or-set_other calls task i given None away) ∙ found)
+]
+
+delayed_in_time : (stamps : Stamps) (task ticks : ℕ) → task < length stamps.rows → 0 < ticks → ticks < 2 ^ 32 → WakesInTime stamps → WakesInTime (delay task ticks stamps)
+unfolding delay
+delayed_in_time stamps task ticks below some fits in_time i wake low waits = elim (cases_eq i task) [
+  | inl here ↦
+      let at : Blocked (stamps.tick + ticks) ≡ Blocked wake = sym (standing_same stamps task (Blocked (stamps.tick + ticks)) below) ∙ ap (λ j. (row_at (restamped task (Blocked (stamps.tick + ticks)) stamps) j).standing) (sym here) ∙ waits in
+      let same : stamps.tick + ticks ≡ wake = cc in
+      (omega arith, omega arith)
+  | inr away ↦ in_time i wake (omega (arith, moved_length stamps task (Blocked (stamps.tick + ticks)) below)) (sym (standing_other stamps task (Blocked (stamps.tick + ticks)) below i away) ∙ waits)
+]
+
+delayed_length : (stamps : Stamps) (task ticks : ℕ) → task < length stamps.rows → length (delay task ticks stamps).rows ≡ length stamps.rows
+unfolding delay
+delayed_length stamps task ticks below = moved_length stamps task (Blocked (stamps.tick + ticks)) below
+
+delayed_stamped : (stamps : Stamps) (task ticks : ℕ) → task < length stamps.rows → IsStamped stamps → IsStamped (delay task ticks stamps)
+unfolding delay
+delayed_stamped stamps task ticks below stamped = moved_once stamps task (Blocked (stamps.tick + ticks)) below stamped
+
+delayed_placed : (control : Control) (core : ℕ) → core < length control.cores → (stamps : Stamps) (task ticks : ℕ) → task < length stamps.rows → current control core ≡ task → length control.cores ≤ task → IsPlaced control stamps → IsPlaced (ask core core control) (delay task ticks stamps)
+unfolding delay
+delayed_placed control core below stamps task ticks low here user place = waiting_placed control core below stamps task (Blocked (stamps.tick + ticks)) low here user place
+
+pub blocked_sound : (core task : ℕ) (call : Call) (ticks : ℕ) (table : Table) → IsSound table → IsInPlace table (steps.Call core task call) → IsCheckedCall table.settings call → length table.control.cores ≤ task → 0 < ticks → ticks < 2 ^ 32 → IsSound (blocked table_moves core task call ticks table)
+unfolding blocked
+blocked_sound core task call ticks table sound place checked user some fits = record {
+  sized = record {
+    cores = asked_length table.control core place.0 ∙ sound.sized.cores;
+    controls = sound.sized.controls;
+    calls = length-set table.calls task (Some call) ∙ sound.sized.calls;
+    rows = delayed_length table.orders task ticks place.2 ∙ sound.sized.rows;
+    some_core = sound.sized.some_core;
+    idle_tasks = sound.sized.idle_tasks;
+  };
+  stamped = delayed_stamped table.orders task ticks place.2 sound.stamped;
+  in_place = delayed_placed table.control core place.0 table.orders task ticks place.2 place.1 user sound.in_place;
+  in_time = delayed_in_time table.orders task ticks place.2 some fits sound.in_time;
+  priorities = sound.priorities;
+  calls = call_set table.settings table.calls task (Some call) (omega (arith, sound.sized.calls, sound.sized.rows, place.2)) (λ other same. subst (IsCheckedCall table.settings) (call_of call other same) checked) sound.calls;
+}
+  where
+    call_of : (one other : Call) → Some one ≡ Some other → one ≡ other
+    call_of one other same = cc
+
+-- a call of a checked step on its core
+module _ (table : Table) (sound : IsSound table) (core task : ℕ) (call : Call) (place : IsInPlace table (steps.Call core task call)) (checked : IsCheckedCall table.settings call) (user : length table.control.cores ≤ task) where
+  finished_sound : IsSound (record table { calls = slice_set table.calls task None })
+  finished_sound = record {
+    sized = record {
+      cores = sound.sized.cores;
+      controls = sound.sized.controls;
+      calls = length-set table.calls task None ∙ sound.sized.calls;
+      rows = sound.sized.rows;
+      some_core = sound.sized.some_core;
+      idle_tasks = sound.sized.idle_tasks;
+    };
+    stamped = sound.stamped;
+    in_place = sound.in_place;
+    in_time = sound.in_time;
+    priorities = sound.priorities;
+    calls = call_set table.settings table.calls task None (omega (arith, sound.sized.calls, sound.sized.rows, place.2)) (λ other same. absurd (cc (same))) sound.calls;
+  }
+
+pub called_sound : (core task : ℕ) (call : Call) (table : Table) → IsSound table → IsInPlace table (steps.Call core task call) → IsCheckedCall table.settings call → length table.control.cores ≤ task → IsSound (called table_moves core task call table).1
+unfolding called
+called_sound core task Yield table sound place checked user = yielded_sound core table sound place.0
+called_sound core task (Delay ticks) table sound place checked user = either (eqb ticks 0) refl
+  where
+    either : (b : Bool) → eqb ticks 0 ≡ b → IsSound (cond {A = Reply × Table} b (Done, yielded table_moves core table) (reply.Blocked, blocked table_moves core task (Delay ticks) ticks table)).1
+    either true none = yielded_sound core table sound place.0
+    either false some = blocked_sound core task (Delay ticks) ticks table sound place checked user (grind (arith, nat_tests, some)) checked.words
+called_sound core task Finish table sound place checked user = finished_sound table sound core task Finish place checked user
+
+checked_task : (settings : Settings) (task : ℕ) → task_check settings task ≡ Ok tt → settings.cores ≤ task
+checked_task settings task passes = at (leb settings.cores task) refl
+  where
+    at : (b : Bool) → leb settings.cores task ≡ b → settings.cores ≤ task
+    at true above = grind (arith, nat_tests, above)
+    at false below = absurd (cc (passes, below))
+
+both_pass : (one other : Result (Unit {0}) Fault) → (one >> other) ≡ Ok tt → (one ≡ Ok tt) × (other ≡ Ok tt)
+both_pass (Ok done) other passes = (refl, passes)
+both_pass (Err fault) other passes = absurd (cc)
+
+pub performed_sound : (step : Step) (table : Table) → IsSound table → IsCheckedStep table.settings step → IsInPlace table step → IsSound (performed table_moves step table).1
+unfolding performed
+performed_sound Tick table sound checked place = ticked_sound table sound
+performed_sound (Switch core) table sound checked place = switched_sound core table sound place
+performed_sound (steps.Call core task call) table sound checked place =
+    let last = both_pass (core_check table.settings core >> task_check table.settings task) (call_check table.settings call) checked.passes in
+    let first = both_pass (core_check table.settings core) (task_check table.settings task) last.0 in
+    called_sound core task call table sound place (record { passes = last.1; words = checked.words }) (omega (arith, sound.sized.cores, checked_task table.settings task first.1))
+
+pub after_sound : (step : Step) (table : Table) → IsSound table → IsCheckedStep table.settings step → IsSound (after table_moves step table).1
+unfolding after
+after_sound step table sound checked = from (refusal table.control table.calls step) refl
+  where
+    from : (why : Option Refusal) → refusal table.control table.calls step ≡ why → IsSound (option_map_or {U = Reply × Table} (λ why. (Refused why, table)) why (performed table_moves step table)).1
+    from None accepted = performed_sound step table sound checked (in_place step table sound checked.passes accepted)
+    from (Some why) refused = sound
+
+-- a switch of a sound table selects a task
+pub switch_selects : (table : Table) (core : ℕ) → IsSound table → core < table.settings.cores → IsSome (selected table_moves core table)
+switch_selects table core sound low =
+    let below : core < length table.control.cores = omega (arith, sound.sized.cores) in
+    let left = current table.control core in
+    let task = sound.in_place.is_task core below in
+    let orders = queued table.orders left in
+    let same = queued_length table.orders left task in
+    let place = queued_placed table.control table.orders left task sound.in_place in
+    let found = selects table.control core orders (queued_once table.orders left sound.stamped task) below (omega (arith, same, sound.sized.cores, sound.sized.rows, sound.sized.idle_tasks)) place.idle_is_ready in
+    some_found (pick table.control core orders) found.0 found.1
+  where
+    some_found : (o : Option ℕ) (i : ℕ) → o ≡ Some i → IsSome o
+    some_found (Some j) i same = refl
+    some_found None i same = absurd (cc (same))

@@ -1,0 +1,268 @@
+-- The start of a checked header is sound, and seen as lists it is the start over lists.
+use Rattle.std.proofs.Common.{◌≡◌, ℕ, zero, suc, ◌+◌, ◌-◌, ◌<◌, ◌≤◌, Bool, true, false, cond, not, ltb, ◌&&◌, List, [], ◌∷◌, ◌++◌, length, map, replicate, get_or, Some, None, Ok, refl, ap, ◌∙◌, add-zero, arith, inl, inr}
+use Rattle.std.specs.List.{fold, list_all, range_with_len, AllByRecursion}
+use Rattle.std.proofs.lemmas.Bool.Decides.{nat_tests}
+use Rattle.std.proofs.lemmas.Bool.{cases_lt, and_parts}
+use Rattle.std.proofs.lemmas.List.{length-append, length-set, length-map, length-replicate, map-append, get_or_append_left, get_or-append_right, get_or-replicate, get_or-map}
+use Rattle.std.proofs.lemmas.List.FromFn.{length-map-range_with_len, get_or-map-range_with_len}
+use Rattle.bench_types.specs.declared.header.Config.{Config}
+use Rattle.bench_types.specs.declared.header.Header.{Header}
+use Rattle.bench_types.specs.declared.header.TaskArgs.{TaskArgs}
+use Rattle.bench_types.specs.declared.kernel_data.CoreLook.{CoreLook}
+use Rattle.bench_types.specs.declared.kernel_data.TaskControl.{TaskControl}
+use Rattle.bench_types.specs.declared.step.Call.{Call}
+use Rattle.bench_types.specs.Name.{is_within}
+use Rattle.bench_types.specs.Step.{settings_of, IsCheckedCall}
+use Rattle.bench_types.specs.Header.{header_check, is_header, has_valid_config, has_valid_args, repeats_name}
+use Rattle.bench_model.specs.declared.row.Standing.TheVariants.{Ready}
+use Rattle.bench_model.specs.declared.row.TaskRow.{TaskRow}
+use Rattle.bench_model.specs.Search.{numbers, by_stamp, ranked}
+use Rattle.bench_model.specs.Control.{core_at, current, task_at}
+use Rattle.bench_model.specs.State.{call_at, switched}
+use Rattle.bench_model.specs.Table.{Stamps, Table, table_moves, row_at, stamp_of, is_ready, stands_ready}
+use Rattle.bench_model.specs.Lists.{list_moves, lists_of, image}
+use Rattle.bench_model.specs.Sound.{IsStamped, IsPlaced, WakesInTime, IsSound}
+use Rattle.bench_model.specs.Start.{idle_control, user_control, first_look, first_control, ready_row, first_stamps, first_lists, unstarted, started, start, start_seen}
+use Rattle.bench_model.proofs.Filters.{All-weaker}
+use Rattle.bench_model.proofs.Stamped.{numbers_below, by_stamp_listed, by_stamp_none, range_parts}
+use Rattle.bench_model.proofs.Restamps.{standing_so, waits}
+use Rattle.bench_model.proofs.SeenMoves.{seen_from}
+use Rattle.bench_model.proofs.SeenSteps.{switched_seen, same_state}
+use Rattle.bench_model.proofs.SoundSteps.{switched_sound}
+
+-- what a checked header says of its numbers
+pub record IsChecked (header : Header) : Type 0 where
+  pub some_core : 0 < header.config.cores
+  pub few_cores : header.config.cores ≤ 8
+  pub few_tasks : length header.tasks ≤ 64
+  pub some_priority : 0 < header.config.priorities
+  pub args : list_all (has_valid_args header.config) header.tasks ≡ true
+
+pub checked : (header : Header) → header_check header ≡ Ok tt → IsChecked header
+checked header passes = from (is_header header) refl
+  where
+    from : (b : Bool) → is_header header ≡ b → IsChecked header
+    from false fails = absurd (cc (passes, fails))
+    from true all =
+        let config = has_valid_config header.config in
+        let some = is_within 1 64 (length header.tasks) in
+        let args = list_all (has_valid_args header.config) header.tasks in
+        let three = and_parts (config && some && args) (not (repeats_name header.tasks)) all in
+        let two = and_parts (config && some) args three.0 in
+        let one = and_parts config some two.0 in
+        record { some_core = grind (arith, nat_tests, one.0); few_cores = grind (arith, nat_tests, one.0); few_tasks = grind (arith, nat_tests, one.1); some_priority = grind (arith, nat_tests, one.0); args = two.1 }
+
+-- no task has an unfinished call
+none_called : (n i : ℕ) → call_at (replicate n None) i ≡ None
+none_called zero i = refl
+none_called (suc n) zero = refl
+none_called (suc n) (suc i) = none_called n i
+
+no_args : TaskArgs
+no_args = record { name = []; priority = 0; mask = 0 }
+
+valid_priority : (config : Config) (tasks : List TaskArgs) → list_all (has_valid_args config) tasks ≡ true → (i : ℕ) → i < length tasks → (get_or tasks i no_args).priority < config.priorities
+valid_priority config [] valid i low = absurd (omega arith)
+valid_priority config (task ∷ tasks) valid zero low = grind (arith, nat_tests, valid)
+valid_priority config (task ∷ tasks) valid (suc i) low = valid_priority config tasks (grind (arith, valid)) i (omega arith)
+
+-- the length of a list of two ranges
+pub length_ranges : (f g : ℕ → TaskRow) (a b : ℕ) → length (map f (numbers a) ++ map g (numbers b)) ≡ a + b
+length_ranges f g a b = omega (arith, length-append (map f (numbers a)) (map g (numbers b)), length-map-range_with_len f 0 a, length-map-range_with_len g 0 b)
+
+module _ (header : Header) where
+  abbrev cores : ℕ
+  cores = header.config.cores
+
+  abbrev users : ℕ
+  users = length header.tasks
+
+  abbrev first : Stamps
+  first = first_stamps header
+
+  first_length : length first.rows ≡ cores + users
+  unfolding first_stamps
+  first_length = length_ranges (λ core. ready_row (users + core)) ready_row cores users
+
+  idle_row : (i : ℕ) → i < cores → row_at first i ≡ ready_row (users + i)
+  unfolding first_stamps
+  idle_row i low =
+      get_or_append_left (map (λ core. ready_row (users + core)) (numbers cores)) (map ready_row (numbers users)) (ready_row 0) i (omega (arith, length-map-range_with_len (λ core. ready_row (users + core)) 0 cores))
+      ∙ get_or-map-range_with_len (λ core. ready_row (users + core)) 0 cores i i (ready_row 0) low (omega arith)
+
+  user_row : (i : ℕ) → cores ≤ i → i < cores + users → row_at first i ≡ ready_row (i - cores)
+  unfolding first_stamps
+  user_row i high low =
+      get_or-append_right (map (λ core. ready_row (users + core)) (numbers cores)) (map ready_row (numbers users)) cores i (ready_row 0) (length-map-range_with_len (λ core. ready_row (users + core)) 0 cores) high
+      ∙ get_or-map-range_with_len ready_row 0 users (i - cores) (i - cores) (ready_row 0) (omega arith) (omega arith)
+
+  -- the stamp of each task, and whose stamp each is
+  abbrev first_stamp : ℕ → ℕ
+  first_stamp i = cond (ltb i cores) (users + i) (i - cores)
+
+  abbrev holder : ℕ → ℕ
+  holder stamp = cond (ltb stamp users) (cores + stamp) (stamp - users)
+
+  first_row : (i : ℕ) → i < cores + users → row_at first i ≡ ready_row (first_stamp i)
+  first_row i low = elim (cases_lt i cores) [
+    | inl idle ↦ idle_row i idle ∙ ap ready_row (grind (arith, nat_tests, idle))
+    | inr user ↦ user_row i user low ∙ ap ready_row (grind (arith, nat_tests, user))
+  ]
+
+  stamp_first : (i : ℕ) → i < cores + users → stamp_of first i ≡ first_stamp i
+  stamp_first i low = ap (λ (r : TaskRow). r.stamp) (first_row i low)
+
+  standing_first : (i : ℕ) → i < cores + users → (row_at first i).standing ≡ Ready
+  standing_first i low = ap (λ (r : TaskRow). r.standing) (first_row i low)
+
+  first_once : (i j : ℕ) → i < cores + users → j < cores + users → stamp_of first i ≡ stamp_of first j → i ≡ j
+  first_once i j low high same = grind (arith, nat_tests, stamp_first i low, stamp_first j high, same)
+
+  pub first_next : first.next ≡ cores + users
+  unfolding first_stamps
+  first_next = refl
+
+  first_stamped : IsStamped first
+  first_stamped = record {
+    given = λ i low. grind (arith, nat_tests, first_length, first_next, stamp_first i (omega (arith, first_length)), low);
+    once = λ i j low high same. first_once i j (omega (arith, first_length)) (omega (arith, first_length)) same;
+  }
+
+  holders : (b : ℕ) → b < cores + users → (holder b < cores + users) × (stamp_of first (holder b) ≡ b)
+  holders b low =
+      let fits : holder b < cores + users = grind (arith, nat_tests, low) in
+      (fits, stamp_first (holder b) fits ∙ grind (arith, nat_tests, low))
+
+  holders_low : (a n : ℕ) → a + n ≤ users → map holder (range_with_len a n) ≡ range_with_len (cores + a) n
+  holders_low a zero fits = refl
+  holders_low a (suc n) fits =
+      let here : holder a ≡ cores + a = grind (arith, nat_tests, fits) in
+      let shifted : cores + (a + 1) ≡ (cores + a) + 1 = omega arith in
+      ap (λ i. i ∷ map holder (range_with_len (a + 1) n)) here ∙ ap (λ rest. (cores + a) ∷ rest) (holders_low (a + 1) n (omega arith) ∙ ap (λ k. range_with_len k n) shifted)
+
+  holders_high : (a n : ℕ) → users ≤ a → map holder (range_with_len a n) ≡ range_with_len (a - users) n
+  holders_high a zero high = refl
+  holders_high a (suc n) high =
+      let here : holder a ≡ a - users = grind (arith, nat_tests, high) in
+      let shifted : (a + 1) - users ≡ (a - users) + 1 = omega arith in
+      ap (λ i. i ∷ map holder (range_with_len (a + 1) n)) here ∙ ap (λ rest. (a - users) ∷ rest) (holders_high (a + 1) n (omega arith) ∙ ap (λ k. range_with_len k n) shifted)
+
+  -- the user tasks in header order, then the idle tasks
+  holders_all : map holder (numbers (cores + users)) ≡ range_with_len cores users ++ numbers cores
+  holders_all =
+      let sum : cores + users ≡ users + cores = omega arith in
+      let low = holders_low 0 users (omega arith) ∙ ap (λ k. range_with_len k users) (add-zero cores) in
+      let from : 0 + users ≡ users = omega arith in
+      let none : users - users ≡ 0 = omega arith in
+      let high = ap (λ k. map holder (range_with_len k cores)) from ∙ holders_high users cores (omega arith) ∙ ap (λ k. range_with_len k cores) none in
+      ap (λ n. map holder (numbers n)) sum ∙ ap (map holder) (range_parts 0 users cores) ∙ map-append holder (range_with_len 0 users) (range_with_len (0 + users) cores) ∙ ap (λ xs. xs ++ map holder (range_with_len (0 + users) cores)) low ∙ ap (λ ys. range_with_len cores users ++ ys) high
+
+  ready_first : standing_so stands_ready first ≡ range_with_len cores users ++ numbers cores
+  ready_first =
+      ap (λ n. by_stamp (stamp_of first) (λ i. stands_ready (row_at first i).standing) (numbers n) first.next) first_length
+      ∙ ap (λ bound. by_stamp (stamp_of first) (λ i. stands_ready (row_at first i).standing) (numbers (cores + users)) bound) first_next
+      ∙ by_stamp_listed (stamp_of first) holder (λ i. stands_ready (row_at first i).standing) (cores + users) (cores + users) (λ i low. ap stands_ready (standing_first i low)) holders first_once
+      ∙ holders_all
+
+  waiting_first : standing_so waits first ≡ []
+  waiting_first = by_stamp_none (stamp_of first) (λ i. waits (row_at first i).standing) (numbers (length first.rows)) first.next
+      (All-weaker (λ i. i < length first.rows) (λ i. waits (row_at first i).standing ≡ false) (λ i low. ap waits (standing_first i (omega (arith, first_length)))) (numbers (length first.rows)) (numbers_below (length first.rows)))
+
+  -- seen as lists, before any core has selected
+  first_seen : lists_of (first_control header) first ≡ first_lists header
+  unfolding first_lists first_stamps ranked
+  first_seen = seen_from (first_control header) first (range_with_len cores users ++ numbers cores) [] ready_first waiting_first
+
+  pub first_cores : length (first_control header).cores ≡ cores
+  first_cores = length-map-range_with_len first_look 0 cores
+
+  first_core : (c : ℕ) → c < cores → core_at (first_control header) c ≡ first_look c
+  first_core c low = get_or-map-range_with_len first_look 0 cores c c (record { current = 0; pend = false; asked = false }) low (omega arith)
+
+  first_current : (c : ℕ) → c < cores → current (first_control header) c ≡ c
+  first_current c low = ap (λ (l : CoreLook). l.current) (first_core c low)
+
+  first_ready : (i : ℕ) → i < cores + users → is_ready i first ≡ true
+  first_ready i low = ap stands_ready (standing_first i low)
+
+  first_placed : IsPlaced (first_control header) first
+  first_placed = record {
+    is_task = λ c low. omega (arith, first_cores, first_length, first_current c (omega (arith, first_cores)));
+    on_one_core = λ c d low high same. omega (arith, first_current c (omega (arith, first_cores)), first_current d (omega (arith, first_cores)), same);
+    blocked_is_due = λ c low waits. absurd (cc (first_ready (current (first_control header) c) (omega (arith, first_cores, first_current c (omega (arith, first_cores)))), waits));
+    idle_is_ready = λ i low. first_ready i (omega (arith, first_cores));
+  }
+
+  first_in_time : WakesInTime first
+  first_in_time i wake low waits = absurd (cc (standing_first i (omega (arith, first_length)), waits))
+
+  pub first_tasks : length (first_control header).tasks ≡ cores + users
+  first_tasks = omega (arith, length-append (replicate cores (idle_control cores)) (map (user_control cores) header.tasks), length-replicate cores (idle_control cores), length-map header.tasks (user_control cores))
+
+  first_priorities : IsChecked header → (i : ℕ) → i < cores + users → (task_at (first_control header) i).in_use < header.config.priorities
+  first_priorities valid i low = elim (cases_lt i cores) [
+    | inl idle ↦
+        let at = get_or_append_left (replicate cores (idle_control cores)) (map (user_control cores) header.tasks) (record { in_use = 0; mask = 0 }) i (omega (arith, length-replicate cores (idle_control cores))) ∙ get_or-replicate cores i (idle_control cores) (record { in_use = 0; mask = 0 }) idle in
+        omega (arith, ap (λ (t : TaskControl). t.in_use) at, valid.some_priority)
+    | inr user ↦
+        let at = get_or-append_right (replicate cores (idle_control cores)) (map (user_control cores) header.tasks) cores i (record { in_use = 0; mask = 0 }) (length-replicate cores (idle_control cores)) user ∙ get_or-map (user_control cores) header.tasks (i - cores) no_args (record { in_use = 0; mask = 0 }) (omega arith) in
+        omega (arith, ap (λ (t : TaskControl). t.in_use) at, valid_priority header.config header.tasks valid.args (i - cores) (omega arith))
+  ]
+
+  first_calls : (i : ℕ) (call : Call) → call_at (replicate (cores + users) None) i ≡ Some call → IsCheckedCall (settings_of header) call
+  first_calls i call found = absurd (cc (none_called (cores + users) i, found))
+
+  pub first_sound : IsChecked header → IsSound (unstarted first header)
+  unfolding unstarted
+  first_sound valid = record {
+    sized = record {
+      cores = first_cores;
+      controls = first_tasks;
+      calls = length-replicate (cores + users) None;
+      rows = first_length;
+      some_core = valid.some_core;
+      idle_tasks = omega arith;
+    };
+    stamped = first_stamped;
+    in_place = first_placed;
+    in_time = first_in_time;
+    priorities = first_priorities valid;
+    calls = first_calls;
+  }
+
+-- cores that switch in turn, from a sound table
+pub switched_length : (core : ℕ) (table : Table) → length (switched table_moves core table).control.cores ≡ length table.control.cores
+unfolding switched
+switched_length core table = length-set table.control.cores core _
+
+in_turn_sound : (cores : List ℕ) (table : Table) → AllByRecursion (λ c. c < length table.control.cores) cores → IsSound table → IsSound (fold (λ table core. switched table_moves core table) table cores)
+in_turn_sound [] table all sound = sound
+in_turn_sound (core ∷ cores) table all sound = in_turn_sound cores (switched table_moves core table) (All-weaker (λ c. c < length table.control.cores) (λ c. c < length (switched table_moves core table).control.cores) (λ c h. omega (arith, switched_length core table)) cores all.1) (switched_sound core table sound all.0)
+
+in_turn_seen : (cores : List ℕ) (table : Table) → AllByRecursion (λ c. c < length table.control.cores) cores → IsSound table → image (fold (λ table core. switched table_moves core table) table cores) ≡ fold (λ view core. switched list_moves core view) (image table) cores
+in_turn_seen [] table all sound = refl
+in_turn_seen (core ∷ cores) table all sound =
+    in_turn_seen cores (switched table_moves core table) (All-weaker (λ c. c < length table.control.cores) (λ c. c < length (switched table_moves core table).control.cores) (λ c h. omega (arith, switched_length core table)) cores all.1) (switched_sound core table sound all.0)
+    ∙ ap (λ view. fold (λ view core. switched list_moves core view) view cores) (switched_seen core table sound.stamped (sound.in_place.is_task core all.0))
+
+pub unstarted_cores : (header : Header) → length (unstarted (first_stamps header) header).control.cores ≡ header.config.cores
+unfolding unstarted
+unstarted_cores header = first_cores header
+
+first_turns : (header : Header) → AllByRecursion (λ c. c < length (unstarted (first_stamps header) header).control.cores) (numbers header.config.cores)
+unfolding unstarted
+first_turns header = All-weaker (λ c. c < header.config.cores) (λ c. c < length (first_control header).cores) (λ c h. omega (arith, first_cores header)) (numbers header.config.cores) (numbers_below header.config.cores)
+
+pub start_sound : (header : Header) → header_check header ≡ Ok tt → IsSound (start header)
+unfolding started
+start_sound header passes = in_turn_sound (numbers header.config.cores) (unstarted (first_stamps header) header) (first_turns header) (first_sound header (checked header passes))
+
+unstarted_seen : (header : Header) → image (unstarted (first_stamps header) header) ≡ unstarted (first_lists header) header
+unfolding unstarted
+unstarted_seen header = same_state (settings_of header) (first_control header) (first_control header) (replicate (header.config.cores + length header.tasks) None) _ _ refl (first_seen header)
+
+pub start_seen_lem : (header : Header) → header_check header ≡ Ok tt → image (start header) ≡ start_seen header
+unfolding started
+start_seen_lem header passes =
+    in_turn_seen (numbers header.config.cores) (unstarted (first_stamps header) header) (first_turns header) (first_sound header (checked header passes))
+    ∙ ap (λ view. fold (λ view core. switched list_moves core view) view (numbers header.config.cores)) (unstarted_seen header)

@@ -1,0 +1,60 @@
+-- What can be seen of cores and tasks and carries no order, and the words for it.
+use Rattle.std.specs.Prelude.{ℕ, List, length, map, Bool, true, false, not, ◌&&◌, ◌||◌, ◌==◌, nat_lt, if◌then◌else◌, slice_index_or, slice_set}
+use Rattle.std.specs.List.{list_any}
+use Rattle.std.specs.Int.{bit_at}
+use Rattle.bench_types.specs.declared.kernel_data.CoreLook.{CoreLook}
+use Rattle.bench_types.specs.declared.kernel_data.TaskControl.{TaskControl}
+use Rattle.bench_model.specs.Search.{numbers}
+
+-- the cores, core 0 first, and the tasks' control blocks, task 0 first
+pub record Control : Type 0 where
+  pub cores : List CoreLook
+  pub tasks : List TaskControl
+
+abbrev pub core_at : Control → ℕ → CoreLook
+core_at control core = slice_index_or control.cores core (record { current = 0; pend = false; asked = false })
+
+abbrev pub with_core : ℕ → CoreLook → Control → Control
+with_core core look control = record control { cores = slice_set control.cores core look }
+
+abbrev pub task_at : Control → ℕ → TaskControl
+task_at control task = slice_index_or control.tasks task (record { in_use = 0; mask = 0 })
+
+-- the core's current task (V11 tasks.c, pxCurrentTCBs)
+abbrev pub current : Control → ℕ → ℕ
+current control core = (core_at control core).current
+
+-- the current tasks, core 0 first
+abbrev pub running : Control → List ℕ
+running control = map (λ core. core.current) control.cores
+
+-- a core that was asked to switch, by itself or by another (V11 tasks.c, xYieldPendings and prvYieldCore)
+abbrev pub is_due : Control → ℕ → Bool
+is_due control core = (core_at control core).pend || (core_at control core).asked
+
+-- the first tasks are the idle tasks, one for each core (FreeRTOS SMP documentation, idle tasks)
+abbrev pub is_idle : Control → ℕ → Bool
+is_idle control task = nat_lt task (length control.cores)
+
+-- the task may run on the core (FreeRTOS SMP documentation, core affinity mask)
+abbrev pub is_allowed : Control → ℕ → ℕ → Bool
+is_allowed control core task = is_idle control task || bit_at (task_at control task).mask core == 1
+
+-- the task is the current one of another core
+abbrev pub is_elsewhere : Control → ℕ → ℕ → Bool
+is_elsewhere control core task = list_any (λ other. not (other == core) && current control other == task) (numbers (length control.cores))
+
+-- the core may select the task where it is ready (V11 tasks.c, prvSelectHighestPriorityTask)
+abbrev pub may_select : Control → ℕ → ℕ → Bool
+may_select control core task = is_allowed control core task && not (is_elsewhere control core task)
+
+-- Asking a core: the core that acts notes it for itself, another is interrupted (V11 tasks.c, prvYieldCore).
+abbrev pub asked_by : ℕ → ℕ → CoreLook → CoreLook
+asked_by acting core look = if core == acting then record look { pend = true } else record look { asked = true }
+
+abbrev pub ask : ℕ → ℕ → Control → Control
+ask acting core control = with_core core (asked_by acting core (core_at control core)) control
+
+-- the core runs the task and is due no more
+abbrev pub run_on : ℕ → ℕ → Control → Control
+run_on core task control = with_core core (record { current = task; pend = false; asked = false }) control

@@ -1,0 +1,71 @@
+-- Worked sessions, and tables that are equal or not.
+use Rattle.std.specs.Prelude.{◌≡◌, ℕ, ◌+◌, ◌*◌, ◌^◌, List, [], ◌∷◌, length, map, Option, Some, false, codes, slice_set}
+use Rattle.bench_types.specs.declared.header.Header.{Header}
+use Rattle.bench_types.specs.declared.header.TaskArgs.{TaskArgs}
+use Rattle.bench_types.specs.declared.reply.Reply.{Reply}
+use Rattle.bench_types.specs.declared.reply.Reply.TheVariants.{Done, Refused}
+use Rattle.bench_types.specs.declared.reply.Reply.TheVariants as reply
+use Rattle.bench_types.specs.declared.reply.Refusal.TheVariants.{InCall, NotInCall, NotDue}
+use Rattle.bench_types.specs.declared.step.Step.{Step}
+use Rattle.bench_types.specs.declared.step.Step.TheVariants.{Tick, Switch, Call}
+use Rattle.bench_types.specs.declared.step.Call.TheVariants.{Yield, Delay, Finish}
+use Rattle.bench_model.specs.declared.row.TaskRow.{TaskRow}
+use Rattle.bench_model.specs.declared.row.Standing.{Standing}
+use Rattle.bench_model.specs.declared.row.Standing.TheVariants.{Ready, Blocked}
+use Rattle.bench_model.specs.Search.{numbers}
+use Rattle.bench_model.specs.Control.{running}
+use Rattle.bench_model.specs.Table.{Table, row_at}
+use Rattle.bench_model.specs.Start.{start}
+use Rattle.bench_model.specs.Session.{state_at, outcome_at}
+use Rattle.bench_model.specs.Equal.{Same}
+
+abbrev pub task : List ℕ → ℕ → TaskArgs
+task name priority = record { name = name; priority = priority; mask = 3 }
+
+-- 2 cores, 5 priorities, and the tasks, each on both cores
+abbrev pub session_of : List TaskArgs → Header
+session_of tasks = record { config = record { cores = 2; priorities = 5; slicing = false; tick = 0; mutexes = 0 }; tasks = tasks }
+
+-- the tasks 2, 3 and 4, and the task 2 alone
+abbrev pub three_tasks : Header
+three_tasks = session_of (task (codes "A") 2 ∷ task (codes "B") 1 ∷ task (codes "C") 1 ∷ [])
+
+abbrev pub one_task : Header
+one_task = session_of (task (codes "A") 2 ∷ [])
+
+abbrev pub at_start : Header → List ℕ
+at_start header = running (start header).control
+
+abbrev pub outcomes : Header → List Step → List (Option (Reply × List ℕ))
+outcomes header steps = map (outcome_at header steps) (numbers (length steps))
+
+pub record WorkedSessions : Type 0 where
+  pub starts : at_start three_tasks ≡ 2 ∷ 3 ∷ []
+  pub first_run : outcomes three_tasks (Call 0 2 (Delay 2) ∷ Switch 0 ∷ Tick ∷ Call 0 4 Yield ∷ Switch 0 ∷ []) ≡ Some (reply.Blocked, 2 ∷ 3 ∷ []) ∷ Some (Done, 4 ∷ 3 ∷ []) ∷ Some (Done, 4 ∷ 3 ∷ []) ∷ Some (Done, 4 ∷ 3 ∷ []) ∷ Some (Done, 4 ∷ 3 ∷ []) ∷ []
+  pub not_due : outcomes three_tasks (Switch 0 ∷ []) ≡ Some ((Refused NotDue), 2 ∷ 3 ∷ []) ∷ []
+  pub starts_alone : at_start one_task ≡ 2 ∷ 0 ∷ []
+  pub alone : outcomes one_task (Tick ∷ Switch 1 ∷ []) ≡ Some (Done, 2 ∷ 0 ∷ []) ∷ Some ((Refused NotDue), 2 ∷ 0 ∷ []) ∷ []
+  pub finishes : outcomes three_tasks (Call 0 2 (Delay 1) ∷ Tick ∷ Switch 0 ∷ Call 0 2 Yield ∷ Call 0 2 Finish ∷ Call 0 2 Finish ∷ []) ≡ Some (reply.Blocked, 2 ∷ 3 ∷ []) ∷ Some (Done, 2 ∷ 3 ∷ []) ∷ Some (Done, 2 ∷ 3 ∷ []) ∷ Some ((Refused InCall), 2 ∷ 3 ∷ []) ∷ Some (Done, 2 ∷ 3 ∷ []) ∷ Some ((Refused NotInCall), 2 ∷ 3 ∷ []) ∷ []
+
+-- a table with a task that waits
+abbrev pub waiting : Table
+waiting = state_at three_tasks (Call 0 2 (Delay 2) ∷ []) 1
+
+-- one turn of the tick count later, every stamp twice what it was
+abbrev pub wake_later : Standing → Standing
+wake_later Ready = Ready
+wake_later (Blocked wake) = Blocked (wake + 2 ^ 32)
+
+abbrev pub row_later : TaskRow → TaskRow
+row_later row = record { stamp = 2 * row.stamp; standing = wake_later row.standing }
+
+abbrev pub later : Table → Table
+later table = let stamps = table.orders in record table { orders = record { rows = map row_later stamps.rows; tick = stamps.tick + 2 ^ 32; next = 2 * stamps.next } }
+
+-- two tasks with each other's rows
+abbrev pub exchanged : ℕ → ℕ → Table → Table
+exchanged i j table = let stamps = table.orders in record table { orders = record stamps { rows = slice_set (slice_set stamps.rows i (row_at stamps j)) j (row_at stamps i) } }
+
+pub record EqualTables : Type 0 where
+  pub other_stamps : Same waiting (later waiting)
+  pub other_order : ¬ Same waiting (exchanged 3 4 waiting)

@@ -1,0 +1,13 @@
+pub mod Control
+pub mod Equal
+pub mod Examples
+pub mod Laws
+pub mod Lists
+pub mod Search
+pub mod Session
+pub mod Sound
+pub mod Start
+pub mod SlowDue
+pub mod SlowTable
+pub mod State
+pub mod Table

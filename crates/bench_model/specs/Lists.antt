@@ -1,0 +1,81 @@
+-- What can be seen of a kernel: its orders as lists, the tick count as 32 bits, and how long each task still waits.
+use Rattle.std.specs.Prelude.{ℕ, ◌+◌, ◌-◌, ◌%◌, ◌^◌, List, map, filter, find, Bool, not, ◌==◌, nat_le, Option, unwrap_or, is_some}
+use Rattle.bench_types.specs.declared.kernel_data.Delayed.{Delayed}
+use Rattle.bench_model.specs.Control.{Control, task_at, may_select}
+use Rattle.bench_model.specs.State.{State, Moves}
+use Rattle.bench_model.specs.Search.{by_stamp, placed, ranked, without, has}
+use Rattle.bench_model.specs.Table.{Stamps, Table, row_at, stamp_of, tasks_of, stands_ready, wake_in}
+
+pub record Lists : Type 0 where
+  -- the ready tasks, running ones too: the greatest priority in use first, each priority in the order of its ready list
+  pub ready : List ℕ
+  -- the tick count
+  pub tick : ℕ
+  -- the blocked tasks with ticks left: the fewest first, those of one number in the order in which they began to wait
+  pub delayed : List Delayed
+
+abbrev pub View : Type 0
+View = State Lists
+
+-- a task stays in front of another of no greater priority in use
+abbrev pub outranks : Control → ℕ → ℕ → Bool
+outranks control i j = nat_le (task_at control j).in_use (task_at control i).in_use
+
+-- a waiting task stays in front of another that waits as long or longer
+abbrev pub wakes_first : Delayed → Delayed → Bool
+wakes_first a b = nat_le a.left b.left
+
+abbrev pub is_ready : ℕ → Lists → Bool
+is_ready task lists = has task lists.ready
+
+-- the first of the ready lists that the core may select, from the greatest priority down
+unfoldable pub pick : Control → ℕ → Lists → Option ℕ
+pick control core lists = find (may_select control core) lists.ready
+
+unfoldable pub make_ready : Control → ℕ → Lists → Lists
+make_ready control task lists = record lists {
+  ready = placed (outranks control) task (without task lists.ready);
+  delayed = filter (λ entry. not (entry.task == task)) lists.delayed;
+}
+
+unfoldable pub delay : ℕ → ℕ → Lists → Lists
+delay task ticks lists = record lists {
+  ready = without task lists.ready;
+  delayed = placed wakes_first (record { task = task; left = ticks }) lists.delayed;
+}
+
+-- the tick count wraps, and each waiting task has one tick less left
+unfoldable pub advance : Lists → Lists
+advance lists = record lists {
+  tick = (lists.tick + 1) % 2 ^ 32;
+  delayed = map (λ (entry : Delayed). record entry { left = entry.left - 1 }) lists.delayed;
+}
+
+unfoldable pub due : Lists → List ℕ
+due lists = map (λ entry. entry.task) (filter (λ entry. entry.left == 0) lists.delayed)
+
+abbrev pub list_moves : Moves Lists
+list_moves = record {
+  is_ready = is_ready;
+  pick = pick;
+  make_ready = make_ready;
+  delay = delay;
+  advance = advance;
+  due = due;
+}
+
+-- the task with the ticks left to its wake
+abbrev pub delayed_of : Stamps → ℕ → Delayed
+delayed_of stamps task = record { task = task; left = unwrap_or (wake_in (row_at stamps task).standing) 0 - stamps.tick }
+
+-- What can be seen of stamps and wakes.
+unfoldable pub lists_of : Control → Stamps → Lists
+lists_of control stamps = let in_order = λ (test : ℕ → Bool). by_stamp (stamp_of stamps) test (tasks_of stamps) stamps.next in record {
+  ready = ranked (outranks control) (in_order (λ task. stands_ready (row_at stamps task).standing));
+  tick = stamps.tick % 2 ^ 32;
+  delayed = ranked wakes_first (map (delayed_of stamps) (in_order (λ task. is_some (wake_in (row_at stamps task).standing))));
+}
+
+-- What can be seen of a table.
+abbrev pub image : Table → View
+image table = record { settings = table.settings; control = table.control; calls = table.calls; orders = lists_of table.control table.orders }

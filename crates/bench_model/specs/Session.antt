@@ -1,0 +1,30 @@
+-- A session's states and replies: its steps folded from the start of its header.
+use Rattle.std.specs.Prelude.{ℕ, suc, List, fold, take, Option, option_map, slice_get}
+use Rattle.arrayvec.specs.ArrayVec.{ArrayVec}
+use Rattle.bench_types.specs.declared.header.Header.{Header}
+use Rattle.bench_types.specs.declared.reply.Reply.{Reply}
+use Rattle.bench_types.specs.declared.step.Step.{Step}
+use Rattle.bench_model.specs.Control.{running}
+use Rattle.bench_model.specs.State.{after}
+use Rattle.bench_model.specs.Table.{Table, table_moves}
+use Rattle.bench_model.specs.Start.{start}
+
+-- the step over the table
+abbrev pub step_of : Step → Table → Reply × Table
+step_of = after table_moves
+
+-- the state at a place: after so many steps
+unfoldable pub state_at : Header → List Step → ℕ → Table
+state_at header steps place = fold (λ table step. (step_of step table).1) (start header) (take place steps)
+
+-- the reply of the step at a place, none past the last
+unfoldable pub reply_at : Header → List Step → ℕ → Option Reply
+reply_at header steps place = option_map (λ step. (step_of step (state_at header steps place)).0) (slice_get steps place)
+
+-- the reply of the step at a place with the tasks that run behind it, core by core
+abbrev pub outcome_at : Header → List Step → ℕ → Option (Reply × List ℕ)
+outcome_at header steps place = option_map (λ reply. (reply, running (state_at header steps (suc place)).control)) (reply_at header steps place)
+
+-- an outcome with its row as a list
+abbrev pub shown : Reply × ArrayVec ℕ → Reply × List ℕ
+shown outcome = (outcome.0, outcome.1.items)

@@ -1,0 +1,50 @@
+-- What the table of every kernel keeps.
+use Rattle.std.specs.Prelude.{◌≡◌, ℕ, ◌+◌, ◌<◌, ◌≤◌, ◌^◌, length, true, false, Some}
+use Rattle.bench_types.specs.declared.step.Step.{Step}
+use Rattle.bench_types.specs.declared.step.Step.TheVariants.{Tick, Switch}
+use Rattle.bench_types.specs.declared.step.Step.TheVariants as steps
+use Rattle.bench_types.specs.declared.step.Call.{Call}
+use Rattle.bench_types.specs.Step.{IsCheckedCall}
+use Rattle.bench_model.specs.declared.row.Standing.TheVariants.{Blocked}
+use Rattle.bench_model.specs.Control.{Control, current, is_due, task_at}
+use Rattle.bench_model.specs.State.{call_at}
+use Rattle.bench_model.specs.Table.{Stamps, Table, row_at, stamp_of, is_ready}
+
+-- there is a row, a control block and an unfinished call or none for each task, and an idle task for each core
+pub record IsSized (table : Table) : Type 0 where
+  pub cores : length table.control.cores ≡ table.settings.cores
+  pub controls : length table.control.tasks ≡ table.settings.tasks
+  pub calls : length table.calls ≡ table.settings.tasks
+  pub rows : length table.orders.rows ≡ table.settings.tasks
+  pub some_core : 0 < table.settings.cores
+  pub idle_tasks : table.settings.cores ≤ table.settings.tasks
+
+-- every stamp was given once
+pub record IsStamped (stamps : Stamps) : Type 0 where
+  pub given : (i : ℕ) → i < length stamps.rows → stamp_of stamps i < stamps.next
+  pub once : (i j : ℕ) → i < length stamps.rows → j < length stamps.rows → stamp_of stamps i ≡ stamp_of stamps j → i ≡ j
+
+-- each core has one current task, no task is on two cores, and a core whose current task is blocked is due
+pub record IsPlaced (control : Control) (stamps : Stamps) : Type 0 where
+  pub is_task : (c : ℕ) → c < length control.cores → current control c < length stamps.rows
+  pub on_one_core : (c d : ℕ) → c < length control.cores → d < length control.cores → current control c ≡ current control d → c ≡ d
+  pub blocked_is_due : (c : ℕ) → c < length control.cores → is_ready (current control c) stamps ≡ false → is_due control c ≡ true
+  pub idle_is_ready : (i : ℕ) → i < length control.cores → is_ready i stamps ≡ true
+
+-- a blocked task is woken after 1 to 4294967295 ticks
+abbrev pub WakesInTime : Stamps → Type 0
+WakesInTime stamps = (i wake : ℕ) → i < length stamps.rows → (row_at stamps i).standing ≡ Blocked wake → (stamps.tick < wake) × (wake < stamps.tick + 2 ^ 32)
+
+pub record IsSound (table : Table) : Type 0 where
+  pub sized : IsSized table
+  pub stamped : IsStamped table.orders
+  pub in_place : IsPlaced table.control table.orders
+  pub in_time : WakesInTime table.orders
+  pub priorities : (i : ℕ) → i < table.settings.tasks → (task_at table.control i).in_use < table.settings.priorities
+  pub calls : (i : ℕ) (call : Call) → call_at table.calls i ≡ Some call → IsCheckedCall table.settings call
+
+-- what a checked step that is not refused finds: its core, and for a call its ready task there
+abbrev pub IsInPlace : Table → Step → Type 0
+IsInPlace table Tick = Unit {0}
+IsInPlace table (Switch core) = core < length table.control.cores
+IsInPlace table (steps.Call core task call) = (core < length table.control.cores) × (current table.control core ≡ task) × (task < length table.orders.rows) × (is_ready task table.orders ≡ true)

@@ -1,0 +1,73 @@
+-- The start of a kernel (V11 tasks.c, vTaskStartScheduler).
+use Rattle.std.specs.Prelude.{ℕ, ◌+◌, ◌-◌, ◌%◌, ◌^◌, [], ◌++◌, length, map, fold, replicate, false, None}
+use Rattle.std.specs.List.{range_with_len}
+use Rattle.bench_types.specs.declared.header.Header.{Header}
+use Rattle.bench_types.specs.declared.header.TaskArgs.{TaskArgs}
+use Rattle.bench_types.specs.declared.kernel_data.CoreLook.{CoreLook}
+use Rattle.bench_types.specs.declared.kernel_data.TaskControl.{TaskControl}
+use Rattle.bench_types.specs.Header.{cores_of_mask}
+use Rattle.bench_types.specs.Step.{settings_of}
+use Rattle.bench_model.specs.declared.row.TaskRow.{TaskRow}
+use Rattle.bench_model.specs.declared.row.Standing.TheVariants.{Ready}
+use Rattle.bench_model.specs.Search.{numbers, ranked}
+use Rattle.bench_model.specs.Control.{Control}
+use Rattle.bench_model.specs.State.{State, Moves, switched}
+use Rattle.bench_model.specs.Table.{Stamps, Table, table_moves}
+use Rattle.bench_model.specs.Lists.{Lists, View, list_moves, outranks}
+
+-- an idle task has priority 0 and may run on every core
+abbrev pub idle_control : ℕ → TaskControl
+idle_control cores = record { in_use = 0; mask = 2 ^ cores - 1 }
+
+abbrev pub user_control : ℕ → TaskArgs → TaskControl
+user_control cores args = record { in_use = args.priority; mask = cores_of_mask cores args.mask }
+
+-- core c has idle task c and no flag
+abbrev pub first_look : ℕ → CoreLook
+first_look core = record { current = core; pend = false; asked = false }
+
+abbrev pub first_control : Header → Control
+first_control header = let cores = header.config.cores in record {
+  cores = map first_look (numbers cores);
+  tasks = replicate cores (idle_control cores) ++ map (user_control cores) header.tasks;
+}
+
+-- all tasks are ready: the user tasks in header order, the idle tasks behind them
+abbrev pub ready_row : ℕ → TaskRow
+ready_row stamp = record { stamp = stamp; standing = Ready }
+
+unfoldable pub first_stamps : Header → Stamps
+first_stamps header = let cores = header.config.cores in let users = length header.tasks in record {
+  rows = map (λ core. ready_row (users + core)) (numbers cores) ++ map ready_row (numbers users);
+  tick = header.config.tick;
+  next = cores + users;
+}
+
+-- the same as lists
+unfoldable pub first_lists : Header → Lists
+first_lists header = let cores = header.config.cores in record {
+  ready = ranked (outranks (first_control header)) (range_with_len cores (length header.tasks) ++ numbers cores);
+  tick = header.config.tick % 2 ^ 32;
+  delayed = [];
+}
+
+module _ {Orders : Type 0} where
+  -- before any core has selected
+  unfoldable pub unstarted : Orders → Header → State Orders
+  unstarted orders header = record {
+    settings = settings_of header;
+    control = first_control header;
+    calls = replicate (header.config.cores + length header.tasks) None;
+    orders = orders;
+  }
+
+  -- then each core selects, core 0 first
+  unfoldable pub started : Moves Orders → Orders → Header → State Orders
+  started moves orders header = fold (λ kernel core. switched moves core kernel) (unstarted orders header) (numbers header.config.cores)
+
+-- the table of a kernel that was just started, and what can be seen of it
+abbrev pub start : Header → Table
+start header = started table_moves (first_stamps header) header
+
+abbrev pub start_seen : Header → View
+start_seen header = started list_moves (first_lists header) header

@@ -1,0 +1,11 @@
+//! The definitions of the kernel: a flat table whose choices are searches, the laws over it, and a plain replay of it.
+#![tactic(auto)]
+
+pub mod laws;
+mod row;
+mod slow;
+#[cfg(test)]
+mod tests;
+
+pub use row::{Standing, TaskRow};
+pub use slow::replay_slow;

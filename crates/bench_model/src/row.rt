@@ -1,0 +1,15 @@
+/// Whether a task is ready or blocked.
+#[derive(Clone, Copy, Debug, PartialEq, Eq)]
+pub enum Standing {
+    Ready,
+    /// Blocked until the tick count of the table is `wake`, in ticks.
+    Blocked { wake: u128 },
+}
+
+/// What the table keeps of a task's places in the kernel's lists.
+#[derive(Clone, Copy, Debug, PartialEq, Eq)]
+pub struct TaskRow {
+    /// The greater the stamp, the later the task came to where it stands. No two tasks have one stamp.
+    pub stamp: u128,
+    pub standing: Standing,
+}

@@ -1,0 +1,517 @@
+ghost use Rattle.std.specs.Prelude.{◌≡◌, ℕ, ◌<◌, ◌≤◌, ◌^◌, ◌+◌, ◌==◌, ◌&&◌, length, ◌++◌, map, replicate, option_map, slice_get, All, None, IfOk, IfSome, nat_le, Ok};
+ghost use Rattle.bench_types.specs.Step.{step_check, settings_of, IsStepOfWords};
+ghost use Rattle.bench_types.specs.Header.{header_check};
+ghost use Rattle.bench_model.specs.Control.{is_elsewhere, is_allowed, may_select, is_due, current, run_on, running};
+ghost use Rattle.bench_model.specs.State.{call_refusal, refusal, switched, ticked, yielded, blocked, called, performed};
+ghost use Rattle.bench_model.specs.Sound.{IsSound, IsInPlace};
+ghost use Rattle.bench_model.specs.Session.{step_of, outcome_at, shown};
+ghost use Rattle.bench_model.specs.Table.{table_moves, advance, make_ready, is_ready, goes_before, pick, row_at, stamp_of, tasks_of, wakes_at};
+ghost use Rattle.bench_model.specs.Search.{is_best, numbers};
+ghost use Rattle.bench_model.specs.Start.{first_look, ready_row, idle_control, user_control, first_control, first_stamps, unstarted, start};
+ghost use Rattle.bench_model.specs.SlowDue.{first_due};
+
+use crate::{Standing, TaskRow};
+use bench_types::{
+    Call, CoreLook, Header, Refusal, Reply, Row, Settings, Step, TaskArgs, TaskControl,
+};
+use std::alloc::{AllocError, Global};
+use std::marker::Model;
+use std::ops::Range;
+
+/// The flat table as it is defined: a row a task, stamps and absolute wakes, searched whole.
+#[derive(Drop)]
+struct SlowTable {
+    settings: Settings,
+    cores: Vec<CoreLook>,
+    tasks: Vec<TaskControl>,
+    calls: Vec<Option<Call>>,
+    rows: Vec<TaskRow>,
+    tick: u128,
+    next: u128,
+}
+
+impl Model for SlowTable {
+    ghost use Rattle.bench_model.specs.Table.{Table};
+
+    ghost Value = { Table };
+
+    ghost use Rattle.bench_model.specs.SlowTable.{IsFit};
+
+    ghost view = { λ t. record {
+      settings = t.settings;
+      control = record { cores = t.cores.items; tasks = t.tasks.items };
+      calls = t.calls.items;
+      orders = record { rows = t.rows.items; tick = t.tick; next = t.next };
+    } };
+
+    ghost invariant = { IsFit };
+}
+
+impl SlowTable {
+    fn core_numbers(&self) -> Range<u32>
+        ensures numbers { result ≡ record { start = 0; end = length self.now.control.cores } }
+        ensures few { length self.now.control.cores ≤ 8 }
+        ensures settings { self.now.settings.cores ≡ length self.now.control.cores }
+    {
+        0..self.settings.cores
+    }
+
+    fn task_numbers(&self) -> Range<u32>
+        ensures numbers { result ≡ record { start = 0; end = length self.now.orders.rows } }
+        ensures settings { self.now.settings.tasks ≡ length self.now.orders.rows }
+    {
+        0..self.settings.tasks
+    }
+
+    fn is_ready(&self, task: u32) -> bool
+        requires { task < length self.now.orders.rows }
+        ensures { result ≡ is_ready task self.now.orders }
+    {
+        match self.rows[task as usize].standing {
+            Standing::Ready => true,
+            Standing::Blocked { .. } => false,
+        }
+    }
+
+    fn runs_on(&self, core: u32, task: u32) -> bool
+        requires { core < length self.now.control.cores }
+        ensures { result ≡ (current self.now.control core == task) }
+    {
+        self.cores[core as usize].current == task
+    }
+
+    fn is_elsewhere(&self, core: u32, task: u32) -> bool
+        ensures { result ≡ is_elsewhere self.now.control core task }
+    {
+        self.core_numbers()
+            .any(|other| other != core && self.runs_on(other, task))
+    }
+
+    fn is_allowed(&self, core: u32, task: u32) -> bool
+        requires core { core < length self.now.control.cores }
+        requires task { task < length self.now.orders.rows }
+        ensures { result ≡ is_allowed self.now.control core task }
+    {
+        task < self.settings.cores || (self.tasks[task as usize].mask >> core) & 1 == 1
+    }
+
+    fn can_select(&self, core: u32, task: u32) -> bool
+        requires core { core < length self.now.control.cores }
+        requires task { task < length self.now.orders.rows }
+        ensures { result ≡ (is_ready task self.now.orders && may_select self.now.control core task) }
+    {
+        self.is_ready(task) && self.is_allowed(core, task) && !self.is_elsewhere(core, task)
+    }
+
+    fn is_no_later(&self, one: u32, other: u32) -> bool
+        requires one { one < length self.now.orders.rows }
+        requires other { other < length self.now.orders.rows }
+        ensures { result ≡ nat_le (stamp_of self.now.orders one) (stamp_of self.now.orders other) }
+    {
+        self.rows[one as usize].stamp <= self.rows[other as usize].stamp
+    }
+
+    fn goes_before(&self, one: u32, other: u32) -> bool
+        requires one { one < length self.now.orders.rows }
+        requires other { other < length self.now.orders.rows }
+        ensures { result ≡ goes_before self.now.control self.now.orders one other }
+    {
+        let a = self.tasks[one as usize].in_use;
+        let b = self.tasks[other as usize].in_use;
+        b < a || (a == b && self.is_no_later(one, other))
+    }
+
+    // Whether the core may select the task and none that it may select goes before it.
+    fn is_best(&self, core: u32, task: u32) -> bool
+        requires core { core < length self.now.control.cores }
+        requires task { task < length self.now.orders.rows }
+        ensures { result ≡ is_best (λ i. is_ready i self.now.orders && may_select self.now.control core i) (goes_before self.now.control self.now.orders) (tasks_of self.now.orders) task }
+    {
+        self.can_select(core, task)
+            && self.task_numbers().all(|other| !self.can_select(core, other)
+                || self.goes_before(task, other))
+    }
+
+    fn pick(&self, core: u32) -> Option<u32>
+        requires { core < length self.now.control.cores }
+        ensures picked { result ≡ pick self.now.control core self.now.orders }
+        ensures task { IfSome result (λ task. task < length self.now.orders.rows) }
+    {
+        self.task_numbers().find(|task| self.is_best(core, *task))
+    }
+
+    fn is_due_now(&self, task: u32) -> bool
+        requires { task < length self.now.orders.rows }
+        ensures { result ≡ wakes_at self.now.orders.tick (row_at self.now.orders task).standing }
+    {
+        match self.rows[task as usize].standing {
+            Standing::Ready => false,
+            Standing::Blocked { wake } => wake == self.tick,
+        }
+    }
+
+    // Whether the task is due and none that is due has a smaller stamp.
+    fn is_first_due(&self, task: u32) -> bool
+        requires { task < length self.now.orders.rows }
+        ensures { result ≡ is_best (λ i. wakes_at self.now.orders.tick (row_at self.now.orders i).standing) (λ i j. nat_le (stamp_of self.now.orders i) (stamp_of self.now.orders j)) (tasks_of self.now.orders) task }
+    {
+        self.is_due_now(task)
+            && self.task_numbers().all(|other| !self.is_due_now(other)
+                || self.is_no_later(task, other))
+    }
+
+    fn first_due(&self) -> Option<u32>
+        ensures first { result ≡ first_due self.now.orders }
+        ensures task { IfSome result (λ task. task < length self.now.orders.rows) }
+    {
+        self.task_numbers().find(|task| self.is_first_due(*task))
+    }
+
+    #[tactic(auto, unfolding(crate::specs::Table::make_ready))]
+    fn make_ready(&mut self, task: u32)
+        requires task { task < length self.old.orders.rows }
+        requires room { self.old.orders.next + 1 < 2 ^ 128 }
+        ensures { self.new ≡ record self.old { orders = make_ready task self.old.orders } }
+    {
+        self.rows[task as usize] = TaskRow {
+            stamp: self.next,
+            standing: Standing::Ready,
+        };
+        self.next += 1;
+    }
+
+    #[tactic(auto, unfolding(crate::specs::State::yielded))]
+    fn ask_itself(&mut self, core: u32)
+        requires { core < length self.old.control.cores }
+        ensures { self.new ≡ yielded table_moves core self.old }
+    {
+        self.cores[core as usize].pend = true;
+    }
+
+    fn run_on(&mut self, core: u32, task: u32)
+        requires { core < length self.old.control.cores }
+        ensures { self.new ≡ record self.old { control = run_on core task self.old.control } }
+    {
+        self.cores[core as usize] = CoreLook {
+            current: task,
+            pend: false,
+            asked: false,
+        };
+    }
+
+    #[tactic(auto, unfolding(crate::specs::State::switched))]
+    fn switch(&mut self, core: u32)
+        requires core { core < length self.old.control.cores }
+        requires task { current self.old.control core < length self.old.orders.rows }
+        requires room { self.old.orders.next + 1 < 2 ^ 128 }
+        ensures { self.new ≡ switched table_moves core self.old }
+    {
+        let left = self.cores[core as usize].current;
+        if self.is_ready(left) {
+            self.make_ready(left);
+        }
+        let task = self.pick(core).unwrap_or(left);
+        self.run_on(core, task);
+    }
+
+    #[tactic(auto, unfolding(crate::specs::Table::advance))]
+    fn count_tick(&mut self)
+        requires { self.old.orders.tick + 1 < 2 ^ 128 }
+        ensures { self.new ≡ record self.old { orders = advance self.old.orders } }
+    {
+        self.tick += 1;
+    }
+
+    // Wakes the tasks that are due one by one.
+    fn advance(&mut self)
+        requires sound { IsSound self.old }
+        requires room { self.old.orders.next + length self.old.orders.rows < 2 ^ 128 }
+        requires time { self.old.orders.tick + 1 < 2 ^ 128 }
+        ensures { self.new ≡ ticked table_moves self.old }
+    {
+        self.count_tick();
+        while let Some(task) = self.first_due() {
+            self.make_ready(task);
+        }
+    }
+
+    #[tactic(auto, unfolding(crate::specs::State::blocked, crate::specs::State::yielded, crate::specs::Table::delay))]
+    fn block(&mut self, core: u32, task: u32, call: Call, ticks: u32)
+        requires core { core < length self.old.control.cores }
+        requires task { task < length self.old.orders.rows }
+        requires room { self.old.orders.next + 1 < 2 ^ 128 }
+        requires time { self.old.orders.tick + ticks < 2 ^ 128 }
+        ensures { self.new ≡ blocked table_moves core task call ticks self.old }
+    {
+        self.rows[task as usize] = TaskRow {
+            stamp: self.next,
+            standing: Standing::Blocked {
+                wake: self.tick + u128::from(ticks),
+            },
+        };
+        self.next += 1;
+        self.calls[task as usize] = Some(call);
+        self.ask_itself(core);
+    }
+
+    #[tactic(auto, unfolding(crate::specs::State::called))]
+    fn call(&mut self, core: u32, task: u32, call: Call) -> Reply
+        requires core { core < length self.old.control.cores }
+        requires task { task < length self.old.orders.rows }
+        requires room { self.old.orders.next + 1 < 2 ^ 128 }
+        requires time { self.old.orders.tick + 2 ^ 32 < 2 ^ 128 }
+        ensures { (result, self.new) ≡ called table_moves core task call self.old }
+    {
+        match call {
+            Call::Delay(ticks) if ticks != 0 => {
+                self.block(core, task, call, ticks);
+                Reply::Blocked
+            }
+            Call::Yield | Call::Delay(_) => {
+                self.ask_itself(core);
+                Reply::Done
+            }
+            Call::Finish => {
+                self.calls[task as usize] = None;
+                Reply::Done
+            }
+        }
+    }
+
+    fn is_due(&self, core: u32) -> bool
+        requires { core < length self.now.control.cores }
+        ensures { result ≡ is_due self.now.control core }
+    {
+        let look = &self.cores[core as usize];
+        look.pend || look.asked
+    }
+
+    #[tactic(auto, unfolding(crate::specs::State::refusal))]
+    fn refusal(&self, step: &Step) -> Option<Refusal>
+        requires { step_check self.now.settings step.now ≡ Ok tt }
+        ensures { result ≡ refusal self.now.control self.now.calls step.now }
+    {
+        match *step {
+            Step::Tick => None,
+            Step::Switch { core } => (!self.is_due(core)).then_some(Refusal::NotDue),
+            Step::Call { core, task, .. } if !self.runs_on(core, task) => Some(Refusal::Displaced),
+            Step::Call { core, .. } if self.is_due(core) => Some(Refusal::SwitchDue),
+            Step::Call { task, call, .. } => call_refusal(self.calls[task as usize], call),
+        }
+    }
+
+    #[tactic(auto, unfolding(crate::specs::State::performed))]
+    fn perform(&mut self, step: &Step) -> Reply
+        requires sound { IsSound self.old }
+        requires fits { IsInPlace self.old step.now }
+        requires room { self.old.orders.next + length self.old.orders.rows < 2 ^ 128 }
+        requires time { self.old.orders.tick + 2 ^ 32 < 2 ^ 128 }
+        ensures { (result, self.new) ≡ performed table_moves step.now self.old }
+    {
+        match *step {
+            Step::Tick => {
+                self.advance();
+                Reply::Done
+            }
+            Step::Switch { core } => {
+                self.switch(core);
+                Reply::Done
+            }
+            Step::Call { core, task, call } => self.call(core, task, call),
+        }
+    }
+
+    #[tactic(auto, unfolding(crate::specs::State::after))]
+    fn step(&mut self, step: Step) -> Reply
+        requires sound { IsSound self.old }
+        requires checked { step_check self.old.settings step ≡ Ok tt }
+        requires room { self.old.orders.next + length self.old.orders.rows < 2 ^ 128 }
+        requires time { self.old.orders.tick + 2 ^ 32 < 2 ^ 128 }
+        ensures outcome { (result, self.new) ≡ step_of step self.old }
+        ensures words { IsStepOfWords step }
+    {
+        match self.refusal(&step) {
+            Some(why) => Reply::Refused(why),
+            None => self.perform(&step),
+        }
+    }
+
+    fn row(&self) -> Row
+        ensures { result.items ≡ running self.now.control }
+    {
+        let mut row = Row::new();
+        for look in &self.cores {
+            row.push(look.current);
+        }
+        row
+    }
+}
+
+fn first_look(core: u32) -> CoreLook
+    ensures { result ≡ first_look core }
+{
+    CoreLook {
+        current: core,
+        pend: false,
+        asked: false,
+    }
+}
+
+fn ready_row(stamp: u32) -> TaskRow
+    ensures { result ≡ ready_row stamp }
+{
+    TaskRow {
+        stamp: u128::from(stamp),
+        standing: Standing::Ready,
+    }
+}
+
+fn first_cores(alloc: Global, cores: u32) -> Result<Vec<CoreLook>, AllocError>
+    ensures { IfOk result (λ looks. looks.items ≡ map first_look (numbers cores)) }
+{
+    (0..cores).map(first_look).collect(alloc)
+}
+
+fn first_rows(alloc: Global, cores: u32, users: u32) -> Result<Vec<TaskRow>, AllocError>
+    requires { cores + users < 2 ^ 32 }
+    ensures { IfOk result (λ rows. rows.items ≡ map (λ core. ready_row (users + core)) (numbers cores) ++ map ready_row (numbers users)) }
+{
+    let idle = (0..cores).map(|core| ready_row(users + core));
+    idle.chain((0..users).map(ready_row)).collect(alloc)
+}
+
+fn no_calls(alloc: Global, tasks: u32) -> Result<Vec<Option<Call>>, AllocError>
+    ensures { IfOk result (λ calls. calls.items ≡ replicate tasks None) }
+{
+    let mut calls = Vec::new(alloc);
+    for _task in 0..tasks {
+        calls.push(None)?;
+    }
+    Ok(calls)
+}
+
+fn idle_control(cores: u32) -> TaskControl
+    requires { cores ≤ 8 }
+    ensures { result ≡ idle_control cores }
+{
+    TaskControl {
+        in_use: 0,
+        mask: (1 << cores) - 1,
+    }
+}
+
+fn user_control(cores: u32, args: &TaskArgs) -> TaskControl
+    requires { cores ≤ 8 }
+    ensures { result ≡ user_control cores args.now }
+{
+    TaskControl {
+        in_use: args.priority,
+        mask: args.mask % (1 << cores),
+    }
+}
+
+fn idle_controls(alloc: Global, cores: u32) -> Result<Vec<TaskControl>, AllocError>
+    requires { cores ≤ 8 }
+    ensures { IfOk result (λ controls. controls.items ≡ replicate cores (idle_control cores)) }
+{
+    let mut controls = Vec::new(alloc);
+    for _core in 0..cores {
+        controls.push(idle_control(cores))?;
+    }
+    Ok(controls)
+}
+
+fn first_controls(alloc: Global, header: &Header) -> Result<Vec<TaskControl>, AllocError>
+    requires { header.now.config.cores ≤ 8 }
+    ensures { IfOk result (λ controls. controls.items ≡ (first_control header.now).tasks) }
+{
+    let cores = header.config.cores;
+    let mut controls = idle_controls(alloc, cores)?;
+    for args in header.tasks.as_slice() {
+        controls.push(user_control(cores, args))?;
+    }
+    Ok(controls)
+}
+
+fn settings_of(header: &Header) -> Settings
+    requires { header.now.config.cores + length header.now.tasks < 2 ^ 32 }
+    ensures { result ≡ settings_of header.now }
+{
+    let config = header.config;
+    Settings {
+        cores: config.cores,
+        priorities: config.priorities,
+        slicing: config.slicing,
+        mutexes: config.mutexes,
+        tasks: config.cores + header.tasks.as_slice().len() as u32,
+    }
+}
+
+#[tactic(auto, unfolding(crate::specs::Start::unstarted, crate::specs::Start::first_stamps))]
+fn unstarted(alloc: Global, header: &Header) -> Result<SlowTable, AllocError>
+    requires cores { header.now.config.cores ≤ 8 }
+    requires tasks { length header.now.tasks ≤ 64 }
+    ensures { IfOk result (λ table. table ≡ unstarted (first_stamps header.now) header.now) }
+{
+    let settings = settings_of(header);
+    let users = settings.tasks - settings.cores;
+    let cores = first_cores(alloc, settings.cores)?;
+    let tasks = first_controls(alloc, header)?;
+    let calls = no_calls(alloc, settings.tasks)?;
+    let rows = first_rows(alloc, settings.cores, users)?;
+    Ok(SlowTable {
+        settings,
+        cores,
+        tasks,
+        calls,
+        rows,
+        tick: u128::from(header.config.tick),
+        next: u128::from(settings.tasks),
+    })
+}
+
+fn start(alloc: Global, header: &Header) -> Result<SlowTable, AllocError>
+    requires { header_check header.now ≡ Ok tt }
+    ensures { IfOk result (λ table. table ≡ start header.now) }
+{
+    let mut table = unstarted(alloc, header)?;
+    for core in 0..header.config.cores {
+        table.switch(core);
+    }
+    Ok(table)
+}
+
+/// Replays the steps on the flat table as it is defined, and gives per step its reply and the tasks that run behind it.
+///
+/// It searches the whole table at each step, so it serves to test faster kernels. It takes the runtime so that a crate
+/// that is handed none can't replay unnoticed.
+pub fn replay_slow<R: Alloc>(
+    _rt: &R,
+    alloc: Global,
+    header: &Header,
+    steps: &[Step],
+) -> Result<Vec<(Reply, Row)>, AllocError>
+    requires header { header_check header.now ≡ Ok tt }
+    requires steps { All (λ step. step_check (settings_of header.now) step ≡ Ok tt) steps.now }
+    ensures { IfOk result (λ outcomes. (place : ℕ) →
+        option_map shown (slice_get outcomes.items place) ≡ outcome_at header.now steps.now place) }
+{
+    let _start = header.config.tick;
+    let mut table = start(alloc, header)?;
+    let mut outcomes = Vec::with_capacity(alloc, steps.len())?;
+    for step in steps {
+        let reply = table.step(*step);
+        outcomes.push((reply, table.row()))?;
+    }
+    Ok(outcomes)
+}
+
+fn call_refusal(unfinished: Option<Call>, call: Call) -> Option<Refusal>
+    ensures { result ≡ call_refusal unfinished call }
+{
+    match (unfinished, call) {
+        (None, Call::Finish) => Some(Refusal::NotInCall),
+        (None, _) | (Some(_), Call::Finish) => None,
+        (Some(_), _) => Some(Refusal::InCall),
+    }
+}

@@ -1,0 +1,6 @@
+mod Accepting
+mod Documents
+mod Lists
+mod Loops
+mod NewNames
+mod Passing

@@ -1,0 +1,14 @@
+-- Arrays: their items are read in order, each at its own place.
+use Rattle.std.specs.Prelude.{ℕ, suc, List, [], ◌∷◌, Result, Ok}
+use Rattle.serde_json.specs.Data.{Data, Items, no_items, item}
+use Rattle.session_text.specs.declared.fault.TextFault.{TextFault}
+use Rattle.session_text.specs.Outcome.{◌>>=◌}
+use Rattle.session_text.specs.Path.{item_path}
+
+-- the items from an index on of the array at a place
+abbrev pub each_at : {A : Type 0} → (List ℕ → Data → Result A TextFault) → List ℕ → ℕ → Items → Result (List A) TextFault
+each_at read at index no_items = Ok []
+each_at read at index (item d rest) = do
+  first ← read (item_path at index) d
+  others ← each_at read at (suc index) rest
+  Ok (first ∷ others)

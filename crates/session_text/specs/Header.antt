@@ -1,0 +1,58 @@
+-- The header of a session: its settings and its user tasks.
+use Rattle.std.specs.Prelude.{ℕ, ◌&&◌, List, [], ◌∷◌, codes, Result, Ok, Err, if◌then◌else◌}
+use Rattle.std.specs.List.{list_all}
+use Rattle.serde_json.specs.Data.{Data}
+use Rattle.bench_types.specs.declared.fault.Fault.{Fault}
+use Rattle.bench_types.specs.declared.fault.Fault.TheVariants.{BadHeader}
+use Rattle.bench_types.specs.declared.header.Config.{Config}
+use Rattle.bench_types.specs.declared.header.TaskArgs.{TaskArgs}
+use Rattle.bench_types.specs.declared.header.Header.{Header}
+use Rattle.bench_types.specs.Header.{is_header}
+use Rattle.bench_types.specs.Name.{is_name}
+use Rattle.session_text.specs.declared.fault.TextFault.{TextFault}
+use Rattle.session_text.specs.Array.{each_at}
+use Rattle.session_text.specs.Member.{object_at, number_at, text_at, flag_at, array_at, only_at}
+use Rattle.session_text.specs.Outcome.{◌>>=◌}
+use Rattle.session_text.specs.Path.{member_path}
+
+unfoldable pub config_at : List ℕ → Data → Result Config TextFault
+config_at at d = do
+  cores ← number_at at (codes "cores") d
+  priorities ← number_at at (codes "priorities") d
+  slicing ← flag_at at (codes "slicing") d
+  tick ← number_at at (codes "tick") d
+  mutexes ← number_at at (codes "mutexes") d
+  Ok (record { cores = cores; priorities = priorities; slicing = slicing; tick = tick; mutexes = mutexes })
+
+abbrev pub task_members : List (List ℕ)
+task_members = codes "name" ∷ codes "priority" ∷ codes "mask" ∷ []
+
+-- a user task, whose name may be any text here
+unfoldable pub task_at : List ℕ → Data → Result TaskArgs TextFault
+task_at at d = do
+  members ← object_at at d
+  name ← text_at at (codes "name") d
+  priority ← number_at at (codes "priority") d
+  mask ← number_at at (codes "mask") d
+  only ← only_at at task_members members
+  Ok (record { name = name; priority = priority; mask = mask })
+
+unfoldable pub tasks_at : List ℕ → Data → Result (List TaskArgs) TextFault
+tasks_at at d = do
+  items ← array_at at (codes "tasks") d
+  each_at task_at (member_path at (codes "tasks")) 0 items
+
+-- F1 where the name is none
+abbrev pub named : TaskArgs → Result TaskArgs Fault
+named task = if is_name task.name then Ok task else Err BadHeader
+
+-- F1 where a name is none, or where the header is outside its limits
+abbrev pub accepted : Header → Result Header Fault
+accepted header = if list_all (λ task. is_name task.name) header.tasks && is_header header then Ok header else Err BadHeader
+
+-- the header, accepted or not: its shape alone is judged
+unfoldable pub header_at : List ℕ → Data → Result (Result Header Fault) TextFault
+header_at at d = do
+  config ← config_at at d
+  tasks ← tasks_at at d
+  Ok (accepted (record { config = config; tasks = tasks }))

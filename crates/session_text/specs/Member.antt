@@ -1,0 +1,50 @@
+-- Objects and their members: each reading takes the place of the object, the name of the member and the value there.
+use Rattle.std.specs.Prelude.{ℕ, ◌^◌, ◌&&◌, List, Bool, true, bytes_eq, nat_lt, Option, Some, None, option_and_then, Result, Ok, Err, if◌then◌else◌, ⊤}
+use Rattle.std.specs.List.{list_any}
+use Rattle.serde_json.specs.Data.{Data, Items, Members, no_members, member}
+use Rattle.serde_json.specs.Find.{get, as_object, as_array, as_str, as_bool, as_number, as_u64}
+use Rattle.session_text.specs.declared.fault.TextFault.{TextFault}
+use Rattle.session_text.specs.Outcome.{◌>>=◌, found, bad_shape}
+use Rattle.session_text.specs.Path.{member_path}
+
+-- the object itself
+abbrev pub object_at : List ℕ → Data → Result Members TextFault
+object_at at d = found (as_object d) at
+
+-- a member of any type
+abbrev pub member_at : List ℕ → List ℕ → Data → Result Data TextFault
+member_at at name d = found (get name d) (member_path at name)
+
+-- a whole number from 0 to 4294967295, written without fraction or exponent
+abbrev pub as_u32 : Data → Option ℕ
+as_u32 d = option_and_then (λ n. if nat_lt n (2 ^ 32) then Some n else None) (option_and_then as_u64 (as_number d))
+
+unfoldable pub number_at : List ℕ → List ℕ → Data → Result ℕ TextFault
+number_at at name d = do
+  value ← member_at at name d
+  found (as_u32 value) (member_path at name)
+
+unfoldable pub text_at : List ℕ → List ℕ → Data → Result (List ℕ) TextFault
+text_at at name d = do
+  value ← member_at at name d
+  found (as_str value) (member_path at name)
+
+-- true or false
+unfoldable pub flag_at : List ℕ → List ℕ → Data → Result Bool TextFault
+flag_at at name d = do
+  value ← member_at at name d
+  found (as_bool value) (member_path at name)
+
+unfoldable pub array_at : List ℕ → List ℕ → Data → Result Items TextFault
+array_at at name d = do
+  value ← member_at at name d
+  found (as_array value) (member_path at name)
+
+-- every member has one of the names
+abbrev pub are_known : List (List ℕ) → Members → Bool
+are_known names no_members = true
+are_known names (member name d rest) = list_any (bytes_eq name) names && are_known names rest
+
+-- no members beside the known ones, or H2 at the object
+abbrev pub only_at : List ℕ → List (List ℕ) → Members → Result ⊤ TextFault
+only_at at names members = if are_known names members then Ok tt else Err (bad_shape at)

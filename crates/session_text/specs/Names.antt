@@ -1,0 +1,29 @@
+-- The numbers that names stand for: user tasks are numbered from the number of cores on, in the order of the header.
+use Rattle.std.specs.Prelude.{ℕ, ◌+◌, List, [], map, position, bytes_eq, Option, Some, None, Result, Ok, Err}
+use Rattle.bench_types.specs.declared.fault.Fault.{Fault}
+use Rattle.bench_types.specs.declared.header.Header.{Header}
+
+-- the number of cores, and the names of the user tasks
+pub record TaskNames : Type 0 where
+  pub cores : ℕ
+  pub names : List (List ℕ)
+
+abbrev pub names_of : Header → TaskNames
+names_of header = record { cores = header.config.cores; names = map (λ task. task.name) header.tasks }
+
+-- no user task has a name
+abbrev pub no_names : TaskNames
+no_names = record { cores = 0; names = [] }
+
+-- the names that the steps may use; under a header that is refused, no number of theirs is ever looked at
+abbrev pub known_names : Result Header Fault → TaskNames
+known_names (Ok header) = names_of header
+known_names (Err fault) = no_names
+
+-- 0 is an idle task, for which no step may be made
+abbrev pub number_at_place : ℕ → Option ℕ → ℕ
+number_at_place cores None = 0
+number_at_place cores (Some place) = cores + place
+
+abbrev pub number_of : TaskNames → List ℕ → ℕ
+number_of names name = number_at_place names.cores (position (bytes_eq name) names.names)

@@ -1,0 +1,85 @@
+-- A session: the whole text is read before the header and the steps are judged.
+use Rattle.std.specs.Prelude.{◌≡◌, ◌⊎◌, ℕ, suc, ◌==◌, List, [], ◌∷◌, codes, Option, Some, None, Result, Ok, Err, if◌then◌else◌, ⊤, All, IsTrue}
+use Rattle.std.specs.Str.{is_utf8}
+use Rattle.serde_json.specs.Data.{Data}
+use Rattle.serde_json.specs.Read.{read}
+use Rattle.bench_types.specs.declared.fault.Fault.{Fault}
+use Rattle.bench_types.specs.declared.header.Header.{Header}
+use Rattle.bench_types.specs.declared.step.Step.{Step}
+use Rattle.bench_types.specs.Step.{settings_of, step_check}
+use Rattle.bench_types.specs.Header.{is_header}
+use Rattle.session_text.specs.declared.fault.Why.TheVariants.{NotJson, Bench, NoMemory}
+use Rattle.session_text.specs.declared.fault.TextFault.{TextFault}
+use Rattle.session_text.specs.Header.{header_at}
+use Rattle.session_text.specs.Member.{object_at, number_at, only_at}
+use Rattle.session_text.specs.Names.{known_names}
+use Rattle.session_text.specs.Outcome.{◌>>=◌, bad_shape}
+use Rattle.session_text.specs.Path.{member_path, item_path, path_text}
+use Rattle.session_text.specs.Step.{steps_at}
+
+-- H1 where the bytes are no UTF-8, or no JSON
+abbrev pub json_or_fault : Option Data → Result Data TextFault
+json_or_fault (Some d) = Ok d
+json_or_fault None = Err (record { why = NotJson; path = [] })
+
+abbrev pub document : List ℕ → Result Data TextFault
+document text = json_or_fault (if is_utf8 text then read text else None)
+
+-- the one format so far
+unfoldable pub format_at : List ℕ → Data → Result ⊤ TextFault
+format_at at d = do
+  format ← number_at at (codes "format") d
+  if format == 1 then Ok tt else Err (bad_shape (member_path at (codes "format")))
+
+abbrev pub session_members : List (List ℕ)
+session_members = codes "format" ∷ codes "cores" ∷ codes "priorities" ∷ codes "slicing" ∷ codes "tick" ∷ codes "mutexes" ∷ codes "tasks" ∷ codes "steps" ∷ []
+
+-- the header, accepted or not, and the steps; shapes alone are judged
+unfoldable pub session_at : List ℕ → Data → Result (Result Header Fault × List Step) TextFault
+session_at at d = do
+  members ← object_at at d
+  format ← format_at at d
+  header ← header_at at d
+  steps ← steps_at (known_names header) at d
+  only ← only_at at session_members members
+  Ok (header, steps)
+
+-- the fault of a step under a header
+abbrev pub step_fault : Header → Step → Result ⊤ Fault
+step_fault header step = step_check (settings_of header) step
+
+-- the header is within its limits, and no step is at fault under it
+pub record IsChecked (header : Header) (steps : List Step) : Type 0 where
+  pub header_fits : IsTrue (is_header header)
+  pub steps_pass : All (λ step. step_fault header step ≡ Ok tt) steps
+
+-- F2 to F5 at the place of a step
+abbrev pub step_accepted : List ℕ → Result ⊤ Fault → Result ⊤ TextFault
+step_accepted at (Ok done) = Ok done
+step_accepted at (Err fault) = Err (record { why = Bench fault; path = path_text at })
+
+-- the first fault of the steps from an index on of the array at a place
+abbrev pub steps_accepted : Header → List ℕ → ℕ → List Step → Result ⊤ TextFault
+steps_accepted header at index [] = Ok tt
+steps_accepted header at index (step ∷ rest) = do
+  done ← step_accepted (item_path at index) (step_fault header step)
+  steps_accepted header at (suc index) rest
+
+-- F1 of the header has no place
+unfoldable pub session_accepted : List ℕ → Result Header Fault → List Step → Result (Header × List Step) TextFault
+session_accepted at (Err fault) steps = Err (record { why = Bench fault; path = [] })
+session_accepted at (Ok header) steps = do
+  done ← steps_accepted header (member_path at (codes "steps")) 0 steps
+  Ok (header, steps)
+
+-- the header and the steps that a text spells, or its first fault
+unfoldable pub session : List ℕ → Result (Header × List Step) TextFault
+session text = do
+  d ← document text
+  read ← session_at [] d
+  session_accepted [] read.0 read.1
+
+-- What a call answers: what the reading gives, or that memory ran out.
+abbrev pub Answers : {A B : Type 0} → (A → B) → Result A TextFault → Result B TextFault → Type 0
+Answers view (Ok x) reading = reading ≡ Ok (view x)
+Answers view (Err fault) reading = (reading ≡ Err fault) ⊎ (fault ≡ record { why = NoMemory; path = [] })

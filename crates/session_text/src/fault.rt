@@ -1,0 +1,50 @@
+ghost use Rattle.std.specs.Prelude.{◌≡◌};
+ghost use Rattle.session_text.specs.declared.fault.Stop.TheVariants.{Memory};
+
+use crate::Path;
+use bench_types::Fault;
+use std::alloc::{AllocError, AllocFailed};
+
+/// Why a text was not read, with the code that the output gives it.
+#[derive(Clone, Copy, Debug, PartialEq, Eq, Hash)]
+pub enum Why {
+    /// H1: the bytes are no JSON text.
+    NotJson,
+    /// H2: a member is missing, ill-typed or unknown.
+    BadShape,
+    /// F1 to F5: the header or a step is at fault.
+    Bench(Fault),
+    /// Memory ran out. Nothing is said of the text.
+    NoMemory,
+}
+
+/// The first fault of a text, and where it is.
+#[derive(Debug, Drop)]
+pub struct TextFault {
+    pub why: Why,
+    /// Empty for H1, for F1 of the header, and where memory ran out.
+    pub path: Path,
+}
+
+/// What ends a reading early.
+#[derive(Debug, Drop)]
+pub(crate) enum Stop {
+    Memory,
+    Fault(TextFault),
+}
+
+impl From<AllocError> for Stop {
+    ghost from_gives = { λ _ stop. stop ≡ Memory };
+
+    fn from(_refused: AllocError) -> Stop {
+        Stop::Memory
+    }
+}
+
+impl<T: Drop> From<AllocFailed<T>> for Stop {
+    ghost from_gives = { λ _ stop. stop ≡ Memory };
+
+    fn from(_refused: AllocFailed<T>) -> Stop {
+        Stop::Memory
+    }
+}

@@ -1,0 +1,140 @@
+ghost use Rattle.std.specs.Prelude.{◌≡◌, IfOk, IsTrue};
+ghost use Rattle.serde_json.specs.View.{view};
+ghost use Rattle.bench_types.specs.Header.{is_header};
+ghost use Rattle.session_text.specs.Header.{accepted, config_at, header_at, named, task_at, tasks_at};
+ghost use Rattle.session_text.specs.Outcome.{Gives};
+ghost use Rattle.session_text.specs.Path.{path_of};
+
+use crate::array::{ReadItem, each};
+use crate::fault::Stop;
+use crate::member::{array_at, flag_at, number_at, object_at, only_at, text_at};
+use crate::path::Place;
+use bench_types::{Config, Fault, Header, Items, Name, TaskArgs};
+use serde_json::Value;
+use std::alloc::{AllocError, Global};
+use std::marker::Model;
+
+/// A user task as the text has it: its name may still be any text.
+#[derive(Drop)]
+struct TaskShape<'v> {
+    name: &'v str,
+    priority: u32,
+    mask: u32,
+}
+
+impl<'v> Model for TaskShape<'v> {
+    ghost use Rattle.bench_types.specs.declared.header.TaskArgs.{TaskArgs};
+
+    ghost Value = { TaskArgs };
+
+    ghost view = { λ task. record { name = task.name.now; priority = task.priority; mask = task.mask } };
+}
+
+impl TaskShape<'_> {
+    /// The task, or F1 where its name is none.
+    fn to_args(&self) -> Result<TaskArgs, Fault>
+        ensures { result ≡ named self.now }
+    {
+        Ok(TaskArgs {
+            name: Name::new(self.name)?,
+            priority: self.priority,
+            mask: self.mask,
+        })
+    }
+}
+
+#[tactic(auto, unfolding(crate::specs::Header::config_at))]
+fn config_at(alloc: Global, place: &Place<'_>, value: &Value) -> Result<Config, Stop>
+    ensures { Gives (λ config. config) result (config_at (path_of place.now) (view value.now)) }
+{
+    Ok(Config {
+        cores: number_at(alloc, place, "cores", value)?,
+        priorities: number_at(alloc, place, "priorities", value)?,
+        slicing: flag_at(alloc, place, "slicing", value)?,
+        tick: number_at(alloc, place, "tick", value)?,
+        mutexes: number_at(alloc, place, "mutexes", value)?,
+    })
+}
+
+/// Reads the user tasks.
+struct Tasks;
+
+impl<'v> ReadItem<'v> for Tasks {
+    type Item = TaskShape<'v>;
+
+    ghost reading = { λ _. task_at };
+
+    #[tactic(auto, unfolding(crate::specs::Header::task_at))]
+    fn read(
+        &self,
+        alloc: Global,
+        place: &Place<'_>,
+        value: &'v Value,
+    ) -> Result<TaskShape<'v>, Stop> {
+        let members = object_at(alloc, place, value)?;
+        let name = text_at(alloc, place, "name", value)?;
+        let priority = number_at(alloc, place, "priority", value)?;
+        let mask = number_at(alloc, place, "mask", value)?;
+        only_at(alloc, place, &["name", "priority", "mask"], members)?;
+        Ok(TaskShape {
+            name,
+            priority,
+            mask,
+        })
+    }
+}
+
+#[tactic(auto, unfolding(crate::specs::Header::tasks_at))]
+fn tasks_at<'v>(
+    alloc: Global,
+    place: &Place<'_>,
+    value: &'v Value,
+) -> Result<Vec<TaskShape<'v>>, Stop>
+    ensures { Gives (λ tasks. tasks.items) result (tasks_at (path_of place.now) (view value.now)) }
+{
+    let values = array_at(alloc, place, "tasks", value)?;
+    each(alloc, &Tasks, &Place::Member(place, "tasks"), values)
+}
+
+/// The header, or F1. Only memory ends the call early.
+fn accepted(
+    alloc: Global,
+    config: Config,
+    shapes: &[TaskShape<'_>],
+) -> Result<Result<Header, Fault>, AllocError>
+    ensures value { IfOk result
+        (λ header. header ≡ accepted (record { config = config; tasks = shapes.now })) }
+    ensures valid { IfOk result (λ header. IfOk header (λ valid. IsTrue (is_header valid))) }
+{
+    let mut tasks = Vec::with_capacity(alloc, shapes.len())?;
+    for shape in shapes {
+        match shape.to_args() {
+            Ok(task) => tasks.push(task)?,
+            Err(fault) => return Ok(Err(fault)),
+        }
+    }
+    let header = Header {
+        config,
+        tasks: Items::new(tasks),
+    };
+    match header.check() {
+        Ok(()) => Ok(Ok(header)),
+        Err(fault) => Ok(Err(fault)),
+    }
+}
+
+/// The header, accepted or not: its shape alone is judged.
+#[tactic(auto, unfolding(crate::specs::Header::header_at))]
+pub(crate) fn header_at(
+    alloc: Global,
+    place: &Place<'_>,
+    value: &Value,
+) -> Result<Result<Header, Fault>, Stop>
+    ensures reading { Gives (λ header. header) result
+        (header_at (path_of place.now) (view value.now)) }
+    ensures valid { IfOk result (λ header. IfOk header (λ valid. IsTrue (is_header valid))) }
+{
+    let config = config_at(alloc, place, value)?;
+    let shapes = tasks_at(alloc, place, value)?;
+    Ok(accepted(alloc, config, shapes.as_slice())?)
+}

@@ -1,0 +1,9 @@
+pub mod Listings
+pub mod Picks
+pub mod Queues
+pub mod Waits
+pub mod Apart
+pub mod Ticks
+pub mod Accepted
+pub mod Stands
+pub mod Firsts

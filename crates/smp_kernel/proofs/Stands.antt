@@ -1,0 +1,111 @@
+-- What a kernel that stands for a sound table keeps, and what it stands for after a step.
+use Rattle.std.proofs.Common.{◌≡◌, ℕ, ◌<◌, ◌%◌, ◌^◌, Bool, true, false, cond, eqb, [], length, Some, None, Ok, refl, sym, ap, subst, ◌∙◌, arith}
+use Rattle.std.specs.Option.{option_map_or}
+use Rattle.std.proofs.lemmas.Bool.Decides.{nat_tests}
+use Rattle.bench_types.specs.declared.reply.Reply.{Reply}
+use Rattle.bench_types.specs.declared.reply.Reply.TheVariants.{Done, Blocked, Refused}
+use Rattle.bench_types.specs.declared.step.Step.{Step}
+use Rattle.bench_types.specs.declared.step.Step.TheVariants.{Tick, Switch}
+use Rattle.bench_types.specs.declared.step.Step.TheVariants as steps
+use Rattle.bench_types.specs.declared.step.Call.{Call}
+use Rattle.bench_types.specs.declared.step.Call.TheVariants.{Yield, Delay, Finish}
+use Rattle.bench_types.specs.Step.{step_check, IsStepOfWords, IsCheckedStep}
+use Rattle.bench_model.specs.declared.row.Standing.{Standing}
+use Rattle.bench_model.specs.declared.row.Standing.TheVariants as standing
+use Rattle.bench_model.specs.Search.{numbers}
+use Rattle.bench_model.specs.Control.{current}
+use Rattle.bench_model.specs.State.{refusal, switched, ticked, yielded, blocked, called, performed, after}
+use Rattle.bench_model.specs.Table.{Stamps, Table, row_at, stamp_of, is_ready, wakes_at, due}
+use Rattle.bench_model.specs.Lists as seen
+use Rattle.bench_model.specs.Lists.{Lists, View, list_moves, lists_of, image}
+use Rattle.bench_model.specs.Laws.{seen_of}
+use Rattle.bench_model.specs.Sound.{IsSound, WakesInTime}
+use Rattle.bench_model.specs.Session.{step_of}
+use Rattle.bench_model.specs.Equal.{StandsFor}
+use Rattle.bench_model.proofs.Filters.{All-weaker}
+use Rattle.bench_model.proofs.Stamped.{numbers_below, by_stamp_none}
+use Rattle.bench_model.proofs.SeenMoves.{is_ready_seen, due_seen}
+use Rattle.bench_model.proofs.SeenSteps.{after_seen}
+use Rattle.bench_model.proofs.SoundSteps.{after_sound}
+use Rattle.smp_kernel.specs.Parts.{due_tasks}
+use Rattle.smp_kernel.specs.Kernel.{IsSettled, StandsForSome}
+
+not_yet : (stamps : Stamps) → WakesInTime stamps → (i : ℕ) → i < length stamps.rows → wakes_at stamps.tick (row_at stamps i).standing ≡ false
+not_yet stamps in_time i low = at (row_at stamps i).standing refl
+  where
+    at : (s : Standing) → (row_at stamps i).standing ≡ s → wakes_at stamps.tick s ≡ false
+    at standing.Ready ready = refl
+    at (standing.Blocked wake) waits = grind (arith, nat_tests, (in_time i wake low waits).0)
+
+none_due : (stamps : Stamps) → WakesInTime stamps → due stamps ≡ []
+unfolding due
+none_due stamps in_time =
+    by_stamp_none (stamp_of stamps) (λ task. wakes_at stamps.tick (row_at stamps task).standing) (numbers (length stamps.rows)) stamps.next
+    (All-weaker (λ i. i < length stamps.rows) (λ i. wakes_at stamps.tick (row_at stamps i).standing ≡ false) (not_yet stamps in_time) (numbers (length stamps.rows)) (numbers_below (length stamps.rows)))
+
+due_of : (lists : Lists) → seen.due lists ≡ due_tasks lists.delayed
+unfolding seen.due due_tasks
+due_of lists = refl
+
+image_settled : (table : Table) → IsSound table → IsSettled (image table)
+image_settled table sound = record {
+  none_due = sym (due_of (lists_of table.control table.orders)) ∙ due_seen table.control table.orders (λ i wake low waits. omega (arith, (sound.in_time i wake low waits).0)) ∙ none_due table.orders sound.in_time;
+  runs_ready = λ core low idle.
+      let place : core < length table.control.cores = omega (arith, sound.sized.cores, low) in
+      is_ready_seen table.control table.orders (current table.control core) sound.stamped.given (sound.in_place.is_task core place)
+      ∙ ready_there (is_ready (current table.control core) table.orders) (λ gone. cc (sound.in_place.blocked_is_due core place gone, idle));
+}
+  where
+    ready_there : (b : Bool) → (b ≡ false → ⊥) → b ≡ true
+    ready_there true not_false = refl
+    ready_there false not_false = absurd (not_false refl)
+
+pub settled_of : (view : View) → StandsForSome view → IsSettled view
+settled_of view stands = subst IsSettled stands.1.shows (image_settled stands.0 stands.1.sound)
+
+checked_of : (view : View) (table : Table) (step : Step) → StandsFor view table → step_check view.settings step ≡ Ok tt → IsStepOfWords step → IsCheckedStep table.settings step
+checked_of view table step stands passes words = record {
+  passes = ap (λ (v : View). step_check v.settings step) stands.shows ∙ passes;
+  words = words;
+}
+
+after_stands : (view : View) (table : Table) (step : Step) → StandsFor view table → step_check view.settings step ≡ Ok tt → IsStepOfWords step → seen_of (step_of step table) ≡ after list_moves step view
+after_stands view table step stands passes words =
+    after_seen step table stands.sound (checked_of view table step stands passes words) ∙ ap (after list_moves step) stands.shows
+
+abbrev outcome : Reply → View → Reply × View
+outcome reply view = (reply, view)
+
+pub reply_of : (view later : View) (step : Step) (reply : Reply) → step_check view.settings step ≡ Ok tt → IsStepOfWords step → outcome reply later ≡ after list_moves step view → (table : Table) → StandsFor view table → reply ≡ (step_of step table).0
+reply_of view later step reply passes words made table stands =
+    ap (λ (r : Reply × View). r.0) (made ∙ sym (after_stands view table step stands passes words))
+
+pub stands_after : (view later : View) (step : Step) (reply : Reply) → step_check view.settings step ≡ Ok tt → IsStepOfWords step → outcome reply later ≡ after list_moves step view → (table : Table) → StandsFor view table → StandsFor later (step_of step table).1
+stands_after view later step reply passes words made table stands = record {
+  sound = after_sound step table stands.sound (checked_of view table step stands passes words);
+  shows = ap (λ (r : Reply × View). r.1) (after_stands view table step stands passes words ∙ sym made);
+}
+
+called_settings : (core task : ℕ) (call : Call) (view : View) → (called list_moves core task call view).1.settings ≡ view.settings
+unfolding called yielded blocked
+called_settings core task Yield view = refl
+called_settings core task (Delay ticks) view = elim (eqb ticks 0) as (λ b. (cond b (outcome Done (yielded list_moves core view)) (outcome Blocked (blocked list_moves core task (Delay ticks) ticks view))).1.settings ≡ view.settings) [ true ↦ refl | false ↦ refl ]
+called_settings core task Finish view = refl
+
+performed_settings : (step : Step) (view : View) → (performed list_moves step view).1.settings ≡ view.settings
+unfolding performed ticked switched
+performed_settings Tick view = refl
+performed_settings (Switch core) view = refl
+performed_settings (steps.Call core task call) view = called_settings core task call view
+
+after_settings : (step : Step) (view : View) → (after list_moves step view).1.settings ≡ view.settings
+unfolding after
+after_settings step view = elim (refusal view.control view.calls step) as (λ why. (option_map_or (λ why. outcome (Refused why) view) why (performed list_moves step view)).1.settings ≡ view.settings) [ None ↦ performed_settings step view | Some why ↦ refl ]
+
+-- a step leaves the settings as they are
+pub settings_after : (view later : View) (step : Step) (reply : Reply) → outcome reply later ≡ after list_moves step view → later.settings ≡ view.settings
+settings_after view later step reply made = ap (λ (r : Reply × View). r.1.settings) made ∙ after_settings step view
+
+pub tick_of : (view : View) (table : Table) → StandsFor view table → view.orders.tick ≡ table.orders.tick % 2 ^ 32
+unfolding lists_of
+tick_of view table stands = ap (λ (v : View). v.orders.tick) (sym stands.shows)

@@ -1,0 +1,7 @@
+use Rattle.std.proofs.Common.{◌∙◌, ap}
+use Rattle.bench_model.specs.Lists.{View}
+use Rattle.smp_kernel.proofs.Stands.{tick_of}
+use Rattle.smp_kernel.proofs.kernel.Kernel.tick.Goals as goal
+
+pub returns : goal.returns
+returns c table stands = c.tick_count.ensures ∙ ap (λ (view : View). view.orders.tick) c.self.view_is ∙ tick_of c.args.self.now table stands

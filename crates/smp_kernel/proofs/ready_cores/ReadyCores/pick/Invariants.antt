@@ -1,0 +1,16 @@
+use Rattle.std.proofs.Common.{◌≡◌, ◌<◌, length, find, take}
+use Rattle.std.specs.Option.{ForSome}
+use Rattle.bench_model.specs.Search.{ranked}
+use Rattle.bench_model.specs.Control.{may_select}
+use Rattle.bench_model.specs.Lists.{outranks}
+use Rattle.smp_kernel.specs.Parts.{control_from}
+use Rattle.smp_kernel.proofs.ready_cores.ReadyCores.pick.Given as goal
+
+-- the best task so far is the first that passes of those that were looked at
+abbrev pub invariant-loop-task : goal.invariant-loop-task
+invariant-loop-task l =
+    let control = control_from l.self-inside.cores.items l.self-inside.tasks.items in
+    record {
+      best : l.best ≡ find (may_select control l.core) (ranked (outranks control) (take l.task-index l.task-items));
+      in_range : ForSome l.best (λ task. task < length l.self-inside.tasks.items);
+    }

@@ -1,0 +1,13 @@
+use Rattle.std.proofs.Common.{◌∙◌}
+use Rattle.std.proofs.lemmas.List.{length-set}
+use Rattle.smp_kernel.proofs.Apart.{apart_waiting}
+use Rattle.smp_kernel.proofs.scheduler.Scheduler.block.Goals as goal
+
+pub invariant_of-self : goal.invariant_of-self
+invariant_of-self c = rw (c.delay.ensures, c.leave.ensures, c.ask.ensures) (record {
+  cores = length-set _ c.args.core _ ∙ c.self.invariant.cores;
+  controls = c.self.invariant.controls;
+  calls = length-set _ c.args.task _ ∙ c.self.invariant.calls;
+  delays = c.self.invariant.delays;
+  apart = apart_waiting (record { task = c.args.task; left = c.args.ticks }) _ _ c.self.invariant.apart;
+})

@@ -1,0 +1,3 @@
+pub mod Kernel
+pub mod Parts
+pub mod Shape

@@ -1,0 +1,100 @@
+ghost use Rattle.std.specs.Prelude.{◌≡◌, ◌+◌, ◌-◌, ◌<◌, ◌%◌, ◌^◌, ◌↔◌, IsErr, IfOk, Ok, Err, min};
+ghost use Rattle.bench_types.specs.Header.{header_check};
+ghost use Rattle.bench_types.specs.Step.{settings_of, step_check};
+ghost use Rattle.bench_model.specs.Control.{current};
+ghost use Rattle.bench_model.specs.Table.{Table};
+ghost use Rattle.bench_model.specs.Start.{start};
+ghost use Rattle.bench_model.specs.Session.{step_of};
+ghost use Rattle.bench_model.specs.Equal.{StandsFor};
+ghost use Rattle.smp_kernel.specs.Kernel.{StandsForSome};
+
+use crate::Meter;
+use crate::scheduler::Scheduler;
+use bench_types::{Header, Reply, Step};
+use std::alloc::{AllocError, Global};
+use std::marker::Model;
+
+/// Why a kernel did not start.
+#[derive(Clone, Copy, Debug, PartialEq, Eq, Hash)]
+pub enum StartFault {
+    /// F1: a number of the header is outside its limits, or a name is repeated.
+    BadHeader,
+    /// The allocator had no memory left.
+    NoMemory,
+}
+
+impl From<AllocError> for StartFault {
+    ghost use Rattle.std.specs.Prelude.{◌≡◌};
+    ghost use Rattle.smp_kernel.specs.declared.kernel.StartFault.TheVariants.{NoMemory};
+
+    ghost from_gives = { λ _ fault. fault ≡ NoMemory };
+
+    fn from(_error: AllocError) -> Self {
+        StartFault::NoMemory
+    }
+}
+
+/// A kernel that was started and made some steps. There is a sound table of the rules that it stands for.
+#[derive(Debug, Drop)]
+pub struct Kernel {
+    scheduler: Scheduler,
+}
+
+impl Model for Kernel {
+    ghost use Rattle.bench_model.specs.Lists.{View};
+    ghost use Rattle.smp_kernel.specs.Kernel.{StandsForSome};
+
+    ghost Value = { View };
+
+    ghost view = { λ kernel. kernel.scheduler };
+
+    ghost invariant = { λ kernel. StandsForSome kernel.scheduler };
+}
+
+impl Kernel {
+    /// A kernel at the start of the header. It takes all the memory that it will ever have.
+    pub fn start(alloc: Global, header: &Header) -> Result<Kernel, StartFault>
+        ensures bad_header { (result ≡ Err StartFault.BadHeader) ↔ IsErr (header_check header.now) }
+        ensures started { IfOk result (λ kernel. StandsFor kernel (start header.now)) }
+        ensures shape { IfOk result (λ kernel. kernel.settings ≡ settings_of header.now) }
+    {
+        if header.check().is_err() {
+            return Err(StartFault::BadHeader);
+        }
+        let scheduler = Scheduler::start(alloc, header)?;
+        Ok(Kernel { scheduler })
+    }
+
+    /// Makes a step, counts it on the meter, refused or not, and gives its reply. It takes no memory.
+    pub fn step(&mut self, meter: &mut Meter, step: &Step) -> Reply
+        requires { step_check self.old.settings step.now ≡ Ok tt }
+        ensures reply { (table : Table) → StandsFor self.old table → result ≡ (step_of step.now table).0 }
+        ensures state { (table : Table) → StandsFor self.old table → StandsFor self.new (step_of step.now table).1 }
+        ensures meter { meter.new ≡ min (meter.old + 1) (2 ^ 64 - 1) }
+        ensures shape { self.new.settings ≡ self.old.settings }
+    {
+        let reply = self.scheduler.step(step);
+        meter.step();
+        reply
+    }
+
+    /// The current task of the core.
+    pub fn running(&self, core: u32) -> u32
+        requires { core < self.now.settings.cores }
+        ensures current { (table : Table) → StandsFor self.now table → result ≡ current table.control core }
+        ensures task { result < self.now.settings.tasks }
+        ensures sound { StandsForSome self.now }
+    {
+        self.scheduler.running(core)
+    }
+
+    /// The tick count, in ticks, as a number of 32 bits.
+    pub fn tick(&self) -> u32
+        ensures { (table : Table) → StandsFor self.now table → result ≡ table.orders.tick % 2 ^ 32 }
+    {
+        self.scheduler.tick_count()
+    }
+}
+
+#[cfg(test)]
+mod tests;

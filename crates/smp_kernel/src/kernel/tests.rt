@@ -1,0 +1,391 @@
+ghost use Rattle.std.specs.Prelude.{◌≡◌, ◌<◌, ◌^◌, All, Ok, IfOk, IsTrue};
+ghost use Rattle.bench_types.specs.Step.{settings_of, step_check};
+ghost use Rattle.bench_model.specs.Table.{Table};
+ghost use Rattle.bench_model.specs.Session.{step_of};
+ghost use Rattle.bench_model.specs.Equal.{StandsFor};
+
+use super::{Kernel, StartFault};
+use crate::Meter;
+use bench_model::replay_slow;
+use bench_types::{Call, Config, Header, Items, Name, Refusal, Reply, Row, Step, TaskArgs};
+use std::alloc::{AllocError, Global};
+use std::process::Abort;
+use std::test::Fail;
+
+/// Two steps in a row: the kernel stands for the table of the second step after the first.
+fn make_both(kernel: &mut Kernel, meter: &mut Meter, first: &Step, second: &Step) -> (Reply, Reply)
+    requires first { step_check kernel.old.settings first.now ≡ Ok tt }
+    requires second { step_check kernel.old.settings second.now ≡ Ok tt }
+    ensures replies { (table : Table) → StandsFor kernel.old table → let between = step_of first.now table in result ≡ (between.0, (step_of second.now between.1).0) }
+    ensures state { (table : Table) → StandsFor kernel.old table → StandsFor kernel.new (step_of second.now (step_of first.now table).1).1 }
+{
+    let reply = kernel.step(meter, first);
+    (reply, kernel.step(meter, second))
+}
+
+fn header_of(alloc: Global, config: Config, args: &[(&str, u32, u32)]) -> Result<Header, AllocError>
+    ensures { IfOk result (λ header. header.config ≡ config) }
+{
+    let mut tasks = Vec::with_capacity(alloc, args.len())?;
+    for (name, priority, mask) in args {
+        if let Ok(name) = Name::new(name) {
+            tasks.push(TaskArgs {
+                name,
+                priority: *priority,
+                mask: *mask,
+            })?;
+        }
+    }
+    Ok(Header {
+        config,
+        tasks: Items::new(tasks),
+    })
+}
+
+fn config_of(cores: u32, tick: u32) -> Config
+    ensures { result.cores ≡ cores }
+{
+    Config {
+        cores,
+        priorities: 5,
+        slicing: false,
+        tick,
+        mutexes: 0,
+    }
+}
+
+fn started(rt: &impl Abort, alloc: Global, header: &Header) -> Kernel
+    ensures { result.settings ≡ settings_of header.now }
+{
+    match Kernel::start(alloc, header) {
+        Ok(kernel) => kernel,
+        Err(fault) => panic!(rt; "{fault:?}"),
+    }
+}
+
+fn step(
+    rt: &impl Abort,
+    kernel: &mut Kernel,
+    meter: &mut Meter,
+    header: &Header,
+    step: &Step,
+) -> Reply
+    requires { kernel.old.settings ≡ settings_of header.now }
+    ensures { kernel.new.settings ≡ settings_of header.now }
+{
+    assert_eq!(rt; step.check(header), Ok(()));
+    kernel.step(meter, step)
+}
+
+fn call(task: u32, call: Call) -> Step {
+    Step::Call {
+        core: 0,
+        task,
+        call,
+    }
+}
+
+// The replies to a session and the current tasks of cores 0 and 1, at its start and behind each step.
+fn play(
+    rt: &impl Abort,
+    alloc: Global,
+    meter: &mut Meter,
+    header: &Header,
+    start: (u32, u32),
+    places: &[(Step, Reply, (u32, u32))],
+)
+    requires { header.now.config.cores ≡ 2 }
+{
+    let mut kernel = started(rt, alloc, header);
+    assert_eq!(rt; (kernel.running(0), kernel.running(1)), start);
+    for (place, (next, reply, running)) in places.iter().enumerate() {
+        assert_eq!(rt;
+            step(rt, &mut kernel, meter, header, next),
+            *reply,
+            "step {place}"
+        );
+        assert_eq!(rt;
+            (kernel.running(0), kernel.running(1)),
+            *running,
+            "after step {place}"
+        );
+    }
+}
+
+// 2 cores, and tasks A (2), B (3) and C (4), of which A has the higher priority.
+fn three_tasks(alloc: Global) -> Result<Header, AllocError>
+    ensures { IfOk result (λ header. header.config.cores ≡ 2) }
+{
+    header_of(
+        alloc,
+        config_of(2, 0),
+        &[("A", 2, 3), ("B", 1, 3), ("C", 1, 3)],
+    )
+}
+
+#[test]
+fn a_delay_and_a_yield(rt: HostRuntime) -> Result<(), Fail> {
+    let header = three_tasks(rt.alloc())?;
+    let places = [
+        (call(2, Call::Delay(2)), Reply::Blocked, (2, 3)),
+        (Step::Switch { core: 0 }, Reply::Done, (4, 3)),
+        (Step::Tick, Reply::Done, (4, 3)),
+        (call(4, Call::Yield), Reply::Done, (4, 3)),
+        (Step::Switch { core: 0 }, Reply::Done, (4, 3)),
+    ];
+    play(
+        &rt,
+        rt.alloc(),
+        &mut Meter::new(&rt),
+        &header,
+        (2, 3),
+        &places,
+    );
+    Ok(())
+}
+
+#[test]
+fn unfinished_calls(rt: HostRuntime) -> Result<(), Fail> {
+    let header = three_tasks(rt.alloc())?;
+    let places = [
+        (call(2, Call::Delay(1)), Reply::Blocked, (2, 3)),
+        (Step::Tick, Reply::Done, (2, 3)),
+        (Step::Switch { core: 0 }, Reply::Done, (2, 3)),
+        (
+            call(2, Call::Yield),
+            Reply::Refused(Refusal::InCall),
+            (2, 3),
+        ),
+        (call(2, Call::Finish), Reply::Done, (2, 3)),
+        (
+            call(2, Call::Finish),
+            Reply::Refused(Refusal::NotInCall),
+            (2, 3),
+        ),
+    ];
+    play(
+        &rt,
+        rt.alloc(),
+        &mut Meter::new(&rt),
+        &header,
+        (2, 3),
+        &places,
+    );
+    let not_due = [(
+        Step::Switch { core: 0 },
+        Reply::Refused(Refusal::NotDue),
+        (2, 3),
+    )];
+    play(
+        &rt,
+        rt.alloc(),
+        &mut Meter::new(&rt),
+        &header,
+        (2, 3),
+        &not_due,
+    );
+    Ok(())
+}
+
+#[test]
+fn one_task_alone(rt: HostRuntime) -> Result<(), Fail> {
+    let header = header_of(rt.alloc(), config_of(2, 0), &[("A", 2, 3)])?;
+    let places = [
+        (Step::Tick, Reply::Done, (2, 0)),
+        (
+            Step::Switch { core: 1 },
+            Reply::Refused(Refusal::NotDue),
+            (2, 0),
+        ),
+    ];
+    play(
+        &rt,
+        rt.alloc(),
+        &mut Meter::new(&rt),
+        &header,
+        (2, 0),
+        &places,
+    );
+    Ok(())
+}
+
+#[test]
+fn a_bad_header(rt: HostRuntime) -> Result<(), Fail> {
+    let header = header_of(rt.alloc(), config_of(1, 0), &[("A", 2, 3)])?;
+    let started = Kernel::start(rt.alloc(), &header);
+    assert!(rt; matches!(started, Err(StartFault::BadHeader)));
+    Ok(())
+}
+
+// A header of 8 cores and 64 tasks, with the last 96 ticks before the tick count wraps.
+fn large_header(alloc: Global) -> Result<Header, AllocError>
+    ensures { IfOk result (λ header. header.config.cores ≡ 8) }
+{
+    let mut tasks = Vec::with_capacity(alloc, 64)?;
+    for task in 0..64 {
+        let text = format!(in alloc; "t{task}")?;
+        if let Ok(name) = Name::new(text.as_str()) {
+            tasks.push(TaskArgs {
+                name,
+                priority: task % 5,
+                mask: 1 << (task % 8) | task * 5 % 256,
+            })?;
+        }
+    }
+    Ok(Header {
+        config: config_of(8, 4_294_967_200),
+        tasks: Items::new(tasks),
+    })
+}
+
+// Some step, chosen by a number of 16 bits, of the current task of a core or of any user task.
+fn some_step(kernel: &Kernel, choice: u32) -> Step
+    requires cores { kernel.now.settings.cores ≡ 8 }
+    requires choice { choice < 2 ^ 16 }
+{
+    let core = choice % 8;
+    let chooser = choice / 128 % 8;
+    let running = kernel.running(core);
+    let task = if chooser == 7 || running < 8 {
+        8 + choice % 64
+    } else {
+        running
+    };
+    match choice / 8 % 16 {
+        0..=3 => Step::Tick,
+        4..=8 => Step::Switch { core },
+        9..=10 => Step::Call {
+            core,
+            task,
+            call: Call::Yield,
+        },
+        11..=13 => Step::Call {
+            core,
+            task,
+            call: Call::Delay(chooser),
+        },
+        _ => Step::Call {
+            core,
+            task,
+            call: Call::Finish,
+        },
+    }
+}
+
+fn code_of(reply: Reply) -> u32 {
+    match reply {
+        Reply::Done => 0,
+        Reply::Blocked => 1,
+        Reply::Refused(Refusal::Displaced) => 2,
+        Reply::Refused(Refusal::SwitchDue) => 3,
+        Reply::Refused(Refusal::InCall) => 4,
+        Reply::Refused(Refusal::NotInCall) => 5,
+        Reply::Refused(Refusal::NotDue) => 10,
+    }
+}
+
+// The digest with the number behind it.
+fn with(digest: u32, number: u32) -> u32 {
+    digest.wrapping_mul(31).wrapping_add(number)
+}
+
+// The digest with the current tasks of 8 cores behind it.
+fn with_running(digest: u32, kernel: &Kernel) -> u32
+    requires { kernel.now.settings.cores ≡ 8 }
+{
+    let mut digest = digest;
+    for core in 0..8 {
+        digest = with(digest, kernel.running(core));
+    }
+    digest
+}
+
+// The digest and the last tick count were computed by a program that was written apart from this one, over a flat table.
+#[test]
+fn a_thousand_steps(rt: HostRuntime) -> Result<(), Fail> {
+    let header = large_header(rt.alloc())?;
+    let mut meter = Meter::new(&rt);
+    let mut kernel = started(&rt, rt.alloc(), &header);
+    let mut random: u32 = 1;
+    let mut digest: u32 = 0;
+    for _ in 0..1000 {
+        random = random.wrapping_mul(1_664_525).wrapping_add(1_013_904_223);
+        let next = some_step(&kernel, random >> 16);
+        let reply = step(&rt, &mut kernel, &mut meter, &header, &next);
+        digest = with_running(with(digest, code_of(reply)), &kernel);
+    }
+    assert_eq!(rt;
+        (digest, kernel.tick(), meter.count()),
+        (1_016_326_939, 166, 1000)
+    );
+    Ok(())
+}
+
+// A thousand steps of which most are not refused.
+fn some_steps(
+    rt: &impl Abort,
+    alloc: Global,
+    meter: &mut Meter,
+    header: &Header,
+) -> Result<Vec<Step>, AllocError>
+    requires { header.now.config.cores ≡ 8 }
+{
+    let mut steps = Vec::with_capacity(alloc, 1000)?;
+    let mut kernel = started(rt, alloc, header);
+    let mut random: u32 = 1;
+    for _ in 0..1000 {
+        random = random.wrapping_mul(1_664_525).wrapping_add(1_013_904_223);
+        let next = some_step(&kernel, random >> 16);
+        step(rt, &mut kernel, meter, header, &next);
+        steps.push(next)?;
+    }
+    Ok(steps)
+}
+
+fn are_checked(header: &Header, steps: &[Step]) -> bool
+    ensures { IsTrue result → All (λ step. step_check (settings_of header.now) step ≡ Ok tt) steps.now }
+{
+    steps.iter().all(|step| step.check(header).is_ok())
+}
+
+fn check_running(rt: &impl Abort, kernel: &Kernel, row: &Row)
+    requires { kernel.now.settings.cores ≡ 8 }
+{
+    for core in 0..8 {
+        assert_eq!(rt;
+            row.as_slice().get(core as usize),
+            Some(&kernel.running(core))
+        );
+    }
+}
+
+#[test]
+fn as_the_definitions_replay_it(rt: HostRuntime) -> Result<(), Fail> {
+    let header = large_header(rt.alloc())?;
+    header.check()?;
+    let mut meter = Meter::new(&rt);
+    let steps = some_steps(&rt, rt.alloc(), &mut meter, &header)?;
+    assert!(rt; are_checked(&header, &steps));
+    let outcomes = replay_slow(&rt, rt.alloc(), &header, &steps)?;
+    assert_eq!(rt; outcomes.len(), 1000);
+    let mut kernel = started(&rt, rt.alloc(), &header);
+    for (next, (reply, row)) in steps.iter().zip(&outcomes) {
+        assert_eq!(rt; step(&rt, &mut kernel, &mut meter, &header, next), *reply);
+        check_running(&rt, &kernel, row);
+    }
+    Ok(())
+}
+
+#[test]
+fn two_steps(rt: HostRuntime) -> Result<(), Fail> {
+    let header = three_tasks(rt.alloc())?;
+    let mut meter = Meter::new(&rt);
+    let mut kernel = started(&rt, rt.alloc(), &header);
+    let tick = Step::Tick;
+    assert_eq!(rt;
+        make_both(&mut kernel, &mut meter, &tick, &tick),
+        (Reply::Done, Reply::Done)
+    );
+    assert_eq!(rt; (kernel.tick(), meter.count()), (2, 2));
+    Ok(())
+}

@@ -1,0 +1,11 @@
+//! The kernel, step by step: what it starts from, what each step answers and does, and what can be seen of it.
+#![tactic(auto)]
+
+mod delays;
+mod kernel;
+mod meter;
+mod ready_cores;
+mod scheduler;
+
+pub use kernel::{Kernel, StartFault};
+pub use meter::Meter;

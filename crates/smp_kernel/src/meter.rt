@@ -1,0 +1,44 @@
+ghost use Rattle.std.specs.Prelude.{◌≡◌, ◌+◌, ◌-◌, ◌^◌, min};
+
+use std::marker::Model;
+use std::rt::Runtime;
+
+/// Counts the steps that kernels make.
+///
+/// A meter can't be copied, and only a runtime gives a new one. So code that is handed a meter and no runtime counts
+/// each step that it makes on that meter. (A bound of `Alloc` would not say so: an allocator is enough for that.)
+#[derive(Debug, Drop)]
+pub struct Meter {
+    steps: u64,
+}
+
+impl Model for Meter {
+    ghost use Rattle.std.specs.Prelude.{ℕ};
+
+    ghost Value = { ℕ };
+
+    ghost view = { λ meter. meter.steps };
+}
+
+impl Meter {
+    /// A meter that has counted no step. The runtime is not used.
+    pub fn new(_rt: &impl Runtime) -> Self
+        ensures { result ≡ 0 }
+    {
+        Meter { steps: 0 }
+    }
+
+    /// How many steps were counted, at most `u64::MAX`.
+    pub fn count(&self) -> u64
+        ensures { result ≡ self.now }
+    {
+        self.steps
+    }
+
+    pub(crate) fn step(&mut self)
+        ensures { self.new ≡ min (self.old + 1) (2 ^ 64 - 1) }
+    {
+        let Meter { steps } = self;
+        *steps = steps.saturating_add(1);
+    }
+}

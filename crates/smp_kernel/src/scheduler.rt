@@ -1,0 +1,261 @@
+ghost use Rattle.std.specs.Prelude.{◌≡◌, ◌<◌, [], true, IfOk, Ok, None, replicate};
+ghost use Rattle.bench_types.specs.Header.{header_check};
+ghost use Rattle.bench_types.specs.Step.{step_check, IsOfWords, IsStepOfWords};
+ghost use Rattle.bench_model.specs.Search.{has};
+ghost use Rattle.bench_model.specs.Control.{current};
+ghost use Rattle.bench_model.specs.Start.{first_lists, unstarted, start_seen};
+ghost use Rattle.bench_model.specs.State.{call_refusal, refusal, switched, ticked, yielded, blocked, called, performed, after};
+ghost use Rattle.bench_model.specs.Lists.{list_moves, make_ready};
+ghost use Rattle.smp_kernel.specs.Parts.{due_tasks};
+ghost use Rattle.smp_kernel.specs.Kernel.{IsSettled, FindsItsPlace};
+
+use crate::delays::Delays;
+use crate::ready_cores::ReadyCores;
+use bench_types::{Call, Header, Refusal, Reply, Settings, Step};
+use std::alloc::{AllocError, Global};
+use std::marker::Model;
+
+/// A kernel as far as it can be seen: its parts, and the moves of a step.
+#[derive(Debug, Drop)]
+pub struct Scheduler {
+    settings: Settings,
+    cores: ReadyCores,
+    /// Per task its unfinished call.
+    calls: Vec<Option<Call>>,
+    delays: Delays,
+}
+
+impl Model for Scheduler {
+    ghost use Rattle.bench_model.specs.Lists.{View};
+    ghost use Rattle.smp_kernel.specs.Kernel.{kernel_view, IsKernelShape};
+
+    ghost Value = { View };
+
+    ghost view = { λ kernel. kernel_view kernel.settings kernel.cores kernel.calls.items kernel.delays };
+
+    ghost invariant = { λ kernel. IsKernelShape kernel.settings kernel.cores kernel.calls.items kernel.delays };
+}
+
+impl Scheduler {
+    /// The start: each core selects, core 0 first.
+    pub fn start(alloc: Global, header: &Header) -> Result<Self, AllocError>
+        requires { header_check header.now ≡ Ok tt }
+        ensures { IfOk result (λ kernel. kernel ≡ start_seen header.now) }
+    {
+        let mut kernel = Self::unstarted(alloc, header)?;
+        for core in 0..header.config.cores {
+            kernel.switch(core);
+        }
+        Ok(kernel)
+    }
+
+    // Before any core has selected.
+    fn unstarted(alloc: Global, header: &Header) -> Result<Self, AllocError>
+        requires { header_check header.now ≡ Ok tt }
+        ensures { IfOk result (λ kernel. kernel ≡ unstarted (first_lists header.now) header.now) }
+    {
+        let config = &header.config;
+        let cores = config.cores;
+        let tasks = cores + header.tasks.as_slice().len() as u32;
+        let settings = Settings {
+            cores,
+            priorities: config.priorities,
+            slicing: config.slicing,
+            mutexes: config.mutexes,
+            tasks,
+        };
+        Ok(Scheduler {
+            settings,
+            cores: ReadyCores::new(alloc, header)?,
+            calls: no_calls(alloc, tasks)?,
+            delays: Delays::new(alloc, tasks, config.tick)?,
+        })
+    }
+
+    /// The current task of the core.
+    pub fn running(&self, core: u32) -> u32
+        requires { core < self.now.settings.cores }
+        ensures current { result ≡ current self.now.control core }
+        ensures task { result < self.now.settings.tasks }
+    {
+        self.cores.running(core)
+    }
+
+    /// The tick count, in ticks.
+    pub fn tick_count(&self) -> u32
+        ensures { result ≡ self.now.orders.tick }
+    {
+        self.delays.tick()
+    }
+
+    /// The step: its reply, and what it does. A refused step changes nothing.
+    pub fn step(&mut self, step: &Step) -> Reply
+        requires checked { step_check self.old.settings step.now ≡ Ok tt }
+        requires settled { IsSettled self.old }
+        ensures made { (result, self.new) ≡ after list_moves step.now self.old }
+        ensures words { IsStepOfWords step.now }
+    {
+        match self.refusal(step) {
+            Some(why) => Reply::Refused(why),
+            None => self.perform(step),
+        }
+    }
+
+    // Why the step is refused, the first reason that applies.
+    #[tactic(auto, unfolding(bench_model::specs::State::refusal))]
+    fn refusal(&self, step: &Step) -> Option<Refusal>
+        requires { step_check self.now.settings step.now ≡ Ok tt }
+        ensures reason { result ≡ refusal self.now.control self.now.calls step.now }
+        ensures words { IsStepOfWords step.now }
+    {
+        match step {
+            Step::Tick => None,
+            Step::Switch { core } => {
+                if self.cores.is_due(*core) {
+                    None
+                } else {
+                    Some(Refusal::NotDue)
+                }
+            }
+            Step::Call { core, task, call } => {
+                let unfinished = unfinished_refusal(self.calls[*task as usize], *call);
+                if self.cores.running(*core) != *task {
+                    Some(Refusal::Displaced)
+                } else if self.cores.is_due(*core) {
+                    Some(Refusal::SwitchDue)
+                } else {
+                    unfinished
+                }
+            }
+        }
+    }
+
+    // What a step that is not refused answers and does.
+    #[tactic(auto, unfolding(bench_model::specs::State::performed))]
+    fn perform(&mut self, step: &Step) -> Reply
+        requires { FindsItsPlace self.old step.now }
+        ensures { (result, self.new) ≡ performed list_moves step.now self.old }
+    {
+        match step {
+            Step::Tick => {
+                self.tick();
+                Reply::Done
+            }
+            Step::Switch { core } => {
+                self.switch(*core);
+                Reply::Done
+            }
+            Step::Call { core, task, call } => self.call(*core, *task, *call),
+        }
+    }
+
+    // One tick more. Each task that has waited long enough then is made ready.
+    #[tactic(auto, unfolding(bench_model::specs::State::ticked))]
+    fn tick(&mut self)
+        requires { due_tasks self.old.orders.delayed ≡ [] }
+        ensures { self.new ≡ ticked list_moves self.old }
+    {
+        self.delays.advance();
+        while let Some(task) = self.delays.first_due() {
+            self.make_ready(task);
+        }
+    }
+
+    // The task waits no more and goes to the end of its ready list.
+    #[tactic(auto, unfolding(bench_model::specs::Lists::make_ready))]
+    fn make_ready(&mut self, task: u32)
+        requires { task < self.old.settings.tasks }
+        ensures { self.new ≡ record self.old { orders = make_ready self.old.control task self.old.orders } }
+    {
+        self.cores.make_ready(task);
+        self.delays.cancel(task);
+    }
+
+    // The core runs the task that it selects.
+    #[tactic(auto, unfolding(bench_model::specs::State::switched))]
+    fn switch(&mut self, core: u32)
+        requires { core < self.old.settings.cores }
+        ensures { self.new ≡ switched list_moves core self.old }
+    {
+        self.cores.switch(core);
+    }
+
+    // What a call that is not refused answers and does.
+    #[tactic(auto, unfolding(bench_model::specs::State::called))]
+    fn call(&mut self, core: u32, task: u32, call: Call) -> Reply
+        requires core { core < self.old.settings.cores }
+        requires task { task < self.old.settings.tasks }
+        requires ready { has task self.old.orders.ready ≡ true }
+        ensures { (result, self.new) ≡ called list_moves core task call self.old }
+    {
+        match call {
+            Call::Yield => {
+                self.ask_itself(core);
+                Reply::Done
+            }
+            Call::Delay(ticks) => {
+                if ticks == 0 {
+                    self.ask_itself(core);
+                    Reply::Done
+                } else {
+                    self.block(core, task, call, ticks);
+                    Reply::Blocked
+                }
+            }
+            Call::Finish => {
+                self.calls[task as usize] = None;
+                Reply::Done
+            }
+        }
+    }
+
+    // The core asks itself to switch.
+    #[tactic(auto, unfolding(bench_model::specs::State::yielded))]
+    fn ask_itself(&mut self, core: u32)
+        requires { core < self.old.settings.cores }
+        ensures { self.new ≡ yielded list_moves core self.old }
+    {
+        self.cores.ask(core, core);
+    }
+
+    // The task waits in its call for so many ticks, and its core asks itself to switch.
+    #[tactic(auto, unfolding(bench_model::specs::State::blocked, bench_model::specs::Lists::delay))]
+    fn block(&mut self, core: u32, task: u32, call: Call, ticks: u32)
+        requires core { core < self.old.settings.cores }
+        requires task { task < self.old.settings.tasks }
+        requires ready { has task self.old.orders.ready ≡ true }
+        ensures { self.new ≡ blocked list_moves core task call ticks self.old }
+    {
+        self.cores.ask(core, core);
+        self.calls[task as usize] = Some(call);
+        self.cores.leave(task);
+        self.delays.delay(task, ticks);
+    }
+}
+
+fn no_calls(alloc: Global, tasks: u32) -> Result<Vec<Option<Call>>, AllocError>
+    ensures { IfOk result (λ calls. calls.items ≡ replicate tasks None) }
+{
+    let mut calls = Vec::with_capacity(alloc, tasks as usize)?;
+    for _task in 0..tasks {
+        calls.push(None)?;
+    }
+    Ok(calls)
+}
+
+// A task with an unfinished call can only finish it, and without one it can't finish.
+fn unfinished_refusal(unfinished: Option<Call>, call: Call) -> Option<Refusal>
+    ensures reason { result ≡ call_refusal unfinished call }
+    ensures words { IsOfWords call }
+{
+    match unfinished {
+        None => match call {
+            Call::Finish => Some(Refusal::NotInCall),
+            Call::Yield | Call::Delay(_) => None,
+        },
+        Some(_) => match call {
+            Call::Finish => None,
+            Call::Yield | Call::Delay(_) => Some(Refusal::InCall),
+        },
+    }
+}

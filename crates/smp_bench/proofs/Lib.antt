@@ -1,0 +1,4 @@
+pub mod KnownInput
+mod KnownOutput
+mod Replays
+mod Refused

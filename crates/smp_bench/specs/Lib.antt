@@ -1,0 +1,4 @@
+pub mod Answer
+pub mod Device
+pub mod Lines
+pub mod Run

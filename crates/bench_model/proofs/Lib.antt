@@ -1,6 +1,7 @@
 pub mod Choices
 pub mod Examples
 pub mod Filters
+pub mod Passes
 pub mod Ranks
 pub mod Restamps
 pub mod SeenMoves

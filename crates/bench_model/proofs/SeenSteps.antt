@@ -1,12 +1,11 @@
 -- Each step of a table, seen as lists, is the step of what was seen of the table before.
-use Rattle.std.proofs.Common.{◌≡◌, ℕ, ◌<◌, Bool, true, false, cond, eqb, ltb, List, [], ◌∷◌, length, Option, Some, None, Result, Ok, Err, refl, sym, ap, subst, ◌∙◌, arith}
+use Rattle.std.proofs.Common.{◌≡◌, ℕ, ◌<◌, Bool, true, false, cond, eqb, List, [], ◌∷◌, length, Option, Some, None, Ok, refl, sym, ap, subst, ◌∙◌, arith}
 use Rattle.std.specs.Prelude.{unwrap_or, slice_set}
 use Rattle.std.specs.Option.{option_map_or}
 use Rattle.std.specs.List.{fold, AllByRecursion}
-use Rattle.std.proofs.lemmas.Bool.Decides.{nat_tests}
+use Rattle.std.proofs.lemmas.Bool.{true_from_ne_false}
 use Rattle.bench_types.specs.declared.reply.Reply.{Reply}
 use Rattle.bench_types.specs.declared.reply.Reply.TheVariants.{Done, Blocked, Refused}
-use Rattle.bench_types.specs.declared.fault.Fault.{Fault}
 use Rattle.bench_types.specs.declared.reply.Refusal.{Refusal}
 use Rattle.bench_types.specs.declared.step.Step.{Step}
 use Rattle.bench_types.specs.declared.step.Step.TheVariants.{Tick, Switch}
@@ -18,7 +17,7 @@ use Rattle.bench_types.specs.declared.kernel_data.CoreLook.{CoreLook}
 use Rattle.bench_types.specs.Step.{IsCheckedStep, step_check, core_check, task_check, call_check, ◌>>◌}
 use Rattle.bench_model.specs.declared.row.Standing.TheVariants.{Ready}
 use Rattle.bench_model.specs.Search.{numbers}
-use Rattle.bench_model.specs.Control.{Control, current, run_on, is_due}
+use Rattle.bench_model.specs.Control.{Control, current, run_on}
 use Rattle.bench_model.specs.State.{State, refusal, switched, ticked, yielded, blocked, called, performed, after}
 use Rattle.bench_model.specs.Table.{Stamps, Table, table_moves, wakes_at, is_ready, row_at, stamp_of, pick, make_ready, delay, advance, due}
 use Rattle.bench_model.specs.Lists as seen
@@ -28,6 +27,7 @@ use Rattle.bench_model.specs.Equal.{Same}
 use Rattle.bench_model.specs.Session.{step_of}
 use Rattle.bench_model.specs.Sound.{IsInPlace, IsStamped, IsSound, WakesInTime}
 use Rattle.bench_model.proofs.Filters.{All-weaker}
+use Rattle.bench_model.proofs.Passes.{checked_core, both_pass, not_displaced}
 use Rattle.bench_model.proofs.Stamped.{numbers_below, All-by_stamp}
 use Rattle.bench_model.proofs.Restamps.{IsGiven, moved_length, moved_given, moved_once}
 use Rattle.bench_model.proofs.SeenMoves.{is_ready_seen, pick_seen, make_ready_seen, delay_seen, advance_seen, due_seen, IsAhead, IsNotPast}
@@ -156,38 +156,14 @@ performed_seen Tick table sound place = same_outcome Done _ _ (ticked_seen table
 performed_seen (Switch core) table sound place = same_outcome Done _ _ (switched_seen core table sound.stamped (sound.in_place.is_task core place))
 performed_seen (steps.Call core task call) table sound place = called_seen core task call table sound.stamped.given place.2 place.3
 
-checked_core : (settings : Settings) (core : ℕ) → core_check settings core ≡ Ok tt → core < settings.cores
-checked_core settings core passes = at (ltb core settings.cores) refl
-  where
-    at : (b : Bool) → ltb core settings.cores ≡ b → core < settings.cores
-    at true below = grind (arith, nat_tests, below)
-    at false above = absurd (cc (passes, above))
-
-first_passes : (one other : Result (Unit {0}) Fault) → (one >> other) ≡ Ok tt → one ≡ Ok tt
-first_passes (Ok done) other passes = refl
-first_passes (Err fault) other passes = absurd (cc)
-
-accepted_call : (control : Control) (calls : List (Option Call)) (core task : ℕ) (call : Call) → refusal control calls (steps.Call core task call) ≡ None → (current control core ≡ task) × (is_due control core ≡ false)
-unfolding refusal
-accepted_call control calls core task call accepted = at (eqb (current control core) task) refl (is_due control core) refl
-  where
-    at : (b : Bool) → eqb (current control core) task ≡ b → (d : Bool) → is_due control core ≡ d → (current control core ≡ task) × (is_due control core ≡ false)
-    at false other d due = absurd (cc (accepted, other))
-    at true same true due = absurd (cc (accepted, same, due))
-    at true same false due = (grind (arith, nat_tests, same), due)
-
-true_unless : (b : Bool) → (b ≡ false → ⊥) → b ≡ true
-true_unless true not_false = refl
-true_unless false not_false = absurd (not_false refl)
-
 -- of a checked step that is not refused
 pub in_place : (step : Step) (table : Table) → IsSound table → step_check table.settings step ≡ Ok tt → refusal table.control table.calls step ≡ None → IsInPlace table step
 in_place Tick table sound checked accepted = tt
 in_place (Switch core) table sound checked accepted = omega (arith, sound.sized.cores, checked_core table.settings core checked)
 in_place (steps.Call core task call) table sound checked accepted =
-    let low : core < length table.control.cores = omega (arith, sound.sized.cores, checked_core table.settings core (first_passes (core_check table.settings core) (task_check table.settings task) (first_passes (core_check table.settings core >> task_check table.settings task) (call_check table.settings call) checked))) in
-    let found = accepted_call table.control table.calls core task call accepted in
-    let ready : is_ready (current table.control core) table.orders ≡ true = true_unless (is_ready (current table.control core) table.orders) (λ h. cc (sound.in_place.blocked_is_due core low h, found.1)) in
+    let low : core < length table.control.cores = omega (arith, sound.sized.cores, checked_core table.settings core (both_pass (core_check table.settings core) (task_check table.settings task) (both_pass (core_check table.settings core >> task_check table.settings task) (call_check table.settings call) checked).0).0) in
+    let found = not_displaced table.control table.calls core task call accepted in
+    let ready : is_ready (current table.control core) table.orders ≡ true = true_from_ne_false (is_ready (current table.control core) table.orders) (λ h. cc (sound.in_place.blocked_is_due core low h, found.1)) in
     (low, found.0, subst (λ i. i < length table.orders.rows) found.0 (sound.in_place.is_task core low), subst (λ i. is_ready i table.orders ≡ true) found.0 ready)
 
 after_from : (step : Step) (table : Table) (why : Option Refusal) → (why ≡ None → seen_of (performed table_moves step table) ≡ performed list_moves step (image table)) → seen_of (option_map_or (λ why. (Refused why, table)) why (performed table_moves step table)) ≡ option_map_or (λ why. (Refused why, image table)) why (performed list_moves step (image table))

@@ -53,6 +53,13 @@ impl<D> Counted<D> {
             failures: 0,
         }
     }
+
+    /// How many reads and writes of the device failed, at most `u64::MAX`.
+    pub fn count(&self) -> u64
+        ensures { result ≡ self.now.failures }
+    {
+        self.failures
+    }
 }
 
 impl<D: Read> Read for Counted<D> {
@@ -67,7 +74,7 @@ impl<D: Read> CountedRead for Counted<D> {
     ghost failures = { λ counted. counted.failures };
 
     fn failures(&self) -> u64 {
-        self.failures
+        self.count()
     }
 
     fn read_counted(&mut self, buf: &mut [u8]) -> io::Result<usize> {
@@ -95,7 +102,7 @@ impl<D: Write> CountedWrite for Counted<D> {
     ghost failures = { λ counted. counted.failures };
 
     fn failures(&self) -> u64 {
-        self.failures
+        self.count()
     }
 
     fn write_counted(&mut self, buf: &[u8]) -> io::Result<usize> {

@@ -1,7 +1,8 @@
 //! Runs over devices in memory, some of which give little, fail, or never end.
 use crate::{Counted, CountedRead, CountedWrite, MOST_INPUT, Mode, RunFault, Status, run};
-use std::alloc::Global;
+use std::alloc::{AllocError, Global};
 use std::io::{self, Read, Write};
+use std::process::Abort;
 use std::rt::Runtime;
 use std::test::Fail;
 
@@ -89,25 +90,134 @@ fn ran<R: CountedRead, W: CountedWrite>(
     (status, reader.failures(), writer.failures())
 }
 
-#[test]
-fn worked_outputs(rt: HostRuntime) -> Result<(), Fail> {
-    let short =
-        r#"{"format":1,"cores":2,"priorities":5,"slicing":false,"tick":0,"mutexes":0,"tasks":[{"name":"A","priority":2,"mask":3}],"steps":[{"do":"tick"},{"do":"switch","core":1},{"do":"switch","core":2}]}"#;
-    let table = [
-        (SESSION, Status::Fine, LINES),
-        ("", Status::Refused, "refused H1\n"),
-        ("{}", Status::Refused, "refused H2 format\n"),
-        (short, Status::Refused, "refused F2 steps[2]\n"),
-    ];
-    for (input, status, output) in table {
-        let mut reader = Counted::new(input.as_bytes());
-        let mut writer = sink_of(rt.alloc(), 1000, 1000, false);
-        assert_eq!(rt;
-            ran(&rt, rt.alloc(), &mut reader, &mut writer),
-            (status, 0, 0)
-        );
-        assert_eq!(rt; writer.device.taken.as_slice(), output.as_bytes());
+/// Takes bytes as long as there is room, without memory.
+#[derive(Drop)]
+struct Page {
+    bytes: [u8; 100],
+    count: usize,
+}
+
+impl Write for Page {
+    fn write(&mut self, buf: &[u8]) -> io::Result<usize> {
+        let start = self.count.min(self.bytes.len());
+        let count = buf.len().min(self.bytes.len() - start);
+        self.bytes[start..start + count].copy_from_slice(&buf[..count]);
+        self.count = start + count;
+        Ok(count)
     }
+
+    fn flush(&mut self) -> io::Result<()> {
+        Ok(())
+    }
+}
+
+const A: &str = r#"{"name":"A","priority":2,"mask":3}"#;
+
+const ABC: &str =
+    r#"{"name":"A","priority":2,"mask":3},{"name":"B","priority":1,"mask":3},{"name":"C","priority":1,"mask":3}"#;
+
+fn session(alloc: Global, tasks: &str, steps: &str) -> Result<String, AllocError> {
+    format!(in alloc;
+        r#"{{"format":1,"cores":2,"priorities":5,"slicing":false,"tick":0,"mutexes":0,"tasks":[{tasks}],"steps":[{steps}]}}"#
+    )
+}
+
+/// Asks that a run over this input ends so, with this output.
+fn expect(
+    rt: &(impl Runtime + Abort),
+    alloc: Global,
+    input: &str,
+    status: Status,
+    output: &str,
+) -> Result<(), Fail> {
+    let mut reader = Counted::new(input.as_bytes());
+    let mut writer = sink_of(alloc, 1000, 1000, false);
+    assert_eq!(rt; ran(rt, alloc, &mut reader, &mut writer), (status, 0, 0));
+    assert_eq!(rt; writer.device.taken.as_slice(), output.as_bytes());
+    Ok(())
+}
+
+#[test]
+fn replayed_sessions(rt: HostRuntime) -> Result<(), Fail> {
+    let table = [
+        (
+            A,
+            r#"{"do":"tick"},{"do":"switch","core":1}"#,
+            "start A IDLE0\n0 done A IDLE0\n1 refused E10 A IDLE0\n",
+        ),
+        (
+            ABC,
+            r#"{"do":"switch","core":0}"#,
+            "start A B\n0 refused E10 A B\n",
+        ),
+        (
+            ABC,
+            r#"{"do":"delay","core":0,"by":"A","ticks":1},{"do":"tick"},{"do":"switch","core":0},{"do":"yield","core":0,"by":"A"},{"do":"finish","core":0,"by":"A"},{"do":"finish","core":0,"by":"A"}"#,
+            "start A B\n0 blocked A B\n1 done A B\n2 done A B\n3 refused E4 A B\n4 done A B\n5 refused E5 A B\n",
+        ),
+        (ABC, "", "start A B\n"),
+    ];
+    expect(&rt, rt.alloc(), SESSION, Status::Fine, LINES)?;
+    for (tasks, steps, output) in table {
+        let input = session(rt.alloc(), tasks, steps)?;
+        expect(&rt, rt.alloc(), &input, Status::Fine, output)?;
+    }
+    Ok(())
+}
+
+/// A session of three tasks and two steps as a program would write it.
+fn written(
+    alloc: Global,
+    cores: &str,
+    slicing: &str,
+    core: &str,
+    name: &str,
+) -> Result<String, AllocError> {
+    format!(in alloc;
+        r#"{{"cores":{cores},"format":1,"mutexes":0,"priorities":5,"slicing":{slicing},"steps":[{{"do":"tick"}},{{"core":{core},"do":"switch"}}],"tasks":[{{"mask":3,"name":"A","priority":2}},{{"mask":3,"name":"{name}","priority":1}},{{"mask":3,"name":"C","priority":1}}],"tick":0}}"#
+    )
+}
+
+#[test]
+fn refused_sessions(rt: HostRuntime) -> Result<(), Fail> {
+    for (input, output) in [
+        ("", "refused H1\n"),
+        (r#"{"cores":2"#, "refused H1\n"),
+        ("{}", "refused H2 format\n"),
+    ] {
+        expect(&rt, rt.alloc(), input, Status::Refused, output)?;
+    }
+    let table = [
+        ("\"2\"", "false", "1", "B", "refused H2 cores\n"),
+        ("2", "false", "1", "A", "refused F1\n"),
+        ("2", "true", "1", "B", "refused F1\n"),
+        ("2", "false", "2", "B", "refused F2 steps[1]\n"),
+    ];
+    for (cores, slicing, core, name, output) in table {
+        let input = written(rt.alloc(), cores, slicing, core, name)?;
+        expect(&rt, rt.alloc(), &input, Status::Refused, output)?;
+    }
+    let input = written(rt.alloc(), "2", "false", "1", "B")?;
+    let output = "start A B\n0 done A B\n1 refused E10 A B\n";
+    expect(&rt, rt.alloc(), &input, Status::Fine, output)
+}
+
+/// Ends as one of two; which of them, `rt try --test --fail-alloc N` decides.
+#[test]
+fn memory_that_is_refused(rt: HostRuntime) -> Result<(), Fail> {
+    let mut reader = Counted::new(SESSION.as_bytes());
+    let mut writer = Counted::new(Page {
+        bytes: [0; 100],
+        count: 0,
+    });
+    let (status, failed_reads, failed_writes) = ran(&rt, rt.alloc(), &mut reader, &mut writer);
+    assert_eq!(rt; (failed_reads, failed_writes), (0, 0));
+    let written = match status {
+        Status::Fault(RunFault::Memory) => "",
+        _ => LINES,
+    };
+    assert_eq!(rt; writer.device.count, written.len());
+    assert_eq!(rt; &writer.device.bytes[..written.len()], written.as_bytes());
     Ok(())
 }
 

@@ -1,6 +1,7 @@
 -- What a kernel that stands for a sound table keeps, and what it stands for after a step.
-use Rattle.std.proofs.Common.{◌≡◌, ℕ, ◌<◌, ◌%◌, ◌^◌, Bool, true, false, cond, eqb, [], length, Some, None, Ok, refl, sym, ap, subst, ◌∙◌, arith}
+use Rattle.std.proofs.Common.{◌≡◌, ℕ, ◌<◌, ◌%◌, ◌^◌, true, false, cond, eqb, [], length, Some, None, Ok, refl, sym, ap, subst, ◌∙◌, arith}
 use Rattle.std.specs.Option.{option_map_or}
+use Rattle.std.proofs.lemmas.Bool.{true_from_ne_false}
 use Rattle.std.proofs.lemmas.Bool.Decides.{nat_tests}
 use Rattle.bench_types.specs.declared.reply.Reply.{Reply}
 use Rattle.bench_types.specs.declared.reply.Reply.TheVariants.{Done, Blocked, Refused}
@@ -53,12 +54,8 @@ image_settled table sound = record {
   runs_ready = λ core low idle.
       let place : core < length table.control.cores = omega (arith, sound.sized.cores, low) in
       is_ready_seen table.control table.orders (current table.control core) sound.stamped.given (sound.in_place.is_task core place)
-      ∙ ready_there (is_ready (current table.control core) table.orders) (λ gone. cc (sound.in_place.blocked_is_due core place gone, idle));
+      ∙ true_from_ne_false (is_ready (current table.control core) table.orders) (λ gone. cc (sound.in_place.blocked_is_due core place gone, idle));
 }
-  where
-    ready_there : (b : Bool) → (b ≡ false → ⊥) → b ≡ true
-    ready_there true not_false = refl
-    ready_there false not_false = absurd (not_false refl)
 
 pub settled_of : (view : View) → StandsForSome view → IsSettled view
 settled_of view stands = subst IsSettled stands.1.shows (image_settled stands.0 stands.1.sound)

@@ -291,3 +291,28 @@ fn long_inputs(rt: HostRuntime) -> Result<(), Fail> {
     }
     Ok(())
 }
+
+#[test]
+fn counted_devices_pass_on(rt: HostRuntime) -> Result<(), Fail> {
+    let mut reader = Counted::new(Source {
+        text: b"ab",
+        piece: 9,
+        reads: 1,
+    });
+    let mut buf = [0; 3];
+    assert!(rt; matches!(reader.read(&mut buf), Ok(2)));
+    assert_eq!(rt; (buf, reader.count()), (*b"ab\0", 0));
+    assert!(rt; reader.read(&mut buf).is_err());
+    assert_eq!(rt; reader.count(), 1);
+
+    let mut writer = sink_of(rt.alloc(), 2, 2, false);
+    assert!(rt; matches!(writer.write(b"abc"), Ok(2)));
+    assert!(rt; writer.flush().is_ok());
+    assert_eq!(rt;
+        (writer.device.taken.as_slice(), writer.count()),
+        (b"ab".as_slice(), 0)
+    );
+    assert!(rt; matches!(writer.write(b"c"), Ok(0)));
+    assert_eq!(rt; writer.count(), 1);
+    Ok(())
+}

@@ -1,4 +1,5 @@
 pub mod KnownInput
+mod CommandLine
 mod KnownOutput
 mod Replays
 mod Refused

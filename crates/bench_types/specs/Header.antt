@@ -18,8 +18,12 @@ abbrev pub cores_of_mask : ℕ → ℕ → ℕ
 cores_of_mask cores mask = mask % 2 ^ cores
 
 -- a priority below their number, and a core to run on
+abbrev pub has_valid_numbers : Config → ℕ → ℕ → Bool
+has_valid_numbers config priority mask = nat_lt priority config.priorities && nat_lt 0 (cores_of_mask config.cores mask)
+
+-- what a task may be created with
 abbrev pub has_valid_args : Config → TaskArgs → Bool
-has_valid_args config args = nat_lt args.priority config.priorities && nat_lt 0 (cores_of_mask config.cores args.mask)
+has_valid_args config args = has_valid_numbers config args.priority args.mask
 
 -- some task has the name
 abbrev pub is_taken : List ℕ → List TaskArgs → Bool

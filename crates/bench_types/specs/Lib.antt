@@ -1,3 +1,4 @@
+pub mod Edit
 pub mod Header
 pub mod Name
 pub mod Step

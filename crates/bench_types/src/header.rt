@@ -1,6 +1,6 @@
-ghost use Rattle.std.specs.Prelude.{◌≡◌, ◌<◌, ◌≤◌, ◌^◌, ◌+◌, IfOk, length};
+ghost use Rattle.std.specs.Prelude.{◌≡◌, nat_lt, ◌<◌, ◌≤◌, ◌^◌, ◌+◌, IfOk, length};
 ghost use Rattle.std.specs.List.{list_all};
-ghost use Rattle.bench_types.specs.Header.{header_check, has_valid_config, has_valid_args, is_taken, repeats_name};
+ghost use Rattle.bench_types.specs.Header.{header_check, has_valid_config, has_valid_args, has_valid_numbers, cores_of_mask, is_taken, repeats_name};
 
 use crate::{Fault, Items, Name};
 use std::alloc::{AllocError, Global};
@@ -96,17 +96,33 @@ fn is_valid_config(config: &Config) -> bool
 }
 
 fn are_valid_args(config: &Config, tasks: &[TaskArgs]) -> bool
-    requires { config.now.cores ≤ 8 }
     ensures { result ≡ list_all (has_valid_args config.now) tasks.now }
 {
     tasks.iter().all(|task| is_valid_args(config, task))
 }
 
 fn is_valid_args(config: &Config, task: &TaskArgs) -> bool
-    requires { config.now.cores ≤ 8 }
     ensures { result ≡ has_valid_args config.now task.now }
 {
-    task.priority < config.priorities && task.mask % (1 << config.cores) != 0
+    allows_numbers(config, task.priority, task.mask)
+}
+
+/// Whether a task may be created with this priority and core affinity mask.
+pub(crate) fn allows_numbers(config: &Config, priority: u32, mask: u32) -> bool
+    ensures { result ≡ has_valid_numbers config.now priority mask }
+{
+    priority < config.priorities && allows_core(config.cores, mask)
+}
+
+/// Whether a bit of the mask means one of so many cores. A mask has no bit for a core of number 32 or more.
+fn allows_core(cores: u32, mask: u32) -> bool
+    ensures { result ≡ nat_lt 0 (cores_of_mask cores mask) }
+{
+    if cores < 32 {
+        mask % (1 << cores) != 0
+    } else {
+        mask != 0
+    }
 }
 
 fn has_repeated_name(tasks: &[TaskArgs]) -> bool

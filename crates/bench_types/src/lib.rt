@@ -1,6 +1,7 @@
-//! What a session is made of: its settings and tasks, its steps, their replies, and the checks of their limits.
+//! What a session is made of: its settings and tasks, its steps, their replies, edits of it, and the checks of their limits.
 #![tactic(auto)]
 
+mod edit;
 mod fault;
 mod header;
 mod items;
@@ -11,6 +12,7 @@ mod reply;
 mod samples;
 mod step;
 
+pub use edit::Edit;
 pub use fault::Fault;
 pub use header::{Config, Header, TaskArgs};
 pub use items::Items;

@@ -63,7 +63,7 @@ fn check_core(core: u32, header: &Header) -> Result<(), Fault>
     }
 }
 
-fn check_task(task: u32, header: &Header) -> Result<(), Fault>
+pub(crate) fn check_task(task: u32, header: &Header) -> Result<(), Fault>
     ensures { result ≡ task_check (settings_of header.now) task }
 {
     let tasks = header.tasks.as_slice();

@@ -1,6 +1,12 @@
 mod Accepting
 mod Documents
+mod Limits
 mod Lists
 mod Loops
 mod NewNames
 mod Passing
+mod Plain
+mod ReadBack
+mod Rereading
+mod TaskNames
+mod Values

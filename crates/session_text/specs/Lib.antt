@@ -6,3 +6,4 @@ pub mod Outcome
 pub mod Path
 pub mod Step
 pub mod Session
+pub mod Written

@@ -1,4 +1,5 @@
 mod rows;
+mod written;
 
 use crate::{Why, read_session};
 use bench_types::{Call, Config, Fault, Step};

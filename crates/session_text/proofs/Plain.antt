@@ -1,0 +1,132 @@
+-- The value of a session is plain, and nests three deep.
+use Rattle.std.proofs.Common.{◌≡◌, ℕ, ◌+◌, ◌^◌, ◌<◌, ◌≤◌, true, ◌&&◌, List, [], ◌∷◌, length, map, refl, arith, IsUtf8}
+use Rattle.std.specs.List.{list_all, AllByRecursion}
+use Rattle.std.proofs.lemmas.Bool.{and_parts, and_from}
+use Rattle.std.proofs.lemmas.Bool.Decides.{nat_tests}
+use Rattle.json.proofs.Printed.Utf8.{are_ascii, IsUtf8-are_ascii}
+use Rattle.serde_json.specs.Data.{Data, depth, items_depth}
+use Rattle.serde_json.specs.Read.{max_depth}
+use Rattle.serde_json.specs.View.{items_of}
+use Rattle.bench_types.specs.declared.header.Config.{Config}
+use Rattle.bench_types.specs.declared.header.TaskArgs.{TaskArgs}
+use Rattle.bench_types.specs.Header.{has_valid_args}
+use Rattle.bench_types.specs.declared.header.Header.{Header}
+use Rattle.bench_types.specs.declared.step.Step.{Step}
+use Rattle.bench_types.specs.declared.step.Step.TheVariants as step
+use Rattle.bench_types.specs.declared.step.Call.{Call}
+use Rattle.bench_types.specs.declared.step.Call.TheVariants as call
+use Rattle.bench_types.specs.Name.{is_name, is_name_byte, is_within}
+use Rattle.bench_types.specs.Step.{IsOfWords, IsStepOfWords}
+use Rattle.session_text.specs.Written.{task_data, task_name, call_data, step_data, session_data, IsTyped}
+use Rattle.session_text.proofs.Limits.{HasLimits, IsInPlace}
+use Rattle.session_text.proofs.ReadBack.{IsPlain, ArePlain}
+
+ascii_bytes : (bytes : List ℕ) → list_all is_name_byte bytes ≡ true → are_ascii bytes ≡ true
+ascii_bytes [] all = refl
+ascii_bytes (byte ∷ bytes) all =
+    let both = and_parts (is_name_byte byte) (list_all is_name_byte bytes) all in
+    and_from _ _ (grind (arith, nat_tests, both.0)) (ascii_bytes bytes both.1)
+
+pub utf8_name : (name : List ℕ) → is_name name ≡ true → IsUtf8 name
+utf8_name name named =
+    let sized = is_within 1 15 (length name) in
+    let bytes = list_all is_name_byte name in
+    IsUtf8-are_ascii name (ascii_bytes name (and_parts sized bytes (and_parts (sized && bytes) _ named).0).1)
+
+pub task_plain : (task : TaskArgs) → is_name task.name ≡ true → task.priority < 2 ^ 64 → task.mask < 2 ^ 64 → IsPlain (task_data task)
+task_plain task named priority mask = (refl, refl, mask, (refl, refl, utf8_name task.name named, (refl, refl, priority, tt)))
+
+pub call_plain : (by : List ℕ) (core : ℕ) (made : Call) → IsUtf8 by → core < 2 ^ 64 → IsOfWords made → IsPlain (call_data by core made)
+call_plain by core call.Yield utf8 small words = (refl, refl, utf8, (refl, refl, small, (refl, refl, IsUtf8-are_ascii _ refl, tt)))
+call_plain by core (call.Delay ticks) utf8 small words = (refl, refl, utf8, (refl, refl, small, (refl, refl, IsUtf8-are_ascii _ refl, (refl, refl, omega arith, tt))))
+call_plain by core call.Finish utf8 small words = (refl, refl, utf8, (refl, refl, small, (refl, refl, IsUtf8-are_ascii _ refl, tt)))
+
+-- the names of tasks are UTF-8
+abbrev pub AreNames : Header → Type 0
+AreNames header = (task : ℕ) → task < header.config.cores + length header.tasks → header.config.cores ≤ task → IsUtf8 (task_name header task)
+
+step_plain : (header : Header) (made : Step) → header.config.cores ≤ 8 → AreNames header → IsInPlace header made → IsStepOfWords made → IsPlain (step_data header made)
+step_plain header step.Tick few names place words = (refl, refl, IsUtf8-are_ascii _ refl, tt)
+step_plain header (step.Switch core) few names place words = (refl, refl, omega arith, (refl, refl, IsUtf8-are_ascii _ refl, tt))
+step_plain header (step.Call core task made) few names place words = call_plain (task_name header task) core made (names task place.2 place.1) (omega arith) words
+
+steps_plain : (header : Header) (steps : List Step) → header.config.cores ≤ 8 → AreNames header → AllByRecursion (λ made. IsInPlace header made × IsStepOfWords made) steps → ArePlain (items_of (map (step_data header) steps))
+steps_plain header [] few names each = tt
+steps_plain header (made ∷ steps) few names each = (step_plain header made few names each.0.0 each.0.1, steps_plain header steps few names each.1)
+
+-- a task of a header with these settings
+abbrev pub IsTask : Config → TaskArgs → Type 0
+IsTask config task = (has_valid_args config task ≡ true) × IsTyped task
+
+tasks_plain : (config : Config) (tasks : List TaskArgs) → config.priorities ≤ 32 → AllByRecursion (IsTask config) tasks → ArePlain (items_of (map task_data tasks))
+tasks_plain config [] few each = tt
+tasks_plain config (task ∷ tasks) few each =
+    let priority : task.priority < config.priorities = grind (arith, nat_tests, each.0.0) in
+    (task_plain task each.0.1.named (omega arith) (omega (arith, each.0.1.mask)), tasks_plain config tasks few each.1)
+
+-- what the proofs ask of a session
+pub record IsWritable (header : Header) (steps : List Step) : Type 0 where
+  pub limits : HasLimits header
+  pub tick : header.config.tick < 2 ^ 32
+  pub each_task : AllByRecursion (IsTask header.config) header.tasks
+  pub names : AreNames header
+  pub each_step : AllByRecursion (λ made. IsInPlace header made × IsStepOfWords made) steps
+
+pub session_plain : (header : Header) (steps : List Step) → IsWritable header steps → IsPlain (session_data header steps)
+unfolding session_data
+session_plain header steps h =
+    let limits = h.limits in (
+      refl,
+      refl,
+      omega (arith, limits.cores),
+      (
+        refl,
+        refl,
+        omega arith,
+        (
+          refl,
+          refl,
+          omega (arith, limits.mutexes),
+          (
+            refl,
+            refl,
+            omega (arith, limits.priorities),
+            (
+              refl,
+              refl,
+              tt,
+              (
+                refl,
+                refl,
+                steps_plain header steps limits.cores h.names h.each_step,
+                (
+                  refl,
+                  refl,
+                  tasks_plain header.config header.tasks limits.priorities h.each_task,
+                  (refl, refl, omega (arith, h.tick), tt),
+                ),
+              ),
+            ),
+          ),
+        ),
+      ),
+    )
+
+items_within : {A : Type 0} (data_of : A → Data) (n : ℕ) → ((x : A) → depth (data_of x) ≤ n) → (xs : List A) → items_depth (items_of (map data_of xs)) ≤ n
+items_within data_of n each [] = omega arith
+items_within data_of n each (x ∷ xs) = omega (arith, each x, items_within data_of n each xs)
+
+call_depth : (by : List ℕ) (core : ℕ) (made : Call) → depth (call_data by core made) ≤ 1
+call_depth by core call.Yield = omega arith
+call_depth by core (call.Delay ticks) = omega arith
+call_depth by core call.Finish = omega arith
+
+step_depth : (header : Header) (made : Step) → depth (step_data header made) ≤ 1
+step_depth header step.Tick = omega arith
+step_depth header (step.Switch core) = omega arith
+step_depth header (step.Call core task made) = call_depth (task_name header task) core made
+
+pub session_depth : (header : Header) (steps : List Step) → depth (session_data header steps) ≤ max_depth
+unfolding session_data
+session_depth header steps =
+    omega (arith, items_within (step_data header) 1 (step_depth header) steps, items_within task_data 1 (λ task. omega arith) header.tasks)

@@ -1,0 +1,120 @@
+-- A session that is written is read back.
+use Rattle.std.proofs.Common.{◌≡◌, ℕ, suc, ◌-◌, ◌^◌, ◌<◌, ◌≤◌, true, List, [], ◌∷◌, map, codes, refl, arith, lt-ltb, Ok}
+use Rattle.std.specs.List.{list_all, AllByRecursion}
+use Rattle.std.proofs.lemmas.Bool.{and_parts, and_from}
+use Rattle.std.proofs.lemmas.Bool.Decides.{nat_tests}
+use Rattle.std.proofs.lemmas.List.Elements.{recursion_from_All}
+use Rattle.serde_json.specs.View.{items_of}
+use Rattle.bench_types.specs.declared.header.Config.{Config}
+use Rattle.bench_types.specs.declared.header.TaskArgs.{TaskArgs}
+use Rattle.bench_types.specs.declared.header.Header.{Header}
+use Rattle.bench_types.specs.declared.step.Step.{Step}
+use Rattle.bench_types.specs.declared.step.Step.TheVariants as step
+use Rattle.bench_types.specs.declared.step.Call.TheVariants as call
+use Rattle.bench_types.specs.Header.{has_valid_args, is_header}
+use Rattle.bench_types.specs.Name.{is_name}
+use Rattle.bench_types.specs.Step.{IsStepOfWords}
+use Rattle.session_text.specs.Array.{each_at}
+use Rattle.session_text.specs.Header.{task_at, config_at, tasks_at, header_at}
+use Rattle.session_text.specs.Member.{number_at, text_at, flag_at, array_at}
+use Rattle.session_text.specs.Names.{names_of}
+use Rattle.session_text.specs.Session.{format_at, session_at, session_accepted, session, steps_accepted, step_fault}
+use Rattle.session_text.specs.Step.{step_at, kind_at, step_of_kind_at, task_named_at, call_at, steps_at}
+use Rattle.session_text.specs.Written.{task_data, task_name, step_data, session_data, IsSession, IsTyped, WrittenReadsBack}
+use Rattle.session_text.proofs.Limits.{HasLimits, limits, IsInPlace, in_place}
+use Rattle.session_text.proofs.Plain.{IsTask, IsWritable, session_plain, session_depth, utf8_name}
+use Rattle.session_text.proofs.ReadBack.{document-compact_text}
+use Rattle.session_text.proofs.TaskNames.{number_of_name}
+
+task_read : (at : List ℕ) (task : TaskArgs) → task.priority < 2 ^ 32 → task.mask < 2 ^ 32 → task_at at (task_data task) ≡ Ok task
+unfolding task_at number_at text_at
+task_read at task priority mask = rw (lt-ltb _ _ priority, lt-ltb _ _ mask) refl
+
+tasks_read : (config : Config) (at : List ℕ) (index : ℕ) (tasks : List TaskArgs) → config.priorities ≤ 32 → AllByRecursion (IsTask config) tasks → each_at task_at at index (items_of (map task_data tasks)) ≡ Ok tasks
+tasks_read config at index [] few each = refl
+tasks_read config at index (task ∷ tasks) few each =
+    let priority : task.priority < config.priorities = grind (arith, nat_tests, each.0.0) in
+    rw (task_read _ task (omega arith) each.0.1.mask, tasks_read config at (suc index) tasks few each.1) refl
+
+step_read : (header : Header) (at : List ℕ) (made : Step) → HasLimits header → IsInPlace header made → IsStepOfWords made → step_at (names_of header) at (step_data header made) ≡ Ok made
+unfolding step_at kind_at text_at step_of_kind_at number_at task_named_at call_at
+step_read header at step.Tick h place words = refl
+step_read header at (step.Switch core) h place words =
+    let small : core < 2 ^ 32 = omega (arith, h.cores) in
+    rw (lt-ltb _ _ small) refl
+step_read header at (step.Call core task call.Yield) h place words =
+    let small : core < 2 ^ 32 = omega (arith, h.cores) in
+    rw (lt-ltb _ _ small, number_of_name header task place.1 place.2 h.once) refl
+step_read header at (step.Call core task (call.Delay ticks)) h place words =
+    let small : core < 2 ^ 32 = omega (arith, h.cores) in
+    rw (lt-ltb _ _ small, lt-ltb _ _ words, number_of_name header task place.1 place.2 h.once) refl
+step_read header at (step.Call core task call.Finish) h place words =
+    let small : core < 2 ^ 32 = omega (arith, h.cores) in
+    rw (lt-ltb _ _ small, number_of_name header task place.1 place.2 h.once) refl
+
+steps_read : (header : Header) (at : List ℕ) (index : ℕ) (steps : List Step) → HasLimits header → AllByRecursion (λ made. IsInPlace header made × IsStepOfWords made) steps → each_at (step_at (names_of header)) at index (items_of (map (step_data header) steps)) ≡ Ok steps
+steps_read header at index [] h each = refl
+steps_read header at index (made ∷ steps) h each = rw (step_read header _ made h each.0.0 each.0.1, steps_read header at (suc index) steps h each.1) refl
+
+config_read : (header : Header) (steps : List Step) (at : List ℕ) → IsWritable header steps → config_at at (session_data header steps) ≡ Ok header.config
+unfolding session_data config_at number_at flag_at
+config_read header steps at h =
+    let limits = h.limits in
+    let cores : header.config.cores < 2 ^ 32 = omega (arith, limits.cores) in
+    let priorities : header.config.priorities < 2 ^ 32 = omega (arith, limits.priorities) in
+    let mutexes : header.config.mutexes < 2 ^ 32 = omega (arith, limits.mutexes) in
+    rw (lt-ltb _ _ cores, lt-ltb _ _ priorities, lt-ltb _ _ mutexes, lt-ltb _ _ h.tick) refl
+
+are_named : (config : Config) (tasks : List TaskArgs) → AllByRecursion (IsTask config) tasks → list_all (λ task. is_name task.name) tasks ≡ true
+are_named config [] each = refl
+are_named config (task ∷ tasks) each = and_from _ _ each.0.1.named (are_named config tasks each.1)
+
+header_read : (header : Header) (steps : List Step) (at : List ℕ) → is_header header ≡ true → IsWritable header steps → header_at at (session_data header steps) ≡ Ok (Ok header)
+unfolding session_data header_at tasks_at array_at
+header_read header steps at valid h =
+    rw (config_read header steps at h, tasks_read header.config _ 0 header.tasks h.limits.priorities h.each_task, are_named header.config header.tasks h.each_task, valid) refl
+
+format_read : (header : Header) (steps : List Step) (at : List ℕ) → format_at at (session_data header steps) ≡ Ok tt
+unfolding session_data format_at number_at
+format_read header steps at = refl
+
+steps_at_read : (header : Header) (steps : List Step) (at : List ℕ) → IsWritable header steps → steps_at (names_of header) at (session_data header steps) ≡ Ok steps
+unfolding session_data steps_at array_at
+steps_at_read header steps at h = steps_read header _ 0 steps h.limits h.each_step
+
+session_read : (header : Header) (steps : List Step) (at : List ℕ) → is_header header ≡ true → IsWritable header steps → session_at at (session_data header steps) ≡ Ok (Ok header, steps)
+unfolding session_data session_at
+session_read header steps at valid h = rw (format_read header steps at, header_read header steps at valid h, steps_at_read header steps at h) refl
+
+none_at_fault : (header : Header) (at : List ℕ) (index : ℕ) (steps : List Step) → AllByRecursion (λ made. step_fault header made ≡ Ok tt) steps → steps_accepted header at index steps ≡ Ok tt
+none_at_fault header at index [] each = refl
+none_at_fault header at index (made ∷ steps) each = rw (each.0, none_at_fault header at (suc index) steps each.1) refl
+
+both_of : (config : Config) (tasks : List TaskArgs) → list_all (has_valid_args config) tasks ≡ true → AllByRecursion IsTyped tasks → AllByRecursion (IsTask config) tasks
+both_of config [] all each = tt
+both_of config (task ∷ tasks) all each =
+    let both = and_parts (has_valid_args config task) (list_all (has_valid_args config) tasks) all in
+    ((both.0, each.0), both_of config tasks both.1 each.1)
+
+pub writable : (header : Header) (steps : List Step) → IsSession header steps → IsWritable header steps
+writable header steps h =
+    let within = limits header h.checked.header_fits in
+    record {
+      limits = within;
+      tick = h.tick;
+      each_task = both_of header.config header.tasks within.args (recursion_from_All IsTyped header.tasks h.tasks);
+      names = λ task high low. utf8_name (task_name header task) (h.tasks (task - header.config.cores) _ (omega arith)).named;
+      each_step = recursion_from_All (λ made. IsInPlace header made × IsStepOfWords made) steps (λ k d short. (in_place header _ (h.checked.steps_pass k d short), h.steps_typed k d short));
+    }
+
+accepted_read : (header : Header) (steps : List Step) → steps_accepted header (codes "steps") 0 steps ≡ Ok tt → session_accepted [] (Ok header) steps ≡ Ok (header, steps)
+unfolding session_accepted
+accepted_read header steps passing = rw passing refl
+
+pub written_reads_back : WrittenReadsBack
+unfolding session
+written_reads_back header steps h =
+    let writes = writable header steps h in
+    let passing = none_at_fault header (codes "steps") 0 steps (recursion_from_All (λ made. step_fault header made ≡ Ok tt) steps h.checked.steps_pass) in
+    rw (document-compact_text (session_data header steps) (session_plain header steps writes) (session_depth header steps), session_read header steps [] h.checked.header_fits writes)
+    (accepted_read header steps passing)

@@ -1,0 +1,79 @@
+-- A session as it is written: a JSON value, whose members stand in ascending byte order, in its compact text.
+use Rattle.std.specs.Prelude.{◌≡◌, ◌-◌, ◌^◌, ◌<◌, ℕ, List, [], ◌∷◌, map, codes, Ok, All, IsTrue, slice_index_or}
+use Rattle.serde_json.specs.Data.{Data, Members, number, unsigned, string, boolean, array, object, no_members, member}
+use Rattle.serde_json.specs.View.{items_of}
+use Rattle.serde_json.specs.Written.{compact_text}
+use Rattle.bench_types.specs.declared.header.TaskArgs.{TaskArgs}
+use Rattle.bench_types.specs.declared.header.Header.{Header}
+use Rattle.bench_types.specs.declared.step.Step.{Step}
+use Rattle.bench_types.specs.declared.step.Step.TheVariants as step
+use Rattle.bench_types.specs.declared.step.Call.{Call}
+use Rattle.bench_types.specs.declared.step.Call.TheVariants as call
+use Rattle.bench_types.specs.Name.{is_name}
+use Rattle.bench_types.specs.Step.{IsStepOfWords}
+use Rattle.session_text.specs.Session.{session, IsChecked}
+
+abbrev pub members : List (List ℕ × Data) → Members
+members [] = no_members
+members (first ∷ others) = member first.0 first.1 (members others)
+
+-- an object with these members, in this order
+abbrev pub object_with : List (List ℕ × Data) → Data
+object_with all = object (members all)
+
+abbrev pub whole : ℕ → Data
+whole n = number (unsigned n)
+
+abbrev pub task_data : TaskArgs → Data
+task_data task = object_with ((codes "mask", whole task.mask) ∷ (codes "name", string task.name) ∷ (codes "priority", whole task.priority) ∷ [])
+
+-- the name of a user task
+abbrev pub task_name : Header → ℕ → List ℕ
+task_name header task = (slice_index_or header.tasks (task - header.config.cores) (record { name = []; priority = 0; mask = 0 })).name
+
+-- a call on a core, by the task of this name
+abbrev pub call_data : List ℕ → ℕ → Call → Data
+call_data by core call.Yield = object_with ((codes "by", string by) ∷ (codes "core", whole core) ∷ (codes "do", string (codes "yield")) ∷ [])
+call_data by core (call.Delay ticks) = object_with ((codes "by", string by) ∷ (codes "core", whole core) ∷ (codes "do", string (codes "delay")) ∷ (codes "ticks", whole ticks) ∷ [])
+call_data by core call.Finish = object_with ((codes "by", string by) ∷ (codes "core", whole core) ∷ (codes "do", string (codes "finish")) ∷ [])
+
+abbrev pub step_data : Header → Step → Data
+step_data header step.Tick = object_with ((codes "do", string (codes "tick")) ∷ [])
+step_data header (step.Switch core) = object_with ((codes "core", whole core) ∷ (codes "do", string (codes "switch")) ∷ [])
+step_data header (step.Call core task made) = call_data (task_name header task) core made
+
+abbrev pub tasks_data : List TaskArgs → Data
+tasks_data tasks = array (items_of (map task_data tasks))
+
+abbrev pub steps_data : Header → List Step → Data
+steps_data header steps = array (items_of (map (step_data header) steps))
+
+unfoldable pub session_data : Header → List Step → Data
+session_data header steps = object_with (
+    (codes "cores", whole header.config.cores) ∷
+    (codes "format", whole 1) ∷
+    (codes "mutexes", whole header.config.mutexes) ∷
+    (codes "priorities", whole header.config.priorities) ∷
+    (codes "slicing", boolean header.config.slicing) ∷
+    (codes "steps", steps_data header steps) ∷
+    (codes "tasks", tasks_data header.tasks) ∷
+    (codes "tick", whole header.config.tick) ∷ [])
+
+abbrev pub written : Header → List Step → List ℕ
+written header steps = compact_text (session_data header steps)
+
+-- A task as the program's types hold it: its name is a name, and its mask is one of 32 bits.
+pub record IsTyped (task : TaskArgs) : Type 0 where
+  pub named : IsTrue (is_name task.name)
+  pub mask : task.mask < 2 ^ 32
+
+-- A checked session as the program's types hold it: names are names, and numbers are of 32 bits.
+pub record IsSession (header : Header) (steps : List Step) : Type 0 where
+  pub checked : IsChecked header steps
+  pub tick : header.config.tick < 2 ^ 32
+  pub tasks : All IsTyped header.tasks
+  pub steps_typed : All IsStepOfWords steps
+
+-- Every session that is written is read back as itself.
+abbrev pub WrittenReadsBack : Type 0
+WrittenReadsBack = (header : Header) (steps : List Step) → IsSession header steps → session (written header steps) ≡ Ok (header, steps)

@@ -1,0 +1,112 @@
+ghost use Rattle.std.specs.Prelude.{◌≡◌, ◌+◌, ◌<◌, ◌≤◌, All, IfOk, Ok, OnOk, length};
+ghost use Rattle.serde_json.specs.View.{view};
+ghost use Rattle.bench_types.specs.Step.{IsOfWords, IsStepOfWords};
+ghost use Rattle.session_text.specs.Session.{session, step_fault, IsChecked};
+ghost use Rattle.session_text.specs.Written.{call_data, session_data, step_data, steps_data, task_data, task_name, tasks_data, written, IsSession, IsTyped};
+
+use bench_types::{Call, Config, Header, Step, TaskArgs};
+use serde_json::{Value, json};
+use std::alloc::{AllocError, Global};
+
+/// Writes a session as a JSON text without spaces, with the members of each object in ascending byte order.
+pub fn write_session(alloc: Global, header: &Header, steps: &[Step]) -> Result<Vec<u8>, AllocError>
+    requires { IsChecked header.now steps.now }
+    ensures text { IfOk result (λ text. text.items ≡ written header.now steps.now) }
+    // So `read_session` gives the session back.
+    ensures reads_back { IfOk result (λ text. session text.items ≡ Ok (header.now, steps.now)) }
+{
+    session_value(alloc, header, steps)?.to_vec(alloc)
+}
+
+#[tactic(auto, unfolding(crate::specs::Written::session_data))]
+fn session_value(alloc: Global, header: &Header, steps: &[Step]) -> Result<Value, AllocError>
+    requires { IsChecked header.now steps.now }
+    ensures value { IfOk result (λ value. view value ≡ session_data header.now steps.now) }
+    ensures typed { OnOk result (IsSession header.now steps.now) }
+{
+    let Config {
+        cores,
+        priorities,
+        slicing,
+        tick,
+        mutexes,
+    } = header.config;
+    let tasks = tasks_value(alloc, header.tasks.as_slice())?;
+    let steps = steps_value(alloc, header, steps)?;
+    json!(in alloc; {
+        "cores": cores,
+        "format": 1u32,
+        "mutexes": mutexes,
+        "priorities": priorities,
+        "slicing": slicing,
+        "steps": steps,
+        "tasks": tasks,
+        "tick": tick
+    })
+}
+
+fn tasks_value(alloc: Global, tasks: &[TaskArgs]) -> Result<Value, AllocError>
+    ensures value { IfOk result (λ value. view value ≡ tasks_data tasks.now) }
+    ensures typed { OnOk result (All IsTyped tasks.now) }
+{
+    let mut values = Vec::with_capacity(alloc, tasks.len())?;
+    for task in tasks {
+        values.push(task_value(alloc, task)?)?;
+    }
+    Ok(Value::Array(values))
+}
+
+fn task_value(alloc: Global, task: &TaskArgs) -> Result<Value, AllocError>
+    ensures value { IfOk result (λ value. view value ≡ task_data task.now) }
+    ensures typed { OnOk result (IsTyped task.now) }
+{
+    json!(in alloc; {"mask": task.mask, "name": task.name.as_str(), "priority": task.priority})
+}
+
+fn steps_value(alloc: Global, header: &Header, steps: &[Step]) -> Result<Value, AllocError>
+    requires { All (λ step. step_fault header.now step ≡ Ok tt) steps.now }
+    ensures value { IfOk result (λ value. view value ≡ steps_data header.now steps.now) }
+    ensures typed { OnOk result (All IsStepOfWords steps.now) }
+{
+    let mut values = Vec::with_capacity(alloc, steps.len())?;
+    for step in steps {
+        values.push(step_value(alloc, header, step)?)?;
+    }
+    Ok(Value::Array(values))
+}
+
+fn step_value(alloc: Global, header: &Header, step: &Step) -> Result<Value, AllocError>
+    requires { step_fault header.now step.now ≡ Ok tt }
+    ensures value { IfOk result (λ value. view value ≡ step_data header.now step.now) }
+    ensures typed { OnOk result (IsStepOfWords step.now) }
+{
+    match step {
+        Step::Tick => json!(in alloc; {"do": "tick"}),
+        Step::Switch { core } => json!(in alloc; {"core": *core, "do": "switch"}),
+        Step::Call { core, task, call } => {
+            call_value(alloc, task_name(header, *task), *core, *call)
+        }
+    }
+}
+
+fn call_value(alloc: Global, by: &str, core: u32, call: Call) -> Result<Value, AllocError>
+    ensures value { IfOk result (λ value. view value ≡ call_data by.now core call) }
+    ensures typed { OnOk result (IsOfWords call) }
+{
+    match call {
+        Call::Yield => json!(in alloc; {"by": by, "core": core, "do": "yield"}),
+        Call::Delay(ticks) => {
+            json!(in alloc; {"by": by, "core": core, "do": "delay", "ticks": ticks})
+        }
+        Call::Finish => json!(in alloc; {"by": by, "core": core, "do": "finish"}),
+    }
+}
+
+fn task_name(header: &Header, task: u32) -> &str
+    requires user { header.now.config.cores ≤ task }
+    requires here { task < header.now.config.cores + length header.now.tasks }
+    ensures { result.now ≡ task_name header.now task }
+{
+    let place = (task - header.config.cores) as usize;
+    header.tasks.as_slice()[place].name.as_str()
+}

@@ -1,4 +1,5 @@
 pub mod Choices
+pub mod EditedSessions
 pub mod Examples
 pub mod Filters
 pub mod Passes

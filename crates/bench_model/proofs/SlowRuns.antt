@@ -25,7 +25,7 @@ use Rattle.bench_model.specs.State.{refusal, switched, woken, ticked, yielded, b
 use Rattle.bench_model.specs.Table.{Stamps, Table, table_moves, is_ready, make_ready, delay, advance, due}
 use Rattle.bench_model.specs.Sound.{IsSound}
 use Rattle.bench_model.specs.Start.{first_stamps, unstarted, started, start}
-use Rattle.bench_model.specs.Session.{step_of, state_at, reply_at, outcome_at, shown}
+use Rattle.bench_model.specs.Session.{step_of, state_at, reply_at, outcome_at, trace, shown}
 use Rattle.bench_model.proofs.Filters.{fold-append}
 use Rattle.bench_model.proofs.Stamped.{range_parts}
 use Rattle.bench_model.proofs.SoundSteps.{switched_sound, after_sound, woken_tick, make_ready_tick, advanced_tick}
@@ -83,11 +83,6 @@ pub starting_ends : (header : Header) (table : Table) → IsStarting header head
 unfolding started
 starting_ends header table starting = starting.so_far
 
--- the replies and running tasks of steps from a table on
-abbrev pub trace : Table → List Step → List (Reply × List ℕ)
-trace table [] = []
-trace table (step ∷ steps) = let outcome = step_of step table in (outcome.0, running outcome.1.control) ∷ trace outcome.1 steps
-
 abbrev outcome_from : Table → List Step → ℕ → Option (Reply × List ℕ)
 outcome_from table steps place = let at = λ (place : ℕ). fold (λ table step. (step_of step table).1) table (take place steps) in
     option_map (λ reply. (reply, running (at (suc place)).control)) (option_map (λ step. (step_of step (at place)).0) (slice_get steps place))
@@ -98,7 +93,7 @@ trace_from (step ∷ steps) table zero = refl
 trace_from (step ∷ steps) table (suc place) = trace_from steps (step_of step table).1 place
 
 -- the trace from the start has the outcome of each place
-trace_at : (header : Header) (steps : List Step) (place : ℕ) → slice_get (trace (start header) steps) place ≡ outcome_at header steps place
+pub trace_at : (header : Header) (steps : List Step) (place : ℕ) → slice_get (trace (start header) steps) place ≡ outcome_at header steps place
 unfolding state_at reply_at
 trace_at header steps place = trace_from steps (start header) place
 

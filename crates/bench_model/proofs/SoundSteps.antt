@@ -9,7 +9,6 @@ use Rattle.std.proofs.lemmas.List.{length-set, get_or-set_same, get_or-set_other
 use Rattle.bench_types.specs.declared.reply.Reply.{Reply}
 use Rattle.bench_types.specs.declared.reply.Reply.TheVariants.{Done, Refused}
 use Rattle.bench_types.specs.declared.reply.Reply.TheVariants as reply
-use Rattle.bench_types.specs.declared.fault.Fault.{Fault}
 use Rattle.bench_types.specs.declared.reply.Refusal.{Refusal}
 use Rattle.bench_types.specs.declared.step.Step.{Step}
 use Rattle.bench_types.specs.declared.step.Step.TheVariants.{Tick, Switch}
@@ -428,7 +427,7 @@ checked_task settings task passes = at (leb settings.cores task) refl
     at true above = grind (arith, nat_tests, above)
     at false below = absurd (cc (passes, below))
 
-both_pass : (one other : Result (Unit {0}) Fault) → (one >> other) ≡ Ok tt → (one ≡ Ok tt) × (other ≡ Ok tt)
+pub both_pass : {Why : Type 0} (one other : Result (Unit {0}) Why) → (one >> other) ≡ Ok tt → (one ≡ Ok tt) × (other ≡ Ok tt)
 both_pass (Ok done) other passes = (refl, passes)
 both_pass (Err fault) other passes = absurd (cc)
 

@@ -1,6 +1,7 @@
 -- The laws between the definitions. Each is the contract of a public function.
 use Rattle.std.specs.Prelude.{◌≡◌, ℕ, ◌<◌, List, length, true, IsSome, Ok}
 use Rattle.std.specs.List.{AllByRecursion}
+use Rattle.bench_types.specs.declared.edit.Edit.{Edit}
 use Rattle.bench_types.specs.declared.header.Header.{Header}
 use Rattle.bench_types.specs.declared.reply.Reply.{Reply}
 use Rattle.bench_types.specs.declared.step.Call.{Call}
@@ -16,6 +17,7 @@ use Rattle.bench_model.specs.Lists.{Lists, View, list_moves, lists_of, image}
 use Rattle.bench_model.specs.Sound.{IsStamped, WakesInTime, IsInPlace, IsSound}
 use Rattle.bench_model.specs.Start.{start, start_seen}
 use Rattle.bench_model.specs.Session.{step_of}
+use Rattle.bench_model.specs.Edits.{Session, IsSession, accepted, edited}
 use Rattle.bench_model.specs.Equal.{Same}
 
 -- the start of a checked header is sound
@@ -46,6 +48,10 @@ StepIsSeen = (table : Table) (step : Step) → IsSound table → IsCheckedStep t
 abbrev pub EqualStaysEqual : Type 0
 EqualStaysEqual = (a b : Table) (step : Step) → IsSound a → IsSound b → Same a b → IsCheckedStep a.settings step →
     ((step_of step a).0 ≡ (step_of step b).0) × Same (step_of step a).1 (step_of step b).1
+
+-- an accepted edit of a session leaves a session
+abbrev pub EditKeepsSession : Type 0
+EditKeepsSession = (session : Session) (edit : Edit) → IsSession session → accepted session edit ≡ Ok tt → IsSession (edited edit session)
 
 -- the words of the contracts above: each move over lists is the move of the table, seen
 

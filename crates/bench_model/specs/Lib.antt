@@ -1,4 +1,5 @@
 pub mod Control
+pub mod Edits
 pub mod Equal
 pub mod Examples
 pub mod Laws

@@ -1,5 +1,5 @@
 -- A session's states and replies: its steps folded from the start of its header.
-use Rattle.std.specs.Prelude.{ℕ, suc, List, fold, take, Option, option_map, slice_get}
+use Rattle.std.specs.Prelude.{ℕ, suc, List, [], ◌∷◌, length, fold, take, Option, Some, None, nat_le, if◌then◌else◌, option_map, slice_get}
 use Rattle.arrayvec.specs.ArrayVec.{ArrayVec}
 use Rattle.bench_types.specs.declared.header.Header.{Header}
 use Rattle.bench_types.specs.declared.reply.Reply.{Reply}
@@ -13,9 +13,13 @@ use Rattle.bench_model.specs.Start.{start}
 abbrev pub step_of : Step → Table → Reply × Table
 step_of = after table_moves
 
+-- the state behind steps from a table on
+abbrev pub behind : Table → List Step → Table
+behind table steps = fold (λ table step. (step_of step table).1) table steps
+
 -- the state at a place: after so many steps
 unfoldable pub state_at : Header → List Step → ℕ → Table
-state_at header steps place = fold (λ table step. (step_of step table).1) (start header) (take place steps)
+state_at header steps place = behind (start header) (take place steps)
 
 -- the reply of the step at a place, none past the last
 unfoldable pub reply_at : Header → List Step → ℕ → Option Reply
@@ -24,6 +28,15 @@ reply_at header steps place = option_map (λ step. (step_of step (state_at heade
 -- the reply of the step at a place with the tasks that run behind it, core by core
 abbrev pub outcome_at : Header → List Step → ℕ → Option (Reply × List ℕ)
 outcome_at header steps place = option_map (λ reply. (reply, running (state_at header steps (suc place)).control)) (reply_at header steps place)
+
+-- the tasks that run at a place, core by core, none past the last place
+unfoldable pub running_at : Header → List Step → ℕ → Option (List ℕ)
+running_at header steps place = if nat_le place (length steps) then Some (running (state_at header steps place).control) else None
+
+-- the replies of steps from a table on, each with the tasks that run behind it
+abbrev pub trace : Table → List Step → List (Reply × List ℕ)
+trace table [] = []
+trace table (step ∷ steps) = let outcome = step_of step table in (outcome.0, running outcome.1.control) ∷ trace outcome.1 steps
 
 -- an outcome with its row as a list
 abbrev pub shown : Reply × ArrayVec ℕ → Reply × List ℕ

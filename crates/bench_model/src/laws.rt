@@ -1,5 +1,5 @@
 //! The laws between the definitions, each on a function that does nothing: its contract is the law, for every table.
-ghost use Rattle.bench_model.specs.Laws.{StartIsSound, StepKeepsSound, SwitchFindsTask, StartIsSeen, StepIsSeen, EqualStaysEqual, ReadyIsSeen, ReadyAtEndIsSeen, PickIsSeen, SwitchIsSeen, DelayIsSeen, BlockIsSeen, TickIsSeen, WokenIsSeen, CoresAreApart};
+ghost use Rattle.bench_model.specs.Laws.{StartIsSound, StepKeepsSound, SwitchFindsTask, StartIsSeen, StepIsSeen, EqualStaysEqual, EditKeepsSession, ReadyIsSeen, ReadyAtEndIsSeen, PickIsSeen, SwitchIsSeen, DelayIsSeen, BlockIsSeen, TickIsSeen, WokenIsSeen, CoresAreApart};
 ghost use Rattle.bench_model.specs.Examples.{WorkedSessions, EqualTables};
 
 /// Every kernel that starts from a checked header has a sound table.
@@ -30,6 +30,11 @@ pub fn step_is_seen()
 /// Equal tables reply equally to every checked step, and stay equal.
 pub fn equal_stays_equal()
     ensures { EqualStaysEqual }
+{}
+
+/// An accepted edit leaves a header within its limits, no step at fault under it, and not too many steps.
+pub fn edit_keeps_session()
+    ensures { EditKeepsSession }
 {}
 
 /// A task is among the ready tasks that are seen where its row is ready.

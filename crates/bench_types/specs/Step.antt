@@ -35,7 +35,7 @@ call_check settings call.Finish = Ok tt
 
 -- the second where the first is no fault
 infixl 10 ◌>>◌
-abbrev pub ◌>>◌ : Result ⊤ Fault → Result ⊤ Fault → Result ⊤ Fault
+abbrev pub ◌>>◌ : {Why : Type 0} → Result ⊤ Why → Result ⊤ Why → Result ⊤ Why
 Ok done >> next = next
 Err fault >> next = Err fault
 

@@ -5,6 +5,31 @@ use crate::header::allows_numbers;
 use crate::step::check_task;
 use crate::{Fault, Header, Step};
 
+/// How many steps a session has at most.
+pub const MOST_STEPS: u32 = 100_000;
+
+/// Why an edit of a session is not accepted, with the code that the texts give it.
+#[derive(Clone, Copy, Debug, PartialEq, Eq, Hash)]
+pub enum EditFault {
+    /// F1 to F5: the edit does not fit the header of the session.
+    Bench(Fault),
+    /// J1: the session has no such place.
+    NoPlace,
+    /// J2: the session would have more than [`MOST_STEPS`] steps.
+    TooLong,
+}
+
+impl From<Fault> for EditFault {
+    ghost use Rattle.std.specs.Prelude.{◌≡◌};
+    ghost use Rattle.bench_types.specs.declared.edit.EditFault.TheVariants.{Bench};
+
+    ghost from_gives = { λ fault edit_fault. edit_fault ≡ Bench fault };
+
+    fn from(fault: Fault) -> Self {
+        EditFault::Bench(fault)
+    }
+}
+
 /// A change of a session: of one of its steps, or of one task of its header.
 ///
 /// A place `at` counts the steps before it, so that `Insert` at the number of steps appends.

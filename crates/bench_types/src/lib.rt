@@ -12,7 +12,7 @@ mod reply;
 mod samples;
 mod step;
 
-pub use edit::Edit;
+pub use edit::{Edit, EditFault, MOST_STEPS};
 pub use fault::Fault;
 pub use header::{Config, Header, TaskArgs};
 pub use items::Items;

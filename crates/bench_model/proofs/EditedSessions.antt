@@ -1,0 +1,176 @@
+-- An accepted edit leaves a session.
+use Rattle.std.proofs.Common.{◌≡◌, ℕ, zero, suc, ◌+◌, ◌-◌, ◌<◌, ◌≤◌, Bool, true, false, not, ◌&&◌, ◌||◌, List, [], ◌∷◌, length, map, set, take, drop, Result, Ok, Err, refl, sym, ap, subst, ◌∙◌, arith, bytes_eq}
+use Rattle.std.specs.Prelude.{All, insert, remove, if◌then◌else◌}
+use Rattle.std.specs.List.{list_all, list_any}
+use Rattle.std.specs.Result.{result_map_both}
+use Rattle.std.proofs.lemmas.Bool.{and_parts}
+use Rattle.std.proofs.lemmas.Bool.Decides.{nat_tests}
+use Rattle.std.proofs.lemmas.List.{length-append, length-set, length-take-le, length-drop, map-set, set-get_or}
+use Rattle.std.proofs.lemmas.List.Elements.{All-take, All-drop, All-set, All-append}
+use Rattle.bench_types.specs.declared.edit.Edit.{Edit}
+use Rattle.bench_types.specs.declared.edit.Edit.TheVariants.{Insert, Remove, Replace, ChangeTask}
+use Rattle.bench_types.specs.declared.edit.EditFault.{EditFault}
+use Rattle.bench_types.specs.declared.edit.EditFault.TheVariants.{Bench, NoPlace, TooLong}
+use Rattle.bench_types.specs.declared.edit.TheConstants.{MOST_STEPS}
+use Rattle.bench_types.specs.declared.fault.Fault.{Fault}
+use Rattle.bench_types.specs.declared.fault.Fault.TheVariants.{BadHeader}
+use Rattle.bench_types.specs.declared.header.Config.{Config}
+use Rattle.bench_types.specs.declared.header.Header.{Header}
+use Rattle.bench_types.specs.declared.header.TaskArgs.{TaskArgs}
+use Rattle.bench_types.specs.Edit.{edit_check, numbers_check}
+use Rattle.bench_types.specs.Header.{header_check, is_header, has_valid_config, has_valid_numbers, has_valid_args, is_taken, repeats_name}
+use Rattle.bench_types.specs.Name.{is_within}
+use Rattle.bench_types.specs.Step.{settings_of, step_check, task_check, ◌>>◌}
+use Rattle.bench_model.specs.Edits.{Session, IsSession, has_place, has_room, accepted, args_of, changed, edited}
+use Rattle.bench_model.proofs.SoundSteps.{both_pass}
+
+-- what an accepted edit has passed
+record IsPassed (session : Session) (edit : Edit) : Type 0 where
+  fits : edit_check session.header edit ≡ Ok tt
+  place : has_place session.steps edit ≡ true
+  room : has_room session.steps edit ≡ true
+
+chosen : {Why : Type 0} → Bool → Why → Result (Unit {0}) Why
+chosen b why = if b then Ok tt else Err why
+
+chosen_passes : {Why : Type 0} (b : Bool) (why : Why) → chosen b why ≡ Ok tt → b ≡ true
+unfolding chosen
+chosen_passes true why passes = refl
+chosen_passes false why passes = absurd (cc passes)
+
+told : Result (Unit {0}) Fault → Result (Unit {0}) EditFault
+told fits = result_map_both (λ _. tt) Bench fits
+
+told_passes : (fits : Result (Unit {0}) Fault) → told fits ≡ Ok tt → fits ≡ Ok tt
+unfolding told
+told_passes (Ok done) passes = refl
+told_passes (Err why) passes = absurd (cc passes)
+
+passed : (session : Session) (edit : Edit) → accepted session edit ≡ Ok tt → IsPassed session edit
+unfolding chosen told
+passed session edit accepts =
+    let fits = told (edit_check session.header edit) in
+    let place = chosen (has_place session.steps edit) NoPlace in
+    let room = chosen (has_room session.steps edit) TooLong in
+    let last = both_pass (fits >> place) room accepts in
+    let first = both_pass fits place last.0 in
+    record {
+      fits = told_passes (edit_check session.header edit) first.0;
+      place = chosen_passes (has_place session.steps edit) NoPlace first.1;
+      room = chosen_passes (has_room session.steps edit) TooLong last.1;
+    }
+
+module _ {X : Type 0} where
+  pub length-insert : (xs : List X) (at : ℕ) (x : X) → at ≤ length xs → length (insert xs at x) ≡ suc (length xs)
+  length-insert xs at x within = omega (arith, length-append (take at xs) (x ∷ drop at xs), length-take-le at xs within, length-drop at xs)
+
+  pub length-remove : (xs : List X) (at : ℕ) → at < length xs → length (remove xs at) + 1 ≡ length xs
+  length-remove xs at within =
+      let early : at ≤ length xs = omega arith in
+      omega (arith, length-append (take at xs) (drop (suc at) xs), length-take-le at xs early, length-drop (suc at) xs)
+
+  All_one : (P : X → Type 0) (x : X) → P x → All P (x ∷ [])
+  All_one P x holds zero d within = holds
+  All_one P x holds (suc k) d within = absurd (omega arith)
+
+  All-insert : (P : X → Type 0) (xs : List X) (at : ℕ) (x : X) → P x → All P xs → All P (insert xs at x)
+  All-insert P xs at x here all = All-append P (take at xs) (x ∷ drop at xs) (All-take P at xs all) (All-append P (x ∷ []) (drop at xs) (All_one P x here) (All-drop P at xs all))
+
+  All-remove : (P : X → Type 0) (xs : List X) (at : ℕ) → All P xs → All P (remove xs at)
+  All-remove P xs at all = All-append P (take at xs) (drop (suc at) xs) (All-take P at xs all) (All-drop P (suc at) xs all)
+
+  list_all-set : (p : X → Bool) (xs : List X) (i : ℕ) (x : X) → p x ≡ true → list_all p xs ≡ true → list_all p (set xs i x) ≡ true
+  list_all-set p [] i x here all = refl
+  list_all-set p (y ∷ ys) zero x here all = grind (arith, here, and_parts (p y) (list_all p ys) all)
+  list_all-set p (y ∷ ys) (suc i) x here all =
+      let parts = and_parts (p y) (list_all p ys) all in
+      grind (arith, parts.0, list_all-set p ys i x here parts.1)
+
+abbrev name_of : TaskArgs → List ℕ
+name_of task = task.name
+
+-- whether a name is repeated is said by the names alone
+abbrev repeats : List (List ℕ) → Bool
+repeats [] = false
+repeats (name ∷ names) = list_any (bytes_eq name) names || repeats names
+
+taken_by_name : (name : List ℕ) (tasks : List TaskArgs) → is_taken name tasks ≡ list_any (bytes_eq name) (map name_of tasks)
+taken_by_name name [] = refl
+taken_by_name name (task ∷ tasks) = ap (λ rest. bytes_eq name task.name || rest) (taken_by_name name tasks)
+
+repeats_by_name : (tasks : List TaskArgs) → repeats_name tasks ≡ repeats (map name_of tasks)
+repeats_by_name [] = refl
+repeats_by_name (task ∷ tasks) = ap (λ taken. taken || repeats_name tasks) (taken_by_name task.name tasks) ∙ ap (λ rest. list_any (bytes_eq task.name) (map name_of tasks) || rest) (repeats_by_name tasks)
+
+no_args : TaskArgs
+no_args = record { name = []; priority = 0; mask = 0 }
+
+names_stay : (header : Header) (task priority mask : ℕ) → map name_of (changed task priority mask header).tasks ≡ map name_of header.tasks
+names_stay header task priority mask =
+    let i = task - header.config.cores in
+    let args = args_of header task in
+    map-set name_of header.tasks i (record args { priority = priority; mask = mask }) ∙ sym (map-set name_of header.tasks i args) ∙ ap (map name_of) (set-get_or header.tasks i _)
+
+all_pass : (a b c d : Bool) → a ≡ true → b ≡ true → c ≡ true → d ≡ true → (a && b && c && d) ≡ true
+all_pass a b c d first second third fourth = grind arith
+
+changed_fits : (header : Header) (task priority mask : ℕ) → header_check header ≡ Ok tt → has_valid_numbers header.config priority mask ≡ true → header_check (changed task priority mask header) ≡ Ok tt
+unfolding chosen
+changed_fits header task priority mask fits numbers =
+    let next = changed task priority mask header in
+    let i = task - header.config.cores in
+    let config = has_valid_config header.config in
+    let some = is_within 1 64 (length header.tasks) in
+    let args = list_all (has_valid_args header.config) header.tasks in
+    let names = not (repeats_name header.tasks) in
+    let all = chosen_passes (is_header header) BadHeader fits in
+    let three = and_parts (config && some && args) names all in
+    let two = and_parts (config && some) args three.0 in
+    let one = and_parts config some two.0 in
+    let same_names : repeats_name next.tasks ≡ repeats_name header.tasks = repeats_by_name next.tasks ∙ ap repeats (names_stay header task priority mask) ∙ sym (repeats_by_name header.tasks) in
+    let same_length : length next.tasks ≡ length header.tasks = length-set header.tasks i _ in
+    let passes : is_header next ≡ true = all_pass (has_valid_config next.config) (is_within 1 64 (length next.tasks)) (list_all (has_valid_args next.config) next.tasks) (not (repeats_name next.tasks))
+    one.0 (ap (is_within 1 64) same_length ∙ one.1) (list_all-set (has_valid_args header.config) header.tasks i _ numbers two.1) (ap not same_names ∙ three.1) in
+    ap (λ b. chosen b BadHeader) passes
+
+changed_settings : (header : Header) (task priority mask : ℕ) → settings_of (changed task priority mask header) ≡ settings_of header
+changed_settings header task priority mask =
+    ap (λ users. record { cores = header.config.cores; priorities = header.config.priorities; slicing = header.config.slicing; mutexes = header.config.mutexes; tasks = header.config.cores + users }) (length-set header.tasks (task - header.config.cores) _)
+
+numbers_pass : (config : Config) (priority mask : ℕ) → numbers_check config priority mask ≡ Ok tt → has_valid_numbers config priority mask ≡ true
+unfolding chosen
+numbers_pass config priority mask passes = chosen_passes (has_valid_numbers config priority mask) BadHeader passes
+
+pub edited_session : (session : Session) (edit : Edit) → IsSession session → accepted session edit ≡ Ok tt → IsSession (edited edit session)
+edited_session session (Insert at step) is accepts =
+    let passes = passed session (Insert at step) accepts in
+    let within : at ≤ length session.steps = grind (arith, nat_tests, passes.place) in
+    let room : length session.steps < MOST_STEPS = grind (arith, nat_tests, passes.room) in
+    record {
+      header_fits = is.header_fits;
+      steps_pass = All-insert (λ step. step_check (settings_of session.header) step ≡ Ok tt) session.steps at step passes.fits is.steps_pass;
+      few_steps = omega (arith, length-insert session.steps at step within);
+    }
+edited_session session (Remove at) is accepts =
+    let passes = passed session (Remove at) accepts in
+    let within : at < length session.steps = grind (arith, nat_tests, passes.place) in
+    record {
+      header_fits = is.header_fits;
+      steps_pass = All-remove (λ step. step_check (settings_of session.header) step ≡ Ok tt) session.steps at is.steps_pass;
+      few_steps = omega (arith, length-remove session.steps at within, is.few_steps);
+    }
+edited_session session (Replace at step) is accepts =
+    let passes = passed session (Replace at step) accepts in
+    record {
+      header_fits = is.header_fits;
+      steps_pass = All-set (λ step. step_check (settings_of session.header) step ≡ Ok tt) session.steps at step passes.fits is.steps_pass;
+      few_steps = omega (arith, length-set session.steps at step, is.few_steps);
+    }
+edited_session session (ChangeTask task priority mask) is accepts =
+    let passes = passed session (ChangeTask task priority mask) accepts in
+    let numbers = both_pass (task_check (settings_of session.header) task) (numbers_check session.header.config priority mask) passes.fits in
+    record {
+      header_fits = changed_fits session.header task priority mask is.header_fits (numbers_pass session.header.config priority mask numbers.1);
+      steps_pass = subst (λ settings. All (λ step. step_check settings step ≡ Ok tt) session.steps) (sym (changed_settings session.header task priority mask)) is.steps_pass;
+      few_steps = is.few_steps;
+    }

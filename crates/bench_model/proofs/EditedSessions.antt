@@ -17,12 +17,12 @@ use Rattle.bench_types.specs.declared.fault.Fault.TheVariants.{BadHeader}
 use Rattle.bench_types.specs.declared.header.Config.{Config}
 use Rattle.bench_types.specs.declared.header.Header.{Header}
 use Rattle.bench_types.specs.declared.header.TaskArgs.{TaskArgs}
+use Rattle.bench_types.proofs.Passes.{both_pass}
 use Rattle.bench_types.specs.Edit.{edit_check, numbers_check}
 use Rattle.bench_types.specs.Header.{header_check, is_header, has_valid_config, has_valid_numbers, has_valid_args, is_taken, repeats_name}
 use Rattle.bench_types.specs.Name.{is_within}
 use Rattle.bench_types.specs.Step.{settings_of, step_check, task_check, ◌>>◌}
 use Rattle.bench_model.specs.Edits.{Session, IsSession, has_place, has_room, accepted, args_of, changed, edited}
-use Rattle.bench_model.proofs.SoundSteps.{both_pass}
 
 -- what an accepted edit has passed
 record IsPassed (session : Session) (edit : Edit) : Type 0 where

@@ -2,7 +2,6 @@ pub mod Choices
 pub mod EditedSessions
 pub mod Examples
 pub mod Filters
-pub mod Passes
 pub mod Ranks
 pub mod Restamps
 pub mod SeenMoves

@@ -4,6 +4,7 @@ use Rattle.std.specs.Prelude.{unwrap_or, slice_set}
 use Rattle.std.specs.Option.{option_map_or}
 use Rattle.std.specs.List.{fold, AllByRecursion}
 use Rattle.std.proofs.lemmas.Bool.{true_from_ne_false}
+use Rattle.std.proofs.lemmas.Bool.Decides.{nat_tests}
 use Rattle.bench_types.specs.declared.reply.Reply.{Reply}
 use Rattle.bench_types.specs.declared.reply.Reply.TheVariants.{Done, Blocked, Refused}
 use Rattle.bench_types.specs.declared.reply.Refusal.{Refusal}
@@ -14,10 +15,11 @@ use Rattle.bench_types.specs.declared.step.Call.{Call}
 use Rattle.bench_types.specs.declared.step.Call.TheVariants.{Yield, Delay, Finish}
 use Rattle.bench_types.specs.declared.kernel_data.Settings.{Settings}
 use Rattle.bench_types.specs.declared.kernel_data.CoreLook.{CoreLook}
+use Rattle.bench_types.proofs.Passes.{both_pass, checked_core}
 use Rattle.bench_types.specs.Step.{IsCheckedStep, step_check, core_check, task_check, call_check, ◌>>◌}
 use Rattle.bench_model.specs.declared.row.Standing.TheVariants.{Ready}
 use Rattle.bench_model.specs.Search.{numbers}
-use Rattle.bench_model.specs.Control.{Control, current, run_on}
+use Rattle.bench_model.specs.Control.{Control, current, run_on, is_due}
 use Rattle.bench_model.specs.State.{State, refusal, switched, ticked, yielded, blocked, called, performed, after}
 use Rattle.bench_model.specs.Table.{Stamps, Table, table_moves, wakes_at, is_ready, row_at, stamp_of, pick, make_ready, delay, advance, due}
 use Rattle.bench_model.specs.Lists as seen
@@ -27,7 +29,6 @@ use Rattle.bench_model.specs.Equal.{Same}
 use Rattle.bench_model.specs.Session.{step_of}
 use Rattle.bench_model.specs.Sound.{IsInPlace, IsStamped, IsSound, WakesInTime}
 use Rattle.bench_model.proofs.Filters.{All-weaker}
-use Rattle.bench_model.proofs.Passes.{checked_core, both_pass, not_displaced}
 use Rattle.bench_model.proofs.Stamped.{numbers_below, All-by_stamp}
 use Rattle.bench_model.proofs.Restamps.{IsGiven, moved_length, moved_given, moved_once}
 use Rattle.bench_model.proofs.SeenMoves.{is_ready_seen, pick_seen, make_ready_seen, delay_seen, advance_seen, due_seen, IsAhead, IsNotPast}
@@ -155,6 +156,15 @@ unfolding performed
 performed_seen Tick table sound place = same_outcome Done _ _ (ticked_seen table sound.stamped.given sound.in_time)
 performed_seen (Switch core) table sound place = same_outcome Done _ _ (switched_seen core table sound.stamped (sound.in_place.is_task core place))
 performed_seen (steps.Call core task call) table sound place = called_seen core task call table sound.stamped.given place.2 place.3
+
+pub not_displaced : (control : Control) (calls : List (Option Call)) (core task : ℕ) (call : Call) → refusal control calls (steps.Call core task call) ≡ None → (current control core ≡ task) × (is_due control core ≡ false)
+unfolding refusal
+not_displaced control calls core task call accepted = at (eqb (current control core) task) refl (is_due control core) refl
+  where
+    at : (b : Bool) → eqb (current control core) task ≡ b → (d : Bool) → is_due control core ≡ d → (current control core ≡ task) × (is_due control core ≡ false)
+    at false other d due = absurd (cc (accepted, other))
+    at true same true due = absurd (cc (accepted, same, due))
+    at true same false due = (grind (arith, nat_tests, same), due)
 
 -- of a checked step that is not refused
 pub in_place : (step : Step) (table : Table) → IsSound table → step_check table.settings step ≡ Ok tt → refusal table.control table.calls step ≡ None → IsInPlace table step

@@ -18,6 +18,7 @@ use Rattle.bench_types.specs.declared.step.Call.{Call}
 use Rattle.bench_types.specs.declared.step.Call.TheVariants.{Yield, Delay, Finish}
 use Rattle.bench_types.specs.declared.kernel_data.Settings.{Settings}
 use Rattle.bench_types.specs.Header.{header_check}
+use Rattle.bench_types.proofs.Passes.{checked_header}
 use Rattle.bench_types.specs.Step.{settings_of, IsCheckedStep}
 use Rattle.bench_model.specs.Search.{numbers}
 use Rattle.bench_model.specs.Control.{Control, running, current}
@@ -30,7 +31,7 @@ use Rattle.bench_model.proofs.Filters.{fold-append}
 use Rattle.bench_model.proofs.Stamped.{range_parts}
 use Rattle.bench_model.proofs.SoundSteps.{switched_sound, after_sound, woken_tick, make_ready_tick, advanced_tick}
 use Rattle.bench_model.proofs.SlowTicks.{length_due, advance_next}
-use Rattle.bench_model.proofs.Starts.{checked, start_sound, first_sound, first_next, switched_length, unstarted_cores}
+use Rattle.bench_model.proofs.Starts.{start_sound, first_sound, first_next, switched_length, unstarted_cores}
 
 -- the first cores of a start have switched
 pub record IsStarting (header : Header) (core : ℕ) (table : Table) : Type 0 where
@@ -42,7 +43,7 @@ pub record IsStarting (header : Header) (core : ℕ) (table : Table) : Type 0 wh
 pub starting_starts : (header : Header) (table : Table) → header_check header ≡ Ok tt → table ≡ unstarted (first_stamps header) header → IsStarting header 0 table
 unfolding unstarted
 starting_starts header table passes first =
-    let facts = checked header passes in
+    let facts = checked_header header passes in
     subst (λ t. IsStarting header 0 t) (sym first) (record {
       so_far = refl;
       sound = first_sound header facts;
@@ -177,7 +178,7 @@ unstarted_orders header = (refl, refl, refl)
 pub replaying_starts : (header : Header) (steps : List Step) (table : Table) (outcomes : List (Reply × ArrayVec ℕ)) → header_check header ≡ Ok tt → table ≡ start header → outcomes ≡ [] → IsReplaying header steps 0 table outcomes
 unfolding started
 replaying_starts header steps table outcomes passes starts none =
-    let facts = checked header passes in
+    let facts = checked_header header passes in
     let cores = numbers header.config.cores in
     let before = unstarted (first_stamps header) header in
     let first = unstarted_orders header in
@@ -222,7 +223,7 @@ trace_cons table next step steps reply row replied later runs =
 
 rows_few : (header : Header) (table : Table) → header_check header ≡ Ok tt → IsSound table → table.settings ≡ settings_of header → (0 < length table.orders.rows) × (length table.orders.rows ≤ 72)
 rows_few header table passes sound settings =
-    let facts = checked header passes in
+    let facts = checked_header header passes in
     let tasks = ap (λ (s : Settings). s.tasks) settings in
     (omega (arith, sound.sized.rows, tasks, facts.some_core), omega (arith, sound.sized.rows, tasks, facts.few_cores, facts.few_tasks))
 

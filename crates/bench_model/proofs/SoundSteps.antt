@@ -1,5 +1,5 @@
 -- Every checked step keeps a sound table sound.
-use Rattle.std.proofs.Common.{◌≡◌, ◌≢◌, ℕ, suc, ◌+◌, ◌<◌, ◌≤◌, ◌^◌, Bool, true, false, cond, not, eqb, ◌&&◌, ◌||◌, List, [], ◌∷◌, length, Option, Some, None, Result, Ok, Err, leb, refl, sym, ap, subst, ◌∙◌, arith, inl, inr}
+use Rattle.std.proofs.Common.{◌≡◌, ◌≢◌, ℕ, suc, ◌+◌, ◌<◌, ◌≤◌, ◌^◌, Bool, true, false, cond, not, eqb, ◌&&◌, ◌||◌, List, [], ◌∷◌, length, Option, Some, None, refl, sym, ap, subst, ◌∙◌, arith, inl, inr}
 use Rattle.std.specs.Prelude.{unwrap_or, slice_set, IsSome}
 use Rattle.std.specs.Option.{option_map_or}
 use Rattle.std.specs.List.{fold, AllByRecursion}
@@ -17,6 +17,7 @@ use Rattle.bench_types.specs.declared.step.Call.{Call}
 use Rattle.bench_types.specs.declared.step.Call.TheVariants.{Yield, Delay, Finish}
 use Rattle.bench_types.specs.declared.kernel_data.CoreLook.{CoreLook}
 use Rattle.bench_types.specs.declared.kernel_data.Settings.{Settings}
+use Rattle.bench_types.proofs.Passes.{both_pass, checked_task}
 use Rattle.bench_types.specs.Step.{IsCheckedStep, IsCheckedCall, core_check, task_check, call_check, ◌>>◌}
 use Rattle.bench_model.specs.declared.row.Standing.{Standing}
 use Rattle.bench_model.specs.declared.row.Standing.TheVariants.{Ready, Blocked}
@@ -420,17 +421,6 @@ called_sound core task (Delay ticks) table sound place checked user = either (eq
     either false some = blocked_sound core task (Delay ticks) ticks table sound place checked user (grind (arith, nat_tests, some)) checked.words
 called_sound core task Finish table sound place checked user = finished_sound table sound core task Finish place checked user
 
-checked_task : (settings : Settings) (task : ℕ) → task_check settings task ≡ Ok tt → settings.cores ≤ task
-checked_task settings task passes = at (leb settings.cores task) refl
-  where
-    at : (b : Bool) → leb settings.cores task ≡ b → settings.cores ≤ task
-    at true above = grind (arith, nat_tests, above)
-    at false below = absurd (cc (passes, below))
-
-pub both_pass : {Why : Type 0} (one other : Result (Unit {0}) Why) → (one >> other) ≡ Ok tt → (one ≡ Ok tt) × (other ≡ Ok tt)
-both_pass (Ok done) other passes = (refl, passes)
-both_pass (Err fault) other passes = absurd (cc)
-
 pub performed_sound : (step : Step) (table : Table) → IsSound table → IsCheckedStep table.settings step → IsInPlace table step → IsSound (performed table_moves step table).1
 unfolding performed
 performed_sound Tick table sound checked place = ticked_sound table sound
@@ -438,7 +428,7 @@ performed_sound (Switch core) table sound checked place = switched_sound core ta
 performed_sound (steps.Call core task call) table sound checked place =
     let last = both_pass (core_check table.settings core >> task_check table.settings task) (call_check table.settings call) checked.passes in
     let first = both_pass (core_check table.settings core) (task_check table.settings task) last.0 in
-    called_sound core task call table sound place (record { passes = last.1; words = checked.words }) (omega (arith, sound.sized.cores, checked_task table.settings task first.1))
+    called_sound core task call table sound place (record { passes = last.1; words = checked.words }) (omega (arith, sound.sized.cores, (checked_task table.settings task first.1).0))
 
 pub after_sound : (step : Step) (table : Table) → IsSound table → IsCheckedStep table.settings step → IsSound (after table_moves step table).1
 unfolding after

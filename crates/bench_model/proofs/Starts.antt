@@ -1,8 +1,8 @@
 -- The start of a checked header is sound, and seen as lists it is the start over lists.
-use Rattle.std.proofs.Common.{◌≡◌, ℕ, zero, suc, ◌+◌, ◌-◌, ◌<◌, ◌≤◌, Bool, true, false, cond, not, ltb, ◌&&◌, List, [], ◌∷◌, ◌++◌, length, map, replicate, get_or, Some, None, Ok, refl, ap, ◌∙◌, add-zero, arith, inl, inr}
+use Rattle.std.proofs.Common.{◌≡◌, ℕ, zero, suc, ◌+◌, ◌-◌, ◌<◌, ◌≤◌, true, false, cond, ltb, List, [], ◌∷◌, ◌++◌, length, map, replicate, get_or, Some, None, Ok, refl, ap, ◌∙◌, add-zero, arith, inl, inr}
 use Rattle.std.specs.List.{fold, list_all, range_with_len, AllByRecursion}
 use Rattle.std.proofs.lemmas.Bool.Decides.{nat_tests}
-use Rattle.std.proofs.lemmas.Bool.{cases_lt, and_parts}
+use Rattle.std.proofs.lemmas.Bool.{cases_lt}
 use Rattle.std.proofs.lemmas.List.{length-append, length-set, length-map, length-replicate, map-append, get_or_append_left, get_or-append_right, get_or-replicate, get_or-map}
 use Rattle.std.proofs.lemmas.List.FromFn.{length-map-range_with_len, get_or-map-range_with_len}
 use Rattle.bench_types.specs.declared.header.Config.{Config}
@@ -11,9 +11,9 @@ use Rattle.bench_types.specs.declared.header.TaskArgs.{TaskArgs}
 use Rattle.bench_types.specs.declared.kernel_data.CoreLook.{CoreLook}
 use Rattle.bench_types.specs.declared.kernel_data.TaskControl.{TaskControl}
 use Rattle.bench_types.specs.declared.step.Call.{Call}
-use Rattle.bench_types.specs.Name.{is_within}
+use Rattle.bench_types.proofs.Passes.{IsCheckedHeader, checked_header}
 use Rattle.bench_types.specs.Step.{settings_of, IsCheckedCall}
-use Rattle.bench_types.specs.Header.{header_check, is_header, has_valid_config, has_valid_args, repeats_name}
+use Rattle.bench_types.specs.Header.{header_check, has_valid_args}
 use Rattle.bench_model.specs.declared.row.Standing.TheVariants.{Ready}
 use Rattle.bench_model.specs.declared.row.TaskRow.{TaskRow}
 use Rattle.bench_model.specs.Search.{numbers, by_stamp, ranked}
@@ -29,28 +29,6 @@ use Rattle.bench_model.proofs.Restamps.{standing_so, waits}
 use Rattle.bench_model.proofs.SeenMoves.{seen_from}
 use Rattle.bench_model.proofs.SeenSteps.{switched_seen, same_state}
 use Rattle.bench_model.proofs.SoundSteps.{switched_sound}
-
--- what a checked header says of its numbers
-pub record IsChecked (header : Header) : Type 0 where
-  pub some_core : 0 < header.config.cores
-  pub few_cores : header.config.cores ≤ 8
-  pub few_tasks : length header.tasks ≤ 64
-  pub some_priority : 0 < header.config.priorities
-  pub args : list_all (has_valid_args header.config) header.tasks ≡ true
-
-pub checked : (header : Header) → header_check header ≡ Ok tt → IsChecked header
-checked header passes = from (is_header header) refl
-  where
-    from : (b : Bool) → is_header header ≡ b → IsChecked header
-    from false fails = absurd (cc (passes, fails))
-    from true all =
-        let config = has_valid_config header.config in
-        let some = is_within 1 64 (length header.tasks) in
-        let args = list_all (has_valid_args header.config) header.tasks in
-        let three = and_parts (config && some && args) (not (repeats_name header.tasks)) all in
-        let two = and_parts (config && some) args three.0 in
-        let one = and_parts config some two.0 in
-        record { some_core = grind (arith, nat_tests, one.0); few_cores = grind (arith, nat_tests, one.0); few_tasks = grind (arith, nat_tests, one.1); some_priority = grind (arith, nat_tests, one.0); args = two.1 }
 
 -- no task has an unfinished call
 none_called : (n i : ℕ) → call_at (replicate n None) i ≡ None
@@ -199,7 +177,7 @@ module _ (header : Header) where
   pub first_tasks : length (first_control header).tasks ≡ cores + users
   first_tasks = omega (arith, length-append (replicate cores (idle_control cores)) (map (user_control cores) header.tasks), length-replicate cores (idle_control cores), length-map header.tasks (user_control cores))
 
-  first_priorities : IsChecked header → (i : ℕ) → i < cores + users → (task_at (first_control header) i).in_use < header.config.priorities
+  first_priorities : IsCheckedHeader header → (i : ℕ) → i < cores + users → (task_at (first_control header) i).in_use < header.config.priorities
   first_priorities valid i low = elim (cases_lt i cores) [
     | inl idle ↦
         let at = get_or_append_left (replicate cores (idle_control cores)) (map (user_control cores) header.tasks) (record { in_use = 0; mask = 0 }) i (omega (arith, length-replicate cores (idle_control cores))) ∙ get_or-replicate cores i (idle_control cores) (record { in_use = 0; mask = 0 }) idle in
@@ -212,7 +190,7 @@ module _ (header : Header) where
   first_calls : (i : ℕ) (call : Call) → call_at (replicate (cores + users) None) i ≡ Some call → IsCheckedCall (settings_of header) call
   first_calls i call found = absurd (cc (none_called (cores + users) i, found))
 
-  pub first_sound : IsChecked header → IsSound (unstarted first header)
+  pub first_sound : IsCheckedHeader header → IsSound (unstarted first header)
   unfolding unstarted
   first_sound valid = record {
     sized = record {
@@ -255,7 +233,7 @@ first_turns header = All-weaker (λ c. c < header.config.cores) (λ c. c < lengt
 
 pub start_sound : (header : Header) → header_check header ≡ Ok tt → IsSound (start header)
 unfolding started
-start_sound header passes = in_turn_sound (numbers header.config.cores) (unstarted (first_stamps header) header) (first_turns header) (first_sound header (checked header passes))
+start_sound header passes = in_turn_sound (numbers header.config.cores) (unstarted (first_stamps header) header) (first_turns header) (first_sound header (checked_header header passes))
 
 unstarted_seen : (header : Header) → image (unstarted (first_stamps header) header) ≡ unstarted (first_lists header) header
 unfolding unstarted
@@ -264,5 +242,5 @@ unstarted_seen header = same_state (settings_of header) (first_control header) (
 pub start_seen_lem : (header : Header) → header_check header ≡ Ok tt → image (start header) ≡ start_seen header
 unfolding started
 start_seen_lem header passes =
-    in_turn_seen (numbers header.config.cores) (unstarted (first_stamps header) header) (first_turns header) (first_sound header (checked header passes))
+    in_turn_seen (numbers header.config.cores) (unstarted (first_stamps header) header) (first_turns header) (first_sound header (checked_header header passes))
     ∙ ap (λ view. fold (λ view core. switched list_moves core view) view (numbers header.config.cores)) (unstarted_seen header)

@@ -18,7 +18,8 @@ use Rattle.bench_types.specs.declared.step.Call.TheVariants as call
 use Rattle.bench_types.specs.Name.{is_name, is_name_byte, is_within}
 use Rattle.bench_types.specs.Step.{IsOfWords, IsStepOfWords}
 use Rattle.session_text.specs.Written.{task_data, task_name, call_data, step_data, session_data, IsTyped}
-use Rattle.session_text.proofs.Limits.{HasLimits, IsInPlace}
+use Rattle.bench_types.proofs.Passes.{IsCheckedHeader}
+use Rattle.session_text.proofs.Limits.{IsInPlace}
 use Rattle.session_text.proofs.ReadBack.{IsPlain, ArePlain}
 
 ascii_bytes : (bytes : List ℕ) → list_all is_name_byte bytes ≡ true → are_ascii bytes ≡ true
@@ -66,7 +67,7 @@ tasks_plain config (task ∷ tasks) few each =
 
 -- what the proofs ask of a session
 pub record IsWritable (header : Header) (steps : List Step) : Type 0 where
-  pub limits : HasLimits header
+  pub limits : IsCheckedHeader header
   pub tick : header.config.tick < 2 ^ 32
   pub each_task : AllByRecursion (IsTask header.config) header.tasks
   pub names : AreNames header
@@ -78,7 +79,7 @@ session_plain header steps h =
     let limits = h.limits in (
       refl,
       refl,
-      omega (arith, limits.cores),
+      omega (arith, limits.few_cores),
       (
         refl,
         refl,
@@ -86,11 +87,11 @@ session_plain header steps h =
         (
           refl,
           refl,
-          omega (arith, limits.mutexes),
+          omega (arith, limits.few_mutexes),
           (
             refl,
             refl,
-            omega (arith, limits.priorities),
+            omega (arith, limits.few_priorities),
             (
               refl,
               refl,
@@ -98,11 +99,11 @@ session_plain header steps h =
               (
                 refl,
                 refl,
-                steps_plain header steps limits.cores h.names h.each_step,
+                steps_plain header steps limits.few_cores h.names h.each_step,
                 (
                   refl,
                   refl,
-                  tasks_plain header.config header.tasks limits.priorities h.each_task,
+                  tasks_plain header.config header.tasks limits.few_priorities h.each_task,
                   (refl, refl, omega (arith, h.tick), tt),
                 ),
               ),

@@ -17,11 +17,12 @@ use Rattle.bench_types.specs.Step.{IsStepOfWords}
 use Rattle.session_text.specs.Array.{each_at}
 use Rattle.session_text.specs.Header.{task_at, config_at, tasks_at, header_at}
 use Rattle.session_text.specs.Member.{number_at, text_at, flag_at, array_at}
+use Rattle.bench_types.proofs.Passes.{IsCheckedHeader, header_facts}
 use Rattle.session_text.specs.Names.{names_of}
 use Rattle.session_text.specs.Session.{format_at, session_at, session_accepted, session, steps_accepted, step_fault}
 use Rattle.session_text.specs.Step.{step_at, kind_at, step_of_kind_at, task_named_at, call_at, steps_at}
 use Rattle.session_text.specs.Written.{task_data, task_name, step_data, session_data, IsSession, IsTyped, WrittenReadsBack}
-use Rattle.session_text.proofs.Limits.{HasLimits, limits, IsInPlace, in_place}
+use Rattle.session_text.proofs.Limits.{IsInPlace, in_place}
 use Rattle.session_text.proofs.Plain.{IsTask, IsWritable, session_plain, session_depth, utf8_name}
 use Rattle.session_text.proofs.ReadBack.{document-compact_text}
 use Rattle.session_text.proofs.TaskNames.{number_of_name}
@@ -36,23 +37,23 @@ tasks_read config at index (task ∷ tasks) few each =
     let priority : task.priority < config.priorities = grind (arith, nat_tests, each.0.0) in
     rw (task_read _ task (omega arith) each.0.1.mask, tasks_read config at (suc index) tasks few each.1) refl
 
-step_read : (header : Header) (at : List ℕ) (made : Step) → HasLimits header → IsInPlace header made → IsStepOfWords made → step_at (names_of header) at (step_data header made) ≡ Ok made
+step_read : (header : Header) (at : List ℕ) (made : Step) → IsCheckedHeader header → IsInPlace header made → IsStepOfWords made → step_at (names_of header) at (step_data header made) ≡ Ok made
 unfolding step_at kind_at text_at step_of_kind_at number_at task_named_at call_at
 step_read header at step.Tick h place words = refl
 step_read header at (step.Switch core) h place words =
-    let small : core < 2 ^ 32 = omega (arith, h.cores) in
+    let small : core < 2 ^ 32 = omega (arith, h.few_cores) in
     rw (lt-ltb _ _ small) refl
 step_read header at (step.Call core task call.Yield) h place words =
-    let small : core < 2 ^ 32 = omega (arith, h.cores) in
+    let small : core < 2 ^ 32 = omega (arith, h.few_cores) in
     rw (lt-ltb _ _ small, number_of_name header task place.1 place.2 h.once) refl
 step_read header at (step.Call core task (call.Delay ticks)) h place words =
-    let small : core < 2 ^ 32 = omega (arith, h.cores) in
+    let small : core < 2 ^ 32 = omega (arith, h.few_cores) in
     rw (lt-ltb _ _ small, lt-ltb _ _ words, number_of_name header task place.1 place.2 h.once) refl
 step_read header at (step.Call core task call.Finish) h place words =
-    let small : core < 2 ^ 32 = omega (arith, h.cores) in
+    let small : core < 2 ^ 32 = omega (arith, h.few_cores) in
     rw (lt-ltb _ _ small, number_of_name header task place.1 place.2 h.once) refl
 
-steps_read : (header : Header) (at : List ℕ) (index : ℕ) (steps : List Step) → HasLimits header → AllByRecursion (λ made. IsInPlace header made × IsStepOfWords made) steps → each_at (step_at (names_of header)) at index (items_of (map (step_data header) steps)) ≡ Ok steps
+steps_read : (header : Header) (at : List ℕ) (index : ℕ) (steps : List Step) → IsCheckedHeader header → AllByRecursion (λ made. IsInPlace header made × IsStepOfWords made) steps → each_at (step_at (names_of header)) at index (items_of (map (step_data header) steps)) ≡ Ok steps
 steps_read header at index [] h each = refl
 steps_read header at index (made ∷ steps) h each = rw (step_read header _ made h each.0.0 each.0.1, steps_read header at (suc index) steps h each.1) refl
 
@@ -60,9 +61,9 @@ config_read : (header : Header) (steps : List Step) (at : List ℕ) → IsWritab
 unfolding session_data config_at number_at flag_at
 config_read header steps at h =
     let limits = h.limits in
-    let cores : header.config.cores < 2 ^ 32 = omega (arith, limits.cores) in
-    let priorities : header.config.priorities < 2 ^ 32 = omega (arith, limits.priorities) in
-    let mutexes : header.config.mutexes < 2 ^ 32 = omega (arith, limits.mutexes) in
+    let cores : header.config.cores < 2 ^ 32 = omega (arith, limits.few_cores) in
+    let priorities : header.config.priorities < 2 ^ 32 = omega (arith, limits.few_priorities) in
+    let mutexes : header.config.mutexes < 2 ^ 32 = omega (arith, limits.few_mutexes) in
     rw (lt-ltb _ _ cores, lt-ltb _ _ priorities, lt-ltb _ _ mutexes, lt-ltb _ _ h.tick) refl
 
 are_named : (config : Config) (tasks : List TaskArgs) → AllByRecursion (IsTask config) tasks → list_all (λ task. is_name task.name) tasks ≡ true
@@ -72,7 +73,7 @@ are_named config (task ∷ tasks) each = and_from _ _ each.0.1.named (are_named 
 header_read : (header : Header) (steps : List Step) (at : List ℕ) → is_header header ≡ true → IsWritable header steps → header_at at (session_data header steps) ≡ Ok (Ok header)
 unfolding session_data header_at tasks_at array_at
 header_read header steps at valid h =
-    rw (config_read header steps at h, tasks_read header.config _ 0 header.tasks h.limits.priorities h.each_task, are_named header.config header.tasks h.each_task, valid) refl
+    rw (config_read header steps at h, tasks_read header.config _ 0 header.tasks h.limits.few_priorities h.each_task, are_named header.config header.tasks h.each_task, valid) refl
 
 format_read : (header : Header) (steps : List Step) (at : List ℕ) → format_at at (session_data header steps) ≡ Ok tt
 unfolding session_data format_at number_at
@@ -98,7 +99,7 @@ both_of config (task ∷ tasks) all each =
 
 pub writable : (header : Header) (steps : List Step) → IsSession header steps → IsWritable header steps
 writable header steps h =
-    let within = limits header h.checked.header_fits in
+    let within = header_facts header h.checked.header_fits in
     record {
       limits = within;
       tick = h.tick;

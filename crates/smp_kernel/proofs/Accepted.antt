@@ -9,7 +9,8 @@ use Rattle.bench_types.specs.Step.{step_check, core_check, task_check, call_chec
 use Rattle.bench_model.specs.Search.{has}
 use Rattle.bench_model.specs.State.{refusal, performed, after}
 use Rattle.bench_model.specs.Lists.{View, list_moves}
-use Rattle.bench_model.proofs.Passes.{checked_core, checked_task, both_pass, not_displaced}
+use Rattle.bench_types.proofs.Passes.{both_pass, checked_core, checked_task}
+use Rattle.bench_model.proofs.SeenSteps.{not_displaced}
 use Rattle.smp_kernel.specs.Kernel.{IsSettled, FindsItsPlace}
 
 pub finds_its_place : (step : Step) (view : View) → IsSettled view → step_check view.settings step ≡ Ok tt → refusal view.control view.calls step ≡ None → FindsItsPlace view step
@@ -19,7 +20,7 @@ finds_its_place (steps.Call core task call) view settled passes accepted =
     let in_range = both_pass (core_check view.settings core) (task_check view.settings task) (both_pass (core_check view.settings core >> task_check view.settings task) (call_check view.settings call) passes).0 in
     let low = checked_core view.settings core in_range.0 in
     let found = not_displaced view.control view.calls core task call accepted in
-    (low, checked_task view.settings task in_range.1, ap (λ i. has i view.orders.ready) (sym found.0) ∙ settled.runs_ready core low found.1)
+    (low, (checked_task view.settings task in_range.1).1, ap (λ i. has i view.orders.ready) (sym found.0) ∙ settled.runs_ready core low found.1)
 
 pub after_refused : (step : Step) (view : View) (why : Refusal) → refusal view.control view.calls step ≡ Some why → (Refused why, view) ≡ after list_moves step view
 unfolding after

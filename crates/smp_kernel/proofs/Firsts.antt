@@ -13,7 +13,7 @@ use Rattle.bench_model.specs.Lists.{View, list_moves}
 use Rattle.bench_model.specs.State.{switched}
 use Rattle.bench_model.specs.Start.{first_look, idle_control, user_control, first_control, first_lists, unstarted, started, start_seen}
 use Rattle.bench_model.proofs.Filters.{fold-append, list_any-append}
-use Rattle.bench_model.proofs.Starts.{IsChecked}
+use Rattle.bench_types.proofs.Passes.{IsCheckedHeader}
 use Rattle.bench_model.proofs.Stamped.{numbers_below, range_parts}
 use Rattle.smp_kernel.specs.Parts.{seen_delays, no_delays, first_cores}
 use Rattle.smp_kernel.specs.Kernel.{kernel_view, IsKernelShape}
@@ -61,7 +61,7 @@ first_controls_length : (header : Header) → length (first_control header).task
 first_controls_length header = let cores = header.config.cores in
     omega (arith, length-append (replicate cores (idle_control cores)) (map (user_control cores) header.tasks), length-replicate cores (idle_control cores), length-map header.tasks (user_control cores))
 
-pub first_shape : (header : Header) (places : ℕ) → IsChecked header → header.config.cores + length header.tasks ≤ places → IsReadyShape (first_control header).cores (first_control header).tasks (range_with_len header.config.cores (length header.tasks) ++ numbers header.config.cores) places
+pub first_shape : (header : Header) (places : ℕ) → IsCheckedHeader header → header.config.cores + length header.tasks ≤ places → IsReadyShape (first_control header).cores (first_control header).tasks (range_with_len header.config.cores (length header.tasks) ++ numbers header.config.cores) places
 first_shape header places limits room =
     let cores = header.config.cores in
     let controls = first_controls_length header in

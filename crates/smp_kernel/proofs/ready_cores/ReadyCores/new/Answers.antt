@@ -1,13 +1,13 @@
 use Rattle.std.proofs.Common.{refl, length, ap, arith}
 use Rattle.smp_kernel.specs.Parts.{first_cores}
-use Rattle.bench_model.proofs.Starts.{checked}
+use Rattle.bench_types.proofs.Passes.{checked_header}
 use Rattle.smp_kernel.proofs.Firsts.{first_shape}
 use Rattle.smp_kernel.proofs.ready_cores.ReadyCores.new.Goals as goal
 
 pub invariant_of-result : goal.invariant_of-result
 invariant_of-result c =
     rw (c.in_ok-first_looks.ensures, c.in_ok-first_controls.ensures, c.in_ok-first_queue.ensures.items, c.as_slice.ensures)
-    (first_shape c.args.header.now _ (checked c.args.header.now c.requires) (omega (arith, c.in_ok-first_queue.ensures.room, ap length c.as_slice.ensures)))
+    (first_shape c.args.header.now _ (checked_header c.args.header.now c.requires) (omega (arith, c.in_ok-first_queue.ensures.room, ap length c.as_slice.ensures)))
 
 pub returns : goal.returns
 unfolding first_cores

@@ -1,0 +1,70 @@
+-- What checks that passed say.
+use Rattle.std.proofs.Common.{◌≡◌, ℕ, ◌<◌, ◌≤◌, Bool, true, false, not, ◌&&◌, eqb, ltb, leb, length, Result, Ok, Err, refl, arith}
+use Rattle.std.specs.List.{list_all}
+use Rattle.std.proofs.lemmas.Bool.{and_parts}
+use Rattle.std.proofs.lemmas.Bool.Decides.{nat_tests}
+use Rattle.bench_types.specs.declared.fault.Fault.{Fault}
+use Rattle.bench_types.specs.declared.header.Header.{Header}
+use Rattle.bench_types.specs.declared.kernel_data.Settings.{Settings}
+use Rattle.bench_types.specs.Header.{header_check, is_header, has_valid_config, has_valid_args, repeats_name}
+use Rattle.bench_types.specs.Name.{is_within}
+use Rattle.bench_types.specs.Step.{core_check, task_check, ◌>>◌}
+
+-- two checks, one after the other
+pub both_pass : {Why : Type 0} (one other : Result (Unit {0}) Why) → (one >> other) ≡ Ok tt → (one ≡ Ok tt) × (other ≡ Ok tt)
+both_pass (Ok done) other passes = (refl, passes)
+both_pass (Err why) other passes = absurd (cc)
+
+pub checked_core : (settings : Settings) (core : ℕ) → core_check settings core ≡ Ok tt → core < settings.cores
+checked_core settings core passes = at (ltb core settings.cores) refl
+  where
+    at : (b : Bool) → ltb core settings.cores ≡ b → core < settings.cores
+    at true below = grind (arith, nat_tests, below)
+    at false above = absurd (cc (passes, above))
+
+-- a user task
+pub checked_task : (settings : Settings) (task : ℕ) → task_check settings task ≡ Ok tt → (settings.cores ≤ task) × (task < settings.tasks)
+checked_task settings task passes = at (leb settings.cores task) refl (ltb task settings.tasks) refl
+  where
+    at : (a : Bool) → leb settings.cores task ≡ a → (b : Bool) → ltb task settings.tasks ≡ b → (settings.cores ≤ task) × (task < settings.tasks)
+    at true user true below = (grind (arith, nat_tests, user), grind (arith, nat_tests, below))
+    at true user false above = absurd (cc (passes, user, above))
+    at false idle true below = absurd (cc (passes, idle))
+    at false idle false above = absurd (cc (passes, idle))
+
+-- what a checked header says of its numbers and names
+pub record IsCheckedHeader (header : Header) : Type 0 where
+  pub some_core : 0 < header.config.cores
+  pub few_cores : header.config.cores ≤ 8
+  pub some_priority : 0 < header.config.priorities
+  pub few_priorities : header.config.priorities ≤ 32
+  pub few_mutexes : header.config.mutexes ≤ 32
+  pub few_tasks : length header.tasks ≤ 64
+  pub args : list_all (has_valid_args header.config) header.tasks ≡ true
+  pub once : repeats_name header.tasks ≡ false
+
+pub header_facts : (header : Header) → is_header header ≡ true → IsCheckedHeader header
+header_facts header all =
+    let config = has_valid_config header.config in
+    let some = is_within 1 64 (length header.tasks) in
+    let args = list_all (has_valid_args header.config) header.tasks in
+    let three = and_parts (config && some && args) (not (repeats_name header.tasks)) all in
+    let two = and_parts (config && some) args three.0 in
+    let one = and_parts config some two.0 in
+    record {
+      some_core = grind (arith, nat_tests, one.0);
+      few_cores = grind (arith, nat_tests, one.0);
+      some_priority = grind (arith, nat_tests, one.0);
+      few_priorities = grind (arith, nat_tests, one.0);
+      few_mutexes = grind (arith, nat_tests, one.0);
+      few_tasks = grind (arith, nat_tests, one.1);
+      args = two.1;
+      once = grind (arith, three.1);
+    }
+
+pub checked_header : (header : Header) → header_check header ≡ Ok tt → IsCheckedHeader header
+checked_header header passes = from (is_header header) refl
+  where
+    from : (b : Bool) → is_header header ≡ b → IsCheckedHeader header
+    from false fails = absurd (cc (passes, fails))
+    from true all = header_facts header all

@@ -1,0 +1,220 @@
+#!/usr/bin/env bash
+# Runs the built program over every kind of command line, input and device, and compares its exit status, its whole
+# standard output and the first words of its standard error. One line a case, then a total; status 1 where one differs.
+set -u
+export LC_ALL=C
+cd "$(dirname -- "${BASH_SOURCE[0]}")/.." || exit 1
+
+program="$PWD/crates/smp_bench/out/smp_bench"
+if ! [ -x "$program" ]; then
+    echo "no program at $program: build it first, with (cd crates/smp_bench && rt run -- --help)" >&2
+    exit 1
+fi
+
+folder="$(mktemp -d)"
+trap 'rm -rf -- "$folder"' EXIT
+good=0
+bad=0
+
+# Takes the run's status from `status`, and its output from the files `out` and `err`.
+compare() { # NAME STATUS OUT ERR: ERR is how standard error begins, and is empty where nothing is to be there
+    local out err
+    out="$(cat "$folder/out" && echo .)"
+    err="$(cat "$folder/err" && echo .)"
+    if [ "$status" = "$2" ] && [ "$out" = "$3." ] &&
+        if [ -z "$4" ]; then [ "$err" = . ]; else [ "${err#"$4"}" != "$err" ]; fi; then
+        good=$((good + 1))
+        printf 'ok    %d  %s\n' "$2" "$1"
+    else
+        bad=$((bad + 1))
+        printf 'WRONG %s (wanted %d)  %s\n' "$status" "$2" "$1"
+        head -c 300 "$folder/out" "$folder/err" | sed 's/^/      /'
+    fi
+}
+
+# A run whose input is the file `in`.
+run() { # NAME STATUS OUT ERR WORD..
+    local name="$1" want="$2" out="$3" err="$4"
+    shift 4
+    "$program" "$@" <"$folder/in" >"$folder/out" 2>"$folder/err"
+    status=$?
+    compare "$name" "$want" "$out" "$err"
+}
+
+session() { # FROM TO: the example as input, with the first FROM replaced by TO
+    local text
+    text="$(cat examples/first-run.json)"
+    printf '%s\n' "${text/"$1"/"$2"}" >"$folder/in"
+}
+
+lines='start A B
+0 blocked A B
+1 done C B
+2 done C B
+3 done C B
+4 done C B
+'
+
+# ---- sessions
+
+session '' ''
+run 'replay' 0 "$lines" '' replay
+run 'replay, with the end of the options marked' 0 "$lines" '' replay --
+session '"steps": [' '"steps": [{"do": "switch", "core": 0}, {"do": "finish", "core": 1, "by": "B"},'
+run 'replay of steps that the kernel refuses' 0 "start A B
+0 refused E10 A B
+1 refused E5 A B
+2 blocked A B
+3 done C B
+4 done C B
+5 done C B
+6 done C B
+" '' replay
+
+# ---- refused input
+
+: >"$folder/in"
+run 'no input' 1 $'refused H1\n' '' replay
+printf '{' >"$folder/in"
+run 'a text that is not JSON' 1 $'refused H1\n' '' replay
+printf '"\377"' >"$folder/in"
+run 'a text that is not UTF-8' 1 $'refused H1\n' '' replay
+printf '{}' >"$folder/in"
+run 'a missing member' 1 $'refused H2 format\n' '' replay
+session '"core": 0' '"core": "0"'
+run 'an ill-typed member' 1 $'refused H2 steps[0].core\n' '' replay
+head -c 67108864 /dev/zero | tr '\0' ' ' >"$folder/in"
+run 'the longest input' 1 $'refused H1\n' '' replay
+printf ' ' >>"$folder/in"
+run 'an input one byte longer' 1 $'refused H3\n' '' replay
+session '"cores": 2' '"cores": 1'
+run 'a header that is outside its limits' 1 $'refused F1\n' '' replay
+session '"core": 0' '"core": 2'
+run 'no such core' 1 $'refused F2 steps[0]\n' '' replay
+session '"by": "C"' '"by": "D"'
+run 'no such task' 1 $'refused F3 steps[3]\n' '' replay
+
+# ---- help
+
+session '' ''
+help='Replays FreeRTOS SMP scheduling sessions
+
+Usage: smp_bench <COMMAND>
+
+Commands:
+  replay  Replays the session on standard input, and prints the tasks that run after each step
+
+Options:
+  -h, --help  Print help
+'
+replay_help='Replays the session on standard input, and prints the tasks that run after each step
+
+Usage: smp_bench replay
+
+Options:
+  -h, --help  Print help
+'
+run '--help' 0 "$help" '' --help
+run '-h' 0 "$help" '' -h
+run '--help, then more words' 0 "$help" '' --help replay
+run '-h with more letters' 0 "$help" '' -hx
+run 'replay --help' 0 "$replay_help" '' replay --help
+run 'replay -h' 0 "$replay_help" '' replay -h
+run 'replay --help, then more words' 0 "$replay_help" '' replay --help again
+
+# ---- bad command lines
+
+run 'no command' 2 '' "error: 'smp_bench' requires a subcommand but one was not provided"
+run 'an unknown command' 2 '' "error: unrecognized subcommand 'run'" run
+run 'a command in capitals' 2 '' "error: unrecognized subcommand 'REPLAY'" REPLAY
+run 'a command cut short' 2 '' "error: unrecognized subcommand 'repla'" repla
+run 'an empty word' 2 '' "error: unrecognized subcommand ''" ''
+run 'help, which is no command' 2 '' "error: unrecognized subcommand 'help'" help
+run 'help of a command' 2 '' "error: unrecognized subcommand 'help'" help replay
+run 'an unknown option' 2 '' "error: unexpected argument '--tally' found" --tally
+run 'an unknown letter' 2 '' "error: unexpected argument '-x' found" -x
+run 'an unknown letter before -h' 2 '' "error: unexpected argument '-x' found" -xh
+run 'no version' 2 '' "error: unexpected argument '--version' found" --version
+run '--help with a value' 2 '' "error: unexpected value '1' for '--help' found" --help=1
+run 'a hyphen' 2 '' "error: unrecognized subcommand '-'" -
+run 'the end of the options before the command' 2 '' "error: " -- replay
+run 'replay with an unknown option' 2 '' "error: unexpected argument '--span' found" replay --span 3
+run 'replay with a word' 2 '' "error: unexpected argument 'again' found" replay again
+run 'replay twice' 2 '' "error: unexpected argument 'replay' found" replay replay
+run 'replay, the end of the options, and a word' 2 '' "error: unexpected argument 'again' found" replay -- again
+run 'a word that is not UTF-8' 2 '' 'error: invalid UTF-8 was detected in one or more arguments' $'\377'
+run 'replay and a word that is not UTF-8' 2 '' 'error: invalid UTF-8 was detected in one or more arguments' replay $'re\300'
+
+# The command line is read before the input: what is left of that is the whole session.
+for words in '' --help 'replay again'; do
+    # shellcheck disable=SC2086
+    { "$program" $words >/dev/null 2>&1; cat >"$folder/out"; } <examples/first-run.json
+    status=0
+    : >"$folder/err"
+    compare "nothing is read with the words '$words'" 0 "$(cat examples/first-run.json)
+" ''
+done
+
+# ---- devices that fail
+
+: >"$folder/out"
+"$program" replay </ >"$folder/out" 2>"$folder/err"
+status=$?
+compare 'a folder as input' 3 '' $'fault read\n'
+"$program" replay <&- >"$folder/out" 2>"$folder/err"
+status=$?
+compare 'closed input' 3 '' $'fault read\n'
+
+: >"$folder/out"
+"$program" replay <"$folder/in" >/dev/full 2>"$folder/err"
+status=$?
+compare 'a full device as output' 3 '' $'fault write\n'
+"$program" --help >/dev/full 2>"$folder/err"
+status=$?
+compare '--help to a full device' 3 '' $'fault write\n'
+"$program" replay <"$folder/in" >&- 2>"$folder/err"
+status=$?
+compare 'closed output' 3 '' $'fault write\n'
+
+# A pipe whose reading end is closed before the program starts.
+mkfifo "$folder/pipe"
+exec 3<>"$folder/pipe" 4>"$folder/pipe" 3<&-
+"$program" replay <"$folder/in" >&4 2>"$folder/err"
+status=$?
+exec 4>&-
+compare 'a closed pipe as output' 3 '' $'fault write\n'
+
+"$program" replay again 2>/dev/full >"$folder/out"
+status=$?
+: >"$folder/err"
+compare 'a bad command line, with a full device for standard error' 2 '' ''
+
+# ---- want of memory
+
+{
+    printf '['
+    head -c 40000000 /dev/zero | tr '\0' ' '
+    printf ']'
+} >"$folder/in"
+run 'a long input, with memory' 1 $'refused H2 top\n' '' replay
+(
+    ulimit -v 40000
+    exec "$program" replay <"$folder/in" >"$folder/out" 2>"$folder/err"
+)
+status=$?
+compare 'a long input, with 40 MB of memory' 3 '' $'fault memory\n'
+
+# Words of a megabyte, with the least memory in which the program starts at all (what does not start it is 127 or more).
+words=()
+long="$(head -c 100000 /dev/zero | tr '\0' a)"
+for _ in {1..11}; do words+=("$long"); done
+for ((memory = 2000000; memory < 20000000; memory += 100000)); do
+    prlimit --as="$memory" "$program" "${words[@]}" <"$folder/in" >"$folder/out" 2>"$folder/err"
+    status=$?
+    [ "$status" -ge 126 ] || break
+done
+compare 'long words, with little memory' 3 '' $'fault memory\n'
+run 'long words, with memory' 2 '' "error: unrecognized subcommand 'aaa" "${words[@]}"
+
+printf '%d passed, %d failed\n' "$good" "$bad"
+[ "$bad" = 0 ]

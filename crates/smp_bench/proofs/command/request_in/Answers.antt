@@ -1,7 +1,7 @@
 use Rattle.std.proofs.Common.{ap, sym, subst, ◌∙◌, map, drop}
-use Rattle.clap.specs.Words.{HasKind, app_of, fault_of, is_simple_and_free}
+use Rattle.clap.specs.Words.{HasKind, fault_of, is_simple_and_free}
 use Rattle.smp_bench.specs.Command.{asked_behind, bench_app}
-use Rattle.smp_bench.proofs.CommandLine.{Says, commands_are_simple, error_asked, matches_asked, words_say}
+use Rattle.smp_bench.proofs.CommandLine.{commands_are_simple, error_asked, matches_asked, words_say}
 use Rattle.smp_bench.proofs.command.request_in.Goals as goal
 
 pub returns-in-Ok : goal.returns-in-Ok

@@ -1,9 +1,12 @@
+pub mod Bests
 pub mod Choices
 pub mod EditedSessions
 pub mod Examples
 pub mod Filters
 pub mod Ranks
 pub mod Restamps
+pub mod SeekExamples
+pub mod Seeks
 pub mod SeenMoves
 pub mod SeenSteps
 pub mod Selects

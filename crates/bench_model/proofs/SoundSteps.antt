@@ -17,13 +17,14 @@ use Rattle.bench_types.specs.declared.step.Call.{Call}
 use Rattle.bench_types.specs.declared.step.Call.TheVariants.{Yield, Delay, Finish}
 use Rattle.bench_types.specs.declared.kernel_data.CoreLook.{CoreLook}
 use Rattle.bench_types.specs.declared.kernel_data.Settings.{Settings}
+use Rattle.bench_types.specs.declared.kernel_data.TaskControl.{TaskControl}
 use Rattle.bench_types.proofs.Passes.{both_pass, checked_task}
 use Rattle.bench_types.specs.Step.{IsCheckedStep, IsCheckedCall, core_check, task_check, call_check, ◌>>◌}
 use Rattle.bench_model.specs.declared.row.Standing.{Standing}
 use Rattle.bench_model.specs.declared.row.Standing.TheVariants.{Ready, Blocked}
 use Rattle.bench_model.specs.declared.row.TaskRow.{TaskRow}
 use Rattle.bench_model.specs.Search.{numbers, has}
-use Rattle.bench_model.specs.Control.{Control, core_at, with_core, current, is_due, may_select, asked_by, ask, run_on}
+use Rattle.bench_model.specs.Control.{Control, core_at, task_at, with_core, current, is_due, may_select, asked_by, ask, run_on}
 use Rattle.bench_model.specs.State.{selected, call_at, refusal, switched, ticked, yielded, blocked, called, performed, after}
 use Rattle.bench_model.specs.Table.{Stamps, Table, table_moves, row_at, stamp_of, is_ready, stands_ready, wakes_at, tasks_of, restamped, pick, make_ready, delay, advance, due}
 use Rattle.bench_model.specs.Sound.{IsInPlace, IsStamped, IsPlaced, WakesInTime, IsSound}
@@ -142,6 +143,26 @@ run_placed control core task stamps place below low ready may = record {
         let seen = list_any_at (λ other. not (eqb other core) && eqb (current control other) task) d (numbers (length control.cores)) (numbers_have (length control.cores) d h) (grind (arith, nat_tests, away, same)) in
         absurd (grind (arith, seen, may))
 
+-- making a task ready keeps a table sound
+pub ready_sound : (table : Table) (task : ℕ) → IsSound table → task < table.settings.tasks → IsSound (record table { orders = make_ready task table.orders })
+ready_sound table task sound low =
+    let below : task < length table.orders.rows = omega (arith, sound.sized.rows) in
+    record {
+      sized = record {
+        cores = sound.sized.cores;
+        controls = sound.sized.controls;
+        calls = sound.sized.calls;
+        rows = make_ready_length table.orders task below ∙ sound.sized.rows;
+        some_core = sound.sized.some_core;
+        idle_tasks = sound.sized.idle_tasks;
+      };
+      stamped = make_ready_once table.orders task sound.stamped below;
+      in_place = make_ready_placed table.control table.orders task below sound.in_place;
+      in_time = make_ready_in_time table.orders task below sound.in_time;
+      priorities = sound.priorities;
+      calls = sound.calls;
+    }
+
 queued_placed : (control : Control) (stamps : Stamps) (task : ℕ) → task < length stamps.rows → IsPlaced control stamps → IsPlaced control (queued stamps task)
 queued_placed control stamps task below place = either (is_ready task stamps)
   where
@@ -156,7 +177,7 @@ queued_in_time stamps task below in_time = either (is_ready task stamps)
     either true = make_ready_in_time stamps task below in_time
     either false = in_time
 
-queued_length : (stamps : Stamps) (task : ℕ) → task < length stamps.rows → length (queued stamps task).rows ≡ length stamps.rows
+pub queued_length : (stamps : Stamps) (task : ℕ) → task < length stamps.rows → length (queued stamps task).rows ≡ length stamps.rows
 queued_length stamps task below = either (is_ready task stamps)
   where
     either : (b : Bool) → length (cond b (make_ready task stamps) stamps).rows ≡ length stamps.rows
@@ -281,44 +302,90 @@ ticked_sound table sound =
       calls = sound.calls;
     }
 
--- a core that asked itself
-module _ (control : Control) (core : ℕ) (below : core < length control.cores) where
-  asked_here : core_at (ask core core control) core ≡ record (core_at control core) { pend = true }
-  asked_here = look_same control core (asked_by core core (core_at control core)) below ∙ grind (arith, nat_tests)
+-- Cores of which some were asked: the others are as they were, and none has another current task.
+pub record IsAskedMore (control other : Control) : Type 0 where
+  pub cores : length other.cores ≡ length control.cores
+  pub tasks : other.tasks ≡ control.tasks
+  pub currents : (c : ℕ) → current other c ≡ current control c
+  pub due : (c : ℕ) → is_due control c ≡ true → is_due other c ≡ true
 
-  asked_current : (c : ℕ) → current (ask core core control) c ≡ current control c
+more_placed : (control other : Control) (stamps : Stamps) → IsAskedMore control other → IsPlaced control stamps → IsPlaced other stamps
+more_placed control other stamps more place = record {
+  is_task = λ c low. subst (λ i. i < length stamps.rows) (sym (more.currents c)) (place.is_task c (omega (arith, more.cores)));
+  on_one_core = λ c d low high same. place.on_one_core c d (omega (arith, more.cores)) (omega (arith, more.cores)) (sym (more.currents c) ∙ same ∙ more.currents d);
+  blocked_is_due = λ c low waits. more.due c (place.blocked_is_due c (omega (arith, more.cores)) (ap (λ i. is_ready i stamps) (sym (more.currents c)) ∙ waits));
+  idle_is_ready = λ i low. place.idle_is_ready i (omega (arith, more.cores));
+}
+
+abbrev pub with_control : Table → Control → Table
+with_control table control = record table { control = control }
+
+-- asking cores keeps a table sound
+pub more_sound : (table : Table) (other : Control) → IsAskedMore table.control other → IsSound table → IsSound (with_control table other)
+more_sound table other more sound = record {
+  sized = record {
+    cores = more.cores ∙ sound.sized.cores;
+    controls = ap (λ (tasks : List TaskControl). length tasks) more.tasks ∙ sound.sized.controls;
+    calls = sound.sized.calls;
+    rows = sound.sized.rows;
+    some_core = sound.sized.some_core;
+    idle_tasks = sound.sized.idle_tasks;
+  };
+  stamped = sound.stamped;
+  in_place = more_placed table.control other table.orders more sound.in_place;
+  in_time = sound.in_time;
+  priorities = λ i low. subst (λ (tasks : List TaskControl). (task_at (record { cores = other.cores; tasks = tasks }) i).in_use < table.settings.priorities) (sym more.tasks) (sound.priorities i low);
+  calls = sound.calls;
+}
+
+pub asked_runs : (acting core : ℕ) (look : CoreLook) → (asked_by acting core look).current ≡ look.current
+asked_runs acting core look = elim (eqb core acting) as (λ b. (cond b (record look { pend = true }) (record look { asked = true })).current ≡ look.current) [ true ↦ refl | false ↦ refl ]
+
+pub asked_is_due : (acting core : ℕ) (look : CoreLook) → ((asked_by acting core look).pend || (asked_by acting core look).asked) ≡ true
+asked_is_due acting core look = at (eqb core acting)
+  where
+    at : (b : Bool) → ((cond b (record look { pend = true }) (record look { asked = true })).pend || (cond b (record look { pend = true }) (record look { asked = true })).asked) ≡ true
+    at true = refl
+    at false = grind (arith)
+
+-- a core that was asked
+module _ (control : Control) (acting core : ℕ) (below : core < length control.cores) where
+  asked_here : core_at (ask acting core control) core ≡ asked_by acting core (core_at control core)
+  asked_here = look_same control core (asked_by acting core (core_at control core)) below
+
+  asked_current : (c : ℕ) → current (ask acting core control) c ≡ current control c
   asked_current c = elim (cases_eq c core) [
-    | inl here ↦ ap (current (ask core core control)) here ∙ ap (λ (l : CoreLook). l.current) asked_here ∙ ap (current control) (sym here)
-    | inr away ↦ ap (λ (l : CoreLook). l.current) (look_other control core (asked_by core core (core_at control core)) c away)
+    | inl here ↦ ap (current (ask acting core control)) here ∙ ap (λ (l : CoreLook). l.current) asked_here ∙ asked_runs acting core (core_at control core) ∙ ap (current control) (sym here)
+    | inr away ↦ ap (λ (l : CoreLook). l.current) (look_other control core (asked_by acting core (core_at control core)) c away)
   ]
 
-  asked_due : is_due (ask core core control) core ≡ true
-  asked_due = ap (λ (l : CoreLook). l.pend || l.asked) asked_here
+  asked_due : is_due (ask acting core control) core ≡ true
+  asked_due = ap (λ (l : CoreLook). l.pend || l.asked) asked_here ∙ asked_is_due acting core (core_at control core)
 
-  asked_others : (c : ℕ) → c ≢ core → is_due (ask core core control) c ≡ is_due control c
-  asked_others c away = ap (λ (l : CoreLook). l.pend || l.asked) (look_other control core (asked_by core core (core_at control core)) c away)
+  asked_others : (c : ℕ) → c ≢ core → is_due (ask acting core control) c ≡ is_due control c
+  asked_others c away = ap (λ (l : CoreLook). l.pend || l.asked) (look_other control core (asked_by acting core (core_at control core)) c away)
 
-  asked_length : length (ask core core control).cores ≡ length control.cores
-  asked_length = cores_length control core (asked_by core core (core_at control core))
+  asked_length : length (ask acting core control).cores ≡ length control.cores
+  asked_length = cores_length control core (asked_by acting core (core_at control core))
 
-  asked_placed : (stamps : Stamps) → IsPlaced control stamps → IsPlaced (ask core core control) stamps
-  asked_placed stamps place = record {
-    is_task = λ c low. subst (λ i. i < length stamps.rows) (sym (asked_current c)) (place.is_task c (omega (arith, asked_length)));
-    on_one_core = λ c d low high same. place.on_one_core c d (omega (arith, asked_length)) (omega (arith, asked_length)) (sym (asked_current c) ∙ same ∙ asked_current d);
-    blocked_is_due = λ c low waits. elim (cases_eq c core) [
-      | inl here ↦ ap (is_due (ask core core control)) here ∙ asked_due
-      | inr away ↦ asked_others c away ∙ place.blocked_is_due c (omega (arith, asked_length)) (ap (λ i. is_ready i stamps) (sym (asked_current c)) ∙ waits)
+  pub asked_more : IsAskedMore control (ask acting core control)
+  asked_more = record {
+    cores = asked_length;
+    tasks = refl;
+    currents = asked_current;
+    due = λ c is. elim (cases_eq c core) [
+      | inl here ↦ ap (is_due (ask acting core control)) here ∙ asked_due
+      | inr away ↦ asked_others c away ∙ is
     ];
-    idle_is_ready = λ i low. place.idle_is_ready i (omega (arith, asked_length));
   }
 
   -- its task waits from now on
-  waiting_placed : (stamps : Stamps) (task : ℕ) (standing : Standing) → task < length stamps.rows → current control core ≡ task → length control.cores ≤ task → IsPlaced control stamps → IsPlaced (ask core core control) (restamped task standing stamps)
+  waiting_placed : (stamps : Stamps) (task : ℕ) (standing : Standing) → task < length stamps.rows → current control core ≡ task → length control.cores ≤ task → IsPlaced control stamps → IsPlaced (ask acting core control) (restamped task standing stamps)
   waiting_placed stamps task standing low here user place = record {
     is_task = λ c h. omega (arith, moved_length stamps task standing low, asked_current c, place.is_task c (omega (arith, asked_length)));
-    on_one_core = (asked_placed stamps place).on_one_core;
+    on_one_core = (more_placed control (ask acting core control) stamps asked_more place).on_one_core;
     blocked_is_due = λ c h waits. elim (cases_eq c core) [
-      | inl on ↦ ap (is_due (ask core core control)) on ∙ asked_due
+      | inl on ↦ ap (is_due (ask acting core control)) on ∙ asked_due
       | inr away ↦ asked_others c away ∙ place.blocked_is_due c (omega (arith, asked_length)) (sym (ready_other stamps task standing low (current control c) (λ same. away (place.on_one_core c core (omega (arith, asked_length)) below (same ∙ sym here)))) ∙ ap (λ i. is_ready i (restamped task standing stamps)) (sym (asked_current c)) ∙ waits)
     ];
     idle_is_ready = λ i h. ready_other stamps task standing low i (λ same. absurd (omega (arith, asked_length))) ∙ place.idle_is_ready i (omega (arith, asked_length));
@@ -326,21 +393,7 @@ module _ (control : Control) (core : ℕ) (below : core < length control.cores) 
 
 pub yielded_sound : (core : ℕ) (table : Table) → IsSound table → core < length table.control.cores → IsSound (yielded table_moves core table)
 unfolding yielded
-yielded_sound core table sound below = record {
-  sized = record {
-    cores = asked_length table.control core below ∙ sound.sized.cores;
-    controls = sound.sized.controls;
-    calls = sound.sized.calls;
-    rows = sound.sized.rows;
-    some_core = sound.sized.some_core;
-    idle_tasks = sound.sized.idle_tasks;
-  };
-  stamped = sound.stamped;
-  in_place = asked_placed table.control core below table.orders sound.in_place;
-  in_time = sound.in_time;
-  priorities = sound.priorities;
-  calls = sound.calls;
-}
+yielded_sound core table sound below = more_sound table (ask core core table.control) (asked_more table.control core core below) sound
 
 -- the unfinished calls stay checked where one begins or ends
 call_set : (settings : Settings) (calls : List (Option Call)) (task : ℕ) (given : Option Call) → task < length calls → ((call : Call) → given ≡ Some call → IsCheckedCall settings call) → ((i : ℕ) (call : Call) → call_at calls i ≡ Some call → IsCheckedCall settings call) → (i : ℕ) (call : Call) → call_at (slice_set calls task given) i ≡ Some call → IsCheckedCall settings call
@@ -369,13 +422,13 @@ delayed_stamped stamps task ticks below stamped = moved_once stamps task (Blocke
 
 delayed_placed : (control : Control) (core : ℕ) → core < length control.cores → (stamps : Stamps) (task ticks : ℕ) → task < length stamps.rows → current control core ≡ task → length control.cores ≤ task → IsPlaced control stamps → IsPlaced (ask core core control) (delay task ticks stamps)
 unfolding delay
-delayed_placed control core below stamps task ticks low here user place = waiting_placed control core below stamps task (Blocked (stamps.tick + ticks)) low here user place
+delayed_placed control core below stamps task ticks low here user place = waiting_placed control core core below stamps task (Blocked (stamps.tick + ticks)) low here user place
 
 pub blocked_sound : (core task : ℕ) (call : Call) (ticks : ℕ) (table : Table) → IsSound table → IsInPlace table (steps.Call core task call) → IsCheckedCall table.settings call → length table.control.cores ≤ task → 0 < ticks → ticks < 2 ^ 32 → IsSound (blocked table_moves core task call ticks table)
 unfolding blocked
 blocked_sound core task call ticks table sound place checked user some fits = record {
   sized = record {
-    cores = asked_length table.control core place.0 ∙ sound.sized.cores;
+    cores = asked_length table.control core core place.0 ∙ sound.sized.cores;
     controls = sound.sized.controls;
     calls = length-set table.calls task (Some call) ∙ sound.sized.calls;
     rows = delayed_length table.orders task ticks place.2 ∙ sound.sized.rows;

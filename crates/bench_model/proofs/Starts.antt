@@ -180,10 +180,10 @@ module _ (header : Header) where
   first_priorities : IsCheckedHeader header → (i : ℕ) → i < cores + users → (task_at (first_control header) i).in_use < header.config.priorities
   first_priorities valid i low = elim (cases_lt i cores) [
     | inl idle ↦
-        let at = get_or_append_left (replicate cores (idle_control cores)) (map (user_control cores) header.tasks) (record { in_use = 0; mask = 0 }) i (omega (arith, length-replicate cores (idle_control cores))) ∙ get_or-replicate cores i (idle_control cores) (record { in_use = 0; mask = 0 }) idle in
+        let at = get_or_append_left (replicate cores (idle_control cores)) (map (user_control cores) header.tasks) (record { in_use = 0; mask = 0; preempt = false }) i (omega (arith, length-replicate cores (idle_control cores))) ∙ get_or-replicate cores i (idle_control cores) (record { in_use = 0; mask = 0; preempt = false }) idle in
         omega (arith, ap (λ (t : TaskControl). t.in_use) at, valid.some_priority)
     | inr user ↦
-        let at = get_or-append_right (replicate cores (idle_control cores)) (map (user_control cores) header.tasks) cores i (record { in_use = 0; mask = 0 }) (length-replicate cores (idle_control cores)) user ∙ get_or-map (user_control cores) header.tasks (i - cores) no_args (record { in_use = 0; mask = 0 }) (omega arith) in
+        let at = get_or-append_right (replicate cores (idle_control cores)) (map (user_control cores) header.tasks) cores i (record { in_use = 0; mask = 0; preempt = false }) (length-replicate cores (idle_control cores)) user ∙ get_or-map (user_control cores) header.tasks (i - cores) no_args (record { in_use = 0; mask = 0; preempt = false }) (omega arith) in
         omega (arith, ap (λ (t : TaskControl). t.in_use) at, valid_priority header.config header.tasks valid.args (i - cores) (omega arith))
   ]
 

@@ -18,7 +18,7 @@ abbrev pub with_core : ℕ → CoreLook → Control → Control
 with_core core look control = record control { cores = slice_set control.cores core look }
 
 abbrev pub task_at : Control → ℕ → TaskControl
-task_at control task = slice_index_or control.tasks task (record { in_use = 0; mask = 0 })
+task_at control task = slice_index_or control.tasks task (record { in_use = 0; mask = 0; preempt = false })
 
 -- the core's current task (V11 tasks.c, pxCurrentTCBs)
 abbrev pub current : Control → ℕ → ℕ
@@ -36,9 +36,13 @@ is_due control core = (core_at control core).pend || (core_at control core).aske
 abbrev pub is_idle : Control → ℕ → Bool
 is_idle control task = nat_lt task (length control.cores)
 
--- the task may run on the core (FreeRTOS SMP documentation, core affinity mask)
+-- the task's core affinity mask has the core (FreeRTOS SMP documentation, vTaskCoreAffinitySet)
+abbrev pub in_mask : Control → ℕ → ℕ → Bool
+in_mask control task core = bit_at (task_at control task).mask core == 1
+
+-- the task may run on the core; an idle task may on each (FreeRTOS SMP documentation, idle tasks)
 abbrev pub is_allowed : Control → ℕ → ℕ → Bool
-is_allowed control core task = is_idle control task || bit_at (task_at control task).mask core == 1
+is_allowed control core task = is_idle control task || in_mask control task core
 
 -- the task is the current one of another core
 abbrev pub is_elsewhere : Control → ℕ → ℕ → Bool
@@ -54,6 +58,13 @@ asked_by acting core look = if core == acting then record look { pend = true } e
 
 abbrev pub ask : ℕ → ℕ → Control → Control
 ask acting core control = with_core core (asked_by acting core (core_at control core)) control
+
+-- asking each core that passes the test
+abbrev pub asked_where : ℕ → (ℕ → Bool) → Control → ℕ → CoreLook
+asked_where acting test control core = let look = core_at control core in if test core then asked_by acting core look else look
+
+abbrev pub ask_each : ℕ → (ℕ → Bool) → Control → Control
+ask_each acting test control = record control { cores = map (asked_where acting test control) (numbers (length control.cores)) }
 
 -- the core runs the task and is due no more
 abbrev pub run_on : ℕ → ℕ → Control → Control

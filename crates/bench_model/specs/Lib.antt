@@ -5,6 +5,9 @@ pub mod Examples
 pub mod Laws
 pub mod Lists
 pub mod Search
+pub mod Seek
+pub mod SeekExamples
+pub mod SeekLaws
 pub mod Session
 pub mod Sound
 pub mod Start

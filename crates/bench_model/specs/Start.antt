@@ -1,5 +1,5 @@
 -- The start of a kernel (V11 tasks.c, vTaskStartScheduler).
-use Rattle.std.specs.Prelude.{ℕ, ◌+◌, ◌-◌, ◌%◌, ◌^◌, [], ◌++◌, length, map, fold, replicate, false, None}
+use Rattle.std.specs.Prelude.{ℕ, ◌+◌, ◌-◌, ◌%◌, ◌^◌, [], ◌++◌, length, map, fold, replicate, false, true, None}
 use Rattle.std.specs.List.{range_with_len}
 use Rattle.bench_types.specs.declared.header.Header.{Header}
 use Rattle.bench_types.specs.declared.header.TaskArgs.{TaskArgs}
@@ -15,12 +15,12 @@ use Rattle.bench_model.specs.State.{State, Moves, switched}
 use Rattle.bench_model.specs.Table.{Stamps, Table, table_moves}
 use Rattle.bench_model.specs.Lists.{Lists, View, list_moves, outranks}
 
--- an idle task has priority 0 and may run on every core
+-- preemption is on for each task; an idle task has priority 0 and may run on every core
 abbrev pub idle_control : ℕ → TaskControl
-idle_control cores = record { in_use = 0; mask = 2 ^ cores - 1 }
+idle_control cores = record { in_use = 0; mask = 2 ^ cores - 1; preempt = true }
 
 abbrev pub user_control : ℕ → TaskArgs → TaskControl
-user_control cores args = record { in_use = args.priority; mask = cores_of_mask cores args.mask }
+user_control cores args = record { in_use = args.priority; mask = cores_of_mask cores args.mask; preempt = true }
 
 -- core c has idle task c and no flag
 abbrev pub first_look : ℕ → CoreLook

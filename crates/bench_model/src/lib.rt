@@ -3,6 +3,7 @@
 
 pub mod laws;
 mod row;
+pub mod seek_laws;
 mod slow;
 #[cfg(test)]
 mod tests;

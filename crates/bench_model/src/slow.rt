@@ -397,6 +397,7 @@ fn idle_control(cores: u32) -> TaskControl
     TaskControl {
         in_use: 0,
         mask: (1 << cores) - 1,
+        preempt: true,
     }
 }
 
@@ -407,6 +408,7 @@ fn user_control(cores: u32, args: &TaskArgs) -> TaskControl
     TaskControl {
         in_use: args.priority,
         mask: args.mask % (1 << cores),
+        preempt: true,
     }
 }
 

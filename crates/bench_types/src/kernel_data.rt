@@ -27,6 +27,8 @@ pub struct TaskControl {
     pub in_use: u32,
     /// The core affinity mask, cut to the bits that mean a core (`uxCoreAffinityMask`).
     pub mask: u32,
+    /// Whether a core may be asked to give it up for another task (`xPreemptionDisable` is false).
+    pub preempt: bool,
 }
 
 /// A task that waits for some ticks.

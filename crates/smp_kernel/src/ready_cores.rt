@@ -169,6 +169,7 @@ fn first_controls(alloc: Global, header: &Header) -> Result<Vec<TaskControl>, Al
         tasks.push(TaskControl {
             in_use: args.priority,
             mask: args.mask % (1 << cores),
+            preempt: true,
         })?;
     }
     Ok(tasks)
@@ -181,6 +182,7 @@ fn idle_controls(alloc: Global, cores: u32) -> Result<Vec<TaskControl>, AllocErr
     let idle = TaskControl {
         in_use: 0,
         mask: (1 << cores) - 1,
+        preempt: true,
     };
     let mut tasks = Vec::new(alloc);
     for _core in 0..cores {

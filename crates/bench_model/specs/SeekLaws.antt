@@ -1,0 +1,57 @@
+-- The laws of the core that is asked, of seeking and of time slices. Each is the contract of a public function.
+use Rattle.std.specs.Prelude.{◌≡◌, ℕ, ◌<◌, Bool, true, length, Option, Some, None}
+use Rattle.bench_model.specs.Control.{Control, ask}
+use Rattle.bench_model.specs.State.{State}
+use Rattle.bench_model.specs.Table.{Table, table_moves}
+use Rattle.bench_model.specs.Lists.{list_moves, image}
+use Rattle.bench_model.specs.Seek.{gives_way, is_asked_before, asked_for, seek, wake, switched_and_sought, sliced}
+use Rattle.bench_model.specs.Sound.{IsStamped, IsSound}
+
+-- a core among these that gives way to the task
+abbrev pub IsCandidate : Control → ℕ → (ℕ → Bool) → ℕ → Type 0
+IsCandidate control task among core = (core < length control.cores) × (among core ≡ true) × (gives_way control task core ≡ true)
+
+-- what the search answers: a candidate that is asked before every other, or that there is none
+abbrev pub IsAnswer : Control → ℕ → (ℕ → Bool) → Option ℕ → Type 0
+IsAnswer control task among (Some core) = IsCandidate control task among core × ((other : ℕ) → IsCandidate control task among other → is_asked_before control core other ≡ true)
+IsAnswer control task among None = (core : ℕ) → IsCandidate control task among core → ⊥
+
+-- the state behind seeking a core
+abbrev pub sought : {Orders : Type 0} → ℕ → ℕ → (ℕ → Bool) → State Orders → State Orders
+sought acting task among state = record state { control = seek acting task among state.control }
+
+abbrev pub BestCoreIsAsked : Type 0
+BestCoreIsAsked = (control : Control) (task : ℕ) (among : ℕ → Bool) → IsAnswer control task among (asked_for control task among)
+
+-- seen as lists, each rule of a table is the rule over lists
+
+abbrev pub SeekIsSeen : Type 0
+SeekIsSeen = (table : Table) (acting task : ℕ) (among : ℕ → Bool) → image (sought acting task among table) ≡ sought acting task among (image table)
+
+abbrev pub WakeIsSeen : Type 0
+WakeIsSeen = (table : Table) (acting task : ℕ) → IsStamped table.orders → task < length table.orders.rows →
+    image (wake table_moves acting task table) ≡ wake list_moves acting task (image table)
+
+abbrev pub SoughtSwitchIsSeen : Type 0
+SoughtSwitchIsSeen = (table : Table) (core : ℕ) → IsSound table → core < table.settings.cores →
+    image (switched_and_sought table_moves core table) ≡ switched_and_sought list_moves core (image table)
+
+abbrev pub SlicesAreSeen : Type 0
+SlicesAreSeen = (table : Table) → IsSound table → image (sliced table_moves table) ≡ sliced list_moves (image table)
+
+-- each rule keeps a table sound
+
+abbrev pub AskKeepsSound : Type 0
+AskKeepsSound = (table : Table) (acting core : ℕ) → IsSound table → core < table.settings.cores → IsSound (record table { control = ask acting core table.control })
+
+abbrev pub SeekKeepsSound : Type 0
+SeekKeepsSound = (table : Table) (acting task : ℕ) (among : ℕ → Bool) → IsSound table → IsSound (sought acting task among table)
+
+abbrev pub WakeKeepsSound : Type 0
+WakeKeepsSound = (table : Table) (acting task : ℕ) → IsSound table → task < table.settings.tasks → IsSound (wake table_moves acting task table)
+
+abbrev pub SoughtSwitchKeepsSound : Type 0
+SoughtSwitchKeepsSound = (table : Table) (core : ℕ) → IsSound table → core < table.settings.cores → IsSound (switched_and_sought table_moves core table)
+
+abbrev pub SlicesKeepSound : Type 0
+SlicesKeepSound = (table : Table) → IsSound table → IsSound (sliced table_moves table)

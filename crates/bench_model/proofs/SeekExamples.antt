@@ -28,7 +28,15 @@ asked = record {
 
 pub sought : SoughtCores
 unfolding chosen
-sought = record { other_is_asked = refl; own_is_pending = refl; runs_already = refl; pending_still_runs = refl; asked_runs_no_more = refl }
+sought = record {
+  other_is_asked = refl;
+  own_is_pending = refl;
+  runs_already = refl;
+  pending_still_runs = refl;
+  loser_leaves_cores_of_winner = refl;
+  loser_of_no_lost_core_goes_anywhere = refl;
+  asked_runs_no_more = refl;
+}
 
 pub choices : WorkedChoices
 unfolding chosen

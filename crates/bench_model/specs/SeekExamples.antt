@@ -6,10 +6,11 @@ use Rattle.bench_types.specs.declared.kernel_data.TaskControl.{TaskControl}
 use Rattle.bench_types.specs.declared.reply.Refusal.TheVariants.{NotDue}
 use Rattle.bench_types.specs.declared.step.Step.TheVariants.{Switch, Call}
 use Rattle.bench_types.specs.declared.step.Call.TheVariants.{Delay}
+use Rattle.bench_model.specs.Search.{numbers}
 use Rattle.bench_model.specs.Control.{Control, core_at, with_core, task_at, running}
 use Rattle.bench_model.specs.State.{refusal, yielded}
 use Rattle.bench_model.specs.Table.{Table, table_moves, advance}
-use Rattle.bench_model.specs.Seek.{asked_for, seek, wake, switched_and_sought, sliced}
+use Rattle.bench_model.specs.Seek.{asked_for, seek, may_move, wake, switched_and_sought, sliced}
 use Rattle.bench_model.specs.Start.{start}
 use Rattle.bench_model.specs.Session.{state_at}
 use Rattle.bench_model.specs.Examples.{task, session_of, three_tasks, one_task}
@@ -59,6 +60,13 @@ pub record AskedCores : Type 0 where
   pub among_one : asked_for two_alike 8 (λ core. core == 0) ≡ Some 0
   pub among_none : asked_for two_alike 8 (λ core. core == 3) ≡ None
 
+abbrev pub with_mask : ℕ → ℕ → Control → Control
+with_mask task mask control = record control { tasks = slice_set control.tasks task (record (task_at control task) { mask = mask }) }
+
+-- task 5 may run on cores 0, 1 and 2, and task 8 on cores 0 and 1
+abbrev pub two_masks : Control
+two_masks = with_mask 5 7 (with_mask 8 3 two_alike)
+
 abbrev pub flags : Control → List (Bool × Bool)
 flags control = map (λ look. (look.pend, look.asked)) control.cores
 
@@ -68,6 +76,8 @@ pub record SoughtCores : Type 0 where
   pub own_is_pending : flags (seek 2 8 all_cores two_alike) ≡ (false, false) ∷ (false, false) ∷ (true, false) ∷ (false, false) ∷ []
   pub runs_already : seek 0 9 all_cores two_alike ≡ two_alike
   pub pending_still_runs : seek 0 9 all_cores (with_pend 3 two_alike) ≡ with_pend 3 two_alike
+  pub loser_leaves_cores_of_winner : map (may_move two_masks 5 8 1) (numbers 4) ≡ false ∷ false ∷ true ∷ false ∷ []
+  pub loser_of_no_lost_core_goes_anywhere : map (may_move two_masks 5 8 3) (numbers 4) ≡ true ∷ true ∷ true ∷ false ∷ []
   pub asked_runs_no_more : flags (seek 0 9 all_cores (with_asked 3 two_alike)) ≡ (false, false) ∷ (false, false) ∷ (false, true) ∷ (false, true) ∷ []
 
 -- three tasks or one, with time slicing
@@ -77,9 +87,6 @@ timed header = record header { config = record header.config { slicing = true } 
 -- the tasks 2, 3 and 4; the first two may run on core 0 alone
 abbrev pub crowded : Header
 crowded = session_of ((record (task (codes "U") 3) { mask = 1 }) ∷ (record (task (codes "V") 2) { mask = 1 }) ∷ task (codes "W") 1 ∷ [])
-
-abbrev pub with_mask : ℕ → ℕ → Table → Table
-with_mask task mask table = record table { control = record table.control { tasks = slice_set table.control.tasks task (record (task_at table.control task) { mask = mask }) } }
 
 -- one tick later the task is woken
 abbrev pub woken_by_tick : ℕ → Table → Table
@@ -91,7 +98,7 @@ delayed_once header = state_at header (Call 0 2 (Delay 1) ∷ Switch 0 ∷ []) 2
 
 -- task 3 may run on both cores now, and task 2 comes back to core 0
 abbrev pub evicted : Table
-evicted = switched_and_sought table_moves 0 (woken_by_tick 2 (with_mask 3 3 (delayed_once crowded)))
+evicted = switched_and_sought table_moves 0 (woken_by_tick 2 (record (delayed_once crowded) { control = with_mask 3 3 (delayed_once crowded).control }))
 
 pub record WorkedChoices : Type 0 where
   pub start_asks_none : flags (start (timed three_tasks)).control ≡ (false, false) ∷ (false, false) ∷ []

@@ -25,10 +25,10 @@ use Rattle.bench_types.specs.Step.{settings_of, step_check, task_check, ◌>>◌
 use Rattle.bench_model.specs.Edits.{Session, IsSession, has_place, has_room, accepted, args_of, changed, edited}
 
 -- what an accepted edit has passed
-record IsPassed (session : Session) (edit : Edit) : Type 0 where
-  fits : edit_check session.header edit ≡ Ok tt
-  place : has_place session.steps edit ≡ true
-  room : has_room session.steps edit ≡ true
+pub record IsPassed (session : Session) (edit : Edit) : Type 0 where
+  pub fits : edit_check session.header edit ≡ Ok tt
+  pub place : has_place session.steps edit ≡ true
+  pub room : has_room session.steps edit ≡ true
 
 chosen : {Why : Type 0} → Bool → Why → Result (Unit {0}) Why
 chosen b why = if b then Ok tt else Err why
@@ -46,7 +46,7 @@ unfolding told
 told_passes (Ok done) passes = refl
 told_passes (Err why) passes = absurd (cc passes)
 
-passed : (session : Session) (edit : Edit) → accepted session edit ≡ Ok tt → IsPassed session edit
+pub passed : (session : Session) (edit : Edit) → accepted session edit ≡ Ok tt → IsPassed session edit
 unfolding chosen told
 passed session edit accepts =
     let fits = told (edit_check session.header edit) in

@@ -1,0 +1,6 @@
+mod Counts
+mod EditLists
+mod Openings
+mod Places
+mod Replays
+mod Views

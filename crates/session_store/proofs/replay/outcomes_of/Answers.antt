@@ -1,0 +1,45 @@
+use Rattle.std.proofs.Common.{◌≡◌, ℕ, ◌+◌, ◌-◌, ◌^◌, min, refl, subst, sym, ◌∙◌, ap, arith, get_or, take, length, List}
+use Rattle.arrayvec.specs.ArrayVec.{ArrayVec}
+use Rattle.bench_types.specs.declared.reply.Reply.{Reply}
+use Rattle.bench_types.specs.declared.step.Step.TheVariants.{Tick}
+use Rattle.session_store.specs.Counting.{counted}
+use Rattle.bench_model.specs.Session.{step_of, behind}
+use Rattle.session_store.proofs.Counts.{counted_more, counts_some}
+use Rattle.session_store.proofs.Replays.{IsReplayed, replayed_starts, replayed_goes, replayed_ends}
+use Rattle.session_store.proofs.replay.outcomes_of.Goals as goal
+
+pub returns-in_err-outcomes-clause-some : goal.returns-in_err-outcomes-clause-some
+returns-in_err-outcomes-clause-some c = counts_some c.from_residual.result 0 (length c.args.steps.now) c.args.meter.now c.args.meter.now (omega arith) refl
+
+pub row_of-requires-clause-stands : goal.row_of-requires-clause-stands
+row_of-requires-clause-stands c =
+    let stands = c.requires.stands in
+    let before = behind stands.0 (take c.loop-step.step-index c.args.steps.now) in
+    ((step_of (get_or c.args.steps.now c.loop-step.step-index Tick) before).1, c.step-reply.ensures.state before (c.loop-step.invariant.so_far stands.0 stands.1).stands)
+
+pub loop-step-init : goal.loop-step-init
+loop-step-init c = record {
+  so_far = λ table stands. replayed_starts table c.args.steps.now c.args.kernel c.in_ok-outcomes.outcomes.items stands c.in_ok-outcomes.ensures.items;
+  shape = refl;
+  meter = refl;
+}
+
+pub returns-in_err-push-clause-some : goal.returns-in_err-push-clause-some
+returns-in_err-push-clause-some c = counts_some c.from_residual-in_err-push.result (c.loop-step.step-index + 1) (length c.args.steps.now) c.args.meter.now c.step-reply.new.meter (omega arith)
+    (c.step-reply.ensures.meter ∙ ap (λ count. min (count + 1) (2 ^ 64 - 1)) c.loop-step.invariant.meter ∙ counted_more c.loop-step.step-index c.args.meter.now)
+
+pub loop-step-preserved : goal.loop-step-preserved
+loop-step-preserved c = record {
+  so_far = λ table stands. subst (λ (os : List (Reply × ArrayVec ℕ)). IsReplayed table c.args.steps.now (c.loop-step.step-index + 1) c.step-reply.new.self os) (sym c.in_ok-push.ensures.items)
+      (replayed_goes table c.args.steps.now c.loop-step.step-index c.loop-step.kernel c.step-reply.new.self c.loop-step.outcomes.items c.step-reply.result c.row_of.result (omega arith) c.step-reply.ensures.reply c.step-reply.ensures.state c.row_of.ensures (c.loop-step.invariant.so_far table stands));
+  shape = c.step-reply.ensures.shape ∙ c.loop-step.invariant.shape;
+  meter = c.step-reply.ensures.meter ∙ ap (λ count. min (count + 1) (2 ^ 64 - 1)) c.loop-step.invariant.meter ∙ counted_more c.loop-step.step-index c.args.meter.now;
+}
+
+pub returns-clause-outcomes : goal.returns-clause-outcomes
+returns-clause-outcomes c = λ table stands. replayed_ends table c.args.steps.now c.loop-step.step-index c.loop-step.kernel c.loop-step.outcomes.items (omega arith) (c.loop-step.invariant.so_far table stands)
+
+pub returns-clause-meter : goal.returns-clause-meter
+returns-clause-meter c =
+    let all : c.loop-step.step-index ≡ length c.args.steps.now = omega arith in
+    c.loop-step.invariant.meter ∙ ap (λ steps. counted steps c.args.meter.now) all

@@ -1,0 +1,5 @@
+pub mod Counting
+pub mod Kept
+pub mod Opening
+pub mod Outcomes
+pub mod StoreView

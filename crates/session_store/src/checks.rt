@@ -1,0 +1,82 @@
+ghost use Rattle.std.specs.Prelude.{◌≡◌, ◌≤◌, ◌^◌, ◌<◌, length};
+ghost use Rattle.bench_types.specs.Step.{settings_of};
+ghost use Rattle.bench_model.specs.Edits.{accepted, has_place, has_room};
+ghost use Rattle.session_store.specs.Opening.{open_check, steps_check};
+
+use crate::OpenRefusal;
+use crate::fault::Refused;
+use crate::store::MOST_SPAN;
+use bench_types::{Edit, EditFault, Header, MOST_STEPS, Step};
+
+fn has_place(steps: &[Step], edit: &Edit) -> bool
+    ensures { result ≡ has_place steps.now edit.now }
+{
+    match *edit {
+        Edit::Insert { at, step: _ } => at as usize <= steps.len(),
+        Edit::Remove { at } | Edit::Replace { at, step: _ } => (at as usize) < steps.len(),
+        Edit::ChangeTask { .. } => true,
+    }
+}
+
+fn has_room(steps: &[Step], edit: &Edit) -> bool
+    ensures { result ≡ has_room steps.now edit.now }
+{
+    match edit {
+        Edit::Insert { .. } => steps.len() < MOST_STEPS as usize,
+        Edit::Remove { .. } | Edit::Replace { .. } | Edit::ChangeTask { .. } => true,
+    }
+}
+
+/// The fault of the edit under the header, else J1, else J2.
+pub(crate) fn check_edit(header: &Header, steps: &[Step], edit: &Edit) -> Result<(), EditFault>
+    ensures { result ≡ accepted (record { header = header.now; steps = steps.now }) edit.now }
+{
+    edit.check(header)?;
+    if !has_place(steps, edit) {
+        return Err(EditFault::NoPlace);
+    }
+    if !has_room(steps, edit) {
+        return Err(EditFault::TooLong);
+    }
+    Ok(())
+}
+
+fn check_steps(header: &Header, steps: &[Step]) -> Result<(), Refused>
+    requires { length steps.now < 2 ^ 32 }
+    ensures { result ≡ steps_check (settings_of header.now) 0 steps.now }
+{
+    for (at, step) in steps.iter().enumerate() {
+        if let Err(fault) = step.check(header) {
+            return Err(Refused {
+                why: OpenRefusal::Bench(fault),
+                at: Some(at as u32),
+            });
+        }
+    }
+    Ok(())
+}
+
+/// F1, else J3, else J2, else the fault of the first step that has one.
+pub(crate) fn check_opening(header: &Header, steps: &[Step], span: u32) -> Result<(), Refused>
+    ensures { result ≡ open_check header.now steps.now span }
+{
+    if let Err(fault) = header.check() {
+        return Err(Refused {
+            why: OpenRefusal::Bench(fault),
+            at: None,
+        });
+    }
+    if span < 1 || MOST_SPAN < span {
+        return Err(Refused {
+            why: OpenRefusal::BadSpan,
+            at: None,
+        });
+    }
+    if steps.len() > MOST_STEPS as usize {
+        return Err(Refused {
+            why: OpenRefusal::TooLong,
+            at: None,
+        });
+    }
+    check_steps(header, steps)
+}

@@ -12,7 +12,7 @@ use Rattle.bench_types.specs.Header.{header_check}
 use Rattle.bench_types.specs.Name.{is_within}
 use Rattle.bench_types.specs.Step.{settings_of, step_check, ◌>>◌}
 use Rattle.bench_model.specs.Edits.{IsSession}
-use Rattle.bench_model.proofs.SoundSteps.{both_pass}
+use Rattle.bench_types.proofs.Passes.{both_pass}
 use Rattle.session_store.specs.declared.fault.OpenRefusal.TheVariants.{Bench, BadSpan, TooLong}
 use Rattle.session_store.specs.declared.fault.Refused.{Refused}
 use Rattle.session_store.specs.declared.store.TheConstants.{MOST_SPAN}

@@ -1,25 +1,30 @@
--- Steps of which none is at fault pass their checks.
+-- Items of which none is at fault pass their checks.
 use Rattle.std.proofs.Common.{◌≡◌, ℕ, suc, List, [], ◌∷◌, Result, Ok, Err, refl}
 use Rattle.std.specs.Prelude.{All, ⊤}
 use Rattle.std.specs.List.{AllByRecursion}
-use Rattle.std.proofs.lemmas.List.Elements.{All-from_recursion}
+use Rattle.std.proofs.lemmas.List.Elements.{All-from_recursion, recursion_from_All}
 use Rattle.bench_types.specs.declared.fault.Fault.{Fault}
-use Rattle.bench_types.specs.declared.header.Header.{Header}
-use Rattle.bench_types.specs.declared.step.Step.{Step}
 use Rattle.session_text.specs.declared.fault.TextFault.{TextFault}
+use Rattle.session_text.specs.Accepted.{item_accepted, items_accepted}
 use Rattle.session_text.specs.Outcome.{◌>>=◌}
 use Rattle.session_text.specs.Path.{item_path}
-use Rattle.session_text.specs.Session.{step_accepted, step_fault, steps_accepted}
 
-both_pass : (check : Result ⊤ Fault) (at : List ℕ) (rest : Result ⊤ TextFault) → (step_accepted at check >>= λ _. rest) ≡ Ok tt → (check ≡ Ok tt) × (rest ≡ Ok tt)
+both_pass : (check : Result ⊤ Fault) (at : List ℕ) (rest : Result ⊤ TextFault) → (item_accepted at check >>= λ _. rest) ≡ Ok tt → (check ≡ Ok tt) × (rest ≡ Ok tt)
 both_pass (Ok done) at rest e = (refl, e)
 both_pass (Err fault) at rest e = absurd cc
 
-each_passes : (header : Header) (at : List ℕ) (index : ℕ) (steps : List Step) → steps_accepted header at index steps ≡ Ok tt → AllByRecursion (λ step. step_fault header step ≡ Ok tt) steps
-each_passes header at index [] e = tt
-each_passes header at index (step ∷ steps) e =
-    let both = both_pass (step_fault header step) (item_path at index) (steps_accepted header at (suc index) steps) e in
-    (both.0, each_passes header at (suc index) steps both.1)
+each_passes : {A : Type 0} (fault_of : A → Result ⊤ Fault) (at : List ℕ) (index : ℕ) (items : List A) → items_accepted fault_of at index items ≡ Ok tt → AllByRecursion (λ item. fault_of item ≡ Ok tt) items
+each_passes fault_of at index [] e = tt
+each_passes fault_of at index (item ∷ items) e =
+    let both = both_pass (fault_of item) (item_path at index) (items_accepted fault_of at (suc index) items) e in
+    (both.0, each_passes fault_of at (suc index) items both.1)
 
-pub steps_pass : (header : Header) (at : List ℕ) (steps : List Step) → steps_accepted header at 0 steps ≡ Ok tt → All (λ step. step_fault header step ≡ Ok tt) steps
-steps_pass header at steps e = All-from_recursion (λ step. step_fault header step ≡ Ok tt) steps (each_passes header at 0 steps e)
+pub all_pass : {A : Type 0} (fault_of : A → Result ⊤ Fault) (at : List ℕ) (items : List A) → items_accepted fault_of at 0 items ≡ Ok tt → All (λ item. fault_of item ≡ Ok tt) items
+all_pass fault_of at items e = All-from_recursion (λ item. fault_of item ≡ Ok tt) items (each_passes fault_of at 0 items e)
+
+none_at_fault : {A : Type 0} (fault_of : A → Result ⊤ Fault) (at : List ℕ) (index : ℕ) (items : List A) → AllByRecursion (λ item. fault_of item ≡ Ok tt) items → items_accepted fault_of at index items ≡ Ok tt
+none_at_fault fault_of at index [] each = refl
+none_at_fault fault_of at index (item ∷ items) each = rw (each.0, none_at_fault fault_of at (suc index) items each.1) refl
+
+pub all_accepted : {A : Type 0} (fault_of : A → Result ⊤ Fault) (at : List ℕ) (items : List A) → All (λ item. fault_of item ≡ Ok tt) items → items_accepted fault_of at 0 items ≡ Ok tt
+all_accepted fault_of at items pass = none_at_fault fault_of at 0 items (recursion_from_All (λ item. fault_of item ≡ Ok tt) items pass)

@@ -14,15 +14,17 @@ use Rattle.bench_types.specs.declared.step.Call.TheVariants as call
 use Rattle.bench_types.specs.Header.{has_valid_args, is_header}
 use Rattle.bench_types.specs.Name.{is_name}
 use Rattle.bench_types.specs.Step.{IsStepOfWords}
+use Rattle.session_text.specs.Accepted.{items_accepted}
 use Rattle.session_text.specs.Array.{each_at}
 use Rattle.session_text.specs.Header.{task_at, config_at, tasks_at, header_at}
 use Rattle.session_text.specs.Member.{number_at, text_at, flag_at, array_at}
 use Rattle.bench_types.proofs.Passes.{IsCheckedHeader, header_facts}
 use Rattle.session_text.specs.Names.{names_of}
-use Rattle.session_text.specs.Session.{format_at, session_at, session_accepted, session, steps_accepted, step_fault}
+use Rattle.session_text.specs.Session.{format_at, session_at, session_accepted, session, step_fault}
 use Rattle.session_text.specs.Step.{step_at, kind_at, step_of_kind_at, task_named_at, call_at, steps_at}
 use Rattle.session_text.specs.Written.{task_data, task_name, step_data, session_data, IsSession, IsTyped, WrittenReadsBack}
 use Rattle.session_text.proofs.Limits.{IsInPlace, in_place}
+use Rattle.session_text.proofs.Passing.{all_accepted}
 use Rattle.session_text.proofs.Plain.{IsTask, IsWritable, session_plain, session_depth, utf8_name}
 use Rattle.session_text.proofs.ReadBack.{document-compact_text}
 use Rattle.session_text.proofs.TaskNames.{number_of_name}
@@ -87,10 +89,6 @@ session_read : (header : Header) (steps : List Step) (at : List ℕ) → is_head
 unfolding session_data session_at
 session_read header steps at valid h = rw (format_read header steps at, header_read header steps at valid h, steps_at_read header steps at h) refl
 
-none_at_fault : (header : Header) (at : List ℕ) (index : ℕ) (steps : List Step) → AllByRecursion (λ made. step_fault header made ≡ Ok tt) steps → steps_accepted header at index steps ≡ Ok tt
-none_at_fault header at index [] each = refl
-none_at_fault header at index (made ∷ steps) each = rw (each.0, none_at_fault header at (suc index) steps each.1) refl
-
 both_of : (config : Config) (tasks : List TaskArgs) → list_all (has_valid_args config) tasks ≡ true → AllByRecursion IsTyped tasks → AllByRecursion (IsTask config) tasks
 both_of config [] all each = tt
 both_of config (task ∷ tasks) all each =
@@ -108,7 +106,7 @@ writable header steps h =
       each_step = recursion_from_All (λ made. IsInPlace header made × IsStepOfWords made) steps (λ k d short. (in_place header _ (h.checked.steps_pass k d short), h.steps_typed k d short));
     }
 
-accepted_read : (header : Header) (steps : List Step) → steps_accepted header (codes "steps") 0 steps ≡ Ok tt → session_accepted [] (Ok header) steps ≡ Ok (header, steps)
+accepted_read : (header : Header) (steps : List Step) → items_accepted (step_fault header) (codes "steps") 0 steps ≡ Ok tt → session_accepted [] (Ok header) steps ≡ Ok (header, steps)
 unfolding session_accepted
 accepted_read header steps passing = rw passing refl
 
@@ -116,6 +114,6 @@ pub written_reads_back : WrittenReadsBack
 unfolding session
 written_reads_back header steps h =
     let writes = writable header steps h in
-    let passing = none_at_fault header (codes "steps") 0 steps (recursion_from_All (λ made. step_fault header made ≡ Ok tt) steps h.checked.steps_pass) in
+    let passing = all_accepted (step_fault header) (codes "steps") steps h.checked.steps_pass in
     rw (document-compact_text (session_data header steps) (session_plain header steps writes) (session_depth header steps), session_read header steps [] h.checked.header_fits writes)
     (accepted_read header steps passing)

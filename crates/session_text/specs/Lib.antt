@@ -1,9 +1,12 @@
+pub mod Accepted
 pub mod Array
+pub mod Bench
+pub mod Edit
 pub mod Header
 pub mod Member
 pub mod Names
 pub mod Outcome
 pub mod Path
-pub mod Step
 pub mod Session
+pub mod Step
 pub mod Written

@@ -1,6 +1,6 @@
 -- What a reading gives: a value, or the first fault. And what a function that reads may answer.
-use Rattle.std.specs.Prelude.{◌≡◌, ℕ, List, Option, Some, None, Result, Ok, Err}
-use Rattle.session_text.specs.declared.fault.Why.TheVariants.{BadShape}
+use Rattle.std.specs.Prelude.{◌≡◌, ℕ, List, [], Option, Some, None, Result, Ok, Err}
+use Rattle.session_text.specs.declared.fault.Why.TheVariants.{BadShape, NoMemory}
 use Rattle.session_text.specs.declared.fault.TextFault.{TextFault}
 use Rattle.session_text.specs.declared.fault.Stop.{Stop}
 use Rattle.session_text.specs.declared.fault.Stop.TheVariants.{Memory, Fault}
@@ -34,3 +34,8 @@ Ends (Fault fault) reading = reading ≡ Err fault
 abbrev pub Gives : {A B : Type 0} → (A → B) → Result A Stop → Result B TextFault → Type 0
 Gives view (Ok x) reading = reading ≡ Ok (view x)
 Gives view (Err stop) reading = Ends stop reading
+
+-- what a caller is told of it
+abbrev pub told : Stop → TextFault
+told Memory = record { why = NoMemory; path = [] }
+told (Fault fault) = fault

@@ -1,5 +1,5 @@
 -- A session: the whole text is read before the header and the steps are judged.
-use Rattle.std.specs.Prelude.{◌≡◌, ◌⊎◌, ℕ, suc, ◌==◌, List, [], ◌∷◌, codes, Option, Some, None, Result, Ok, Err, if◌then◌else◌, ⊤, All, IsTrue}
+use Rattle.std.specs.Prelude.{◌≡◌, ◌⊎◌, ℕ, ◌==◌, List, [], ◌∷◌, codes, Option, Some, None, Result, Ok, Err, if◌then◌else◌, ⊤, All, IsTrue}
 use Rattle.std.specs.Str.{is_utf8}
 use Rattle.serde_json.specs.Data.{Data}
 use Rattle.serde_json.specs.Read.{read}
@@ -13,8 +13,9 @@ use Rattle.session_text.specs.declared.fault.TextFault.{TextFault}
 use Rattle.session_text.specs.Header.{header_at}
 use Rattle.session_text.specs.Member.{object_at, number_at, only_at}
 use Rattle.session_text.specs.Names.{known_names}
+use Rattle.session_text.specs.Accepted.{items_accepted}
 use Rattle.session_text.specs.Outcome.{◌>>=◌, bad_shape}
-use Rattle.session_text.specs.Path.{member_path, item_path, path_text}
+use Rattle.session_text.specs.Path.{member_path}
 use Rattle.session_text.specs.Step.{steps_at}
 
 -- H1 where the bytes are no UTF-8, or no JSON
@@ -53,23 +54,11 @@ pub record IsChecked (header : Header) (steps : List Step) : Type 0 where
   pub header_fits : IsTrue (is_header header)
   pub steps_pass : All (λ step. step_fault header step ≡ Ok tt) steps
 
--- F2 to F5 at the place of a step
-abbrev pub step_accepted : List ℕ → Result ⊤ Fault → Result ⊤ TextFault
-step_accepted at (Ok done) = Ok done
-step_accepted at (Err fault) = Err (record { why = Bench fault; path = path_text at })
-
--- the first fault of the steps from an index on of the array at a place
-abbrev pub steps_accepted : Header → List ℕ → ℕ → List Step → Result ⊤ TextFault
-steps_accepted header at index [] = Ok tt
-steps_accepted header at index (step ∷ rest) = do
-  done ← step_accepted (item_path at index) (step_fault header step)
-  steps_accepted header at (suc index) rest
-
 -- F1 of the header has no place
 unfoldable pub session_accepted : List ℕ → Result Header Fault → List Step → Result (Header × List Step) TextFault
 session_accepted at (Err fault) steps = Err (record { why = Bench fault; path = [] })
 session_accepted at (Ok header) steps = do
-  done ← steps_accepted header (member_path at (codes "steps")) 0 steps
+  done ← items_accepted (step_fault header) (member_path at (codes "steps")) 0 steps
   Ok (header, steps)
 
 -- the header and the steps that a text spells, or its first fault

@@ -1,5 +1,6 @@
 ghost use Rattle.std.specs.Prelude.{◌≡◌};
 ghost use Rattle.session_text.specs.declared.fault.Stop.TheVariants.{Memory};
+ghost use Rattle.session_text.specs.Outcome.{told};
 
 use crate::Path;
 use bench_types::Fault;
@@ -12,7 +13,7 @@ pub enum Why {
     NotJson,
     /// H2: a member is missing, ill-typed or unknown.
     BadShape,
-    /// F1 to F5: the header or a step is at fault.
+    /// F1 to F5: the header, a step or an edit is at fault.
     Bench(Fault),
     /// Memory ran out. Nothing is said of the text.
     NoMemory,
@@ -31,6 +32,20 @@ pub struct TextFault {
 pub(crate) enum Stop {
     Memory,
     Fault(TextFault),
+}
+
+impl From<Stop> for TextFault {
+    ghost from_gives = { λ stop fault. fault ≡ told stop };
+
+    fn from(stop: Stop) -> TextFault {
+        match stop {
+            Stop::Memory => TextFault {
+                why: Why::NoMemory,
+                path: Path::empty(),
+            },
+            Stop::Fault(fault) => fault,
+        }
+    }
 }
 
 impl From<AllocError> for Stop {

@@ -1,7 +1,10 @@
-//! Sessions as JSON texts: reading, with the first fault and its place.
+//! Sessions and their edits as JSON texts: reading, with the first fault and its place, and writing.
 #![tactic(auto)]
 
+mod accepted;
 mod array;
+mod bench;
+mod edit;
 mod fault;
 mod header;
 pub mod laws;
@@ -12,6 +15,8 @@ mod session;
 mod step;
 mod write;
 
+pub use bench::{Bench, read_bench};
+pub use edit::read_edit;
 pub use fault::{TextFault, Why};
 pub use path::Path;
 pub use session::read_session;

@@ -37,7 +37,7 @@ pub(crate) fn object_at<'v>(
     }
 }
 
-fn member_at<'v>(
+pub(crate) fn member_at<'v>(
     alloc: Global,
     place: &Place<'_>,
     name: &str,

@@ -1,13 +1,14 @@
-ghost use Rattle.std.specs.Prelude.{◌≡◌, All, IfOk, Ok, OnOk, length, IsTrue};
+ghost use Rattle.std.specs.Prelude.{◌≡◌, IfOk, IsTrue};
 ghost use Rattle.serde_json.specs.View.{view};
 ghost use Rattle.std.specs.Result.{ForOk};
 ghost use Rattle.bench_types.specs.Header.{is_header};
 ghost use Rattle.session_text.specs.Names.{known_names};
-ghost use Rattle.session_text.specs.Outcome.{Gives, StopsAt};
-ghost use Rattle.session_text.specs.Path.{path_of, path_text};
-ghost use Rattle.session_text.specs.Session.{document, format_at, session, session_accepted, session_at, step_fault, steps_accepted, Answers, IsChecked};
+ghost use Rattle.session_text.specs.Outcome.{Gives};
+ghost use Rattle.session_text.specs.Path.{path_of};
+ghost use Rattle.session_text.specs.Session.{document, format_at, session, session_accepted, session_at, Answers, IsChecked};
 ghost use Rattle.session_text.specs.Step.{steps_at};
 
+use crate::accepted::items_accepted;
 use crate::fault::{Stop, TextFault, Why};
 use crate::header::header_at;
 use crate::member::{bad_shape, number_at, object_at, only_at};
@@ -16,7 +17,7 @@ use crate::path::{Path, Place};
 use crate::step::steps_at;
 use bench_types::{Fault, Header, Step};
 use serde_json::{Category, Value};
-use std::alloc::Global;
+use std::alloc::{AllocError, Global};
 
 /// Reads a session from a JSON text.
 pub fn read_session(alloc: Global, text: &[u8]) -> Result<(Header, Vec<Step>), TextFault>
@@ -25,14 +26,7 @@ pub fn read_session(alloc: Global, text: &[u8]) -> Result<(Header, Vec<Step>), T
     // So no check of the header or of a step fails later.
     ensures checked { IfOk result (λ read. IsChecked read.0 read.1.items) }
 {
-    match session(alloc, text) {
-        Ok(read) => Ok(read),
-        Err(Stop::Fault(fault)) => Err(fault),
-        Err(Stop::Memory) => Err(TextFault {
-            why: Why::NoMemory,
-            path: Path::empty(),
-        }),
-    }
+    Ok(session(alloc, text)?)
 }
 
 #[tactic(auto, unfolding(crate::specs::Session::session))]
@@ -46,7 +40,7 @@ fn session(alloc: Global, text: &[u8]) -> Result<(Header, Vec<Step>), Stop>
 }
 
 /// The value that the bytes spell, or H1.
-fn document(alloc: Global, text: &[u8]) -> Result<Value, Stop>
+pub(crate) fn document(alloc: Global, text: &[u8]) -> Result<Value, Stop>
     ensures { Gives view result (document text.now) }
 {
     match Value::from_slice(alloc, text) {
@@ -72,27 +66,23 @@ fn format_at(alloc: Global, place: &Place<'_>, value: &Value) -> Result<(), Stop
     }
 }
 
-/// The steps under the names of the header, or under none where it is not accepted.
-fn steps_under(
+/// The names of the header's tasks, or none where it is not accepted.
+pub(crate) fn known_names(
     alloc: Global,
     header: &Result<Header, Fault>,
-    place: &Place<'_>,
-    value: &Value,
-) -> Result<Vec<Step>, Stop>
+) -> Result<Names<'_>, AllocError>
     requires { ForOk header.now (λ header. IsTrue (is_header header)) }
-    ensures { Gives (λ steps. steps.items) result
-        (steps_at (known_names header.now) (path_of place.now) (view value.now)) }
+    ensures { IfOk result (λ names. names ≡ known_names header.now) }
 {
-    let names = match header {
-        Ok(header) => Names::of(alloc, header)?,
-        Err(_) => Names::none(alloc),
-    };
-    steps_at(alloc, &names, place, value)
+    match header {
+        Ok(header) => Names::of(alloc, header),
+        Err(_) => Ok(Names::none(alloc)),
+    }
 }
 
 /// The header, accepted or not, and the steps: shapes alone are judged.
 #[tactic(auto, unfolding(crate::specs::Session::session_at))]
-fn session_at(
+pub(crate) fn session_at(
     alloc: Global,
     place: &Place<'_>,
     value: &Value,
@@ -104,7 +94,7 @@ fn session_at(
     let members = object_at(alloc, place, value)?;
     format_at(alloc, place, value)?;
     let header = header_at(alloc, place, value)?;
-    let steps = steps_under(alloc, &header, place, value)?;
+    let steps = steps_at(alloc, &known_names(alloc, &header)?, place, value)?;
     only_at(
         alloc,
         place,
@@ -125,7 +115,7 @@ fn session_at(
 
 /// The session, or the fault of its header, or else of its first step at fault.
 #[tactic(auto, unfolding(crate::specs::Session::session_accepted))]
-fn session_accepted(
+pub(crate) fn session_accepted(
     alloc: Global,
     place: &Place<'_>,
     header: Result<Header, Fault>,
@@ -142,38 +132,13 @@ fn session_accepted(
             path: Path::empty(),
         })),
         Ok(header) => {
-            steps_accepted(alloc, &header, &Place::Member(place, "steps"), &steps)?;
+            items_accepted(
+                alloc,
+                &header,
+                &Place::Member(place, "steps"),
+                steps.as_slice(),
+            )?;
             Ok((header, steps))
         }
-    }
-}
-
-fn steps_accepted(
-    alloc: Global,
-    header: &Header,
-    place: &Place<'_>,
-    steps: &[Step],
-) -> Result<(), Stop>
-    ensures reading { Gives (λ done. done) result
-        (steps_accepted header.now (path_of place.now) 0 steps.now) }
-    ensures pass { OnOk result (All (λ step. step_fault header.now step ≡ Ok tt) steps.now) }
-{
-    for (index, step) in steps.iter().enumerate() {
-        if let Err(fault) = step.check(header) {
-            return Err(bad_step(alloc, &Place::Item(place, index), fault));
-        }
-    }
-    Ok(())
-}
-
-fn bad_step(alloc: Global, place: &Place<'_>, fault: Fault) -> Stop
-    ensures { StopsAt (record { why = Why.Bench fault; path = path_text (path_of place.now) }) result }
-{
-    match place.to_path(alloc) {
-        Ok(path) => Stop::Fault(TextFault {
-            why: Why::Bench(fault),
-            path,
-        }),
-        Err(_) => Stop::Memory,
     }
 }

@@ -68,7 +68,7 @@ fn kind_at(alloc: Global, place: &Place<'_>, value: &Value) -> Result<Kind, Stop
 
 /// The number of the task that the member names.
 #[tactic(auto, unfolding(crate::specs::Step::task_named_at))]
-fn task_named_at(
+pub(crate) fn task_named_at(
     alloc: Global,
     names: &Names<'_>,
     place: &Place<'_>,

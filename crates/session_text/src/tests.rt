@@ -1,7 +1,8 @@
+mod documents;
 mod rows;
 mod written;
 
-use crate::{Why, read_session};
+use crate::{TextFault, Why, read_session};
 use bench_types::{Call, Config, Fault, Step};
 use rows::{BYTES, JUDGED, NUMBERS, PAIRS, SESSION, SHAPES, TEXTS, TWICE};
 use std::alloc::{AllocError, Global};
@@ -21,9 +22,13 @@ fn code(why: Why) -> &'static str {
     }
 }
 
-/// `read`, or the code of the fault and its path.
 fn outcome(alloc: Global, text: &[u8]) -> Result<String, AllocError> {
-    match read_session(alloc, text) {
+    told(alloc, read_session(alloc, text))
+}
+
+/// `read`, or the code of the fault and its path.
+fn told<T: Drop>(alloc: Global, read: Result<T, TextFault>) -> Result<String, AllocError> {
+    match read {
         Ok(_) => String::from_str(alloc, "read"),
         Err(fault) => {
             let mut shown = String::from_str(alloc, code(fault.why))?;

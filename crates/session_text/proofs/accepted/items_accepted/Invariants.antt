@@ -1,0 +1,11 @@
+use Rattle.std.proofs.Common.{◌≡◌, drop}
+use Rattle.session_text.specs.Accepted.{items_accepted}
+use Rattle.session_text.specs.Path.{path_of}
+use Rattle.session_text.proofs.accepted.items_accepted.Given as goal
+
+-- no item so far is at fault, so that only those from here on are left to look at
+abbrev pub invariant-loop-index : goal.invariant-loop-index
+invariant-loop-index g l =
+    let fault_of = g.T.Judged.fault_of l.header in
+    let at = path_of l.place in
+    items_accepted fault_of at l.index (drop l.index l.items) ≡ items_accepted fault_of at 0 l.items

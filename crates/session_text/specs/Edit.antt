@@ -1,0 +1,82 @@
+-- An edit: `edit` says which, and after it stand the members of its kind.
+use Rattle.std.specs.Prelude.{ℕ, List, [], ◌∷◌, codes, bytes_eq, find, Option, option_map, Result, Ok}
+use Rattle.serde_json.specs.Data.{Data}
+use Rattle.bench_types.specs.declared.header.Header.{Header}
+use Rattle.bench_types.specs.declared.step.Step.{Step}
+use Rattle.bench_types.specs.declared.edit.Edit.{Edit}
+use Rattle.bench_types.specs.declared.edit.Edit.TheVariants as edit
+use Rattle.bench_types.specs.Edit.{edit_check}
+use Rattle.session_text.specs.declared.fault.TextFault.{TextFault}
+use Rattle.session_text.specs.declared.edit.EditKind.{EditKind}
+use Rattle.session_text.specs.declared.edit.EditKind.TheVariants.{Insert, Remove, Replace, Change}
+use Rattle.session_text.specs.Accepted.{item_accepted}
+use Rattle.session_text.specs.Array.{each_at}
+use Rattle.session_text.specs.Member.{object_at, member_at, number_at, text_at, array_at, only_at}
+use Rattle.session_text.specs.Names.{TaskNames, names_of}
+use Rattle.session_text.specs.Outcome.{◌>>=◌, found}
+use Rattle.session_text.specs.Path.{member_path}
+use Rattle.session_text.specs.Session.{document}
+use Rattle.session_text.specs.Step.{step_at, task_named_at}
+
+-- the words of `edit`
+abbrev pub edit_kinds : List (List ℕ × EditKind)
+edit_kinds = (codes "insert", Insert) ∷ (codes "remove", Remove) ∷ (codes "replace", Replace) ∷ (codes "change", Change) ∷ []
+
+abbrev pub edit_kind_of : List ℕ → Option EditKind
+edit_kind_of word = option_map (λ entry. entry.1) (find (λ entry. bytes_eq word entry.0) edit_kinds)
+
+unfoldable pub edit_kind_at : List ℕ → Data → Result EditKind TextFault
+edit_kind_at at d = do
+  word ← text_at at (codes "edit") d
+  found (edit_kind_of word) (member_path at (codes "edit"))
+
+abbrev pub edit_members_of : EditKind → List (List ℕ)
+edit_members_of Insert = codes "edit" ∷ codes "at" ∷ codes "step" ∷ []
+edit_members_of Remove = codes "edit" ∷ codes "at" ∷ []
+edit_members_of Replace = codes "edit" ∷ codes "at" ∷ codes "step" ∷ []
+edit_members_of Change = codes "edit" ∷ codes "task" ∷ codes "priority" ∷ codes "mask" ∷ []
+
+-- the step that an edit brings
+unfoldable pub new_step_at : TaskNames → List ℕ → Data → Result Step TextFault
+new_step_at names at d = do
+  value ← member_at at (codes "step") d
+  step_at names (member_path at (codes "step")) value
+
+unfoldable pub edit_of_kind_at : TaskNames → EditKind → List ℕ → Data → Result Edit TextFault
+edit_of_kind_at names Insert at d = do
+  place ← number_at at (codes "at") d
+  step ← new_step_at names at d
+  Ok (edit.Insert place step)
+edit_of_kind_at names Remove at d = do
+  place ← number_at at (codes "at") d
+  Ok (edit.Remove place)
+edit_of_kind_at names Replace at d = do
+  place ← number_at at (codes "at") d
+  step ← new_step_at names at d
+  Ok (edit.Replace place step)
+edit_of_kind_at names Change at d = do
+  task ← task_named_at names at (codes "task") d
+  priority ← number_at at (codes "priority") d
+  mask ← number_at at (codes "mask") d
+  Ok (edit.ChangeTask task priority mask)
+
+unfoldable pub edit_at : TaskNames → List ℕ → Data → Result Edit TextFault
+edit_at names at d = do
+  members ← object_at at d
+  which ← edit_kind_at at d
+  made ← edit_of_kind_at names which at d
+  only ← only_at at (edit_members_of which) members
+  Ok made
+
+unfoldable pub edits_at : TaskNames → List ℕ → Data → Result (List Edit) TextFault
+edits_at names at d = do
+  items ← array_at at (codes "edits") d
+  each_at (edit_at names) (member_path at (codes "edits")) 0 items
+
+-- the edit that a text spells under a header, or its first fault
+unfoldable pub edit_text : Header → List ℕ → Result Edit TextFault
+edit_text header text = do
+  d ← document text
+  made ← edit_at (names_of header) [] d
+  done ← item_accepted [] (edit_check header made)
+  Ok made

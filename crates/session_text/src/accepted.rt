@@ -1,0 +1,86 @@
+ghost use Rattle.std.specs.Prelude.{◌≡◌, All, Ok, OnOk};
+ghost use Rattle.session_text.specs.Accepted.{item_accepted, items_accepted};
+ghost use Rattle.session_text.specs.Outcome.{Gives, StopsAt};
+ghost use Rattle.session_text.specs.Path.{path_of, path_text};
+
+use crate::fault::{Stop, TextFault, Why};
+use crate::path::Place;
+use bench_types::{Edit, Fault, Header, Step};
+use std::alloc::Global;
+
+/// What a header can find at fault.
+pub(crate) trait Judged {
+    ghost use Rattle.std.specs.Prelude.{◌≡◌, ⊤, Result};
+    ghost use Rattle.bench_types.specs.declared.fault.Fault.{Fault};
+    ghost use Rattle.bench_types.specs.declared.header.Header.{Header};
+
+    ghost fault_of: { Header → Self → Result ⊤ Fault };
+
+    fn judge(&self, header: &Header) -> Result<(), Fault>
+        ensures { result ≡ fault_of header.now self.now };
+}
+
+impl Judged for Step {
+    ghost use Rattle.session_text.specs.Session.{step_fault};
+
+    ghost fault_of = { step_fault };
+
+    fn judge(&self, header: &Header) -> Result<(), Fault> {
+        self.check(header)
+    }
+}
+
+impl Judged for Edit {
+    ghost use Rattle.bench_types.specs.Edit.{edit_check};
+
+    ghost fault_of = { edit_check };
+
+    fn judge(&self, header: &Header) -> Result<(), Fault> {
+        self.check(header)
+    }
+}
+
+/// The fault of the item at the place, if there is one.
+pub(crate) fn item_accepted<T: Judged>(
+    alloc: Global,
+    header: &Header,
+    place: &Place<'_>,
+    item: &T,
+) -> Result<(), Stop>
+    ensures { Gives (λ done. done) result
+        (item_accepted (path_of place.now) (T.fault_of header.now item.now)) }
+{
+    match item.judge(header) {
+        Ok(()) => Ok(()),
+        Err(fault) => Err(bad_item(alloc, place, fault)),
+    }
+}
+
+/// The first fault of the items of the array at the place, if there is one.
+pub(crate) fn items_accepted<T: Judged>(
+    alloc: Global,
+    header: &Header,
+    place: &Place<'_>,
+    items: &[T],
+) -> Result<(), Stop>
+    ensures reading { Gives (λ done. done) result
+        (items_accepted (T.fault_of header.now) (path_of place.now) 0 items.now) }
+    ensures pass { OnOk result (All (λ item. T.fault_of header.now item ≡ Ok tt) items.now) }
+{
+    for (index, item) in items.iter().enumerate() {
+        item_accepted(alloc, header, &Place::Item(&*place, index), item)?;
+    }
+    Ok(())
+}
+
+fn bad_item(alloc: Global, place: &Place<'_>, fault: Fault) -> Stop
+    ensures { StopsAt (record { why = Why.Bench fault; path = path_text (path_of place.now) }) result }
+{
+    match place.to_path(alloc) {
+        Ok(path) => Stop::Fault(TextFault {
+            why: Why::Bench(fault),
+            path,
+        }),
+        Err(_) => Stop::Memory,
+    }
+}

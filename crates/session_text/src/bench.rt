@@ -1,0 +1,147 @@
+ghost use Rattle.std.specs.Prelude.{◌≡◌, All, IfOk, IsTrue, Ok, OnOk};
+ghost use Rattle.std.specs.Result.{ForOk};
+ghost use Rattle.serde_json.specs.View.{view};
+ghost use Rattle.bench_types.specs.Edit.{edit_check};
+ghost use Rattle.bench_types.specs.Header.{is_header};
+ghost use Rattle.session_text.specs.Bench.{bench_accepted, bench_at, bench_text, edited_at, edits_accepted, shapes_at, unedited_at, IsCheckedBench};
+ghost use Rattle.session_text.specs.Outcome.{Gives};
+ghost use Rattle.session_text.specs.Path.{path_of};
+ghost use Rattle.session_text.specs.Session.{Answers};
+
+use crate::accepted::items_accepted;
+use crate::edit::edits_at;
+use crate::fault::{Stop, TextFault};
+use crate::member::{object_at, only_at};
+use crate::path::Place;
+use crate::session::{document, known_names, session_accepted, session_at};
+use bench_types::{Edit, Fault, Header, Items, Step};
+use serde_json::Value;
+use std::alloc::Global;
+
+/// A session, and edits of it that are to be made in their order.
+#[derive(Debug, Drop)]
+pub struct Bench {
+    pub header: Header,
+    pub steps: Items<Step>,
+    pub edits: Items<Edit>,
+}
+
+/// Reads a bench document from a JSON text: an object with `session` and `edits`, or a session alone.
+///
+/// Whether a session has the places of its edits is not looked at.
+pub fn read_bench(alloc: Global, text: &[u8]) -> Result<Bench, TextFault>
+    // The session and its edits, or the first fault with its path, or that memory ran out.
+    ensures reading { Answers (λ bench. bench) result (bench_text text.now) }
+    // So no check of the header, of a step or of an edit fails later.
+    ensures checked { IfOk result IsCheckedBench }
+{
+    Ok(bench_text(alloc, text)?)
+}
+
+#[tactic(auto, unfolding(crate::specs::Bench::bench_text))]
+fn bench_text(alloc: Global, text: &[u8]) -> Result<Bench, Stop>
+    ensures reading { Gives (λ bench. bench) result (bench_text text.now) }
+    ensures checked { IfOk result IsCheckedBench }
+{
+    let value = document(alloc, text)?;
+    bench_at(alloc, &Place::Top, &value)
+}
+
+fn bench_at(alloc: Global, place: &Place<'_>, value: &Value) -> Result<Bench, Stop>
+    ensures reading { Gives (λ bench. bench) result (bench_at (path_of place.now) (view value.now)) }
+    ensures checked { IfOk result IsCheckedBench }
+{
+    match value.get("session") {
+        Some(session) => edited_at(alloc, place, value, session),
+        None => unedited_at(alloc, place, value),
+    }
+}
+
+/// The session with no edits.
+#[tactic(auto, unfolding(crate::specs::Bench::unedited_at))]
+fn unedited_at(alloc: Global, place: &Place<'_>, value: &Value) -> Result<Bench, Stop>
+    ensures reading { Gives (λ bench. bench) result
+        (unedited_at (path_of place.now) (view value.now)) }
+    ensures checked { IfOk result IsCheckedBench }
+{
+    let (header, steps) = session_at(alloc, place, value)?;
+    let (header, steps) = session_accepted(alloc, place, header, steps)?;
+    Ok(Bench {
+        header,
+        steps: Items::new(steps),
+        edits: Items::new(Vec::new(alloc)),
+    })
+}
+
+/// The session, which was found as the member `session`, and its edits.
+#[tactic(auto, unfolding(crate::specs::Bench::edited_at))]
+fn edited_at(
+    alloc: Global,
+    place: &Place<'_>,
+    value: &Value,
+    session: &Value,
+) -> Result<Bench, Stop>
+    ensures reading { Gives (λ bench. bench) result
+        (edited_at (path_of place.now) (view value.now) (view session.now)) }
+    ensures checked { IfOk result IsCheckedBench }
+{
+    let (header, steps, edits) = shapes_at(alloc, place, value, session)?;
+    bench_accepted(alloc, place, header, steps, edits)
+}
+
+/// The header, accepted or not, the steps and the edits: shapes alone are judged.
+#[tactic(auto, unfolding(crate::specs::Bench::shapes_at))]
+fn shapes_at(
+    alloc: Global,
+    place: &Place<'_>,
+    value: &Value,
+    session: &Value,
+) -> Result<(Result<Header, Fault>, Vec<Step>, Vec<Edit>), Stop>
+    ensures reading { Gives (λ read. (read.0, read.1.items, read.2.items)) result
+        (shapes_at (path_of place.now) (view value.now) (view session.now)) }
+    ensures valid { IfOk result (λ read. IfOk read.0 (λ header. IsTrue (is_header header))) }
+{
+    let members = object_at(alloc, place, value)?;
+    let (header, steps) = session_at(alloc, &Place::Member(place, "session"), session)?;
+    let edits = edits_at(alloc, &known_names(alloc, &header)?, place, value)?;
+    only_at(alloc, place, &["session", "edits"], members)?;
+    Ok((header, steps, edits))
+}
+
+/// The bench, or the fault of its session, or else of its first edit at fault.
+#[tactic(auto, unfolding(crate::specs::Bench::bench_accepted))]
+fn bench_accepted(
+    alloc: Global,
+    place: &Place<'_>,
+    header: Result<Header, Fault>,
+    steps: Vec<Step>,
+    edits: Vec<Edit>,
+) -> Result<Bench, Stop>
+    requires { ForOk header (λ header. IsTrue (is_header header)) }
+    ensures reading { Gives (λ bench. bench) result
+        (bench_accepted (path_of place.now) header steps.items edits.items) }
+    ensures checked { IfOk result IsCheckedBench }
+{
+    let inner = Place::Member(place, "session");
+    let (header, steps) = session_accepted(alloc, &inner, header, steps)?;
+    edits_accepted(alloc, place, &header, edits.as_slice())?;
+    Ok(Bench {
+        header,
+        steps: Items::new(steps),
+        edits: Items::new(edits),
+    })
+}
+
+#[tactic(auto, unfolding(crate::specs::Bench::edits_accepted))]
+fn edits_accepted(
+    alloc: Global,
+    place: &Place<'_>,
+    header: &Header,
+    edits: &[Edit],
+) -> Result<(), Stop>
+    ensures reading { Gives (λ done. done) result
+        (edits_accepted header.now (path_of place.now) edits.now) }
+    ensures pass { OnOk result (All (λ edit. edit_check header.now edit ≡ Ok tt) edits.now) }
+{
+    items_accepted(alloc, header, &Place::Member(place, "edits"), edits)
+}

@@ -76,6 +76,7 @@ impl Store {
         ensures refused { (refusal : Refusal) → open_check header steps.items span ≡ Err refusal → result ≡ Err (handed_back header steps.items refusal) }
         ensures no_memory { open_check header steps.items span ≡ Ok tt → IfErr result (λ fault. fault ≡ no_memory header steps.items) }
         ensures meter { OnOk result (meter.new ≡ counted (length steps.items) meter.old) }
+        ensures uncounted { (refusal : Refusal) → open_check header steps.items span ≡ Err refusal → meter.new ≡ meter.old }
         ensures some { OnErr result (CountsUpTo (length steps.items) meter.old meter.new) }
     {
         if let Err(Refused { why, at }) = check_opening(&header, steps.as_slice(), span) {

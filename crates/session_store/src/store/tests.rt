@@ -375,6 +375,34 @@ fn takes_edits_in_their_order(rt: HostRuntime) -> Result<(), Fail> {
 }
 
 #[test]
+fn stays_where_memory_is_wanting(rt: HostRuntime) -> Result<(), Fail> {
+    let mut meter = Meter::new(&rt);
+    let mut store = store_of(rt.alloc(), &[Step::Tick, SWITCH_1], &mut meter)?;
+    let replies = [Reply::Done, Reply::Refused(Refusal::NotDue)];
+    assert_replay(&rt, &store, replies.as_slice(), &[2, 3]);
+
+    // With `rt try --test --fail-alloc N` the Nth allocation fails, for some N one of these calls.
+    let edits = [Edit::Remove { at: 0 }, Edit::Remove { at: 0 }];
+    let made = match store.apply_all(rt.alloc(), edits.as_slice(), &mut meter) {
+        Ok(_) => [].as_slice(),
+        Err(AllocError) => replies.as_slice(),
+    };
+    assert_replay(&rt, &store, made, &[2, 3]);
+    let insert = Edit::Insert {
+        at: 0,
+        step: SWITCH_1,
+    };
+    let before = store.len();
+    let made = store.apply(rt.alloc(), insert, &mut meter);
+    match made {
+        Ok(outcome) => assert_eq!(rt; outcome, whole(before + 1)),
+        Err(fault) => assert_eq!(rt; fault, StoreFault::NoMemory),
+    }
+    assert_eq!(rt; store.len(), before + u32::from(made.is_ok()));
+    Ok(())
+}
+
+#[test]
 fn keeps_the_most_steps_and_no_more(rt: HostRuntime) -> Result<(), Fail> {
     let mut meter = Meter::new(&rt);
     let header = three_tasks(rt.alloc())?;

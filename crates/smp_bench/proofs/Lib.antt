@@ -3,3 +3,4 @@ mod CommandLine
 mod KnownOutput
 mod Replays
 mod Refused
+mod Opened

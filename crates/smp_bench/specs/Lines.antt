@@ -1,10 +1,15 @@
--- The lines of a replay.
-use Rattle.std.specs.Prelude.{ℕ, ◌-◌, List, [], ◌++◌, flat_map, codes, decimal, nat_lt, if◌then◌else◌, slice_index_or}
+-- The lines of edits and of a replay.
+use Rattle.std.specs.Prelude.{ℕ, suc, ◌-◌, List, [], ◌∷◌, ◌++◌, flat_map, codes, decimal, nat_lt, if◌then◌else◌, slice_index_or, Result, Ok, Err}
+use Rattle.bench_types.specs.declared.edit.EditFault.{EditFault}
+use Rattle.bench_types.specs.declared.edit.EditFault.TheVariants.{Bench, NoPlace, TooLong}
+use Rattle.bench_types.specs.declared.fault.Fault.{Fault}
+use Rattle.bench_types.specs.declared.fault.Fault.TheVariants.{BadHeader, BadCore, BadTask, BadMutex, BadArgument}
 use Rattle.bench_types.specs.declared.header.Header.{Header}
 use Rattle.bench_types.specs.declared.reply.Reply.{Reply}
 use Rattle.bench_types.specs.declared.reply.Reply.TheVariants.{Done, Blocked, Refused}
 use Rattle.bench_types.specs.declared.reply.Refusal.{Refusal}
 use Rattle.bench_types.specs.declared.reply.Refusal.TheVariants.{Displaced, SwitchDue, InCall, NotInCall, NotDue}
+use Rattle.session_store.specs.declared.outcome.Outcome.{Outcome}
 
 -- the idle task of core c is IDLEc; a user task has its name in the header
 abbrev pub name_of : Header → ℕ → List ℕ
@@ -38,3 +43,30 @@ start_line header row = codes "start" ++ row_text header row ++ codes "\n"
 -- the line of a step: its index, its reply, and the tasks that run behind it
 abbrev pub step_line : Header → ℕ → Reply → List ℕ → List ℕ
 step_line header index reply row = decimal index ++ spaced (reply_text reply) ++ row_text header row ++ codes "\n"
+
+abbrev pub fault_text : Fault → List ℕ
+fault_text BadHeader = codes "F1"
+fault_text BadCore = codes "F2"
+fault_text BadTask = codes "F3"
+fault_text BadMutex = codes "F4"
+fault_text BadArgument = codes "F5"
+
+-- why an edit is not made
+abbrev pub edit_fault_text : EditFault → List ℕ
+edit_fault_text (Bench fault) = fault_text fault
+edit_fault_text NoPlace = codes "J1"
+edit_fault_text TooLong = codes "J2"
+
+-- what an edit led to
+abbrev pub answer_text : Result Outcome EditFault → List ℕ
+answer_text (Ok outcome) = codes "from " ++ decimal outcome.from ++ codes " met " ++ decimal outcome.met ++ codes " replayed " ++ decimal outcome.replayed
+answer_text (Err why) = codes "refused" ++ spaced (edit_fault_text why)
+
+-- the line of an edit: its index, and what it led to
+abbrev pub edit_line : ℕ → Result Outcome EditFault → List ℕ
+edit_line index answer = codes "edit " ++ decimal index ++ spaced (answer_text answer) ++ codes "\n"
+
+-- the lines of edits, the first of which has the index
+abbrev pub edit_lines : ℕ → List (Result Outcome EditFault) → List ℕ
+edit_lines index [] = []
+edit_lines index (answer ∷ rest) = edit_line index answer ++ edit_lines (suc index) rest

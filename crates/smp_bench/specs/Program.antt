@@ -1,7 +1,6 @@
 -- How the program ends, and what it has read and written then.
 use Rattle.std.specs.Prelude.{◌≡◌, ℕ, List, [], Bool, true, Option, codes, string_bytes}
 use Rattle.std.specs.Io.KnownBytes.{Appends}
-use Rattle.smp_bench.specs.declared.bench.Mode.TheVariants.{Replay}
 use Rattle.smp_bench.specs.declared.bench.Status.{Status}
 use Rattle.smp_bench.specs.declared.bench.Status.TheVariants.{Fine, Refused, Fault}
 use Rattle.smp_bench.specs.declared.bench.RunFault.{RunFault}
@@ -59,7 +58,7 @@ EndsReplay (BadCommandLine text) read_old read_new write_old write_new = ⊥
 
 -- by what was asked, how the program ends, and what was read and written then
 abbrev pub Ends : Asked → Ending → Option (List ℕ) → Option (List ℕ) → Option (List ℕ) → Option (List ℕ) → Type 0
-Ends (a_run Replay) ending = EndsReplay ending
+Ends (a_run mode) ending = EndsReplay ending
 Ends help ending = EndsHelp ending
 Ends a_mistake ending = EndsBad ending
 

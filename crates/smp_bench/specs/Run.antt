@@ -2,11 +2,19 @@
 use Rattle.std.specs.Prelude.{◌≡◌, ℕ, ◌+◌, List, Option, Bool, true, false}
 use Rattle.std.specs.Io.KnownBytes.{Appends}
 use Rattle.smp_bench.specs.declared.answer.TheConstants.{MOST_INPUT}
+use Rattle.bench_types.specs.Name.{is_within}
+use Rattle.session_store.specs.declared.store.TheConstants.{MOST_SPAN}
+use Rattle.smp_bench.specs.declared.bench.Mode.{Mode}
+use Rattle.smp_bench.specs.declared.bench.Mode.TheVariants.{Replay}
 use Rattle.smp_bench.specs.declared.bench.Status.{Status}
 use Rattle.smp_bench.specs.declared.bench.Status.TheVariants.{Fine, Refused, Fault}
 use Rattle.smp_bench.specs.declared.bench.RunFault.TheVariants.{Memory, Read, Write}
 use Rattle.smp_bench.specs.Device.{ReadsInput, ReadsSome, AppendsPrefix}
 use Rattle.smp_bench.specs.Answer.{output}
+
+-- a span of checkpoints that a session may be opened with
+abbrev pub has_span : Mode → Bool
+has_span (Replay span) = is_within 1 MOST_SPAN span
 
 -- the input was read, and its whole output written
 pub record Wrote (read_old read_new write_old write_new : Option (List ℕ)) (is_refused : Bool) : Type 0 where

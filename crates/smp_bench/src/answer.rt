@@ -1,16 +1,19 @@
 ghost use Rattle.std.specs.Prelude.{◌≡◌, ◌++◌, IfOk, OnOk, string_bytes, true, IsErr};
+ghost use Rattle.bench_types.specs.Name.{is_within};
+ghost use Rattle.session_store.specs.declared.store.TheConstants.{MOST_SPAN};
 ghost use Rattle.session_text.specs.declared.fault.Why.TheVariants.{NoMemory};
-ghost use Rattle.smp_bench.specs.Answer.{fault_text, why_text, path_text, refusal_line, output, Output};
+ghost use Rattle.session_text.specs.Bench.{IsCheckedBench};
+ghost use Rattle.smp_bench.specs.Answer.{why_text, path_text, refusal_line, output, output_of_bench, Output};
 
-use crate::lines::push_spaced;
-use crate::replay::replayed;
-use bench_types::Fault;
-use session_text::{TextFault, Why, read_session};
+use crate::lines::{fault_text, push_spaced};
+use crate::replay::edited_replay;
+use session_store::{OpenRefusal, Store};
+use session_text::{Bench, TextFault, Why, read_bench};
 use smp_kernel::Meter;
 use std::alloc::{AllocError, Global};
 use std::marker::Model;
 
-/// The most bytes of input that are read as a session. One more is H3.
+/// The most bytes of input that are read as a bench document. One more is H3.
 pub const MOST_INPUT: usize = 67_108_864;
 
 /// What the program writes, and whether its input was refused.
@@ -49,39 +52,54 @@ fn refused_for(alloc: Global, fault: TextFault) -> Result<Answer, AllocError>
     }
 }
 
+// The lines of the edits and of the edited session. Texts may have any number of steps, so J2 is found here.
+fn answer_of_bench(
+    alloc: Global,
+    meter: &mut Meter,
+    bench: Bench,
+    span: u32,
+) -> Result<Answer, AllocError>
+    requires checked { IsCheckedBench bench }
+    requires span { is_within 1 MOST_SPAN span ≡ true }
+    ensures { IfOk result (λ answer. answer ≡ output_of_bench bench) }
+{
+    let Bench {
+        header,
+        steps,
+        edits,
+    } = bench;
+    match Store::open(alloc, header, steps.into_vec(), span, meter) {
+        Ok(mut store) => {
+            let text = edited_replay(alloc, meter, &mut store, edits.as_slice())?;
+            Ok(Answer {
+                is_refused: false,
+                text,
+            })
+        }
+        Err(fault) => match fault.why {
+            OpenRefusal::TooLong => refused(alloc, "J2", ""),
+            _ => Err(AllocError),
+        },
+    }
+}
+
 /// The whole output for the input. Each step is counted on the meter.
 #[tactic(auto, unfolding(crate::specs::Answer::output))]
 pub(crate) fn answer_to(
     alloc: Global,
     meter: &mut Meter,
     input: &[u8],
+    span: u32,
 ) -> Result<Answer, AllocError>
+    requires { is_within 1 MOST_SPAN span ≡ true }
     ensures { IfOk result (λ answer. answer ≡ output input.now) }
 {
     if input.len() > MOST_INPUT {
         return refused(alloc, "H3", "");
     }
-    match read_session(alloc, input) {
+    match read_bench(alloc, input) {
         Err(fault) => refused_for(alloc, fault),
-        Ok((header, steps)) => {
-            let text = replayed(alloc, meter, &header, &steps)?;
-            Ok(Answer {
-                is_refused: false,
-                text,
-            })
-        }
-    }
-}
-
-fn fault_text(fault: Fault) -> &'static str
-    ensures { result.now ≡ fault_text fault }
-{
-    match fault {
-        Fault::BadHeader => "F1",
-        Fault::BadCore => "F2",
-        Fault::BadTask => "F3",
-        Fault::BadMutex => "F4",
-        Fault::BadArgument => "F5",
+        Ok(bench) => answer_of_bench(alloc, meter, bench, span),
     }
 }
 

@@ -1,6 +1,6 @@
-ghost use Rattle.std.specs.Prelude.{◌≡◌};
+ghost use Rattle.std.specs.Prelude.{◌≡◌, true};
 ghost use Rattle.smp_bench.specs.Device.{counted};
-ghost use Rattle.smp_bench.specs.Run.{Ran, reads_well, writes_well};
+ghost use Rattle.smp_bench.specs.Run.{Ran, has_span, reads_well, writes_well};
 
 use crate::answer::{Answer, answer_to};
 use crate::device::{CountedRead, CountedWrite};
@@ -13,8 +13,9 @@ use std::rt::Runtime;
 /// What the program is asked to do with its input.
 #[derive(Clone, Copy, Debug, PartialEq, Eq)]
 pub enum Mode {
-    /// Replay a session document, and print the tasks that run after each step.
-    Replay,
+    /// Replay a session or a bench document, and print the tasks that run after each step. A checkpoint is to be kept
+    /// every `span` steps, 1 to [`MOST_SPAN`](session_store::MOST_SPAN).
+    Replay { span: u32 },
 }
 
 /// What kept a run from its end.
@@ -38,7 +39,7 @@ pub enum Status {
     Fault(RunFault),
 }
 
-/// Reads the input to its end, or one byte past the most that is a session, then writes its whole output.
+/// Reads the input to its end, or one byte past the most that is a bench document, then writes its whole output.
 pub fn run<T: Runtime, R: CountedRead, W: CountedWrite>(
     rt: &T,
     alloc: Global,
@@ -46,18 +47,19 @@ pub fn run<T: Runtime, R: CountedRead, W: CountedWrite>(
     writer: &mut W,
     mode: &Mode,
 ) -> Status
+    requires { has_span mode.now ≡ true }
     ensures bytes { Ran result (R.Read.remaining reader.old) (R.Read.remaining reader.new) (W.Write.contents writer.old) (W.Write.contents writer.new) }
     ensures reads { R.CountedRead.failures reader.new ≡ counted (reads_well result) (R.CountedRead.failures reader.old) }
     ensures writes { W.CountedWrite.failures writer.new ≡ counted (writes_well result) (W.CountedWrite.failures writer.old) }
 {
-    let Mode::Replay = *mode;
+    let Mode::Replay { span } = *mode;
     let input = match read_input(alloc, reader) {
         Ok(input) => input,
         Err(Stop::Memory) => return Status::Fault(RunFault::Memory),
         Err(Stop::Read) => return Status::Fault(RunFault::Read),
     };
     let mut meter = Meter::new(rt);
-    let Ok(answer) = answer_to(alloc, &mut meter, &input) else {
+    let Ok(answer) = answer_to(alloc, &mut meter, &input, span) else {
         return Status::Fault(RunFault::Memory);
     };
     if write_text(writer, answer.text.as_bytes()).is_err() {

@@ -1,7 +1,8 @@
-ghost use Rattle.std.specs.Prelude.{◌≡◌, ◌+◌, ◌<◌, ◌++◌, All, OnOk, length, string_bytes};
-ghost use Rattle.smp_bench.specs.Lines.{name_of, spaced, reply_text, refusal_text, row_text, start_line, step_line};
+ghost use Rattle.std.specs.Prelude.{◌≡◌, ◌++◌, OnOk, string_bytes};
+ghost use Rattle.smp_bench.specs.Lines.{name_of, spaced, reply_text, refusal_text, row_text, start_line, step_line, fault_text, edit_fault_text, answer_text, edit_line, edit_lines};
 
-use bench_types::{Header, Refusal, Reply};
+use bench_types::{EditFault, Fault, Header, Refusal, Reply};
+use session_store::Outcome;
 use std::alloc::AllocError;
 
 fn refusal_text(why: Refusal) -> &'static str
@@ -36,24 +37,21 @@ fn push_reply(text: &mut String, reply: Reply) -> Result<(), AllocError>
     }
 }
 
+// A number that is no task has no name.
 fn push_name(text: &mut String, header: &Header, task: u32) -> Result<(), AllocError>
-    requires { task < header.now.config.cores + length header.now.tasks }
     ensures { OnOk result (string_bytes text.new ≡ string_bytes text.old ++ name_of header.now task) }
 {
     let cores = header.config.cores;
     if task < cores {
-        write!(text, "IDLE{task}")
-    } else {
-        text.push_str(
-            header.tasks.as_slice()[(task - cores) as usize]
-                .name
-                .as_str(),
-        )
+        return write!(text, "IDLE{task}");
+    }
+    match header.tasks.as_slice().get((task - cores) as usize) {
+        Some(args) => text.push_str(args.name.as_str()),
+        None => Ok(()),
     }
 }
 
 fn push_task(text: &mut String, header: &Header, task: u32) -> Result<(), AllocError>
-    requires { task < header.now.config.cores + length header.now.tasks }
     ensures { OnOk result (string_bytes text.new ≡ string_bytes text.old ++ spaced (name_of header.now task)) }
 {
     text.push_str(" ")?;
@@ -61,7 +59,6 @@ fn push_task(text: &mut String, header: &Header, task: u32) -> Result<(), AllocE
 }
 
 fn push_row(text: &mut String, header: &Header, row: &[u32]) -> Result<(), AllocError>
-    requires { All (λ task. task < header.now.config.cores + length header.now.tasks) row.now }
     ensures { OnOk result (string_bytes text.new ≡ string_bytes text.old ++ row_text header.now row.now) }
 {
     for task in row {
@@ -75,7 +72,6 @@ pub(crate) fn push_start_line(
     header: &Header,
     row: &[u32],
 ) -> Result<(), AllocError>
-    requires { All (λ task. task < header.now.config.cores + length header.now.tasks) row.now }
     ensures { OnOk result (string_bytes text.new ≡ string_bytes text.old ++ start_line header.now row.now) }
 {
     text.push_str("start")?;
@@ -86,15 +82,79 @@ pub(crate) fn push_start_line(
 pub(crate) fn push_step_line(
     text: &mut String,
     header: &Header,
-    index: usize,
+    index: u32,
     reply: Reply,
     row: &[u32],
 ) -> Result<(), AllocError>
-    requires { All (λ task. task < header.now.config.cores + length header.now.tasks) row.now }
     ensures { OnOk result (string_bytes text.new ≡ string_bytes text.old ++ step_line header.now index reply row.now) }
 {
     write!(text, "{index} ")?;
     push_reply(text, reply)?;
     push_row(text, header, row)?;
     text.push_str("\n")
+}
+
+pub(crate) fn fault_text(fault: Fault) -> &'static str
+    ensures { result.now ≡ fault_text fault }
+{
+    match fault {
+        Fault::BadHeader => "F1",
+        Fault::BadCore => "F2",
+        Fault::BadTask => "F3",
+        Fault::BadMutex => "F4",
+        Fault::BadArgument => "F5",
+    }
+}
+
+fn edit_fault_text(why: EditFault) -> &'static str
+    ensures { result.now ≡ edit_fault_text why }
+{
+    match why {
+        EditFault::Bench(fault) => fault_text(fault),
+        EditFault::NoPlace => "J1",
+        EditFault::TooLong => "J2",
+    }
+}
+
+fn push_answer(text: &mut String, answer: &Result<Outcome, EditFault>) -> Result<(), AllocError>
+    ensures { OnOk result (string_bytes text.new ≡ string_bytes text.old ++ answer_text answer.now) }
+{
+    match answer {
+        Ok(
+            Outcome {
+                from,
+                met,
+                replayed,
+            },
+        ) => write!(text, "from {from} met {met} replayed {replayed}"),
+        Err(why) => {
+            text.push_str("refused")?;
+            push_spaced(text, edit_fault_text(*why))
+        }
+    }
+}
+
+fn push_edit_line(
+    text: &mut String,
+    index: usize,
+    answer: &Result<Outcome, EditFault>,
+) -> Result<(), AllocError>
+    ensures { OnOk result (string_bytes text.new ≡ string_bytes text.old ++ edit_line index answer.now) }
+{
+    write!(text, "edit {index} ")?;
+    push_answer(text, answer)?;
+    text.push_str("\n")
+}
+
+/// The lines of edits, by what each of them led to.
+pub(crate) fn push_edit_lines(
+    text: &mut String,
+    answers: &[Result<Outcome, EditFault>],
+) -> Result<(), AllocError>
+    ensures { OnOk result (string_bytes text.new ≡ string_bytes text.old ++ edit_lines 0 answers.now) }
+{
+    for (index, answer) in answers.iter().enumerate() {
+        push_edit_line(text, index, answer)?;
+    }
+    Ok(())
 }

@@ -1,60 +1,59 @@
-ghost use Rattle.std.specs.Prelude.{◌≡◌, ◌<◌, ◌≤◌, All, IfOk, length, string_bytes};
-ghost use Rattle.bench_model.specs.Control.{running};
-ghost use Rattle.bench_types.specs.Step.{settings_of};
-ghost use Rattle.bench_model.specs.Start.{start};
-ghost use Rattle.bench_model.specs.Equal.{StandsFor};
-ghost use Rattle.session_text.specs.Session.{IsChecked};
-ghost use Rattle.smp_bench.specs.Answer.{replay_text};
+ghost use Rattle.std.specs.Prelude.{◌≡◌, ◌++◌, ◌<◌, IfOk, OnOk, string_bytes};
+ghost use Rattle.bench_types.specs.declared.edit.TheConstants.{MOST_STEPS};
+ghost use Rattle.smp_bench.specs.Answer.{edited_text, first_line, line_at, replay_text};
 
-use crate::lines::{push_start_line, push_step_line};
-use bench_types::{Header, Row, Step};
-use smp_kernel::{Kernel, Meter};
+use crate::lines::{push_edit_lines, push_start_line, push_step_line};
+use bench_types::Edit;
+use session_store::Store;
+use smp_kernel::Meter;
 use std::alloc::{AllocError, Global};
 
-// The tasks that run, core 0 first.
-fn row_of(kernel: &Kernel, cores: u32) -> Row
-    requires cores { cores ≡ kernel.now.settings.cores }
-    requires sized { length kernel.now.control.cores ≡ cores }
-    requires few { cores ≤ 8 }
-    ensures shown { result.items ≡ running kernel.now.control }
-    ensures tasks { All (λ task. task < kernel.now.settings.tasks) result.items }
+// The line of the step at the place, none past the last.
+fn push_line(text: &mut String, store: &Store, place: u32) -> Result<(), AllocError>
+    requires { place < MOST_STEPS }
+    ensures { OnOk result (string_bytes text.new ≡ string_bytes text.old ++ line_at store.now.session.header store.now.session.steps place) }
 {
-    let mut row = Row::new();
-    for core in 0..cores {
-        row.push(kernel.running(core));
-    }
-    row
+    let Some(reply) = store.reply(place) else {
+        return Ok(());
+    };
+    let Some(row) = store.row(place + 1) else {
+        return Ok(());
+    };
+    push_step_line(text, store.header(), place, reply, row.as_slice())
 }
 
-// A kernel at the start of a header that was checked, so only memory can be wanting.
-fn started(alloc: Global, header: &Header) -> Result<Kernel, AllocError>
-    ensures stands { IfOk result (λ kernel. StandsFor kernel (start header.now)) }
-    ensures shape { IfOk result (λ kernel. kernel.settings ≡ settings_of header.now) }
+// The tasks that run at the start.
+fn push_start(text: &mut String, store: &Store) -> Result<(), AllocError>
+    ensures { OnOk result (string_bytes text.new ≡ string_bytes text.old ++ first_line store.now.session.header) }
 {
-    match Kernel::start(alloc, header) {
-        Ok(kernel) => Ok(kernel),
-        Err(_) => Err(AllocError),
+    match store.row(0) {
+        Some(row) => push_start_line(text, store.header(), row.as_slice()),
+        None => Ok(()),
     }
 }
 
-/// The lines of a replay of the whole session, which a kernel makes step by step.
-pub(crate) fn replayed(
+fn push_replay(text: &mut String, store: &Store) -> Result<(), AllocError>
+    ensures { OnOk result (string_bytes text.new ≡ string_bytes text.old ++ replay_text store.now.session.header store.now.session.steps) }
+{
+    push_start(text, store)?;
+    for place in 0..store.len() {
+        push_line(text, store, place)?;
+    }
+    Ok(())
+}
+
+/// Makes the edits, and gives a line for each, then those of a replay of the session that they leave.
+pub(crate) fn edited_replay(
     alloc: Global,
     meter: &mut Meter,
-    header: &Header,
-    steps: &[Step],
+    store: &mut Store,
+    edits: &[Edit],
 ) -> Result<String, AllocError>
-    requires { IsChecked header.now steps.now }
-    ensures { IfOk result (λ text. string_bytes text ≡ replay_text header.now steps.now) }
+    ensures { IfOk result (λ text. string_bytes text ≡ edited_text store.old.session edits.now) }
 {
-    let cores = header.config.cores;
-    let mut kernel = started(alloc, header)?;
+    let answers = store.apply_all(alloc, edits, meter)?;
     let mut text = String::new(alloc);
-    push_start_line(&mut text, header, row_of(&kernel, cores).as_slice())?;
-    for (index, step) in steps.iter().enumerate() {
-        let reply = kernel.step(meter, step);
-        let row = row_of(&kernel, cores);
-        push_step_line(&mut text, header, index, reply, row.as_slice())?;
-    }
+    push_edit_lines(&mut text, answers.as_slice())?;
+    push_replay(&mut text, store)?;
     Ok(text)
 }

@@ -1,4 +1,6 @@
 //! Runs over devices in memory, some of which give little, fail, or never end.
+mod edits;
+
 use crate::{Counted, CountedRead, CountedWrite, MOST_INPUT, Mode, RunFault, Status, run};
 use std::alloc::{AllocError, Global};
 use std::io::{self, Read, Write};
@@ -86,7 +88,7 @@ fn ran<R: CountedRead, W: CountedWrite>(
     reader: &mut R,
     writer: &mut W,
 ) -> (Status, u64, u64) {
-    let status = run(rt, alloc, reader, writer, &Mode::Replay);
+    let status = run(rt, alloc, reader, writer, &Mode::Replay { span: 64 });
     (status, reader.failures(), writer.failures())
 }
 

@@ -1,0 +1,31 @@
+-- A session that was read is opened, unless it has too many steps.
+use Rattle.std.proofs.Common.{◌≡◌, ℕ, zero, suc, ◌+◌, ◌≤◌, Bool, true, false, List, [], ◌∷◌, length, nat_le, nat_lt, if◌then◌else◌, Result, Ok, Err, refl, ap, ◌∙◌, arith}
+use Rattle.std.specs.Prelude.{All, IsTrue, Some}
+use Rattle.std.specs.Result.{result_map_both}
+use Rattle.std.proofs.lemmas.Bool.Decides.{nat_tests}
+use Rattle.bench_types.specs.declared.edit.TheConstants.{MOST_STEPS}
+use Rattle.bench_types.specs.declared.fault.Fault.{Fault}
+use Rattle.bench_types.specs.declared.header.Header.{Header}
+use Rattle.bench_types.specs.declared.kernel_data.Settings.{Settings}
+use Rattle.bench_types.specs.declared.step.Step.{Step}
+use Rattle.bench_types.specs.Header.{header_check, is_header}
+use Rattle.bench_types.specs.Name.{is_within}
+use Rattle.bench_types.specs.Step.{settings_of, step_check, ◌>>◌}
+use Rattle.session_store.specs.declared.fault.OpenRefusal.TheVariants.{Bench, BadSpan, TooLong}
+use Rattle.session_store.specs.declared.store.TheConstants.{MOST_SPAN}
+use Rattle.session_store.specs.Opening.{at_no_step, steps_check, open_check}
+
+-- no step is at fault
+steps_fit : (settings : Settings) (at : ℕ) (steps : List Step) → All (λ step. step_check settings step ≡ Ok tt) steps → steps_check settings at steps ≡ Ok tt
+steps_fit settings at [] all = refl
+steps_fit settings at (step ∷ steps) all =
+    let rest = steps_fit settings (at + 1) steps (λ k d within. all (suc k) d (omega arith)) in
+    let first : step_check settings step ≡ Ok tt = all 0 step (omega arith) in
+    ap (λ (check : Result (Unit {0}) Fault). result_map_both (λ _. tt) (λ fault. record { why = Bench fault; at = Some at }) check >> steps_check settings (at + 1) steps) first ∙ rest
+
+pub opens : (header : Header) (steps : List Step) (span : ℕ) → header_check header ≡ Ok tt → All (λ step. step_check (settings_of header) step ≡ Ok tt) steps → is_within 1 MOST_SPAN span ≡ true → nat_le (length steps) MOST_STEPS ≡ true
+    → open_check header steps span ≡ Ok tt
+opens header steps span fits pass spans few = rw (fits, spans, few) (steps_fit (settings_of header) 0 steps pass)
+
+pub header_fits : (header : Header) → IsTrue (is_header header) → header_check header ≡ Ok tt
+header_fits header all = rw all refl

@@ -1,13 +1,17 @@
-ghost use Rattle.std.specs.Prelude.{◌≡◌, IfOk, IsErr, drop, map, option_map};
-ghost use Rattle.clap.specs.Words.{app_of, kind_of};
+ghost use Rattle.std.specs.Prelude.{◌≡◌, ℕ, IfOk, IsErr, drop, map, option_map, true};
+ghost use Rattle.clap.specs.Words.{app_of, kind_of, rule_of, subcommand_rows_of};
 ghost use Rattle.clap.specs.declared.error.kind.ErrorKind.TheVariants.{OutOfMemory};
-ghost use Rattle.smp_bench.specs.Command.{a_mistake, asked, asked_behind, asked_by, asked_in, bench_app};
+ghost use Rattle.smp_bench.specs.Command.{GivesSpan, a_mistake, asked, asked_behind, asked_by, asked_in, bench_app, can_run, span_rule, value_found};
 
 use crate::bench::Mode;
 use clap::error::ErrorKind;
-use clap::{Command, Error};
+use clap::{Arg, ArgMatches, Command, Error, value_parser};
+use session_store::MOST_SPAN;
 use std::alloc::{AllocError, Global};
 use std::convert::AsStr;
+
+/// The span of a replay where the command line gives none.
+pub const DEFAULT_SPAN: u32 = 64;
 
 /// What a command line asks for.
 #[derive(Debug, Drop)]
@@ -20,13 +24,25 @@ pub enum Request {
     Bad(String),
 }
 
+fn span_option<'a>(alloc: Global) -> Arg<'a>
+    ensures { rule_of result ≡ span_rule }
+{
+    Arg::new(alloc, "span")
+        .long("span")
+        .value_name("STEPS")
+        .help("Steps from one checkpoint to the next, 1 to 1000, or 64 if left out")
+        .value_parser(value_parser!(u32).range(1..=i64::from(MOST_SPAN)))
+}
+
 // The program's commands. Help for one of them is asked for by its `--help`, so `help` is no command.
 fn command<'a>(alloc: Global) -> Result<Command<'a>, AllocError>
     ensures { IfOk result (λ command. app_of command ≡ bench_app) }
 {
-    let replay = Command::new(alloc, "replay").about(
-        "Replays the session on standard input, and prints the tasks that run after each step",
-    );
+    let replay = Command::new(alloc, "replay")
+        .about(
+            "Replays the session on standard input, and prints the tasks that run after each step",
+        )
+        .arg(span_option(alloc))?;
     Command::new(alloc, "smp_bench")
         .about("Replays FreeRTOS SMP scheduling sessions")
         .disable_help_subcommand(true)
@@ -35,6 +51,7 @@ fn command<'a>(alloc: Global) -> Result<Command<'a>, AllocError>
 }
 
 fn told(alloc: Global, error: &Error) -> Result<Request, AllocError>
+    ensures span { IfOk result (λ request. can_run request ≡ true) }
     ensures asked { IfOk result (λ request. asked_in request ≡ asked_by (kind_of error.now)) }
     ensures memory { kind_of error.now ≡ OutOfMemory → IsErr result }
 {
@@ -47,7 +64,8 @@ fn told(alloc: Global, error: &Error) -> Result<Request, AllocError>
 
 // The refusal of words that are no text, which clap is never given.
 fn not_text(alloc: Global) -> Result<Request, AllocError>
-    ensures { IfOk result (λ request. asked_in request ≡ a_mistake) }
+    ensures span { IfOk result (λ request. can_run request ≡ true) }
+    ensures asked { IfOk result (λ request. asked_in request ≡ a_mistake) }
 {
     let error = command(alloc)?.error(
         ErrorKind::InvalidValue,
@@ -56,11 +74,24 @@ fn not_text(alloc: Global) -> Result<Request, AllocError>
     told(alloc, &error)
 }
 
+// The span of the command that was met.
+fn span_in(matches: &ArgMatches) -> u32
+    ensures { (span : ℕ) → GivesSpan (value_found (subcommand_rows_of matches.now)) span → result ≡ span }
+{
+    let Some((_, replay)) = matches.subcommand() else {
+        return DEFAULT_SPAN;
+    };
+    replay.get_one::<u32>("span").unwrap_or(DEFAULT_SPAN)
+}
+
 fn request_in<S: AsStr>(alloc: Global, words: &[S]) -> Result<Request, AllocError>
-    ensures { IfOk result (λ request. asked_in request ≡ asked_behind (drop 1 (map S.text words.now))) }
+    ensures span { IfOk result (λ request. can_run request ≡ true) }
+    ensures asked { IfOk result (λ request. asked_in request ≡ asked_behind (drop 1 (map S.text words.now))) }
 {
     match command(alloc)?.try_get_matches_from(words) {
-        Ok(_) => Ok(Request::Run(Mode::Replay)),
+        Ok(matches) => Ok(Request::Run(Mode::Replay {
+            span: span_in(&matches),
+        })),
         Err(error) => told(alloc, &error),
     }
 }
@@ -68,7 +99,8 @@ fn request_in<S: AsStr>(alloc: Global, words: &[S]) -> Result<Request, AllocErro
 /// Reads a command line: its words, the program's name first, or `None` where one of them is no text.
 /// The texts are clap's.
 pub fn request_of<S: AsStr>(alloc: Global, words: Option<&[S]>) -> Result<Request, AllocError>
-    ensures { IfOk result (λ request. asked_in request ≡ asked (option_map (λ all. map S.text all.now) words.entry)) }
+    ensures span { IfOk result (λ request. can_run request ≡ true) }
+    ensures asked { IfOk result (λ request. asked_in request ≡ asked (option_map (λ all. map S.text all.now) words.entry)) }
 {
     match words {
         Some(words) => request_in(alloc, words),

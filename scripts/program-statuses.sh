@@ -60,6 +60,10 @@ lines='start A B
 session '' ''
 run 'replay' 0 "$lines" '' replay
 run 'replay, with the end of the options marked' 0 "$lines" '' replay --
+run 'the least span' 0 "$lines" '' replay --span 1
+run 'the usual span, behind an equals sign' 0 "$lines" '' replay --span=64
+run 'the greatest span, and the end of the options' 0 "$lines" '' replay --span 1000 --
+run 'a span with a sign and zeros' 0 "$lines" '' replay --span +007
 session '"steps": [' '"steps": [{"do": "switch", "core": 0}, {"do": "finish", "core": 1, "by": "B"},'
 run 'replay of steps that the kernel refuses' 0 "start A B
 0 refused E10 A B
@@ -70,6 +74,19 @@ run 'replay of steps that the kernel refuses' 0 "start A B
 5 done C B
 6 done C B
 " '' replay
+
+cp examples/another-call.json "$folder/in"
+edited='edit 0 from 0 met 5 replayed 5
+edit 1 refused J1
+start A B
+0 done A B
+1 done A B
+2 done A B
+3 refused E2 A B
+4 refused E10 A B
+'
+run 'replay of an edited session' 0 "$edited" '' replay
+run 'replay of an edited session, with a span' 0 "$edited" '' replay --span 2
 
 # ---- refused input
 
@@ -93,6 +110,13 @@ session '"core": 0' '"core": 2'
 run 'no such core' 1 $'refused F2 steps[0]\n' '' replay
 session '"by": "C"' '"by": "D"'
 run 'no such task' 1 $'refused F3 steps[3]\n' '' replay
+sed 's/"by": "A"}}/"by": "D"}}/' examples/another-call.json >"$folder/in"
+run 'no such task in an edit' 1 $'refused F3 edits[0]\n' '' replay
+sed 's/"at": 6, //' examples/another-call.json >"$folder/in"
+run 'an edit at no place' 1 $'refused H2 edits[1].at\n' '' replay
+ticks="$(printf '%0100001d' 0 | sed 's/0/{"do":"tick"},/g')"
+session '"steps": [' "\"steps\": [$ticks"
+run 'more steps than a session may have' 1 $'refused J2\n' '' replay
 
 # ---- help
 
@@ -109,10 +133,11 @@ Options:
 '
 replay_help='Replays the session on standard input, and prints the tasks that run after each step
 
-Usage: smp_bench replay
+Usage: smp_bench replay [OPTIONS]
 
 Options:
-  -h, --help  Print help
+      --span <STEPS>  Steps from one checkpoint to the next, 1 to 1000, or 64 if left out
+  -h, --help          Print help
 '
 run '--help' 0 "$help" '' --help
 run '-h' 0 "$help" '' -h
@@ -121,6 +146,7 @@ run '-h with more letters' 0 "$help" '' -hx
 run 'replay --help' 0 "$replay_help" '' replay --help
 run 'replay -h' 0 "$replay_help" '' replay -h
 run 'replay --help, then more words' 0 "$replay_help" '' replay --help again
+run 'replay with a span, then --help' 0 "$replay_help" '' replay --span 5 --help
 
 # ---- bad command lines
 
@@ -138,7 +164,16 @@ run 'no version' 2 '' "error: unexpected argument '--version' found" --version
 run '--help with a value' 2 '' "error: unexpected value '1' for '--help' found" --help=1
 run 'a hyphen' 2 '' "error: unrecognized subcommand '-'" -
 run 'the end of the options before the command' 2 '' "error: " -- replay
-run 'replay with an unknown option' 2 '' "error: unexpected argument '--span' found" replay --span 3
+run 'replay with an unknown option' 2 '' "error: unexpected argument '--tally' found" replay --tally
+run 'a span of 0' 2 '' "error: invalid value '0' for '--span <STEPS>'" replay --span 0
+run 'a span of 1001' 2 '' "error: invalid value '1001' for '--span <STEPS>'" replay --span 1001
+run 'a span of -1' 2 '' "error: unexpected argument '-1' found" replay --span -1
+run 'a span that is no number' 2 '' "error: invalid value 'x' for '--span <STEPS>'" replay --span x
+run 'an empty span' 2 '' "error: invalid value '' for '--span <STEPS>'" replay --span=
+run 'a span that is left out' 2 '' "error: a value is required for '--span <STEPS>'" replay --span
+run 'two spans' 2 '' "error: the argument '--span <STEPS>' cannot be used multiple times" replay --span 5 --span 5
+run 'a bad span before --help' 2 '' "error: invalid value '0' for '--span <STEPS>'" replay --span 0 --help
+run 'a span before the command' 2 '' "error: unexpected argument '--span' found" --span 5 replay
 run 'replay with a word' 2 '' "error: unexpected argument 'again' found" replay again
 run 'replay twice' 2 '' "error: unexpected argument 'replay' found" replay replay
 run 'replay, the end of the options, and a word' 2 '' "error: unexpected argument 'again' found" replay -- again

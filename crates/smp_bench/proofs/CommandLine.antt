@@ -1,5 +1,5 @@
 -- What clap makes of a command line, and what the program asks for by that.
-use Rattle.std.proofs.Common.{◌≡◌, ℕ, ◌==◌, ◌&&◌, ◌++◌, Bool, true, false, true≢false, List, [], ◌∷◌, drop, fold, codes, if◌then◌else◌, Option, Some, None, Result, Ok, Err, IfOk, IsErr, is_some, refl, sym, ap, ap₂, subst, ◌∙◌, inl, inr, bytes_eq, append_assoc}
+use Rattle.std.proofs.Common.{◌≡◌, ℕ, ◌==◌, ◌++◌, Bool, true, false, true≢false, List, [], ◌∷◌, drop, fold, codes, if◌then◌else◌, Option, Some, None, Result, Ok, Err, IfOk, IsErr, is_some, refl, sym, ap, ap₂, subst, ◌∙◌, inl, inr, bytes_eq, append_assoc}
 use Rattle.std.proofs.lemmas.List.{append-nil}
 use Rattle.clap.specs.Words.{App, HasKind, IsAmong, Kinds, Row, Rule, Shape, Text, built, fault_of, is_simple, is_simple_and_free, kind_of, subcommand_of}
 use Rattle.clap.specs.Kinds.{or_else}

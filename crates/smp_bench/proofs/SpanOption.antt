@@ -1,9 +1,7 @@
 -- What clap makes of the words behind `replay`: the option `--span` and its value.
-use Rattle.std.proofs.Common.{◌≡◌, ℕ, suc, ◌+◌, ◌==◌, ◌&&◌, ◌++◌, Bool, true, false, true≢false, List, [], ◌∷◌, length, take, drop, fold, codes, chars, Option, Some, None, encode_utf8, slice_get, slice_index_or, if◌then◌else◌, is_some, refl, sym, ap, subst, ◌∙◌, arith, bytes_eq}
+use Rattle.std.proofs.Common.{◌≡◌, ℕ, ◌==◌, ◌++◌, Bool, true, false, List, [], ◌∷◌, length, drop, fold, codes, chars, Option, Some, None, encode_utf8, slice_get, slice_index_or, if◌then◌else◌, refl, sym, ap, subst, ◌∙◌, arith, bytes_eq}
 use Rattle.std.proofs.lemmas.Bool.Decides.{nat_tests}
-use Rattle.std.proofs.lemmas.Slice.Eq.{bytes_eq-Decides}
-use Rattle.std.specs.List.{after_first, before_first}
-use Rattle.clap.specs.Lexer.{has_byte, long_of, name_and_value}
+use Rattle.clap.specs.Lexer.{name_and_value}
 use Rattle.clap.specs.Words.{Kinds, Row, Rule, Shape, Text, built, one_of}
 use Rattle.clap.specs.Kinds.{or_else}
 use Rattle.clap.specs.Walk.{Held, Step, Walk, after_flag, after_step, arg_by_long, arg_by_short, bundle_met, bundle_step, finished, nothing_held, option, plain, settled, walk_from, walked, with_default}
@@ -14,7 +12,7 @@ use Rattle.clap.specs.declared.error.kind.ErrorKind.TheVariants.{DisplayHelp}
 use Rattle.clap.specs.declared.parser.matches.ValueSource.TheVariants.{CommandLine}
 use Rattle.smp_bench.specs.declared.bench.Mode.TheVariants.{Replay}
 use Rattle.smp_bench.specs.Command.{Asked, a_run, help, a_mistake, GivesSpan, asked_behind_dashes, asked_behind_span, asked_behind_value, asked_of_replay, asked_with, asks_help, bench_app, has_value, span_of, span_rule, value_in}
-use Rattle.smp_bench.proofs.CommandWords.{IsForeign, KnowsHelp, Reads, are_mistakes, before_whole, first_mistakes, first_reads, first_word, help_if, spoiled, text_is, text_is_not}
+use Rattle.smp_bench.proofs.CommandWords.{IsForeign, KnowsHelp, Reads, are_mistakes, first_mistakes, first_reads, first_word, help_if, spoiled, text_is}
 use Rattle.smp_bench.proofs.SpanTexts.{hyphen_no_span, not_named, same_without_minus, value_fails, value_fits, valued_is}
 
 abbrev pub inner : Shape

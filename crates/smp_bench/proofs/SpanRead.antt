@@ -1,9 +1,9 @@
 -- The number that the program reads of the matches is the span of their value.
-use Rattle.std.proofs.Common.{◌≡◌, ℕ, ◌+◌, ◌^◌, ◌<◌, ◌≤◌, ◌&&◌, Bool, true, false, true≢false, List, [], ◌∷◌, Option, Some, None, Result, Ok, Err, codes, find, if◌then◌else◌, is_some, not, map, option_and_then, option_map, slice_get, unwrap_or, refl, sym, ap, subst, ◌∙◌, arith, bytes_eq}
+use Rattle.std.proofs.Common.{◌≡◌, ℕ, Bool, true, false, true≢false, List, [], ◌∷◌, Option, Some, None, Result, Ok, Err, codes, find, is_some, not, option_and_then, option_map, slice_get, unwrap_or, refl, sym, ap, ◌∙◌, bytes_eq}
 use Rattle.std.specs.Borrow.{Bor}
 use Rattle.std.specs.Str.Parse.{ParsesUnsigned}
 use Rattle.clap.specs.Facts.{Entry}
-use Rattle.clap.specs.Matches.{ReadsOne, found_of, one_text}
+use Rattle.clap.specs.Matches.{ReadsOne, one_text}
 use Rattle.clap.specs.Values.{read_as}
 use Rattle.clap.specs.Walk.{is_empty, is_simple_arg, row_of, row_text, texts}
 use Rattle.clap.specs.Words.{Row, Text, one_of, rows_of}

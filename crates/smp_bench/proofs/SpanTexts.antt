@@ -1,21 +1,20 @@
 -- Which texts are spans, and what clap says of them.
-use Rattle.std.proofs.Common.{◌≡◌, ◌<◌, ◌≤◌, ℕ, ℤ, zero, suc, ◌+◌, ◌^◌, ◌==◌, ◌&&◌, ◌++◌, Bool, true, false, cond, true≢false, List, [], ◌∷◌, length, take, drop, codes, Option, Some, None, if◌then◌else◌, nat_lt, nat_le, nat_eq, int_le, neg_ℤ, pos, is_some, unwrap_or, ltb-true, leb-true, refl, sym, ap, subst, ◌∙◌, arith, bytes_eq}
+use Rattle.std.proofs.Common.{◌≡◌, ◌<◌, ◌≤◌, ℕ, zero, suc, ◌+◌, ◌^◌, ◌==◌, ◌&&◌, ◌++◌, Bool, true, false, true≢false, [], ◌∷◌, length, take, drop, codes, Some, None, if◌then◌else◌, nat_lt, nat_le, int_le, neg_ℤ, pos, is_some, unwrap_or, ltb-true, leb-true, refl, sym, ap, subst, ◌∙◌, arith, bytes_eq}
 use Rattle.std.proofs.lemmas.Bool.Decides.{nat_tests}
 use Rattle.std.proofs.lemmas.List.{take-append-drop}
-use Rattle.std.proofs.lemmas.Slice.Eq.{bytes_eq-Decides}
 use Rattle.std.specs.Char.{digit_value}
 use Rattle.std.specs.List.{after_first, before_first, list_all, position_or_len}
 use Rattle.std.specs.Str.Parse.{AllDigits, IsNumeral, digits_value, without_leading_plus}
 use Rattle.clap.specs.Lexer.{has_byte, name_and_value, without_minus}
 use Rattle.clap.specs.ValueTests.{accepts, fits_i64, is_numeral}
-use Rattle.clap.specs.Words.{Kinds, Text}
+use Rattle.clap.specs.Words.{Text}
 use Rattle.clap.specs.Simple.{filled}
 use Rattle.clap.specs.Faults.{values_fault}
 use Rattle.clap.specs.declared.builder.value_parser.ValueParser.TheVariants.{Signed}
 use Rattle.clap.proofs.WalkLemmas.{both}
 use Rattle.bench_types.specs.Name.{is_within}
 use Rattle.session_store.specs.declared.store.TheConstants.{MOST_SPAN}
-use Rattle.smp_bench.specs.Command.{GivesSpan, has_value, span_of, span_rule, value_in}
+use Rattle.smp_bench.specs.Command.{has_value, span_of, span_rule, value_in}
 use Rattle.smp_bench.proofs.CommandWords.{are_mistakes, before_whole, text_is}
 
 -- ---- the words of the option

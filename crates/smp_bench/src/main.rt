@@ -17,7 +17,7 @@ mod writing;
 
 pub use answer::MOST_INPUT;
 pub use bench::{Mode, RunFault, Status, run};
-pub use command::{Request, request_of};
+pub use command::{DEFAULT_SPAN, Request, request_of};
 pub use device::{Counted, CountedRead, CountedWrite};
 pub use program::{Ending, carry_out};
 use std::alloc::AllocError;

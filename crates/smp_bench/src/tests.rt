@@ -1,7 +1,9 @@
 //! Runs over devices in memory, some of which give little, fail, or never end.
 mod edits;
 
-use crate::{Counted, CountedRead, CountedWrite, MOST_INPUT, Mode, RunFault, Status, run};
+use crate::{
+    Counted, CountedRead, CountedWrite, DEFAULT_SPAN, MOST_INPUT, Mode, RunFault, Status, run,
+};
 use std::alloc::{AllocError, Global};
 use std::io::{self, Read, Write};
 use std::process::Abort;
@@ -88,7 +90,13 @@ fn ran<R: CountedRead, W: CountedWrite>(
     reader: &mut R,
     writer: &mut W,
 ) -> (Status, u64, u64) {
-    let status = run(rt, alloc, reader, writer, &Mode::Replay { span: 64 });
+    let status = run(
+        rt,
+        alloc,
+        reader,
+        writer,
+        &Mode::Replay { span: DEFAULT_SPAN },
+    );
     (status, reader.failures(), writer.failures())
 }
 

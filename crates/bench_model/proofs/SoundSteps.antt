@@ -27,7 +27,7 @@ use Rattle.bench_model.specs.Search.{numbers, has}
 use Rattle.bench_model.specs.Control.{Control, core_at, task_at, with_core, current, is_due, may_select, asked_by, ask, run_on}
 use Rattle.bench_model.specs.State.{selected, call_at, refusal, switched, ticked, yielded, blocked, called, performed, after}
 use Rattle.bench_model.specs.Table.{Stamps, Table, table_moves, row_at, stamp_of, is_ready, stands_ready, wakes_at, tasks_of, restamped, pick, make_ready, delay, advance, due}
-use Rattle.bench_model.specs.Sound.{IsInPlace, IsStamped, IsPlaced, WakesInTime, IsSound}
+use Rattle.bench_model.specs.Sound.{IsInPlace, IsStamped, IsPlaced, WakesInTime, IsBelow, IsSound}
 use Rattle.bench_model.proofs.Filters.{All-weaker}
 use Rattle.bench_model.proofs.Stamped.{numbers_have, has-by_stamp}
 use Rattle.bench_model.proofs.Restamps.{row_same, row_other, moved_length, moved_once}
@@ -334,7 +334,7 @@ more_sound table other more sound = record {
   stamped = sound.stamped;
   in_place = more_placed table.control other table.orders more sound.in_place;
   in_time = sound.in_time;
-  priorities = λ i low. subst (λ (tasks : List TaskControl). (task_at (record { cores = other.cores; tasks = tasks }) i).in_use < table.settings.priorities) (sym more.tasks) (sound.priorities i low);
+  priorities = λ i low. subst (λ (tasks : List TaskControl). IsBelow table.settings.priorities (task_at (record { cores = other.cores; tasks = tasks }) i)) (sym more.tasks) (sound.priorities i low);
   calls = sound.calls;
 }
 

@@ -21,7 +21,7 @@ use Rattle.bench_model.specs.Control.{core_at, current, task_at}
 use Rattle.bench_model.specs.State.{call_at, switched}
 use Rattle.bench_model.specs.Table.{Stamps, Table, table_moves, row_at, stamp_of, is_ready, stands_ready}
 use Rattle.bench_model.specs.Lists.{list_moves, lists_of, image}
-use Rattle.bench_model.specs.Sound.{IsStamped, IsPlaced, WakesInTime, IsSound}
+use Rattle.bench_model.specs.Sound.{IsStamped, IsPlaced, WakesInTime, IsBelow, IsSound}
 use Rattle.bench_model.specs.Start.{idle_control, user_control, first_look, first_control, ready_row, first_stamps, first_lists, unstarted, started, start, start_seen}
 use Rattle.bench_model.proofs.Filters.{All-weaker}
 use Rattle.bench_model.proofs.Stamped.{numbers_below, by_stamp_listed, by_stamp_none, range_parts}
@@ -177,14 +177,15 @@ module _ (header : Header) where
   pub first_tasks : length (first_control header).tasks ≡ cores + users
   first_tasks = omega (arith, length-append (replicate cores (idle_control cores)) (map (user_control cores) header.tasks), length-replicate cores (idle_control cores), length-map header.tasks (user_control cores))
 
-  first_priorities : IsCheckedHeader header → (i : ℕ) → i < cores + users → (task_at (first_control header) i).in_use < header.config.priorities
+  first_priorities : IsCheckedHeader header → (i : ℕ) → i < cores + users → IsBelow header.config.priorities (task_at (first_control header) i)
   first_priorities valid i low = elim (cases_lt i cores) [
     | inl idle ↦
-        let at = get_or_append_left (replicate cores (idle_control cores)) (map (user_control cores) header.tasks) (record { in_use = 0; mask = 0; preempt = false }) i (omega (arith, length-replicate cores (idle_control cores))) ∙ get_or-replicate cores i (idle_control cores) (record { in_use = 0; mask = 0; preempt = false }) idle in
-        omega (arith, ap (λ (t : TaskControl). t.in_use) at, valid.some_priority)
+        let at = get_or_append_left (replicate cores (idle_control cores)) (map (user_control cores) header.tasks) (record { base = 0; in_use = 0; mask = 0; preempt = false }) i (omega (arith, length-replicate cores (idle_control cores))) ∙ get_or-replicate cores i (idle_control cores) (record { base = 0; in_use = 0; mask = 0; preempt = false }) idle in
+        (omega (arith, ap (λ (t : TaskControl). t.in_use) at, valid.some_priority), omega (arith, ap (λ (t : TaskControl). t.base) at, valid.some_priority))
     | inr user ↦
-        let at = get_or-append_right (replicate cores (idle_control cores)) (map (user_control cores) header.tasks) cores i (record { in_use = 0; mask = 0; preempt = false }) (length-replicate cores (idle_control cores)) user ∙ get_or-map (user_control cores) header.tasks (i - cores) no_args (record { in_use = 0; mask = 0; preempt = false }) (omega arith) in
-        omega (arith, ap (λ (t : TaskControl). t.in_use) at, valid_priority header.config header.tasks valid.args (i - cores) (omega arith))
+        let at = get_or-append_right (replicate cores (idle_control cores)) (map (user_control cores) header.tasks) cores i (record { base = 0; in_use = 0; mask = 0; preempt = false }) (length-replicate cores (idle_control cores)) user ∙ get_or-map (user_control cores) header.tasks (i - cores) no_args (record { base = 0; in_use = 0; mask = 0; preempt = false }) (omega arith) in
+        let limit = valid_priority header.config header.tasks valid.args (i - cores) (omega arith) in
+        (omega (arith, ap (λ (t : TaskControl). t.in_use) at, limit), omega (arith, ap (λ (t : TaskControl). t.base) at, limit))
   ]
 
   first_calls : (i : ℕ) (call : Call) → call_at (replicate (cores + users) None) i ≡ Some call → IsCheckedCall (settings_of header) call

@@ -17,7 +17,7 @@ use Rattle.bench_model.specs.Examples.{task, session_of, three_tasks, one_task}
 
 -- a task that may run on four cores
 abbrev pub on_all : ℕ → TaskControl
-on_all priority = record { in_use = priority; mask = 15; preempt = true }
+on_all priority = record { base = priority; in_use = priority; mask = 15; preempt = true }
 
 abbrev pub looks : ℕ → CoreLook
 looks task = record { current = task; pend = false; asked = false }

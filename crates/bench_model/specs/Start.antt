@@ -17,10 +17,10 @@ use Rattle.bench_model.specs.Lists.{Lists, View, list_moves, outranks}
 
 -- preemption is on for each task; an idle task has priority 0 and may run on every core
 abbrev pub idle_control : ℕ → TaskControl
-idle_control cores = record { in_use = 0; mask = 2 ^ cores - 1; preempt = true }
+idle_control cores = record { base = 0; in_use = 0; mask = 2 ^ cores - 1; preempt = true }
 
 abbrev pub user_control : ℕ → TaskArgs → TaskControl
-user_control cores args = record { in_use = args.priority; mask = cores_of_mask cores args.mask; preempt = true }
+user_control cores args = record { base = args.priority; in_use = args.priority; mask = cores_of_mask cores args.mask; preempt = true }
 
 -- core c has idle task c and no flag
 abbrev pub first_look : ℕ → CoreLook

@@ -395,6 +395,7 @@ fn idle_control(cores: u32) -> TaskControl
     ensures { result ≡ idle_control cores }
 {
     TaskControl {
+        base: 0,
         in_use: 0,
         mask: (1 << cores) - 1,
         preempt: true,
@@ -406,6 +407,7 @@ fn user_control(cores: u32, args: &TaskArgs) -> TaskControl
     ensures { result ≡ user_control cores args.now }
 {
     TaskControl {
+        base: args.priority,
         in_use: args.priority,
         mask: args.mask % (1 << cores),
         preempt: true,

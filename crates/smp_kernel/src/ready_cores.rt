@@ -167,6 +167,7 @@ fn first_controls(alloc: Global, header: &Header) -> Result<Vec<TaskControl>, Al
     let mut tasks = idle_controls(alloc, cores)?;
     for args in header.tasks.as_slice() {
         tasks.push(TaskControl {
+            base: args.priority,
             in_use: args.priority,
             mask: args.mask % (1 << cores),
             preempt: true,
@@ -180,6 +181,7 @@ fn idle_controls(alloc: Global, cores: u32) -> Result<Vec<TaskControl>, AllocErr
     ensures { IfOk result (λ tasks. tasks.items ≡ replicate cores (idle_control cores)) }
 {
     let idle = TaskControl {
+        base: 0,
         in_use: 0,
         mask: (1 << cores) - 1,
         preempt: true,

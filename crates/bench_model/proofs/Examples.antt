@@ -1,7 +1,9 @@
 -- The worked sessions and the equal tables, computed on the definitions.
 use Rattle.std.proofs.Common.{ℕ, refl, ap}
 use Rattle.bench_model.specs.Search.{best, by_stamp, placed, ranked}
-use Rattle.bench_model.specs.State.{refusal, switched, ticked, yielded, blocked, called, performed, after}
+use Rattle.bench_model.specs.State.{refusal, switched, yielded, blocked}
+use Rattle.bench_model.specs.Steps.{ticked, called, performed, after}
+use Rattle.bench_model.specs.Seek.{asked_for, seek, wake, resettled, switched_and_sought, sliced}
 use Rattle.bench_model.specs.Table.{pick, make_ready, delay, advance, due}
 use Rattle.bench_model.specs.Lists.{View, lists_of}
 use Rattle.bench_model.specs.Start.{first_stamps, unstarted, started}
@@ -10,7 +12,7 @@ use Rattle.bench_model.specs.Examples.{WorkedSessions, EqualTables}
 
 -- whoever names this computes with all of the definitions
 unfoldable pub computed : ℕ
-unfolding best by_stamp placed ranked refusal switched ticked yielded blocked called performed after pick make_ready delay advance due lists_of first_stamps unstarted started state_at reply_at
+unfolding best by_stamp placed ranked asked_for seek wake resettled switched_and_sought sliced refusal switched ticked yielded blocked called performed after pick make_ready delay advance due lists_of first_stamps unstarted started state_at reply_at
 computed = 0
 
 pub sessions : WorkedSessions

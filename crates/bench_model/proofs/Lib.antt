@@ -11,7 +11,10 @@ pub mod SeenMoves
 pub mod SeenSteps
 pub mod Selects
 pub mod SlowRuns
+pub mod SlowSlices
 pub mod SlowTicks
 pub mod SoundSteps
 pub mod Stamped
 pub mod Starts
+pub mod Steps
+pub mod Ticks

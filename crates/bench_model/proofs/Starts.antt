@@ -3,7 +3,7 @@ use Rattle.std.proofs.Common.{◌≡◌, ℕ, zero, suc, ◌+◌, ◌-◌, ◌<�
 use Rattle.std.specs.List.{fold, list_all, range_with_len, AllByRecursion}
 use Rattle.std.proofs.lemmas.Bool.Decides.{nat_tests}
 use Rattle.std.proofs.lemmas.Bool.{cases_lt}
-use Rattle.std.proofs.lemmas.List.{length-append, length-set, length-map, length-replicate, map-append, get_or_append_left, get_or-append_right, get_or-replicate, get_or-map}
+use Rattle.std.proofs.lemmas.List.{length-append, length-map, length-replicate, map-append, get_or_append_left, get_or-append_right, get_or-replicate, get_or-map}
 use Rattle.std.proofs.lemmas.List.FromFn.{length-map-range_with_len, get_or-map-range_with_len}
 use Rattle.bench_types.specs.declared.header.Config.{Config}
 use Rattle.bench_types.specs.declared.header.Header.{Header}
@@ -18,7 +18,8 @@ use Rattle.bench_model.specs.declared.row.Standing.TheVariants.{Ready}
 use Rattle.bench_model.specs.declared.row.TaskRow.{TaskRow}
 use Rattle.bench_model.specs.Search.{numbers, by_stamp, ranked}
 use Rattle.bench_model.specs.Control.{core_at, current, task_at}
-use Rattle.bench_model.specs.State.{call_at, switched}
+use Rattle.bench_model.specs.State.{call_at}
+use Rattle.bench_model.specs.Seek.{switched_and_sought}
 use Rattle.bench_model.specs.Table.{Stamps, Table, table_moves, row_at, stamp_of, is_ready, stands_ready}
 use Rattle.bench_model.specs.Lists.{list_moves, lists_of, image}
 use Rattle.bench_model.specs.Sound.{IsStamped, IsPlaced, WakesInTime, IsBelow, IsSound}
@@ -27,8 +28,8 @@ use Rattle.bench_model.proofs.Filters.{All-weaker}
 use Rattle.bench_model.proofs.Stamped.{numbers_below, by_stamp_listed, by_stamp_none, range_parts}
 use Rattle.bench_model.proofs.Restamps.{standing_so, waits}
 use Rattle.bench_model.proofs.SeenMoves.{seen_from}
-use Rattle.bench_model.proofs.SeenSteps.{switched_seen, same_state}
-use Rattle.bench_model.proofs.SoundSteps.{switched_sound}
+use Rattle.bench_model.proofs.SeenSteps.{same_state}
+use Rattle.bench_model.proofs.Seeks.{sought_switch_seen, sought_switch_sound, sought_switch_length}
 
 -- no task has an unfinished call
 none_called : (n i : ℕ) → call_at (replicate n None) i ≡ None
@@ -210,19 +211,20 @@ module _ (header : Header) where
   }
 
 -- cores that switch in turn, from a sound table
-pub switched_length : (core : ℕ) (table : Table) → length (switched table_moves core table).control.cores ≡ length table.control.cores
-unfolding switched
-switched_length core table = length-set table.control.cores core _
+in_turn_rest : (core : ℕ) (cores : List ℕ) (table : Table) → AllByRecursion (λ c. c < length table.control.cores) cores → AllByRecursion (λ c. c < length (switched_and_sought table_moves core table).control.cores) cores
+in_turn_rest core cores table all = All-weaker (λ c. c < length table.control.cores) (λ c. c < length (switched_and_sought table_moves core table).control.cores) (λ c h. omega (arith, sought_switch_length core table)) cores all
 
-in_turn_sound : (cores : List ℕ) (table : Table) → AllByRecursion (λ c. c < length table.control.cores) cores → IsSound table → IsSound (fold (λ table core. switched table_moves core table) table cores)
+in_turn_sound : (cores : List ℕ) (table : Table) → AllByRecursion (λ c. c < length table.control.cores) cores → IsSound table → IsSound (fold (λ table core. switched_and_sought table_moves core table) table cores)
 in_turn_sound [] table all sound = sound
-in_turn_sound (core ∷ cores) table all sound = in_turn_sound cores (switched table_moves core table) (All-weaker (λ c. c < length table.control.cores) (λ c. c < length (switched table_moves core table).control.cores) (λ c h. omega (arith, switched_length core table)) cores all.1) (switched_sound core table sound all.0)
+in_turn_sound (core ∷ cores) table all sound =
+    in_turn_sound cores (switched_and_sought table_moves core table) (in_turn_rest core cores table all.1) (sought_switch_sound table core sound (omega (arith, sound.sized.cores, all.0)))
 
-in_turn_seen : (cores : List ℕ) (table : Table) → AllByRecursion (λ c. c < length table.control.cores) cores → IsSound table → image (fold (λ table core. switched table_moves core table) table cores) ≡ fold (λ view core. switched list_moves core view) (image table) cores
+in_turn_seen : (cores : List ℕ) (table : Table) → AllByRecursion (λ c. c < length table.control.cores) cores → IsSound table → image (fold (λ table core. switched_and_sought table_moves core table) table cores) ≡ fold (λ view core. switched_and_sought list_moves core view) (image table) cores
 in_turn_seen [] table all sound = refl
 in_turn_seen (core ∷ cores) table all sound =
-    in_turn_seen cores (switched table_moves core table) (All-weaker (λ c. c < length table.control.cores) (λ c. c < length (switched table_moves core table).control.cores) (λ c h. omega (arith, switched_length core table)) cores all.1) (switched_sound core table sound all.0)
-    ∙ ap (λ view. fold (λ view core. switched list_moves core view) view cores) (switched_seen core table sound.stamped (sound.in_place.is_task core all.0))
+    let low : core < table.settings.cores = omega (arith, sound.sized.cores, all.0) in
+    in_turn_seen cores (switched_and_sought table_moves core table) (in_turn_rest core cores table all.1) (sought_switch_sound table core sound low)
+    ∙ ap (λ view. fold (λ view core. switched_and_sought list_moves core view) view cores) (sought_switch_seen table core sound low)
 
 pub unstarted_cores : (header : Header) → length (unstarted (first_stamps header) header).control.cores ≡ header.config.cores
 unfolding unstarted
@@ -244,4 +246,4 @@ pub start_seen_lem : (header : Header) → header_check header ≡ Ok tt → ima
 unfolding started
 start_seen_lem header passes =
     in_turn_seen (numbers header.config.cores) (unstarted (first_stamps header) header) (first_turns header) (first_sound header (checked_header header passes))
-    ∙ ap (λ view. fold (λ view core. switched list_moves core view) view (numbers header.config.cores)) (unstarted_seen header)
+    ∙ ap (λ view. fold (λ view core. switched_and_sought list_moves core view) view (numbers header.config.cores)) (unstarted_seen header)

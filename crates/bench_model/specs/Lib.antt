@@ -12,6 +12,8 @@ pub mod Session
 pub mod Sound
 pub mod Start
 pub mod SlowDue
+pub mod SlowSeek
 pub mod SlowTable
 pub mod State
+pub mod Steps
 pub mod Table

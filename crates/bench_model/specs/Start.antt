@@ -11,7 +11,8 @@ use Rattle.bench_model.specs.declared.row.TaskRow.{TaskRow}
 use Rattle.bench_model.specs.declared.row.Standing.TheVariants.{Ready}
 use Rattle.bench_model.specs.Search.{numbers, ranked}
 use Rattle.bench_model.specs.Control.{Control}
-use Rattle.bench_model.specs.State.{State, Moves, switched}
+use Rattle.bench_model.specs.State.{State, Moves}
+use Rattle.bench_model.specs.Seek.{switched_and_sought}
 use Rattle.bench_model.specs.Table.{Stamps, Table, table_moves}
 use Rattle.bench_model.specs.Lists.{Lists, View, list_moves, outranks}
 
@@ -63,7 +64,7 @@ module _ {Orders : Type 0} where
 
   -- then each core selects, core 0 first
   unfoldable pub started : Moves Orders → Orders → Header → State Orders
-  started moves orders header = fold (λ kernel core. switched moves core kernel) (unstarted orders header) (numbers header.config.cores)
+  started moves orders header = fold (λ kernel core. switched_and_sought moves core kernel) (unstarted orders header) (numbers header.config.cores)
 
 -- the table of a kernel that was just started, and what can be seen of it
 abbrev pub start : Header → Table

@@ -8,7 +8,7 @@ use Rattle.bench_model.specs.Table.{pick, make_ready, delay, advance, due}
 use Rattle.bench_model.specs.Lists.{View, lists_of}
 use Rattle.bench_model.specs.Start.{first_stamps, unstarted, started}
 use Rattle.bench_model.specs.Session.{state_at, reply_at}
-use Rattle.bench_model.specs.Examples.{WorkedSessions, EqualTables}
+use Rattle.bench_model.specs.Examples.{WorkedSessions, TimedSessions, EqualTables}
 
 -- whoever names this computes with all of the definitions
 unfoldable pub computed : ℕ
@@ -18,6 +18,19 @@ computed = 0
 pub sessions : WorkedSessions
 unfolding computed
 sessions = record { starts = refl; first_run = refl; not_due = refl; starts_alone = refl; alone = refl; finishes = refl }
+
+pub timed_sessions : TimedSessions
+unfolding computed
+timed_sessions = record {
+  starts = refl;
+  starts_alone = refl;
+  starts_raised = refl;
+  idle_in_turn = refl;
+  in_turn = refl;
+  not_due = refl;
+  sleeps = refl;
+  wakes_on_other = refl;
+}
 
 pub tables : EqualTables
 unfolding computed

@@ -15,6 +15,7 @@ pub mod SlowSlices
 pub mod SlowTicks
 pub mod SoundSteps
 pub mod Stamped
+pub mod StartFlags
 pub mod Starts
 pub mod Steps
 pub mod Ticks

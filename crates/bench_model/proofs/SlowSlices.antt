@@ -39,8 +39,8 @@ no_look = record { current = 0; pend = false; asked = false }
 -- what becomes of a core that looks so as its time slice ends
 abbrev turned : Table → ℕ → CoreLook → CoreLook
 turned old core look = cond (
-      not (look.pend || look.asked) && (task_at old.control look.current).preempt && is_ready look.current old.orders
-      && ltb 1 (length (ready_in table_moves (task_at old.control look.current).in_use old))
+    not (look.pend || look.asked) && (task_at old.control look.current).preempt && is_ready look.current old.orders
+    && ltb 1 (length (ready_in table_moves (task_at old.control look.current).in_use old))
     ) (asked_by 0 core look) look
 
 -- ending the slice of one core

@@ -38,13 +38,13 @@ module _ (control : Control) (core : ℕ) (look : CoreLook) where
   abbrev changed : Control
   changed = with_core core look control
 
-  look_same : core < length control.cores → core_at changed core ≡ look
+  pub look_same : core < length control.cores → core_at changed core ≡ look
   look_same below = get_or-set_same control.cores core look (record { current = 0; pend = false; asked = false }) below
 
-  look_other : (other : ℕ) → other ≢ core → core_at changed other ≡ core_at control other
+  pub look_other : (other : ℕ) → other ≢ core → core_at changed other ≡ core_at control other
   look_other other away = get_or-set_other control.cores core other look (record { current = 0; pend = false; asked = false }) away
 
-  cores_length : length changed.cores ≡ length control.cores
+  pub cores_length : length changed.cores ≡ length control.cores
   cores_length = length-set control.cores core look
 
 -- a task that was set to stand so

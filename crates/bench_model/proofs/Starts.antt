@@ -155,7 +155,7 @@ module _ (header : Header) where
   pub first_cores : length (first_control header).cores ≡ cores
   first_cores = length-map-range_with_len first_look 0 cores
 
-  first_core : (c : ℕ) → c < cores → core_at (first_control header) c ≡ first_look c
+  pub first_core : (c : ℕ) → c < cores → core_at (first_control header) c ≡ first_look c
   first_core c low = get_or-map-range_with_len first_look 0 cores c c (record { current = 0; pend = false; asked = false }) low (omega arith)
 
   first_current : (c : ℕ) → c < cores → current (first_control header) c ≡ c

@@ -1,5 +1,5 @@
 -- The laws between the definitions. Each is the contract of a public function.
-use Rattle.std.specs.Prelude.{◌≡◌, ℕ, ◌<◌, List, length, true, IsSome, Ok}
+use Rattle.std.specs.Prelude.{◌≡◌, ℕ, ◌<◌, List, length, true, false, IsSome, Ok}
 use Rattle.std.specs.List.{AllByRecursion}
 use Rattle.bench_types.specs.declared.edit.Edit.{Edit}
 use Rattle.bench_types.specs.declared.header.Header.{Header}
@@ -9,7 +9,7 @@ use Rattle.bench_types.specs.declared.step.Step.{Step}
 use Rattle.bench_types.specs.declared.step.Step.TheVariants as steps
 use Rattle.bench_types.specs.Header.{header_check}
 use Rattle.bench_types.specs.Step.{IsCheckedStep}
-use Rattle.bench_model.specs.Control.{Control, ask}
+use Rattle.bench_model.specs.Control.{Control, is_due, ask}
 use Rattle.bench_model.specs.State.{blocked, selected, switched}
 use Rattle.bench_model.specs.Steps.{woken, after}
 use Rattle.bench_model.specs.Table.{Stamps, Table, table_moves, is_ready, pick, make_ready, delay, advance, due}
@@ -24,6 +24,10 @@ use Rattle.bench_model.specs.Equal.{Same}
 -- the start of a checked header is sound
 abbrev pub StartIsSound : Type 0
 StartIsSound = (header : Header) → header_check header ≡ Ok tt → IsSound (start header)
+
+-- the start sets no flag
+abbrev pub StartAsksNone : Type 0
+StartAsksNone = (header : Header) (core : ℕ) → core < header.config.cores → is_due (start header).control core ≡ false
 
 -- every checked step keeps a table sound
 abbrev pub StepKeepsSound : Type 0

@@ -105,10 +105,8 @@ impl SlowTable {
         ensures { result ≡ is_best (λ c. may_go self.now.control task lost c && gives_way self.now.control task c) (is_asked_before self.now.control) (numbers (length self.now.control.cores)) core }
     {
         self.is_candidate(task, lost, core)
-            && self
-                .core_numbers()
-                .all(|other| !self.is_candidate(task, lost, other)
-                    || self.is_asked_before(core, other))
+            && self.core_numbers().all(|other| !self.is_candidate(task, lost, other)
+                || self.is_asked_before(core, other))
     }
 
     fn asked_for(&self, task: u32, lost: Option<u32>) -> Option<u32>

@@ -1,5 +1,7 @@
 pub mod Bests
+pub mod Changes
 pub mod Choices
+pub mod CoresAlone
 pub mod EditedSessions
 pub mod Examples
 pub mod Filters

@@ -178,7 +178,7 @@ module _ (header : Header) where
   pub first_tasks : length (first_control header).tasks ≡ cores + users
   first_tasks = omega (arith, length-append (replicate cores (idle_control cores)) (map (user_control cores) header.tasks), length-replicate cores (idle_control cores), length-map header.tasks (user_control cores))
 
-  first_priorities : IsCheckedHeader header → (i : ℕ) → i < cores + users → IsBelow header.config.priorities (task_at (first_control header) i)
+  pub first_priorities : IsCheckedHeader header → (i : ℕ) → i < cores + users → IsBelow header.config.priorities (task_at (first_control header) i)
   first_priorities valid i low = elim (cases_lt i cores) [
     | inl idle ↦
         let at = get_or_append_left (replicate cores (idle_control cores)) (map (user_control cores) header.tasks) (record { base = 0; in_use = 0; mask = 0; preempt = false }) i (omega (arith, length-replicate cores (idle_control cores))) ∙ get_or-replicate cores i (idle_control cores) (record { base = 0; in_use = 0; mask = 0; preempt = false }) idle in

@@ -1,4 +1,7 @@
+pub mod Changes
 pub mod Control
+pub mod Cores
+pub mod CoresLaws
 pub mod Edits
 pub mod Equal
 pub mod Examples

@@ -205,7 +205,7 @@ where_due acting test control core is = at (test core)
     at true = asked_is_due acting core (core_at control core)
     at false = is
 
-each_more : (acting : ℕ) (test : ℕ → Bool) (control : Control) → IsAskedMore control (ask_each acting test control)
+pub each_more : (acting : ℕ) (test : ℕ → Bool) (control : Control) → IsAskedMore control (ask_each acting test control)
 each_more acting test control = record {
   cores = length-map-range_with_len (asked_where acting test control) 0 (length control.cores);
   tasks = refl;

@@ -290,31 +290,29 @@ fn a_woken_task_takes_a_core(rt: HostRuntime) -> Result<(), Fail> {
     Ok(())
 }
 
+fn flags(kernel: &Kernel) -> [(bool, bool); 2]
+    requires { kernel.now.settings.cores ≡ 2 }
+{
+    let (first, second) = (kernel.core_look(0), kernel.core_look(1));
+    [(first.pend, first.asked), (second.pend, second.asked)]
+}
+
 #[test]
-fn flags_of_cores(rt: HostRuntime) -> Result<(), Fail> {
+fn looks_of_cores(rt: HostRuntime) -> Result<(), Fail> {
     let header = three_tasks(rt.alloc(), true)?;
     let mut meter = Meter::new(&rt);
     let mut kernel = started(&rt, rt.alloc(), &header);
-    for (next, flags) in [
-        (call(2, Call::Yield), [(true, false), (false, false)]),
-        (Step::Tick, [(true, false), (false, true)]),
-        (Step::Switch { core: 0 }, [(false, false), (false, true)]),
-        (Step::Switch { core: 1 }, [(false, false), (false, false)]),
-    ] {
-        step(&rt, &mut kernel, &mut meter, &header, &next);
-        for (core, (pend, asked)) in (0..2).zip(flags) {
-            let current = kernel.running(core);
-            assert_eq!(rt;
-                kernel.core_look(core),
-                CoreLook {
-                    current,
-                    pend,
-                    asked
-                },
-                "core {core} behind {next:?}"
-            );
-        }
-    }
+    assert_eq!(rt; flags(&kernel), [(false, false), (false, false)]);
+    step(&rt, &mut kernel, &mut meter, &header, &call(2, Call::Yield));
+    assert_eq!(rt; flags(&kernel), [(true, false), (false, false)]);
+    step(&rt, &mut kernel, &mut meter, &header, &Step::Tick);
+    assert_eq!(rt; flags(&kernel), [(true, false), (false, true)]);
+    let look = CoreLook {
+        current: 3,
+        pend: false,
+        asked: true,
+    };
+    assert_eq!(rt; kernel.core_look(1), look);
     Ok(())
 }
 

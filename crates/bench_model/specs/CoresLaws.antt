@@ -8,11 +8,11 @@ use Rattle.bench_model.specs.Table.{Stamps, Table, table_moves, is_ready, delay}
 use Rattle.bench_model.specs.Lists.{list_moves, lists_of, image}
 use Rattle.bench_model.specs.Seek.{seek, wake, switched_and_sought, sliced}
 use Rattle.bench_model.specs.SeekLaws.{sought}
-use Rattle.bench_model.specs.Changes.{with_task, in_use_set}
+use Rattle.bench_model.specs.Changes.{with_task, with_base, with_affinity, in_use_set}
 use Rattle.bench_model.specs.Cores.{CoresView, cores_of, on_cores}
 use Rattle.bench_model.specs.Sound.{IsStamped, IsBelow, IsSound}
 use Rattle.bench_model.specs.Start.{start}
-use Rattle.bench_model.specs.Examples.{three_tasks}
+use Rattle.bench_model.specs.Examples.{three_tasks, waiting}
 
 -- the cores and ready lists that are seen of a table
 abbrev pub cores_seen : Table → CoresView
@@ -76,3 +76,6 @@ pub record WorkedChanges : Type 0 where
   pub raised : ready_behind 3 2 ≡ 2 ∷ 3 ∷ 4 ∷ 0 ∷ 1 ∷ []
   pub lowered : ready_behind 2 1 ≡ 3 ∷ 4 ∷ 2 ∷ 0 ∷ 1 ∷ []
   pub lowest : ready_behind 2 0 ≡ 3 ∷ 4 ∷ 0 ∷ 1 ∷ 2 ∷ []
+  pub blocked_stays : (cores_seen (in_use_set table_moves 2 1 waiting)).ready ≡ (cores_seen waiting).ready
+  pub cut_mask : (task_at (with_affinity 3 6 (start three_tasks).control) 3).mask ≡ 2
+  pub base_alone : (task_at (with_base 3 4 (start three_tasks).control) 3) ≡ record (task_at (start three_tasks).control 3) { base = 4 }

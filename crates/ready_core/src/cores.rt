@@ -12,7 +12,7 @@ ghost use Rattle.bench_model.specs.Cores.{cores_of, alone, on_cores, has_core};
 ghost use Rattle.ready_core.specs.Fields.{better_of, may_be_asked, stays_asked};
 
 use crate::first::{cut_mask, first_controls, first_looks, first_queue};
-use crate::ready_list::{copy_with_room, has_company, have_same_lists, remove_task};
+use crate::ready_list::{copy_with_room, has_company, have_same_lists, remove_task, requeue};
 use bench_types::{CoreLook, Header, TaskControl};
 use std::alloc::{AllocError, Global};
 use std::marker::Model;
@@ -96,7 +96,8 @@ impl Cores {
         requires { core < length self.now.control.cores }
         ensures { result ≡ core_at self.now.control core }
     {
-        self.cores[core as usize]
+        let place = core as usize;
+        self.cores[place]
     }
 
     /// The base priority of the task.
@@ -104,7 +105,7 @@ impl Cores {
         requires { task < length self.now.control.tasks }
         ensures { result ≡ (task_at self.now.control task).base }
     {
-        self.tasks[task as usize].base
+        self.control(task).base
     }
 
     /// The priority in use of the task.
@@ -113,7 +114,7 @@ impl Cores {
         ensures in_use { result ≡ (task_at self.now.control task).in_use }
         ensures below { result < self.now.priorities }
     {
-        self.tasks[task as usize].in_use
+        self.control(task).in_use
     }
 
     /// The core affinity mask of the task, cut to the bits that mean a core.
@@ -121,7 +122,7 @@ impl Cores {
         requires { task < length self.now.control.tasks }
         ensures { result ≡ (task_at self.now.control task).mask }
     {
-        self.tasks[task as usize].mask
+        self.control(task).mask
     }
 
     /// Whether a core may be asked to give the task up for another.
@@ -129,7 +130,7 @@ impl Cores {
         requires { task < length self.now.control.tasks }
         ensures { result ≡ (task_at self.now.control task).preempt }
     {
-        self.tasks[task as usize].preempt
+        self.control(task).preempt
     }
 
     /// Whether the task is in a ready list.
@@ -211,10 +212,10 @@ impl Cores {
         requires priority { priority < self.old.priorities }
         ensures { self.new ≡ on_cores (in_use_set list_moves task priority) self.old }
     {
+        let is_ready = self.ready(task);
         self.tasks[task as usize].in_use = priority;
-        if self.ready.contains(&task) {
-            remove_task(&mut self.ready, task);
-            self.ready.push_reserved(task);
+        if is_ready {
+            requeue(&mut self.ready, task);
         }
     }
 
@@ -241,6 +242,14 @@ impl Cores {
         ensures { self.new ≡ record self.old { control = with_preemption task on self.old.control } }
     {
         self.tasks[task as usize].preempt = on;
+    }
+
+    fn control(&self, task: u32) -> TaskControl
+        requires { task < length self.now.control.tasks }
+        ensures control { result ≡ task_at self.now.control task }
+        ensures below { result.in_use < self.now.priorities }
+    {
+        self.tasks[task as usize]
     }
 
     fn core_numbers(&self) -> Range<u32>
@@ -407,8 +416,7 @@ impl Cores {
         requires { task < length self.old.control.tasks }
         ensures { self.new ≡ record self.old { ready = placed (outranks self.old.control) task (without task self.old.ready) } }
     {
-        remove_task(&mut self.ready, task);
-        self.ready.push_reserved(task);
+        requeue(&mut self.ready, task);
     }
 
     fn run(&mut self, core: u32, task: u32)
@@ -482,3 +490,6 @@ impl Cores {
         }
     }
 }
+
+#[cfg(test)]
+mod tests;

@@ -1,5 +1,5 @@
 //! The queue of ready tasks: who leaves it, who stands in one list with whom.
-ghost use Rattle.std.specs.Prelude.{◌≡◌, ◌↔◌, ◌<◌, ◌≤◌, ◌==◌, ◌&&◌, not, length, filter, [], ◌∷◌, All, MatchOption, IsTrue, IfOk};
+ghost use Rattle.std.specs.Prelude.{◌≡◌, ◌↔◌, ◌<◌, ◌≤◌, ◌++◌, ◌==◌, ◌&&◌, not, length, filter, [], ◌∷◌, All, MatchOption, IsTrue, IfOk};
 ghost use Rattle.std.specs.List.{list_any};
 ghost use Rattle.std.specs.Vec.{vec_capacity};
 ghost use Rattle.bench_model.specs.Search.{ranked, without};
@@ -14,6 +14,16 @@ pub(crate) fn remove_task(queue: &mut Vec<u32>, task: u32)
     ensures capacity { vec_capacity queue.new ≡ vec_capacity queue.old }
 {
     queue.retain(|queued| *queued != task);
+}
+
+/// The task goes to the end of the queue, from its place there if it has one.
+pub(crate) fn requeue(queue: &mut Vec<u32>, task: u32)
+    requires { length (without task queue.old.items) < vec_capacity queue.old }
+    ensures items { queue.new.items ≡ without task queue.old.items ++ task ∷ [] }
+    ensures capacity { vec_capacity queue.new ≡ vec_capacity queue.old }
+{
+    remove_task(queue, task);
+    queue.push_reserved(task);
 }
 
 /// A second queue with so many places.

@@ -11,14 +11,14 @@ use Rattle.bench_model.specs.Changes.{with_task, with_in_use, in_use_set}
 use Rattle.bench_model.specs.Cores.{CoresView, on_cores}
 use Rattle.ready_core.specs.Fields.{control_from, seen_of}
 use Rattle.ready_core.specs.Shape.{IsListing}
-use Rattle.ready_core.proofs.Queues.{in_use_ready, in_use_blocked}
+use Rattle.ready_core.proofs.Queues.{ready-has, in_use_ready, in_use_blocked}
 use Rattle.ready_core.proofs.Listings.{listing_without, listing_push, listing_room, has-without}
 use Rattle.ready_core.proofs.cores.Cores.set_in_use.Goals as goal
 
-pub push_reserved-requires : goal.push_reserved-requires
-push_reserved-requires c =
+pub requeue-requires : goal.requeue-requires
+requeue-requires c =
     let low : c.args.task < length c.self.inside.tasks.items = omega (arith, ap (λ (view : CoresView). length view.control.tasks) c.self.view_is, c.requires.task) in
-    omega (arith, c.remove_task.ensures.capacity, ap length c.remove_task.ensures.items, c.self.invariant.room, listing_room _ c.args.task _ (listing_without _ c.args.task _ c.self.invariant.ready) low (has-without c.args.task _))
+    omega (arith, c.self.invariant.room, listing_room _ c.args.task _ (listing_without _ c.args.task _ c.self.invariant.ready) low (has-without c.args.task _))
 
 pub invariant_of-self : goal.invariant_of-self
 invariant_of-self c =
@@ -32,15 +32,15 @@ invariant_of-self c =
       few_cores = c.self.invariant.few_cores;
       running = subst (λ n. All (λ (core : CoreLook). core.current < n) c.self.inside.cores.items) (sym sized) c.self.invariant.running;
       in_use = All-set (λ (task : TaskControl). task.in_use < c.self.inside.priorities) tasks c.args.task block below c.self.invariant.in_use;
-      ready = rw (c.push_reserved.ensures.items, c.remove_task.ensures.items) (subst (λ n. IsListing n (without c.args.task c.self.inside.ready.items ++ c.args.task ∷ [])) (sym sized) queue);
-      room = omega (arith, sized, c.self.invariant.room, c.remove_task.ensures.capacity, c.push_reserved.ensures.capacity);
+      ready = rw c.requeue.ensures.items (subst (λ n. IsListing n (without c.args.task c.self.inside.ready.items ++ c.args.task ∷ [])) (sym sized) queue);
+      room = omega (arith, sized, c.self.invariant.room, c.requeue.ensures.capacity);
     }
 
 abbrev no_task : TaskControl
 no_task = record { base = 0; in_use = 0; mask = 0; preempt = false }
 
-pub returns-then-contains : goal.returns-then-contains
-returns-then-contains c =
+pub returns-then-is_ready : goal.returns-then-is_ready
+returns-then-is_ready c =
     let cores = c.self.inside.cores.items in
     let tasks = c.self.inside.tasks.items in
     let queue = c.self.inside.ready.items in
@@ -49,14 +49,14 @@ returns-then-contains c =
     let seen = seen_of c.self.inside.priorities c.self.inside.slicing in
     let low : task < length tasks = omega (arith, ap (λ (view : CoresView). length view.control.tasks) c.self.view_is, c.requires.task) in
     let block : c.index_mut.result.now ≡ task_at control task = c.index_mut.ensures.value ∙ get_or_default tasks task c.index_mut.result.now no_task low in
-    let ready : has task queue ≡ true = ap (has task) (sym c.deref.ensures.value) ∙ sym c.contains.ensures.value ∙ c.if-contains.true in
-    ap (λ (b : TaskControl). seen (with_task task (record b { in_use = c.args.priority }) control) c.push_reserved.new.self.items) block
-    ∙ ap (seen (with_in_use task c.args.priority control)) (c.push_reserved.ensures.items ∙ ap (λ others. others ++ task ∷ []) c.remove_task.ensures.items)
+    let ready : has task queue ≡ true = sym (ready-has control task queue) ∙ ap (λ (view : CoresView). has task view.ready) c.self.view_is ∙ sym c.ready-is_ready.ensures ∙ c.if-is_ready.true in
+    ap (λ (b : TaskControl). seen (with_task task (record b { in_use = c.args.priority }) control) c.requeue.new.queue.items) block
+    ∙ ap (seen (with_in_use task c.args.priority control)) c.requeue.ensures.items
     ∙ in_use_ready c.self.inside.priorities c.self.inside.slicing control queue task c.args.priority ready
     ∙ ap (on_cores (in_use_set list_moves task c.args.priority)) c.self.view_is
 
-pub returns-else-contains : goal.returns-else-contains
-returns-else-contains c =
+pub returns-else-is_ready : goal.returns-else-is_ready
+returns-else-is_ready c =
     let cores = c.self.inside.cores.items in
     let tasks = c.self.inside.tasks.items in
     let queue = c.self.inside.ready.items in
@@ -65,7 +65,7 @@ returns-else-contains c =
     let seen = seen_of c.self.inside.priorities c.self.inside.slicing in
     let low : task < length tasks = omega (arith, ap (λ (view : CoresView). length view.control.tasks) c.self.view_is, c.requires.task) in
     let block : c.index_mut.result.now ≡ task_at control task = c.index_mut.ensures.value ∙ get_or_default tasks task c.index_mut.result.now no_task low in
-    let absent : has task queue ≡ false = ap (has task) (sym c.deref.ensures.value) ∙ sym c.contains.ensures.value ∙ c.if-contains.false in
+    let absent : has task queue ≡ false = sym (ready-has control task queue) ∙ ap (λ (view : CoresView). has task view.ready) c.self.view_is ∙ sym c.ready-is_ready.ensures ∙ c.if-is_ready.false in
     ap (λ (b : TaskControl). seen (with_task task (record b { in_use = c.args.priority }) control) queue) block
     ∙ in_use_blocked c.self.inside.priorities c.self.inside.slicing control queue task c.args.priority absent
     ∙ ap (on_cores (in_use_set list_moves task c.args.priority)) c.self.view_is

@@ -1,5 +1,7 @@
 pub mod Bests
+pub mod Changes
 pub mod Choices
+pub mod CoresAlone
 pub mod EditedSessions
 pub mod Examples
 pub mod Filters
@@ -11,7 +13,11 @@ pub mod SeenMoves
 pub mod SeenSteps
 pub mod Selects
 pub mod SlowRuns
+pub mod SlowSlices
 pub mod SlowTicks
 pub mod SoundSteps
 pub mod Stamped
+pub mod StartFlags
 pub mod Starts
+pub mod Steps
+pub mod Ticks

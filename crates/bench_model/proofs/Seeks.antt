@@ -3,7 +3,7 @@ use Rattle.std.proofs.Common.{◌≡◌, ℕ, ◌<◌, ◌≤◌, Bool, true, fa
 use Rattle.std.specs.Option.{option_map_or}
 use Rattle.std.proofs.lemmas.Bool.{cases_lt}
 use Rattle.std.proofs.lemmas.Bool.Decides.{nat_tests}
-use Rattle.std.proofs.lemmas.List.{get_or_past}
+use Rattle.std.proofs.lemmas.List.{get_or_past, length-set}
 use Rattle.std.proofs.lemmas.List.FromFn.{get_or-map-range_with_len, length-map-range_with_len}
 use Rattle.bench_types.specs.declared.kernel_data.CoreLook.{CoreLook}
 use Rattle.bench_model.specs.Search.{numbers, best}
@@ -78,7 +78,7 @@ resettled_seen table core loser given below =
     at true false same = absurd (cc (same))
     at false true same = absurd (cc (same))
 
-switched_rows : (table : Table) (core : ℕ) → IsSound table → core < length table.control.cores → length (switched table_moves core table).orders.rows ≡ length table.orders.rows
+pub switched_rows : (table : Table) (core : ℕ) → IsSound table → core < length table.control.cores → length (switched table_moves core table).orders.rows ≡ length table.orders.rows
 unfolding switched
 switched_rows table core sound below = queued_length table.orders (current table.control core) (sound.in_place.is_task core below)
 
@@ -122,7 +122,7 @@ sliced_seen table sound = at table.settings.slicing
     at false = refl
 
 -- seeking asks one core, or none
-seek_more : (acting task : ℕ) (among : ℕ → Bool) (control : Control) → IsAskedMore control (seek acting task among control)
+pub seek_more : (acting task : ℕ) (among : ℕ → Bool) (control : Control) → IsAskedMore control (seek acting task among control)
 unfolding seek
 seek_more acting task among control = at (is_running control task) (asked_for control task among) refl
   where
@@ -161,6 +161,25 @@ pub sought_switch_sound : (table : Table) (core : ℕ) → IsSound table → cor
 unfolding switched_and_sought
 sought_switch_sound table core sound low = resettled_sound (switched table_moves core table) core (current table.control core) (switched_sound core table sound (omega (arith, sound.sized.cores)))
 
+resettled_length : (table : Table) (core loser : ℕ) → length (resettled table_moves core loser table).control.cores ≡ length table.control.cores
+unfolding resettled
+resettled_length table core loser = at (not (eqb (current table.control core) loser) && is_ready loser table.orders)
+  where
+    among : ℕ → Bool
+    among = may_move table.control loser (current table.control core) core
+
+    at : (b : Bool) → length (cond b (record table { control = seek core loser among table.control }) table).control.cores ≡ length table.control.cores
+    at true = (seek_more core loser among table.control).cores
+    at false = refl
+
+switched_length : (core : ℕ) (table : Table) → length (switched table_moves core table).control.cores ≡ length table.control.cores
+unfolding switched
+switched_length core table = length-set table.control.cores core _
+
+pub sought_switch_length : (core : ℕ) (table : Table) → length (switched_and_sought table_moves core table).control.cores ≡ length table.control.cores
+unfolding switched_and_sought
+sought_switch_length core table = resettled_length (switched table_moves core table) core (current table.control core) ∙ switched_length core table
+
 -- the looks of cores some of which were asked
 abbrev no_look : CoreLook
 no_look = record { current = 0; pend = false; asked = false }
@@ -186,7 +205,7 @@ where_due acting test control core is = at (test core)
     at true = asked_is_due acting core (core_at control core)
     at false = is
 
-each_more : (acting : ℕ) (test : ℕ → Bool) (control : Control) → IsAskedMore control (ask_each acting test control)
+pub each_more : (acting : ℕ) (test : ℕ → Bool) (control : Control) → IsAskedMore control (ask_each acting test control)
 each_more acting test control = record {
   cores = length-map-range_with_len (asked_where acting test control) 0 (length control.cores);
   tasks = refl;

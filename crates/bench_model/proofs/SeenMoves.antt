@@ -90,7 +90,7 @@ ready_waits_not : (standing : Standing) → stands_ready standing ≡ true → w
 ready_waits_not Ready ready = refl
 ready_waits_not (Blocked wake) ready = absurd (cc)
 
-without_absent : (n : ℕ) (ns : List ℕ) → has n ns ≡ false → without n ns ≡ ns
+pub without_absent : (n : ℕ) (ns : List ℕ) → has n ns ≡ false → without n ns ≡ ns
 without_absent n [] absent = refl
 without_absent n (m ∷ ms) absent = grind (arith, absent, without_absent n ms)
 

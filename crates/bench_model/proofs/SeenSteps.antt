@@ -1,4 +1,4 @@
--- Each step of a table, seen as lists, is the step of what was seen of the table before.
+-- The rules that seek no core: each of a table, seen as lists, is that of what was seen of the table before.
 use Rattle.std.proofs.Common.{◌≡◌, ℕ, ◌<◌, Bool, true, false, cond, eqb, List, [], ◌∷◌, length, Option, Some, None, Ok, refl, sym, ap, subst, ◌∙◌, arith}
 use Rattle.std.specs.Prelude.{unwrap_or, slice_set}
 use Rattle.std.specs.Option.{option_map_or}
@@ -20,7 +20,7 @@ use Rattle.bench_types.specs.Step.{IsCheckedStep, step_check, core_check, task_c
 use Rattle.bench_model.specs.declared.row.Standing.TheVariants.{Ready}
 use Rattle.bench_model.specs.Search.{numbers}
 use Rattle.bench_model.specs.Control.{Control, current, run_on, is_due}
-use Rattle.bench_model.specs.State.{State, refusal, switched, ticked, yielded, blocked, called, performed, after}
+use Rattle.bench_model.specs.State.{State, refusal, switched, yielded, blocked}
 use Rattle.bench_model.specs.Table.{Stamps, Table, table_moves, wakes_at, is_ready, row_at, stamp_of, pick, make_ready, delay, advance, due}
 use Rattle.bench_model.specs.Lists as seen
 use Rattle.bench_model.specs.Lists.{Lists, View, list_moves, lists_of, image}
@@ -84,47 +84,28 @@ switched_seen core table stamped below =
     (ap (λ o. run_on core (unwrap_or o left) table.control) (sym picked ∙ chosen))
     (lists_of_cores table.control _ orders ∙ lists)
 
-make_ready_given : (stamps : Stamps) (task : ℕ) → IsGiven stamps → task < length stamps.rows → IsGiven (make_ready task stamps)
+pub make_ready_given : (stamps : Stamps) (task : ℕ) → IsGiven stamps → task < length stamps.rows → IsGiven (make_ready task stamps)
 unfolding make_ready
 make_ready_given stamps task given below = moved_given stamps task Ready below given
 
-make_ready_length : (stamps : Stamps) (task : ℕ) → task < length stamps.rows → length (make_ready task stamps).rows ≡ length stamps.rows
+pub make_ready_length : (stamps : Stamps) (task : ℕ) → task < length stamps.rows → length (make_ready task stamps).rows ≡ length stamps.rows
 unfolding make_ready
 make_ready_length stamps task below = moved_length stamps task Ready below
 
--- tasks made ready in turn
-pub woken_seen : (control : Control) (tasks : List ℕ) (stamps : Stamps) → IsGiven stamps → AllByRecursion (λ task. task < length stamps.rows) tasks → lists_of control (fold (λ orders task. make_ready task orders) stamps tasks) ≡ fold (λ orders task. seen.make_ready control task orders) (lists_of control stamps) tasks
-woken_seen control [] stamps given below = refl
-woken_seen control (task ∷ tasks) stamps given below =
-    let length_same = make_ready_length stamps task below.0 in
-    let rest = woken_seen control tasks (make_ready task stamps) (make_ready_given stamps task given below.0) (All-weaker (λ i. i < length stamps.rows) (λ i. i < length (make_ready task stamps).rows) (λ i h. omega (arith, length_same)) tasks below.1) in
-    rest ∙ ap (λ orders. fold (λ orders task. seen.make_ready control task orders) orders tasks) (make_ready_seen control stamps task given below.0)
-
-advanced_given : (stamps : Stamps) → IsGiven stamps → IsGiven (advance stamps)
+pub advanced_given : (stamps : Stamps) → IsGiven stamps → IsGiven (advance stamps)
 unfolding advance
 advanced_given stamps given = given
 
-in_time_ahead : (stamps : Stamps) → WakesInTime stamps → IsAhead stamps
+pub in_time_ahead : (stamps : Stamps) → WakesInTime stamps → IsAhead stamps
 in_time_ahead stamps in_time i wake low waits = (in_time i wake low waits).0
 
-advanced_near : (stamps : Stamps) → WakesInTime stamps → IsNotPast (advance stamps)
+pub advanced_near : (stamps : Stamps) → WakesInTime stamps → IsNotPast (advance stamps)
 unfolding advance
 advanced_near stamps in_time i wake low waits = omega (arith, (in_time i wake low waits).0)
 
 pub due_below : (stamps : Stamps) → AllByRecursion (λ task. task < length stamps.rows) (due stamps)
 unfolding due
 due_below stamps = All-by_stamp (stamp_of stamps) (λ task. wakes_at stamps.tick (row_at stamps task).standing) (numbers (length stamps.rows)) (λ task. task < length stamps.rows) stamps.next (numbers_below (length stamps.rows))
-
-pub ticked_seen : (table : Table) → IsGiven table.orders → WakesInTime table.orders → image (ticked table_moves table) ≡ ticked list_moves (image table)
-unfolding ticked
-ticked_seen table given in_time =
-    let later = advance table.orders in
-    let advanced = advance_seen table.control table.orders (in_time_ahead table.orders in_time) in
-    let wakes = sym (due_seen table.control later (advanced_near table.orders in_time)) ∙ ap seen.due advanced in
-    same_state table.settings table.control table.control table.calls _ _ refl
-    (woken_seen table.control (due later) later (advanced_given table.orders given) (due_below later)
-    ∙ ap (λ lists. fold (λ orders task. seen.make_ready table.control task orders) lists (due later)) advanced
-    ∙ ap (λ tasks. fold (λ orders task. seen.make_ready table.control task orders) (seen.advance (lists_of table.control table.orders)) tasks) wakes)
 
 pub yielded_seen : (core : ℕ) (table : Table) → image (yielded table_moves core table) ≡ yielded list_moves core (image table)
 unfolding yielded
@@ -134,28 +115,6 @@ pub blocked_seen : (core task : ℕ) (call : Call) (ticks : ℕ) (table : Table)
 unfolding blocked
 blocked_seen core task call ticks table given below ready =
     same_state table.settings _ _ (slice_set table.calls task (Some call)) _ _ refl (lists_of_cores table.control _ (delay task ticks table.orders) ∙ delay_seen table.control table.orders task ticks given below ready)
-
-abbrev outcome_from : Reply → View → Reply × View
-outcome_from reply view = (reply, view)
-
-same_outcome : (reply : Reply) (one other : View) → one ≡ other → outcome_from reply one ≡ outcome_from reply other
-same_outcome reply one other a = ap (λ view. outcome_from reply view) a
-
-pub called_seen : (core task : ℕ) (call : Call) (table : Table) → IsGiven table.orders → task < length table.orders.rows → is_ready task table.orders ≡ true → seen_of (called table_moves core task call table) ≡ called list_moves core task call (image table)
-unfolding called
-called_seen core task Yield table given below ready = same_outcome Done _ _ (yielded_seen core table)
-called_seen core task (Delay ticks) table given below ready = either (eqb ticks 0)
-  where
-    either : (b : Bool) → seen_of (cond b (Done, yielded table_moves core table) (Blocked, blocked table_moves core task (Delay ticks) ticks table)) ≡ cond b (Done, yielded list_moves core (image table)) (Blocked, blocked list_moves core task (Delay ticks) ticks (image table))
-    either true = same_outcome Done _ _ (yielded_seen core table)
-    either false = same_outcome Blocked _ _ (blocked_seen core task (Delay ticks) ticks table given below ready)
-called_seen core task Finish table given below ready = refl
-
-pub performed_seen : (step : Step) (table : Table) → IsSound table → IsInPlace table step → seen_of (performed table_moves step table) ≡ performed list_moves step (image table)
-unfolding performed
-performed_seen Tick table sound place = same_outcome Done _ _ (ticked_seen table sound.stamped.given sound.in_time)
-performed_seen (Switch core) table sound place = same_outcome Done _ _ (switched_seen core table sound.stamped (sound.in_place.is_task core place))
-performed_seen (steps.Call core task call) table sound place = called_seen core task call table sound.stamped.given place.2 place.3
 
 pub not_displaced : (control : Control) (calls : List (Option Call)) (core task : ℕ) (call : Call) → refusal control calls (steps.Call core task call) ≡ None → (current control core ≡ task) × (is_due control core ≡ false)
 unfolding refusal
@@ -176,21 +135,6 @@ in_place (steps.Call core task call) table sound checked accepted =
     let ready : is_ready (current table.control core) table.orders ≡ true = true_from_ne_false (is_ready (current table.control core) table.orders) (λ h. cc (sound.in_place.blocked_is_due core low h, found.1)) in
     (low, found.0, subst (λ i. i < length table.orders.rows) found.0 (sound.in_place.is_task core low), subst (λ i. is_ready i table.orders ≡ true) found.0 ready)
 
-after_from : (step : Step) (table : Table) (why : Option Refusal) → (why ≡ None → seen_of (performed table_moves step table) ≡ performed list_moves step (image table)) → seen_of (option_map_or (λ why. (Refused why, table)) why (performed table_moves step table)) ≡ option_map_or (λ why. (Refused why, image table)) why (performed list_moves step (image table))
-after_from step table None performs = performs refl
-after_from step table (Some why) performs = refl
-
-pub after_seen : (step : Step) (table : Table) → IsSound table → IsCheckedStep table.settings step → seen_of (after table_moves step table) ≡ after list_moves step (image table)
-unfolding after
-after_seen step table sound checked = after_from step table (refusal table.control table.calls step) (λ accepted. performed_seen step table sound (in_place step table sound checked.passes accepted))
-
 -- one tick more, and the tasks whose wake it is
 pub advance_seen_lem : (control : Control) (stamps : Stamps) → WakesInTime stamps → (lists_of control (advance stamps) ≡ seen.advance (lists_of control stamps)) × (seen.due (lists_of control (advance stamps)) ≡ due (advance stamps))
 advance_seen_lem control stamps in_time = (advance_seen control stamps (in_time_ahead stamps in_time), due_seen control (advance stamps) (advanced_near stamps in_time))
-
--- equal tables take every step alike
-pub equal_after : (a b : Table) (step : Step) → IsSound a → IsSound b → Same a b → IsCheckedStep a.settings step → ((step_of step a).0 ≡ (step_of step b).0) × Same (step_of step a).1 (step_of step b).1
-equal_after a b step sound other same checked =
-    let settings = ap (λ (view : View). view.settings) same in
-    let both : seen_of (step_of step a) ≡ seen_of (step_of step b) = after_seen step a sound checked ∙ ap (after list_moves step) same ∙ sym (after_seen step b other (subst (λ s. IsCheckedStep s step) settings checked)) in
-    (ap (λ (r : Reply × View). r.0) both, ap (λ (r : Reply × View). r.1) both)

@@ -1,5 +1,5 @@
 -- The slow start and the slow replay, place by place.
-use Rattle.std.proofs.Common.{◌≡◌, ℕ, zero, suc, ◌+◌, ◌*◌, ◌<◌, ◌≤◌, ◌^◌, Bool, true, false, cond, eqb, List, [], ◌∷◌, ◌++◌, length, map, take, drop, Option, Some, None, Ok, refl, sym, ap, subst, ◌∙◌, arith, zero-add}
+use Rattle.std.proofs.Common.{◌≡◌, ℕ, zero, suc, ◌+◌, ◌*◌, ◌<◌, ◌≤◌, ◌^◌, Bool, true, false, cond, not, eqb, ◌&&◌, List, [], ◌∷◌, ◌++◌, length, map, take, drop, Option, Some, None, Ok, refl, sym, ap, subst, ◌∙◌, arith, zero-add}
 use Rattle.std.specs.Prelude.{option_map, slice_get}
 use Rattle.std.specs.Option.{option_map_or}
 use Rattle.std.specs.List.{fold, range_with_len}
@@ -21,21 +21,26 @@ use Rattle.bench_types.specs.Header.{header_check}
 use Rattle.bench_types.proofs.Passes.{checked_header}
 use Rattle.bench_types.specs.Step.{settings_of, IsCheckedStep}
 use Rattle.bench_model.specs.Search.{numbers}
-use Rattle.bench_model.specs.Control.{Control, running, current}
-use Rattle.bench_model.specs.State.{refusal, switched, woken, ticked, yielded, blocked, called, performed, after}
+use Rattle.bench_model.specs.Control.{running, current, ask_each}
+use Rattle.bench_model.specs.State.{refusal, switched, yielded, blocked}
+use Rattle.bench_model.specs.Steps.{woken, ticked, called, performed, after}
+use Rattle.bench_model.specs.Seek.{seek, may_move, wake, resettled, switched_and_sought, shares_its_time, sliced}
 use Rattle.bench_model.specs.Table.{Stamps, Table, table_moves, is_ready, make_ready, delay, advance, due}
 use Rattle.bench_model.specs.Sound.{IsSound}
 use Rattle.bench_model.specs.Start.{first_stamps, unstarted, started, start}
 use Rattle.bench_model.specs.Session.{step_of, state_at, reply_at, outcome_at, trace, shown}
 use Rattle.bench_model.proofs.Filters.{fold-append}
 use Rattle.bench_model.proofs.Stamped.{range_parts}
-use Rattle.bench_model.proofs.SoundSteps.{switched_sound, after_sound, woken_tick, make_ready_tick, advanced_tick}
+use Rattle.bench_model.proofs.SoundSteps.{make_ready_tick, readied_tick, advanced_tick}
+use Rattle.bench_model.proofs.Seeks.{sought_switch_sound, sought_switch_length}
+use Rattle.bench_model.proofs.Steps.{after_sound}
+use Rattle.bench_model.proofs.Ticks.{with_orders, behind_wakes, woken_parts}
 use Rattle.bench_model.proofs.SlowTicks.{length_due, advance_next}
-use Rattle.bench_model.proofs.Starts.{start_sound, first_sound, first_next, switched_length, unstarted_cores}
+use Rattle.bench_model.proofs.Starts.{start_sound, first_sound, first_next, unstarted_cores}
 
 -- the first cores of a start have switched
 pub record IsStarting (header : Header) (core : ℕ) (table : Table) : Type 0 where
-  pub so_far : table ≡ fold (λ table core. switched table_moves core table) (unstarted (first_stamps header) header) (numbers core)
+  pub so_far : table ≡ fold (λ table core. switched_and_sought table_moves core table) (unstarted (first_stamps header) header) (numbers core)
   pub sound : IsSound table
   pub cores : length table.control.cores ≡ header.config.cores
   pub room : table.orders.next ≤ 72 + core
@@ -67,17 +72,49 @@ switched_tick core table = at (is_ready (current table.control core) table.order
     at true = make_ready_tick table.orders (current table.control core)
     at false = refl
 
-pub starting_goes : (header : Header) (core : ℕ) (table next : Table) → IsStarting header core table → core < header.config.cores → next ≡ switched table_moves core table → IsStarting header (core + 1) next
+-- seeking a core changes no order and no setting
+abbrev pub IsSameBeside : Table → Table → Type 0
+IsSameBeside table next = (next.orders ≡ table.orders) × (next.settings ≡ table.settings)
+
+resettled_beside : (core loser : ℕ) (table : Table) → IsSameBeside table (resettled table_moves core loser table)
+unfolding resettled
+resettled_beside core loser table = at (not (eqb (current table.control core) loser) && is_ready loser table.orders)
+  where
+    at : (b : Bool) → IsSameBeside table (cond b (record table { control = seek core loser (may_move table.control loser (current table.control core) core) table.control }) table)
+    at true = (refl, refl)
+    at false = (refl, refl)
+
+sliced_beside : (table : Table) → IsSameBeside table (sliced table_moves table)
+unfolding sliced
+sliced_beside table = at table.settings.slicing
+  where
+    at : (b : Bool) → IsSameBeside table (cond b (record table { control = ask_each 0 (shares_its_time table_moves table) table.control }) table)
+    at true = (refl, refl)
+    at false = (refl, refl)
+
+turned_next : (core : ℕ) (table : Table) → (switched_and_sought table_moves core table).orders.next ≤ suc table.orders.next
+unfolding switched_and_sought
+turned_next core table = omega (arith, ap (λ (o : Stamps). o.next) (resettled_beside core (current table.control core) (switched table_moves core table)).0, switched_next core table)
+
+turned_tick : (core : ℕ) (table : Table) → (switched_and_sought table_moves core table).orders.tick ≡ table.orders.tick
+unfolding switched_and_sought
+turned_tick core table = ap (λ (o : Stamps). o.tick) (resettled_beside core (current table.control core) (switched table_moves core table)).0 ∙ switched_tick core table
+
+turned_settings : (core : ℕ) (table : Table) → (switched_and_sought table_moves core table).settings ≡ table.settings
+unfolding switched_and_sought switched
+turned_settings core table = (resettled_beside core (current table.control core) (switched table_moves core table)).1
+
+pub starting_goes : (header : Header) (core : ℕ) (table next : Table) → IsStarting header core table → core < header.config.cores → next ≡ switched_and_sought table_moves core table → IsStarting header (core + 1) next
 starting_goes header core table next starting low goes =
-    let turn = λ (table : Table) (core : ℕ). switched table_moves core table in
+    let turn = λ (table : Table) (core : ℕ). switched_and_sought table_moves core table in
     let before = unstarted (first_stamps header) header in
     let one : range_with_len (0 + core) 1 ≡ core ∷ [] = ap (λ k. k ∷ []) (zero-add core) in
     let cores = ap (fold turn before) (range_parts 0 core 1 ∙ ap (λ last. numbers core ++ last) one) ∙ fold-append turn before (numbers core) (core ∷ []) in
     subst (λ t. IsStarting header (core + 1) t) (sym goes) (record {
-      so_far = ap (switched table_moves core) starting.so_far ∙ sym cores;
-      sound = switched_sound core table starting.sound (omega (arith, starting.cores));
-      cores = switched_length core table ∙ starting.cores;
-      room = omega (arith, switched_next core table, starting.room);
+      so_far = ap (switched_and_sought table_moves core) starting.so_far ∙ sym cores;
+      sound = sought_switch_sound table core starting.sound (omega (arith, starting.cores, starting.sound.sized.cores));
+      cores = sought_switch_length core table ∙ starting.cores;
+      room = omega (arith, turned_next core table, starting.room);
     })
 
 pub starting_ends : (header : Header) (table : Table) → IsStarting header header.config.cores table → table ≡ start header
@@ -107,19 +144,26 @@ option_map-slice_get f (x ∷ xs) (suc i) = option_map-slice_get f xs i
 abbrev pub IsNear : Table → Table → Type 0
 IsNear table next = (next.orders.next ≤ table.orders.next + length table.orders.rows) × (next.orders.tick ≤ table.orders.tick + 1)
 
-woken_next : (control : Control) (tasks : List ℕ) (stamps : Stamps) → (woken table_moves control stamps tasks).next ≡ stamps.next + length tasks
-unfolding make_ready
-woken_next control [] stamps = omega arith
-woken_next control (task ∷ tasks) stamps = omega (arith, woken_next control tasks (make_ready task stamps))
+woken_next : (tasks : List ℕ) (table : Table) → (woken table_moves tasks table).orders.next ≡ table.orders.next + length tasks
+unfolding wake make_ready
+woken_next [] table = omega arith
+woken_next (task ∷ tasks) table = omega (arith, woken_next tasks (wake table_moves 0 task table))
+
+woken_same_tick : (tasks : List ℕ) (table : Table) → (woken table_moves tasks table).orders.tick ≡ table.orders.tick
+woken_same_tick tasks table = ap (λ (t : Table). t.orders.tick) (woken_parts tasks table) ∙ readied_tick tasks table.orders
 
 ticked_near : (table : Table) → IsNear table (ticked table_moves table)
 unfolding ticked
 ticked_near table =
     let later = advance table.orders in
-    (omega (arith, woken_next table.control (due later) later, length_due later, advance_next table.orders), omega (arith, woken_tick (due later) later, advanced_tick table.orders))
+    let woke = with_orders table later in
+    let same = (sliced_beside (behind_wakes table)).0 in (
+      omega (arith, ap (λ (o : Stamps). o.next) same, woken_next (due later) woke, length_due later, advance_next table.orders),
+      omega (arith, ap (λ (o : Stamps). o.tick) same, woken_same_tick (due later) woke, advanced_tick table.orders),
+    )
 
-switched_near : (core : ℕ) (table : Table) → 0 < length table.orders.rows → IsNear table (switched table_moves core table)
-switched_near core table some = (omega (arith, switched_next core table), omega (arith, switched_tick core table))
+switched_near : (core : ℕ) (table : Table) → 0 < length table.orders.rows → IsNear table (switched_and_sought table_moves core table)
+switched_near core table some = (omega (arith, turned_next core table), omega (arith, turned_tick core table))
 
 called_near : (core task : ℕ) (call : Call) (table : Table) → 0 < length table.orders.rows → IsNear table (called table_moves core task call table).1
 unfolding called yielded blocked delay
@@ -158,18 +202,17 @@ pub record CanStep (table : Table) : Type 0 where
   pub room : table.orders.next + length table.orders.rows < 2 ^ 128
   pub time : table.orders.tick + 2 ^ 32 < 2 ^ 128
 
-turns_next : (cores : List ℕ) (table : Table) → (fold (λ table core. switched table_moves core table) table cores).orders.next ≤ table.orders.next + length cores
+turns_next : (cores : List ℕ) (table : Table) → (fold (λ table core. switched_and_sought table_moves core table) table cores).orders.next ≤ table.orders.next + length cores
 turns_next [] table = omega arith
-turns_next (core ∷ cores) table = omega (arith, turns_next cores (switched table_moves core table), switched_next core table)
+turns_next (core ∷ cores) table = omega (arith, turns_next cores (switched_and_sought table_moves core table), turned_next core table)
 
-turns_tick : (cores : List ℕ) (table : Table) → (fold (λ table core. switched table_moves core table) table cores).orders.tick ≡ table.orders.tick
+turns_tick : (cores : List ℕ) (table : Table) → (fold (λ table core. switched_and_sought table_moves core table) table cores).orders.tick ≡ table.orders.tick
 turns_tick [] table = refl
-turns_tick (core ∷ cores) table = turns_tick cores (switched table_moves core table) ∙ switched_tick core table
+turns_tick (core ∷ cores) table = turns_tick cores (switched_and_sought table_moves core table) ∙ turned_tick core table
 
-turns_settings : (cores : List ℕ) (table : Table) → (fold (λ table core. switched table_moves core table) table cores).settings ≡ table.settings
-unfolding switched
+turns_settings : (cores : List ℕ) (table : Table) → (fold (λ table core. switched_and_sought table_moves core table) table cores).settings ≡ table.settings
 turns_settings [] table = refl
-turns_settings (core ∷ cores) table = turns_settings cores (switched table_moves core table)
+turns_settings (core ∷ cores) table = turns_settings cores (switched_and_sought table_moves core table) ∙ turned_settings core table
 
 unstarted_orders : (header : Header) → ((unstarted (first_stamps header) header).orders ≡ first_stamps header) × ((first_stamps header).tick ≡ header.config.tick) × ((unstarted (first_stamps header) header).settings ≡ settings_of header)
 unfolding unstarted first_stamps
@@ -203,9 +246,9 @@ called_settings core task (Delay ticks) table = at (eqb ticks 0)
 called_settings core task Finish table = refl
 
 performed_settings : (step : Step) (table : Table) → (performed table_moves step table).1.settings ≡ table.settings
-unfolding performed switched ticked
-performed_settings Tick table = refl
-performed_settings (Switch core) table = refl
+unfolding performed ticked
+performed_settings Tick table = (sliced_beside (behind_wakes table)).1 ∙ ap (λ (t : Table). t.settings) (woken_parts (due (advance table.orders)) (with_orders table (advance table.orders)))
+performed_settings (Switch core) table = turned_settings core table
 performed_settings (steps.Call core task call) table = called_settings core task call table
 
 after_settings : (step : Step) (table : Table) → (after table_moves step table).1.settings ≡ table.settings

@@ -7,7 +7,8 @@ use Rattle.std.proofs.lemmas.List.FromFn.{length-range_with_len}
 use Rattle.bench_model.specs.declared.row.Standing.TheVariants.{Ready}
 use Rattle.bench_model.specs.Search.{numbers, by_stamp, without}
 use Rattle.bench_model.specs.SlowDue.{first_due}
-use Rattle.bench_model.specs.State.{woken, ticked}
+use Rattle.bench_model.specs.Steps.{woken, ticked}
+use Rattle.bench_model.specs.Seek.{wake, sliced}
 use Rattle.bench_model.specs.Table.{Stamps, Table, table_moves, advance, row_at, stamp_of, tasks_of, wakes_at, make_ready, due}
 use Rattle.bench_model.specs.Sound.{IsStamped, IsSound}
 use Rattle.bench_model.proofs.Filters.{All-weaker, All-filter_passes, filter_all}
@@ -41,7 +42,7 @@ length_later : (stamp : ℕ → ℕ) (test : ℕ → Bool) (b : ℕ) (ids : List
 length_later stamp test b [] = omega arith
 length_later stamp test b (i ∷ ids) = grind (arith, nat_tests, length_later stamp test b ids)
 
-length_filter : (p : ℕ → Bool) (ids : List ℕ) → length (filter p ids) ≤ length ids
+pub length_filter : (p : ℕ → Bool) (ids : List ℕ) → length (filter p ids) ≤ length ids
 length_filter p [] = omega arith
 length_filter p (i ∷ ids) = grind (arith, length_filter p ids)
 
@@ -90,12 +91,9 @@ first_due_some stamps task stamped below some = from (due stamps) (sym (first_du
         let others = filter_all (λ m. not (eqb m task)) xs (All-weaker (λ y. differ x y ≡ true) (λ y. not (eqb y task) ≡ true) (λ y h. grind (arith, nat_tests, h, same)) xs once.0) in
         grind (arith, nat_tests, same, rest, others)
 
-abbrev with_orders : Table → Stamps → Table
-with_orders table orders = record table { orders = orders }
-
--- old is being ticked: waking the tasks that are still due in now ends in its tick
+-- old is being ticked: waking the tasks that are still due in now, and then slicing, ends in its tick
 pub record IsWaking (old now : Table) : Type 0 where
-  pub rest : record now { orders = woken table_moves now.control now.orders (due now.orders) } ≡ ticked table_moves old
+  pub rest : sliced table_moves (woken table_moves (due now.orders) now) ≡ ticked table_moves old
   pub stamped : IsStamped now.orders
   pub room : now.orders.next + length (due now.orders) ≤ old.orders.next + length old.orders.rows
 
@@ -117,10 +115,11 @@ make_ready_next : (stamps : Stamps) (task : ℕ) → (make_ready task stamps).ne
 unfolding make_ready
 make_ready_next stamps task = refl
 
-pub waking_goes : (old now next : Table) (task : ℕ) → IsWaking old now → task < length now.orders.rows → first_due now.orders ≡ Some task → next ≡ record now { orders = make_ready task now.orders } → IsWaking old next × (length (due next.orders) < length (due now.orders))
+pub waking_goes : (old now next : Table) (task : ℕ) → IsWaking old now → task < length now.orders.rows → first_due now.orders ≡ Some task → next ≡ wake table_moves 0 task now → IsWaking old next × (length (due next.orders) < length (due now.orders))
+unfolding wake
 waking_goes old now next task waking below some goes =
     let first = first_due_some now.orders task waking.stamped below some in
-    let turn = ap (λ tasks. with_orders now (woken table_moves now.control now.orders tasks)) first in
+    let turn = ap (λ tasks. sliced table_moves (woken table_moves tasks now)) first in
     let shorter = ap length first in
     subst (λ t. IsWaking old t × (length (due t.orders) < length (due now.orders))) (sym goes) (
       record {
@@ -131,8 +130,8 @@ waking_goes old now next task waking below some goes =
       omega (arith, shorter),
     )
 
-pub waking_ends : (old now : Table) → IsWaking old now → first_due now.orders ≡ None → now ≡ ticked table_moves old
-waking_ends old now waking none = sym (ap (λ tasks. with_orders now (woken table_moves now.control now.orders tasks)) (first_due_none now.orders waking.stamped none)) ∙ waking.rest
+pub waking_ends : (old now : Table) → IsWaking old now → first_due now.orders ≡ None → sliced table_moves now ≡ ticked table_moves old
+waking_ends old now waking none = sym (ap (λ tasks. sliced table_moves (woken table_moves tasks now)) (first_due_none now.orders waking.stamped none)) ∙ waking.rest
 
 pub waking_room : (old now : Table) (task : ℕ) → IsWaking old now → task < length now.orders.rows → first_due now.orders ≡ Some task → now.orders.next + 1 ≤ old.orders.next + length old.orders.rows
 waking_room old now task waking below some = omega (arith, waking.room, ap length (first_due_some now.orders task waking.stamped below some))

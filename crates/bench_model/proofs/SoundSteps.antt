@@ -1,4 +1,4 @@
--- Every checked step keeps a sound table sound.
+-- The rules that seek no core keep a sound table sound.
 use Rattle.std.proofs.Common.{◌≡◌, ◌≢◌, ℕ, suc, ◌+◌, ◌<◌, ◌≤◌, ◌^◌, Bool, true, false, cond, not, eqb, ◌&&◌, ◌||◌, List, [], ◌∷◌, length, Option, Some, None, refl, sym, ap, subst, ◌∙◌, arith, inl, inr}
 use Rattle.std.specs.Prelude.{unwrap_or, slice_set, IsSome}
 use Rattle.std.specs.Option.{option_map_or}
@@ -25,9 +25,9 @@ use Rattle.bench_model.specs.declared.row.Standing.TheVariants.{Ready, Blocked}
 use Rattle.bench_model.specs.declared.row.TaskRow.{TaskRow}
 use Rattle.bench_model.specs.Search.{numbers, has}
 use Rattle.bench_model.specs.Control.{Control, core_at, task_at, with_core, current, is_due, may_select, asked_by, ask, run_on}
-use Rattle.bench_model.specs.State.{selected, call_at, refusal, switched, ticked, yielded, blocked, called, performed, after}
+use Rattle.bench_model.specs.State.{selected, call_at, switched, yielded, blocked}
 use Rattle.bench_model.specs.Table.{Stamps, Table, table_moves, row_at, stamp_of, is_ready, stands_ready, wakes_at, tasks_of, restamped, pick, make_ready, delay, advance, due}
-use Rattle.bench_model.specs.Sound.{IsInPlace, IsStamped, IsPlaced, WakesInTime, IsSound}
+use Rattle.bench_model.specs.Sound.{IsInPlace, IsStamped, IsPlaced, WakesInTime, IsBelow, IsSound}
 use Rattle.bench_model.proofs.Filters.{All-weaker}
 use Rattle.bench_model.proofs.Stamped.{numbers_have, has-by_stamp}
 use Rattle.bench_model.proofs.Restamps.{row_same, row_other, moved_length, moved_once}
@@ -38,13 +38,13 @@ module _ (control : Control) (core : ℕ) (look : CoreLook) where
   abbrev changed : Control
   changed = with_core core look control
 
-  look_same : core < length control.cores → core_at changed core ≡ look
+  pub look_same : core < length control.cores → core_at changed core ≡ look
   look_same below = get_or-set_same control.cores core look (record { current = 0; pend = false; asked = false }) below
 
-  look_other : (other : ℕ) → other ≢ core → core_at changed other ≡ core_at control other
+  pub look_other : (other : ℕ) → other ≢ core → core_at changed other ≡ core_at control other
   look_other other away = get_or-set_other control.cores core other look (record { current = 0; pend = false; asked = false }) away
 
-  cores_length : length changed.cores ≡ length control.cores
+  pub cores_length : length changed.cores ≡ length control.cores
   cores_length = length-set control.cores core look
 
 -- a task that was set to stand so
@@ -211,34 +211,34 @@ switched_sound core table sound below =
       calls = sound.calls;
     }
 
--- the tasks that are woken in turn
-abbrev pub woken : Stamps → List ℕ → Stamps
-woken stamps tasks = fold (λ orders task. make_ready task orders) stamps tasks
+-- the tasks that are made ready in turn
+abbrev pub readied : Stamps → List ℕ → Stamps
+readied stamps tasks = fold (λ orders task. make_ready task orders) stamps tasks
 
-woken_low : (stamps : Stamps) (task : ℕ) (tasks : List ℕ) → task < length stamps.rows → AllByRecursion (λ i. i < length stamps.rows) tasks → AllByRecursion (λ i. i < length (make_ready task stamps).rows) tasks
-woken_low stamps task tasks below all = All-weaker (λ i. i < length stamps.rows) (λ i. i < length (make_ready task stamps).rows) (λ i h. omega (arith, make_ready_length stamps task below)) tasks all
+readied_low : (stamps : Stamps) (task : ℕ) (tasks : List ℕ) → task < length stamps.rows → AllByRecursion (λ i. i < length stamps.rows) tasks → AllByRecursion (λ i. i < length (make_ready task stamps).rows) tasks
+readied_low stamps task tasks below all = All-weaker (λ i. i < length stamps.rows) (λ i. i < length (make_ready task stamps).rows) (λ i h. omega (arith, make_ready_length stamps task below)) tasks all
 
-woken_length : (tasks : List ℕ) (stamps : Stamps) → AllByRecursion (λ i. i < length stamps.rows) tasks → length (woken stamps tasks).rows ≡ length stamps.rows
-woken_length [] stamps all = refl
-woken_length (task ∷ tasks) stamps all = woken_length tasks (make_ready task stamps) (woken_low stamps task tasks all.0 all.1) ∙ make_ready_length stamps task all.0
+readied_length : (tasks : List ℕ) (stamps : Stamps) → AllByRecursion (λ i. i < length stamps.rows) tasks → length (readied stamps tasks).rows ≡ length stamps.rows
+readied_length [] stamps all = refl
+readied_length (task ∷ tasks) stamps all = readied_length tasks (make_ready task stamps) (readied_low stamps task tasks all.0 all.1) ∙ make_ready_length stamps task all.0
 
-pub woken_tick : (tasks : List ℕ) (stamps : Stamps) → (woken stamps tasks).tick ≡ stamps.tick
-woken_tick [] stamps = refl
-woken_tick (task ∷ tasks) stamps = woken_tick tasks (make_ready task stamps) ∙ make_ready_tick stamps task
+pub readied_tick : (tasks : List ℕ) (stamps : Stamps) → (readied stamps tasks).tick ≡ stamps.tick
+readied_tick [] stamps = refl
+readied_tick (task ∷ tasks) stamps = readied_tick tasks (make_ready task stamps) ∙ make_ready_tick stamps task
 
-woken_stamped : (tasks : List ℕ) (stamps : Stamps) → AllByRecursion (λ i. i < length stamps.rows) tasks → IsStamped stamps → IsStamped (woken stamps tasks)
-woken_stamped [] stamps all stamped = stamped
-woken_stamped (task ∷ tasks) stamps all stamped = woken_stamped tasks (make_ready task stamps) (woken_low stamps task tasks all.0 all.1) (make_ready_once stamps task stamped all.0)
+readied_stamped : (tasks : List ℕ) (stamps : Stamps) → AllByRecursion (λ i. i < length stamps.rows) tasks → IsStamped stamps → IsStamped (readied stamps tasks)
+readied_stamped [] stamps all stamped = stamped
+readied_stamped (task ∷ tasks) stamps all stamped = readied_stamped tasks (make_ready task stamps) (readied_low stamps task tasks all.0 all.1) (make_ready_once stamps task stamped all.0)
 
-woken_placed : (control : Control) (tasks : List ℕ) (stamps : Stamps) → AllByRecursion (λ i. i < length stamps.rows) tasks → IsPlaced control stamps → IsPlaced control (woken stamps tasks)
-woken_placed control [] stamps all place = place
-woken_placed control (task ∷ tasks) stamps all place = woken_placed control tasks (make_ready task stamps) (woken_low stamps task tasks all.0 all.1) (make_ready_placed control stamps task all.0 place)
+readied_placed : (control : Control) (tasks : List ℕ) (stamps : Stamps) → AllByRecursion (λ i. i < length stamps.rows) tasks → IsPlaced control stamps → IsPlaced control (readied stamps tasks)
+readied_placed control [] stamps all place = place
+readied_placed control (task ∷ tasks) stamps all place = readied_placed control tasks (make_ready task stamps) (readied_low stamps task tasks all.0 all.1) (make_ready_placed control stamps task all.0 place)
 
 -- what still waits waited before, and is none of them
-woken_blocked : (tasks : List ℕ) (stamps : Stamps) → AllByRecursion (λ i. i < length stamps.rows) tasks → (i wake : ℕ) → (row_at (woken stamps tasks) i).standing ≡ Blocked wake → ((row_at stamps i).standing ≡ Blocked wake) × (has i tasks ≡ false)
-woken_blocked [] stamps all i wake waits = (waits, refl)
-woken_blocked (task ∷ tasks) stamps all i wake waits =
-    let rest = woken_blocked tasks (make_ready task stamps) (woken_low stamps task tasks all.0 all.1) i wake waits in
+readied_blocked : (tasks : List ℕ) (stamps : Stamps) → AllByRecursion (λ i. i < length stamps.rows) tasks → (i wake : ℕ) → (row_at (readied stamps tasks) i).standing ≡ Blocked wake → ((row_at stamps i).standing ≡ Blocked wake) × (has i tasks ≡ false)
+readied_blocked [] stamps all i wake waits = (waits, refl)
+readied_blocked (task ∷ tasks) stamps all i wake waits =
+    let rest = readied_blocked tasks (make_ready task stamps) (readied_low stamps task tasks all.0 all.1) i wake waits in
     let first = make_ready_blocked stamps task i wake all.0 rest.0 in
     (first.0, grind (arith, nat_tests, first.1, rest.1))
 
@@ -270,20 +270,20 @@ unfolding advance
 advanced_tick stamps = refl
 
 -- what waits and is not due waits on
-still_in_time : (stamps : Stamps) → IsStamped stamps → WakesInTime stamps → WakesInTime (woken (advance stamps) (due (advance stamps)))
+still_in_time : (stamps : Stamps) → IsStamped stamps → WakesInTime stamps → WakesInTime (readied (advance stamps) (due (advance stamps)))
 unfolding advance
 still_in_time stamps stamped in_time i wake low waits =
     let later = advance stamps in
-    let before = woken_blocked (due later) later (due_below later) i wake waits in
-    let within : i < length later.rows = omega (arith, woken_length (due later) later (due_below later)) in
+    let before = readied_blocked (due later) later (due_below later) i wake waits in
+    let within : i < length later.rows = omega (arith, readied_length (due later) later (due_below later)) in
     let bounds = in_time i wake (omega (arith, advanced_length stamps)) before.0 in
     let not_now : wake ≡ later.tick → ⊥ = λ now. cc (waits_due later i (advanced_stamped stamps stamped) within (before.0 ∙ ap (λ w. Blocked w) now), before.1) in
-    let same = woken_tick (due later) later in
+    let same = readied_tick (due later) later in
     (omega (arith, same, advanced_tick stamps, bounds.0, not_now), omega (arith, same, advanced_tick stamps, bounds.1))
 
-pub ticked_sound : (table : Table) → IsSound table → IsSound (ticked table_moves table)
-unfolding ticked
-ticked_sound table sound =
+-- when a tick has passed, and the tasks that are due are ready
+pub readied_sound : (table : Table) → IsSound table → IsSound (record table { orders = readied (advance table.orders) (due (advance table.orders)) })
+readied_sound table sound =
     let later = advance table.orders in
     let low = due_below later in
     record {
@@ -291,12 +291,12 @@ ticked_sound table sound =
         cores = sound.sized.cores;
         controls = sound.sized.controls;
         calls = sound.sized.calls;
-        rows = woken_length (due later) later low ∙ advanced_length table.orders ∙ sound.sized.rows;
+        rows = readied_length (due later) later low ∙ advanced_length table.orders ∙ sound.sized.rows;
         some_core = sound.sized.some_core;
         idle_tasks = sound.sized.idle_tasks;
       };
-      stamped = woken_stamped (due later) later low (advanced_stamped table.orders sound.stamped);
-      in_place = woken_placed table.control (due later) later low (advanced_placed table.control table.orders sound.in_place);
+      stamped = readied_stamped (due later) later low (advanced_stamped table.orders sound.stamped);
+      in_place = readied_placed table.control (due later) later low (advanced_placed table.control table.orders sound.in_place);
       in_time = still_in_time table.orders sound.stamped sound.in_time;
       priorities = sound.priorities;
       calls = sound.calls;
@@ -334,7 +334,7 @@ more_sound table other more sound = record {
   stamped = sound.stamped;
   in_place = more_placed table.control other table.orders more sound.in_place;
   in_time = sound.in_time;
-  priorities = λ i low. subst (λ (tasks : List TaskControl). (task_at (record { cores = other.cores; tasks = tasks }) i).in_use < table.settings.priorities) (sym more.tasks) (sound.priorities i low);
+  priorities = λ i low. subst (λ (tasks : List TaskControl). IsBelow table.settings.priorities (task_at (record { cores = other.cores; tasks = tasks }) i)) (sym more.tasks) (sound.priorities i low);
   calls = sound.calls;
 }
 
@@ -396,7 +396,7 @@ unfolding yielded
 yielded_sound core table sound below = more_sound table (ask core core table.control) (asked_more table.control core core below) sound
 
 -- the unfinished calls stay checked where one begins or ends
-call_set : (settings : Settings) (calls : List (Option Call)) (task : ℕ) (given : Option Call) → task < length calls → ((call : Call) → given ≡ Some call → IsCheckedCall settings call) → ((i : ℕ) (call : Call) → call_at calls i ≡ Some call → IsCheckedCall settings call) → (i : ℕ) (call : Call) → call_at (slice_set calls task given) i ≡ Some call → IsCheckedCall settings call
+pub call_set : (settings : Settings) (calls : List (Option Call)) (task : ℕ) (given : Option Call) → task < length calls → ((call : Call) → given ≡ Some call → IsCheckedCall settings call) → ((i : ℕ) (call : Call) → call_at calls i ≡ Some call → IsCheckedCall settings call) → (i : ℕ) (call : Call) → call_at (slice_set calls task given) i ≡ Some call → IsCheckedCall settings call
 call_set settings calls task given below one all i call found = elim (cases_eq i task) [
   | inl here ↦ one call (sym (get_or-set_same calls task given None below) ∙ ap (call_at (slice_set calls task given)) (sym here) ∙ found)
   | inr away ↦ all i call (sym (get_or-set_other calls task i given None away) ∙ found)
@@ -444,52 +444,6 @@ blocked_sound core task call ticks table sound place checked user some fits = re
   where
     call_of : (one other : Call) → Some one ≡ Some other → one ≡ other
     call_of one other same = cc
-
--- a call of a checked step on its core
-module _ (table : Table) (sound : IsSound table) (core task : ℕ) (call : Call) (place : IsInPlace table (steps.Call core task call)) (checked : IsCheckedCall table.settings call) (user : length table.control.cores ≤ task) where
-  finished_sound : IsSound (record table { calls = slice_set table.calls task None })
-  finished_sound = record {
-    sized = record {
-      cores = sound.sized.cores;
-      controls = sound.sized.controls;
-      calls = length-set table.calls task None ∙ sound.sized.calls;
-      rows = sound.sized.rows;
-      some_core = sound.sized.some_core;
-      idle_tasks = sound.sized.idle_tasks;
-    };
-    stamped = sound.stamped;
-    in_place = sound.in_place;
-    in_time = sound.in_time;
-    priorities = sound.priorities;
-    calls = call_set table.settings table.calls task None (omega (arith, sound.sized.calls, sound.sized.rows, place.2)) (λ other same. absurd (cc (same))) sound.calls;
-  }
-
-pub called_sound : (core task : ℕ) (call : Call) (table : Table) → IsSound table → IsInPlace table (steps.Call core task call) → IsCheckedCall table.settings call → length table.control.cores ≤ task → IsSound (called table_moves core task call table).1
-unfolding called
-called_sound core task Yield table sound place checked user = yielded_sound core table sound place.0
-called_sound core task (Delay ticks) table sound place checked user = either (eqb ticks 0) refl
-  where
-    either : (b : Bool) → eqb ticks 0 ≡ b → IsSound (cond {A = Reply × Table} b (Done, yielded table_moves core table) (reply.Blocked, blocked table_moves core task (Delay ticks) ticks table)).1
-    either true none = yielded_sound core table sound place.0
-    either false some = blocked_sound core task (Delay ticks) ticks table sound place checked user (grind (arith, nat_tests, some)) checked.words
-called_sound core task Finish table sound place checked user = finished_sound table sound core task Finish place checked user
-
-pub performed_sound : (step : Step) (table : Table) → IsSound table → IsCheckedStep table.settings step → IsInPlace table step → IsSound (performed table_moves step table).1
-unfolding performed
-performed_sound Tick table sound checked place = ticked_sound table sound
-performed_sound (Switch core) table sound checked place = switched_sound core table sound place
-performed_sound (steps.Call core task call) table sound checked place =
-    let last = both_pass (core_check table.settings core >> task_check table.settings task) (call_check table.settings call) checked.passes in
-    let first = both_pass (core_check table.settings core) (task_check table.settings task) last.0 in
-    called_sound core task call table sound place (record { passes = last.1; words = checked.words }) (omega (arith, sound.sized.cores, (checked_task table.settings task first.1).0))
-
-pub after_sound : (step : Step) (table : Table) → IsSound table → IsCheckedStep table.settings step → IsSound (after table_moves step table).1
-unfolding after
-after_sound step table sound checked = from (refusal table.control table.calls step) refl
-  where
-    from : (why : Option Refusal) → refusal table.control table.calls step ≡ why → IsSound (option_map_or {U = Reply × Table} (λ why. (Refused why, table)) why (performed table_moves step table)).1
-    from None accepted = performed_sound step table sound checked (in_place step table sound checked.passes accepted)
-    from (Some why) refused = sound
 
 -- a switch of a sound table selects a task
 pub switch_selects : (table : Table) (core : ℕ) → IsSound table → core < table.settings.cores → IsSome (selected table_moves core table)

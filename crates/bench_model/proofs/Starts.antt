@@ -3,7 +3,7 @@ use Rattle.std.proofs.Common.{◌≡◌, ℕ, zero, suc, ◌+◌, ◌-◌, ◌<�
 use Rattle.std.specs.List.{fold, list_all, range_with_len, AllByRecursion}
 use Rattle.std.proofs.lemmas.Bool.Decides.{nat_tests}
 use Rattle.std.proofs.lemmas.Bool.{cases_lt}
-use Rattle.std.proofs.lemmas.List.{length-append, length-set, length-map, length-replicate, map-append, get_or_append_left, get_or-append_right, get_or-replicate, get_or-map}
+use Rattle.std.proofs.lemmas.List.{length-append, length-map, length-replicate, map-append, get_or_append_left, get_or-append_right, get_or-replicate, get_or-map}
 use Rattle.std.proofs.lemmas.List.FromFn.{length-map-range_with_len, get_or-map-range_with_len}
 use Rattle.bench_types.specs.declared.header.Config.{Config}
 use Rattle.bench_types.specs.declared.header.Header.{Header}
@@ -18,17 +18,18 @@ use Rattle.bench_model.specs.declared.row.Standing.TheVariants.{Ready}
 use Rattle.bench_model.specs.declared.row.TaskRow.{TaskRow}
 use Rattle.bench_model.specs.Search.{numbers, by_stamp, ranked}
 use Rattle.bench_model.specs.Control.{core_at, current, task_at}
-use Rattle.bench_model.specs.State.{call_at, switched}
+use Rattle.bench_model.specs.State.{call_at}
+use Rattle.bench_model.specs.Seek.{switched_and_sought}
 use Rattle.bench_model.specs.Table.{Stamps, Table, table_moves, row_at, stamp_of, is_ready, stands_ready}
 use Rattle.bench_model.specs.Lists.{list_moves, lists_of, image}
-use Rattle.bench_model.specs.Sound.{IsStamped, IsPlaced, WakesInTime, IsSound}
+use Rattle.bench_model.specs.Sound.{IsStamped, IsPlaced, WakesInTime, IsBelow, IsSound}
 use Rattle.bench_model.specs.Start.{idle_control, user_control, first_look, first_control, ready_row, first_stamps, first_lists, unstarted, started, start, start_seen}
 use Rattle.bench_model.proofs.Filters.{All-weaker}
 use Rattle.bench_model.proofs.Stamped.{numbers_below, by_stamp_listed, by_stamp_none, range_parts}
 use Rattle.bench_model.proofs.Restamps.{standing_so, waits}
 use Rattle.bench_model.proofs.SeenMoves.{seen_from}
-use Rattle.bench_model.proofs.SeenSteps.{switched_seen, same_state}
-use Rattle.bench_model.proofs.SoundSteps.{switched_sound}
+use Rattle.bench_model.proofs.SeenSteps.{same_state}
+use Rattle.bench_model.proofs.Seeks.{sought_switch_seen, sought_switch_sound, sought_switch_length}
 
 -- no task has an unfinished call
 none_called : (n i : ℕ) → call_at (replicate n None) i ≡ None
@@ -154,7 +155,7 @@ module _ (header : Header) where
   pub first_cores : length (first_control header).cores ≡ cores
   first_cores = length-map-range_with_len first_look 0 cores
 
-  first_core : (c : ℕ) → c < cores → core_at (first_control header) c ≡ first_look c
+  pub first_core : (c : ℕ) → c < cores → core_at (first_control header) c ≡ first_look c
   first_core c low = get_or-map-range_with_len first_look 0 cores c c (record { current = 0; pend = false; asked = false }) low (omega arith)
 
   first_current : (c : ℕ) → c < cores → current (first_control header) c ≡ c
@@ -177,14 +178,15 @@ module _ (header : Header) where
   pub first_tasks : length (first_control header).tasks ≡ cores + users
   first_tasks = omega (arith, length-append (replicate cores (idle_control cores)) (map (user_control cores) header.tasks), length-replicate cores (idle_control cores), length-map header.tasks (user_control cores))
 
-  first_priorities : IsCheckedHeader header → (i : ℕ) → i < cores + users → (task_at (first_control header) i).in_use < header.config.priorities
+  pub first_priorities : IsCheckedHeader header → (i : ℕ) → i < cores + users → IsBelow header.config.priorities (task_at (first_control header) i)
   first_priorities valid i low = elim (cases_lt i cores) [
     | inl idle ↦
-        let at = get_or_append_left (replicate cores (idle_control cores)) (map (user_control cores) header.tasks) (record { in_use = 0; mask = 0; preempt = false }) i (omega (arith, length-replicate cores (idle_control cores))) ∙ get_or-replicate cores i (idle_control cores) (record { in_use = 0; mask = 0; preempt = false }) idle in
-        omega (arith, ap (λ (t : TaskControl). t.in_use) at, valid.some_priority)
+        let at = get_or_append_left (replicate cores (idle_control cores)) (map (user_control cores) header.tasks) (record { base = 0; in_use = 0; mask = 0; preempt = false }) i (omega (arith, length-replicate cores (idle_control cores))) ∙ get_or-replicate cores i (idle_control cores) (record { base = 0; in_use = 0; mask = 0; preempt = false }) idle in
+        (omega (arith, ap (λ (t : TaskControl). t.in_use) at, valid.some_priority), omega (arith, ap (λ (t : TaskControl). t.base) at, valid.some_priority))
     | inr user ↦
-        let at = get_or-append_right (replicate cores (idle_control cores)) (map (user_control cores) header.tasks) cores i (record { in_use = 0; mask = 0; preempt = false }) (length-replicate cores (idle_control cores)) user ∙ get_or-map (user_control cores) header.tasks (i - cores) no_args (record { in_use = 0; mask = 0; preempt = false }) (omega arith) in
-        omega (arith, ap (λ (t : TaskControl). t.in_use) at, valid_priority header.config header.tasks valid.args (i - cores) (omega arith))
+        let at = get_or-append_right (replicate cores (idle_control cores)) (map (user_control cores) header.tasks) cores i (record { base = 0; in_use = 0; mask = 0; preempt = false }) (length-replicate cores (idle_control cores)) user ∙ get_or-map (user_control cores) header.tasks (i - cores) no_args (record { base = 0; in_use = 0; mask = 0; preempt = false }) (omega arith) in
+        let limit = valid_priority header.config header.tasks valid.args (i - cores) (omega arith) in
+        (omega (arith, ap (λ (t : TaskControl). t.in_use) at, limit), omega (arith, ap (λ (t : TaskControl). t.base) at, limit))
   ]
 
   first_calls : (i : ℕ) (call : Call) → call_at (replicate (cores + users) None) i ≡ Some call → IsCheckedCall (settings_of header) call
@@ -209,19 +211,20 @@ module _ (header : Header) where
   }
 
 -- cores that switch in turn, from a sound table
-pub switched_length : (core : ℕ) (table : Table) → length (switched table_moves core table).control.cores ≡ length table.control.cores
-unfolding switched
-switched_length core table = length-set table.control.cores core _
+in_turn_rest : (core : ℕ) (cores : List ℕ) (table : Table) → AllByRecursion (λ c. c < length table.control.cores) cores → AllByRecursion (λ c. c < length (switched_and_sought table_moves core table).control.cores) cores
+in_turn_rest core cores table all = All-weaker (λ c. c < length table.control.cores) (λ c. c < length (switched_and_sought table_moves core table).control.cores) (λ c h. omega (arith, sought_switch_length core table)) cores all
 
-in_turn_sound : (cores : List ℕ) (table : Table) → AllByRecursion (λ c. c < length table.control.cores) cores → IsSound table → IsSound (fold (λ table core. switched table_moves core table) table cores)
+in_turn_sound : (cores : List ℕ) (table : Table) → AllByRecursion (λ c. c < length table.control.cores) cores → IsSound table → IsSound (fold (λ table core. switched_and_sought table_moves core table) table cores)
 in_turn_sound [] table all sound = sound
-in_turn_sound (core ∷ cores) table all sound = in_turn_sound cores (switched table_moves core table) (All-weaker (λ c. c < length table.control.cores) (λ c. c < length (switched table_moves core table).control.cores) (λ c h. omega (arith, switched_length core table)) cores all.1) (switched_sound core table sound all.0)
+in_turn_sound (core ∷ cores) table all sound =
+    in_turn_sound cores (switched_and_sought table_moves core table) (in_turn_rest core cores table all.1) (sought_switch_sound table core sound (omega (arith, sound.sized.cores, all.0)))
 
-in_turn_seen : (cores : List ℕ) (table : Table) → AllByRecursion (λ c. c < length table.control.cores) cores → IsSound table → image (fold (λ table core. switched table_moves core table) table cores) ≡ fold (λ view core. switched list_moves core view) (image table) cores
+in_turn_seen : (cores : List ℕ) (table : Table) → AllByRecursion (λ c. c < length table.control.cores) cores → IsSound table → image (fold (λ table core. switched_and_sought table_moves core table) table cores) ≡ fold (λ view core. switched_and_sought list_moves core view) (image table) cores
 in_turn_seen [] table all sound = refl
 in_turn_seen (core ∷ cores) table all sound =
-    in_turn_seen cores (switched table_moves core table) (All-weaker (λ c. c < length table.control.cores) (λ c. c < length (switched table_moves core table).control.cores) (λ c h. omega (arith, switched_length core table)) cores all.1) (switched_sound core table sound all.0)
-    ∙ ap (λ view. fold (λ view core. switched list_moves core view) view cores) (switched_seen core table sound.stamped (sound.in_place.is_task core all.0))
+    let low : core < table.settings.cores = omega (arith, sound.sized.cores, all.0) in
+    in_turn_seen cores (switched_and_sought table_moves core table) (in_turn_rest core cores table all.1) (sought_switch_sound table core sound low)
+    ∙ ap (λ view. fold (λ view core. switched_and_sought list_moves core view) view cores) (sought_switch_seen table core sound low)
 
 pub unstarted_cores : (header : Header) → length (unstarted (first_stamps header) header).control.cores ≡ header.config.cores
 unfolding unstarted
@@ -243,4 +246,4 @@ pub start_seen_lem : (header : Header) → header_check header ≡ Ok tt → ima
 unfolding started
 start_seen_lem header passes =
     in_turn_seen (numbers header.config.cores) (unstarted (first_stamps header) header) (first_turns header) (first_sound header (checked_header header passes))
-    ∙ ap (λ view. fold (λ view core. switched list_moves core view) view (numbers header.config.cores)) (unstarted_seen header)
+    ∙ ap (λ view. fold (λ view core. switched_and_sought list_moves core view) view (numbers header.config.cores)) (unstarted_seen header)

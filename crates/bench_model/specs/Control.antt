@@ -18,7 +18,7 @@ abbrev pub with_core : ℕ → CoreLook → Control → Control
 with_core core look control = record control { cores = slice_set control.cores core look }
 
 abbrev pub task_at : Control → ℕ → TaskControl
-task_at control task = slice_index_or control.tasks task (record { in_use = 0; mask = 0; preempt = false })
+task_at control task = slice_index_or control.tasks task (record { base = 0; in_use = 0; mask = 0; preempt = false })
 
 -- the core's current task (V11 tasks.c, pxCurrentTCBs)
 abbrev pub current : Control → ℕ → ℕ

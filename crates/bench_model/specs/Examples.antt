@@ -1,5 +1,5 @@
--- Worked sessions, and tables that are equal or not.
-use Rattle.std.specs.Prelude.{◌≡◌, ℕ, ◌+◌, ◌*◌, ◌^◌, List, [], ◌∷◌, length, map, Option, Some, false, codes, slice_set}
+-- Worked sessions, without time slicing and with it, and tables that are equal or not.
+use Rattle.std.specs.Prelude.{◌≡◌, ℕ, ◌+◌, ◌*◌, ◌^◌, List, [], ◌∷◌, length, map, Option, Some, true, false, codes, slice_set}
 use Rattle.bench_types.specs.declared.header.Header.{Header}
 use Rattle.bench_types.specs.declared.header.TaskArgs.{TaskArgs}
 use Rattle.bench_types.specs.declared.reply.Reply.{Reply}
@@ -33,6 +33,14 @@ three_tasks = session_of (task (codes "A") 2 ∷ task (codes "B") 1 ∷ task (co
 abbrev pub one_task : Header
 one_task = session_of (task (codes "A") 2 ∷ [])
 
+-- the same with time slicing
+abbrev pub timed : Header → Header
+timed header = record header { config = record header.config { slicing = true } }
+
+-- the three tasks, where task 3 has priority 3
+abbrev pub raised : Header
+raised = session_of (task (codes "A") 2 ∷ task (codes "B") 3 ∷ task (codes "C") 1 ∷ [])
+
 abbrev pub at_start : Header → List ℕ
 at_start header = running (start header).control
 
@@ -46,6 +54,21 @@ pub record WorkedSessions : Type 0 where
   pub starts_alone : at_start one_task ≡ 2 ∷ 0 ∷ []
   pub alone : outcomes one_task (Tick ∷ Switch 1 ∷ []) ≡ Some (Done, 2 ∷ 0 ∷ []) ∷ Some ((Refused NotDue), 2 ∷ 0 ∷ []) ∷ []
   pub finishes : outcomes three_tasks (Call 0 2 (Delay 1) ∷ Tick ∷ Switch 0 ∷ Call 0 2 Yield ∷ Call 0 2 Finish ∷ Call 0 2 Finish ∷ []) ≡ Some (reply.Blocked, 2 ∷ 3 ∷ []) ∷ Some (Done, 2 ∷ 3 ∷ []) ∷ Some (Done, 2 ∷ 3 ∷ []) ∷ Some ((Refused InCall), 2 ∷ 3 ∷ []) ∷ Some (Done, 2 ∷ 3 ∷ []) ∷ Some ((Refused NotInCall), 2 ∷ 3 ∷ []) ∷ []
+
+-- both cores switch as a task waits, and as it is woken
+abbrev pub slept : Step → Step → List Step
+slept first second = Call 0 2 (Delay 2) ∷ Switch 0 ∷ Tick ∷ Switch 0 ∷ Switch 1 ∷ Tick ∷ first ∷ second ∷ []
+
+-- the same with time slicing, and what a woken task seeks
+pub record TimedSessions : Type 0 where
+  pub starts : at_start (timed three_tasks) ≡ 2 ∷ 3 ∷ []
+  pub starts_alone : at_start (timed one_task) ≡ 2 ∷ 0 ∷ []
+  pub starts_raised : at_start (timed raised) ≡ 3 ∷ 2 ∷ []
+  pub idle_in_turn : outcomes (timed one_task) (Tick ∷ Switch 1 ∷ []) ≡ Some (Done, 2 ∷ 0 ∷ []) ∷ Some (Done, 2 ∷ 1 ∷ []) ∷ []
+  pub in_turn : outcomes (timed three_tasks) (Tick ∷ Switch 1 ∷ []) ≡ Some (Done, 2 ∷ 3 ∷ []) ∷ Some (Done, 2 ∷ 4 ∷ []) ∷ []
+  pub not_due : outcomes (timed three_tasks) (Switch 0 ∷ []) ≡ Some ((Refused NotDue), 2 ∷ 3 ∷ []) ∷ []
+  pub sleeps : outcomes (timed three_tasks) (slept (Switch 0) (Switch 1)) ≡ Some (reply.Blocked, 2 ∷ 3 ∷ []) ∷ Some (Done, 4 ∷ 3 ∷ []) ∷ Some (Done, 4 ∷ 3 ∷ []) ∷ Some (Done, 4 ∷ 3 ∷ []) ∷ Some (Done, 4 ∷ 3 ∷ []) ∷ Some (Done, 4 ∷ 3 ∷ []) ∷ Some (Done, 2 ∷ 3 ∷ []) ∷ Some (Done, 2 ∷ 4 ∷ []) ∷ []
+  pub wakes_on_other : outcomes (timed three_tasks) (slept (Switch 1) (Switch 0)) ≡ Some (reply.Blocked, 2 ∷ 3 ∷ []) ∷ Some (Done, 4 ∷ 3 ∷ []) ∷ Some (Done, 4 ∷ 3 ∷ []) ∷ Some (Done, 4 ∷ 3 ∷ []) ∷ Some (Done, 4 ∷ 3 ∷ []) ∷ Some (Done, 4 ∷ 3 ∷ []) ∷ Some (Done, 4 ∷ 2 ∷ []) ∷ Some (Done, 3 ∷ 2 ∷ []) ∷ []
 
 -- a table with a task that waits
 abbrev pub waiting : Table

@@ -1,5 +1,5 @@
 -- The laws between the definitions. Each is the contract of a public function.
-use Rattle.std.specs.Prelude.{◌≡◌, ℕ, ◌<◌, List, length, true, IsSome, Ok}
+use Rattle.std.specs.Prelude.{◌≡◌, ℕ, ◌<◌, List, length, true, false, IsSome, Ok}
 use Rattle.std.specs.List.{AllByRecursion}
 use Rattle.bench_types.specs.declared.edit.Edit.{Edit}
 use Rattle.bench_types.specs.declared.header.Header.{Header}
@@ -9,8 +9,9 @@ use Rattle.bench_types.specs.declared.step.Step.{Step}
 use Rattle.bench_types.specs.declared.step.Step.TheVariants as steps
 use Rattle.bench_types.specs.Header.{header_check}
 use Rattle.bench_types.specs.Step.{IsCheckedStep}
-use Rattle.bench_model.specs.Control.{Control, ask}
-use Rattle.bench_model.specs.State.{blocked, selected, switched, woken, after}
+use Rattle.bench_model.specs.Control.{Control, is_due, ask}
+use Rattle.bench_model.specs.State.{blocked, selected, switched}
+use Rattle.bench_model.specs.Steps.{woken, after}
 use Rattle.bench_model.specs.Table.{Stamps, Table, table_moves, is_ready, pick, make_ready, delay, advance, due}
 use Rattle.bench_model.specs.Lists as seen
 use Rattle.bench_model.specs.Lists.{Lists, View, list_moves, lists_of, image}
@@ -23,6 +24,10 @@ use Rattle.bench_model.specs.Equal.{Same}
 -- the start of a checked header is sound
 abbrev pub StartIsSound : Type 0
 StartIsSound = (header : Header) → header_check header ≡ Ok tt → IsSound (start header)
+
+-- the start sets no flag
+abbrev pub StartAsksNone : Type 0
+StartAsksNone = (header : Header) (core : ℕ) → core < header.config.cores → is_due (start header).control core ≡ false
 
 -- every checked step keeps a table sound
 abbrev pub StepKeepsSound : Type 0
@@ -75,12 +80,12 @@ TickIsSeen = (control : Control) (stamps : Stamps) → WakesInTime stamps →
     (lists_of control (advance stamps) ≡ seen.advance (lists_of control stamps)) × (seen.due (lists_of control (advance stamps)) ≡ due (advance stamps))
 
 abbrev pub WokenIsSeen : Type 0
-WokenIsSeen = (control : Control) (stamps : Stamps) (tasks : List ℕ) → IsStamped stamps → AllByRecursion (λ task. task < length stamps.rows) tasks →
-    lists_of control (woken table_moves control stamps tasks) ≡ woken list_moves control (lists_of control stamps) tasks
+WokenIsSeen = (table : Table) (tasks : List ℕ) → IsStamped table.orders → AllByRecursion (λ task. task < length table.orders.rows) tasks →
+    image (woken table_moves tasks table) ≡ woken list_moves tasks (image table)
 
--- asking a core, and running a task on it, change no order
+-- asking a core changes no order
 abbrev pub CoresAreApart : Type 0
-CoresAreApart = (control : Control) (core : ℕ) (stamps : Stamps) → lists_of (ask core core control) stamps ≡ lists_of control stamps
+CoresAreApart = (control : Control) (acting core : ℕ) (stamps : Stamps) → lists_of (ask acting core control) stamps ≡ lists_of control stamps
 
 abbrev pub SwitchIsSeen : Type 0
 SwitchIsSeen = (table : Table) (core : ℕ) → IsSound table → core < table.settings.cores → image (switched table_moves core table) ≡ switched list_moves core (image table)

@@ -1,4 +1,7 @@
+pub mod Changes
 pub mod Control
+pub mod Cores
+pub mod CoresLaws
 pub mod Edits
 pub mod Equal
 pub mod Examples
@@ -12,6 +15,8 @@ pub mod Session
 pub mod Sound
 pub mod Start
 pub mod SlowDue
+pub mod SlowSeek
 pub mod SlowTable
 pub mod State
+pub mod Steps
 pub mod Table

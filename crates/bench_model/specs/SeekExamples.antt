@@ -13,11 +13,11 @@ use Rattle.bench_model.specs.Table.{Table, table_moves, advance}
 use Rattle.bench_model.specs.Seek.{asked_for, seek, may_move, wake, switched_and_sought, sliced}
 use Rattle.bench_model.specs.Start.{start}
 use Rattle.bench_model.specs.Session.{state_at}
-use Rattle.bench_model.specs.Examples.{task, session_of, three_tasks, one_task}
+use Rattle.bench_model.specs.Examples.{task, session_of, timed, three_tasks, one_task}
 
 -- a task that may run on four cores
 abbrev pub on_all : ℕ → TaskControl
-on_all priority = record { in_use = priority; mask = 15; preempt = true }
+on_all priority = record { base = priority; in_use = priority; mask = 15; preempt = true }
 
 abbrev pub looks : ℕ → CoreLook
 looks task = record { current = task; pend = false; asked = false }
@@ -79,10 +79,6 @@ pub record SoughtCores : Type 0 where
   pub loser_leaves_cores_of_winner : map (may_move two_masks 5 8 1) (numbers 4) ≡ false ∷ false ∷ true ∷ false ∷ []
   pub loser_of_no_lost_core_goes_anywhere : map (may_move two_masks 5 8 3) (numbers 4) ≡ true ∷ true ∷ true ∷ false ∷ []
   pub asked_runs_no_more : flags (seek 0 9 all_cores (with_asked 3 two_alike)) ≡ (false, false) ∷ (false, false) ∷ (false, true) ∷ (false, true) ∷ []
-
--- three tasks or one, with time slicing
-abbrev pub timed : Header → Header
-timed header = record header { config = record header.config { slicing = true } }
 
 -- the tasks 2, 3 and 4; the first two may run on core 0 alone
 abbrev pub crowded : Header

@@ -5,7 +5,7 @@ use Rattle.bench_types.specs.declared.header.Header.{Header}
 use Rattle.bench_types.specs.declared.reply.Reply.{Reply}
 use Rattle.bench_types.specs.declared.step.Step.{Step}
 use Rattle.bench_model.specs.Control.{running}
-use Rattle.bench_model.specs.State.{after}
+use Rattle.bench_model.specs.Steps.{after}
 use Rattle.bench_model.specs.Table.{Table, table_moves}
 use Rattle.bench_model.specs.Start.{start}
 

@@ -1,5 +1,5 @@
 -- What the slow table keeps of its sizes.
-use Rattle.std.specs.Prelude.{◌≡◌, ◌≤◌, length}
+use Rattle.std.specs.Prelude.{◌≡◌, ℕ, ◌<◌, ◌≤◌, length, false, slice_index_or}
 use Rattle.bench_model.specs.declared.slow.SlowTable.TheInside.{Inside}
 
 pub record IsFit (table : Inside) : Type 0 where
@@ -8,3 +8,4 @@ pub record IsFit (table : Inside) : Type 0 where
   pub controls : length table.tasks.items ≡ table.settings.tasks
   pub calls : length table.calls.items ≡ table.settings.tasks
   pub rows : length table.rows.items ≡ table.settings.tasks
+  pub runs_tasks : (core : ℕ) → core < table.settings.cores → (slice_index_or table.cores.items core (record { current = 0; pend = false; asked = false })).current < table.settings.tasks

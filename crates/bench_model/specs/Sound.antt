@@ -1,5 +1,6 @@
 -- What the table of every kernel keeps.
 use Rattle.std.specs.Prelude.{◌≡◌, ℕ, ◌+◌, ◌<◌, ◌≤◌, ◌^◌, length, true, false, Some}
+use Rattle.bench_types.specs.declared.kernel_data.TaskControl.{TaskControl}
 use Rattle.bench_types.specs.declared.step.Step.{Step}
 use Rattle.bench_types.specs.declared.step.Step.TheVariants.{Tick, Switch}
 use Rattle.bench_types.specs.declared.step.Step.TheVariants as steps
@@ -35,12 +36,16 @@ pub record IsPlaced (control : Control) (stamps : Stamps) : Type 0 where
 abbrev pub WakesInTime : Stamps → Type 0
 WakesInTime stamps = (i wake : ℕ) → i < length stamps.rows → (row_at stamps i).standing ≡ Blocked wake → (stamps.tick < wake) × (wake < stamps.tick + 2 ^ 32)
 
+-- the priority in use and the base priority are below the number of priorities
+abbrev pub IsBelow : ℕ → TaskControl → Type 0
+IsBelow priorities task = (task.in_use < priorities) × (task.base < priorities)
+
 pub record IsSound (table : Table) : Type 0 where
   pub sized : IsSized table
   pub stamped : IsStamped table.orders
   pub in_place : IsPlaced table.control table.orders
   pub in_time : WakesInTime table.orders
-  pub priorities : (i : ℕ) → i < table.settings.tasks → (task_at table.control i).in_use < table.settings.priorities
+  pub priorities : (i : ℕ) → i < table.settings.tasks → IsBelow table.settings.priorities (task_at table.control i)
   pub calls : (i : ℕ) (call : Call) → call_at table.calls i ≡ Some call → IsCheckedCall table.settings call
 
 -- what a checked step that is not refused finds: its core, and for a call its ready task there

@@ -11,16 +11,17 @@ use Rattle.bench_model.specs.declared.row.TaskRow.{TaskRow}
 use Rattle.bench_model.specs.declared.row.Standing.TheVariants.{Ready}
 use Rattle.bench_model.specs.Search.{numbers, ranked}
 use Rattle.bench_model.specs.Control.{Control}
-use Rattle.bench_model.specs.State.{State, Moves, switched}
+use Rattle.bench_model.specs.State.{State, Moves}
+use Rattle.bench_model.specs.Seek.{switched_and_sought}
 use Rattle.bench_model.specs.Table.{Stamps, Table, table_moves}
 use Rattle.bench_model.specs.Lists.{Lists, View, list_moves, outranks}
 
 -- preemption is on for each task; an idle task has priority 0 and may run on every core
 abbrev pub idle_control : ℕ → TaskControl
-idle_control cores = record { in_use = 0; mask = 2 ^ cores - 1; preempt = true }
+idle_control cores = record { base = 0; in_use = 0; mask = 2 ^ cores - 1; preempt = true }
 
 abbrev pub user_control : ℕ → TaskArgs → TaskControl
-user_control cores args = record { in_use = args.priority; mask = cores_of_mask cores args.mask; preempt = true }
+user_control cores args = record { base = args.priority; in_use = args.priority; mask = cores_of_mask cores args.mask; preempt = true }
 
 -- core c has idle task c and no flag
 abbrev pub first_look : ℕ → CoreLook
@@ -63,7 +64,7 @@ module _ {Orders : Type 0} where
 
   -- then each core selects, core 0 first
   unfoldable pub started : Moves Orders → Orders → Header → State Orders
-  started moves orders header = fold (λ kernel core. switched moves core kernel) (unstarted orders header) (numbers header.config.cores)
+  started moves orders header = fold (λ kernel core. switched_and_sought moves core kernel) (unstarted orders header) (numbers header.config.cores)
 
 -- the table of a kernel that was just started, and what can be seen of it
 abbrev pub start : Header → Table

@@ -1,17 +1,14 @@
--- The state of a kernel and the rules of its steps, over orders of tasks that are kept in one way or another: as stamps
--- and wakes (Table), or as lists (Lists).
-use Rattle.std.specs.Prelude.{ℕ, List, fold, Bool, not, ◌==◌, Option, Some, None, unwrap_or, if◌then◌else◌, slice_index_or, slice_set}
-use Rattle.std.specs.Option.{option_map_or}
+-- The state of a kernel, what it refuses, and the rules that seek no core, over orders of tasks that are kept in one way or
+-- another: as stamps and wakes (Table), or as lists (Lists).
+use Rattle.std.specs.Prelude.{ℕ, List, Bool, not, ◌==◌, Option, Some, None, unwrap_or, if◌then◌else◌, slice_index_or, slice_set}
 use Rattle.bench_types.specs.declared.kernel_data.Settings.{Settings}
-use Rattle.bench_types.specs.declared.reply.Reply.{Reply}
-use Rattle.bench_types.specs.declared.reply.Reply.TheVariants.{Done, Blocked, Refused}
 use Rattle.bench_types.specs.declared.reply.Refusal.{Refusal}
 use Rattle.bench_types.specs.declared.reply.Refusal.TheVariants.{Displaced, SwitchDue, InCall, NotInCall, NotDue}
 use Rattle.bench_types.specs.declared.step.Step.{Step}
 use Rattle.bench_types.specs.declared.step.Step.TheVariants.{Tick, Switch}
 use Rattle.bench_types.specs.declared.step.Step.TheVariants as steps
 use Rattle.bench_types.specs.declared.step.Call.{Call}
-use Rattle.bench_types.specs.declared.step.Call.TheVariants.{Yield, Delay, Finish}
+use Rattle.bench_types.specs.declared.step.Call.TheVariants.{Finish}
 use Rattle.bench_model.specs.Control.{Control, current, is_due, ask, run_on}
 
 pub record State (Orders : Type 0) : Type 0 where
@@ -64,20 +61,12 @@ module _ {Orders : Type 0} (moves : Moves Orders) where
   abbrev pub selected : ℕ → State Orders → Option ℕ
   selected core state = moves.pick state.control core (queued core state)
 
-  -- Switching a core: it runs the task that it selects (V11 tasks.c, vTaskSwitchContext).
+  -- A core runs the task that it selects (V11 tasks.c, vTaskSwitchContext).
   unfoldable pub switched : ℕ → State Orders → State Orders
   switched core state = record state {
     control = run_on core (unwrap_or (selected core state) (current state.control core)) state.control;
     orders = queued core state;
   }
-
-  -- the tasks are made ready in turn
-  abbrev pub woken : Control → Orders → List ℕ → Orders
-  woken control orders tasks = fold (λ later task. moves.make_ready control task later) orders tasks
-
-  -- The tick: each task that has waited long enough is made ready (V11 tasks.c, xTaskIncrementTick).
-  unfoldable pub ticked : State Orders → State Orders
-  ticked state = let later = moves.advance state.orders in record state { orders = woken state.control later (moves.due later) }
 
   -- The core asks itself to switch (FreeRTOS Reference Manual, taskYIELD).
   unfoldable pub yielded : ℕ → State Orders → State Orders
@@ -91,20 +80,3 @@ module _ {Orders : Type 0} (moves : Moves Orders) where
     calls = slice_set state.calls task (Some call);
     orders = moves.delay task ticks state.orders;
   }
-
-  -- What a call that is not refused answers and does (FreeRTOS Reference Manual, taskYIELD and vTaskDelay).
-  unfoldable pub called : ℕ → ℕ → Call → State Orders → Reply × State Orders
-  called core task Yield state = (Done, yielded core state)
-  called core task (Delay ticks) state =
-      if ticks == 0 then (Done, yielded core state) else (Blocked, blocked core task (Delay ticks) ticks state)
-  called core task Finish state = (Done, record state { calls = slice_set state.calls task None })
-
-  -- what a step that is not refused answers and does
-  unfoldable pub performed : Step → State Orders → Reply × State Orders
-  performed Tick state = (Done, ticked state)
-  performed (Switch core) state = (Done, switched core state)
-  performed (steps.Call core task call) state = called core task call state
-
-  -- The step: its reply and the state afterwards. A refused step changes nothing.
-  unfoldable pub after : Step → State Orders → Reply × State Orders
-  after step state = option_map_or (λ why. (Refused why, state)) (refusal state.control state.calls step) (performed step state)

@@ -1,10 +1,15 @@
 //! The laws between the definitions, each on a function that does nothing: its contract is the law, for every table.
-ghost use Rattle.bench_model.specs.Laws.{StartIsSound, StepKeepsSound, SwitchFindsTask, StartIsSeen, StepIsSeen, EqualStaysEqual, EditKeepsSession, ReadyIsSeen, ReadyAtEndIsSeen, PickIsSeen, SwitchIsSeen, DelayIsSeen, BlockIsSeen, TickIsSeen, WokenIsSeen, CoresAreApart};
-ghost use Rattle.bench_model.specs.Examples.{WorkedSessions, EqualTables};
+ghost use Rattle.bench_model.specs.Laws.{StartIsSound, StartAsksNone, StepKeepsSound, SwitchFindsTask, StartIsSeen, StepIsSeen, EqualStaysEqual, EditKeepsSession, ReadyIsSeen, ReadyAtEndIsSeen, PickIsSeen, SwitchIsSeen, DelayIsSeen, BlockIsSeen, TickIsSeen, WokenIsSeen, CoresAreApart};
+ghost use Rattle.bench_model.specs.Examples.{WorkedSessions, TimedSessions, EqualTables};
 
 /// Every kernel that starts from a checked header has a sound table.
 pub fn start_is_sound()
     ensures { StartIsSound }
+{}
+
+/// The start sets no flag: no core is sought for the idle task that a core gives up.
+pub fn start_asks_none()
+    ensures { StartAsksNone }
 {}
 
 /// Every checked step keeps a sound table sound, so each core has one current task and no task is on two cores.
@@ -67,7 +72,7 @@ pub fn tick_is_seen()
     ensures { TickIsSeen }
 {}
 
-/// Tasks that are made ready in turn are so over lists.
+/// Tasks that are woken in turn, each with the seek of a core for it, are so over lists.
 pub fn woken_is_seen()
     ensures { WokenIsSeen }
 {}
@@ -81,9 +86,15 @@ pub fn block_is_seen()
 pub fn cores_are_apart()
     ensures { CoresAreApart }
 {}
+
 /// The definitions give the worked sessions.
 pub fn worked_sessions()
     ensures { WorkedSessions }
+{}
+
+/// The definitions give the worked sessions with time slicing, where woken tasks seek a core.
+pub fn timed_sessions()
+    ensures { TimedSessions }
 {}
 
 /// Tables that differ in stamps and absolute times alone are equal; with another order in a ready list they are not.

@@ -1,6 +1,7 @@
 //! The definitions of the kernel: a flat table whose choices are searches, the laws over it, and a plain replay of it.
 #![tactic(auto)]
 
+pub mod cores_laws;
 pub mod laws;
 mod row;
 pub mod seek_laws;

@@ -2,13 +2,17 @@ ghost use Rattle.std.specs.Prelude.{◌≡◌, ℕ, ◌<◌, ◌≤◌, ◌^◌,
 ghost use Rattle.bench_types.specs.Step.{step_check, settings_of, IsStepOfWords};
 ghost use Rattle.bench_types.specs.Header.{header_check};
 ghost use Rattle.bench_model.specs.Control.{is_elsewhere, is_allowed, may_select, is_due, current, run_on, running};
-ghost use Rattle.bench_model.specs.State.{call_refusal, refusal, switched, ticked, yielded, blocked, called, performed};
+ghost use Rattle.bench_model.specs.State.{call_refusal, refusal, queued, switched, yielded, blocked};
+ghost use Rattle.bench_model.specs.Seek.{wake, switched_and_sought};
+ghost use Rattle.bench_model.specs.Steps.{ticked, called, performed};
 ghost use Rattle.bench_model.specs.Sound.{IsSound, IsInPlace};
 ghost use Rattle.bench_model.specs.Session.{step_of, outcome_at, shown};
 ghost use Rattle.bench_model.specs.Table.{table_moves, advance, make_ready, is_ready, goes_before, pick, row_at, stamp_of, tasks_of, wakes_at};
 ghost use Rattle.bench_model.specs.Search.{is_best, numbers};
 ghost use Rattle.bench_model.specs.Start.{first_look, ready_row, idle_control, user_control, first_control, first_stamps, unstarted, start};
 ghost use Rattle.bench_model.specs.SlowDue.{first_due};
+
+mod seek;
 
 use crate::{Standing, TaskRow};
 use bench_types::{
@@ -78,6 +82,14 @@ impl SlowTable {
         ensures { result ≡ (current self.now.control core == task) }
     {
         self.cores[core as usize].current == task
+    }
+
+    fn current(&self, core: u32) -> u32
+        requires { core < length self.now.control.cores }
+        ensures runs { result ≡ current self.now.control core }
+        ensures task { result < length self.now.orders.rows }
+    {
+        self.cores[core as usize].current
     }
 
     fn is_elsewhere(&self, core: u32, task: u32) -> bool
@@ -171,7 +183,8 @@ impl SlowTable {
     fn make_ready(&mut self, task: u32)
         requires task { task < length self.old.orders.rows }
         requires room { self.old.orders.next + 1 < 2 ^ 128 }
-        ensures { self.new ≡ record self.old { orders = make_ready task self.old.orders } }
+        ensures made { self.new ≡ record self.old { orders = make_ready task self.old.orders } }
+        ensures rows { length self.new.orders.rows ≡ length self.old.orders.rows }
     {
         self.rows[task as usize] = TaskRow {
             stamp: self.next,
@@ -189,7 +202,8 @@ impl SlowTable {
     }
 
     fn run_on(&mut self, core: u32, task: u32)
-        requires { core < length self.old.control.cores }
+        requires core { core < length self.old.control.cores }
+        requires task { task < length self.old.orders.rows }
         ensures { self.new ≡ record self.old { control = run_on core task self.old.control } }
     {
         self.cores[core as usize] = CoreLook {
@@ -199,19 +213,53 @@ impl SlowTable {
         };
     }
 
-    #[tactic(auto, unfolding(crate::specs::State::switched))]
-    fn switch(&mut self, core: u32)
+    // The core's task goes to the end of its ready list, where it is ready.
+    fn queue(&mut self, core: u32)
         requires core { core < length self.old.control.cores }
-        requires task { current self.old.control core < length self.old.orders.rows }
         requires room { self.old.orders.next + 1 < 2 ^ 128 }
-        ensures { self.new ≡ switched table_moves core self.old }
+        ensures queued { self.new ≡ record self.old { orders = queued table_moves core self.old } }
+        ensures rows { length self.new.orders.rows ≡ length self.old.orders.rows }
     {
-        let left = self.cores[core as usize].current;
+        let left = self.current(core);
         if self.is_ready(left) {
             self.make_ready(left);
         }
+    }
+
+    #[tactic(auto, unfolding(crate::specs::State::switched))]
+    fn select(&mut self, core: u32)
+        requires core { core < length self.old.control.cores }
+        requires room { self.old.orders.next + 1 < 2 ^ 128 }
+        ensures switched { self.new ≡ switched table_moves core self.old }
+        ensures rows { length self.new.orders.rows ≡ length self.old.orders.rows }
+        ensures cores { length self.new.control.cores ≡ length self.old.control.cores }
+    {
+        let left = self.current(core);
+        self.queue(core);
         let task = self.pick(core).unwrap_or(left);
         self.run_on(core, task);
+    }
+
+    #[tactic(auto, unfolding(crate::specs::Seek::switched_and_sought))]
+    fn switch(&mut self, core: u32)
+        requires core { core < length self.old.control.cores }
+        requires room { self.old.orders.next + 1 < 2 ^ 128 }
+        ensures { self.new ≡ switched_and_sought table_moves core self.old }
+    {
+        let loser = self.current(core);
+        self.select(core);
+        self.resettle(core, loser);
+    }
+
+    // Wakes a task as the tick does: core 0 acts.
+    #[tactic(auto, unfolding(crate::specs::Seek::wake))]
+    fn wake(&mut self, task: u32)
+        requires task { task < length self.old.orders.rows }
+        requires room { self.old.orders.next + 1 < 2 ^ 128 }
+        ensures { self.new ≡ wake table_moves 0 task self.old }
+    {
+        self.make_ready(task);
+        self.seek(0, task, None);
     }
 
     #[tactic(auto, unfolding(crate::specs::Table::advance))]
@@ -222,7 +270,7 @@ impl SlowTable {
         self.tick += 1;
     }
 
-    // Wakes the tasks that are due one by one.
+    // Wakes the tasks that are due one by one, and then ends time slices.
     fn advance(&mut self)
         requires sound { IsSound self.old }
         requires room { self.old.orders.next + length self.old.orders.rows < 2 ^ 128 }
@@ -231,8 +279,9 @@ impl SlowTable {
     {
         self.count_tick();
         while let Some(task) = self.first_due() {
-            self.make_ready(task);
+            self.wake(task);
         }
+        self.slice();
     }
 
     #[tactic(auto, unfolding(crate::specs::State::blocked, crate::specs::State::yielded, crate::specs::Table::delay))]
@@ -254,7 +303,7 @@ impl SlowTable {
         self.ask_itself(core);
     }
 
-    #[tactic(auto, unfolding(crate::specs::State::called))]
+    #[tactic(auto, unfolding(crate::specs::Steps::called))]
     fn call(&mut self, core: u32, task: u32, call: Call) -> Reply
         requires core { core < length self.old.control.cores }
         requires task { task < length self.old.orders.rows }
@@ -300,7 +349,7 @@ impl SlowTable {
         }
     }
 
-    #[tactic(auto, unfolding(crate::specs::State::performed))]
+    #[tactic(auto, unfolding(crate::specs::Steps::performed))]
     fn perform(&mut self, step: &Step) -> Reply
         requires sound { IsSound self.old }
         requires fits { IsInPlace self.old step.now }
@@ -321,7 +370,7 @@ impl SlowTable {
         }
     }
 
-    #[tactic(auto, unfolding(crate::specs::State::after))]
+    #[tactic(auto, unfolding(crate::specs::Steps::after))]
     fn step(&mut self, step: Step) -> Reply
         requires sound { IsSound self.old }
         requires checked { step_check self.old.settings step ≡ Ok tt }
@@ -395,6 +444,7 @@ fn idle_control(cores: u32) -> TaskControl
     ensures { result ≡ idle_control cores }
 {
     TaskControl {
+        base: 0,
         in_use: 0,
         mask: (1 << cores) - 1,
         preempt: true,
@@ -406,6 +456,7 @@ fn user_control(cores: u32, args: &TaskArgs) -> TaskControl
     ensures { result ≡ user_control cores args.now }
 {
     TaskControl {
+        base: args.priority,
         in_use: args.priority,
         mask: args.mask % (1 << cores),
         preempt: true,

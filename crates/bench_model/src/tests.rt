@@ -1,19 +1,21 @@
 //! Sessions held against replies and running tasks that a program apart from this one worked out.
-ghost use Rattle.std.specs.Prelude.{◌≡◌, IsTrue, All, Ok};
+ghost use Rattle.std.specs.Prelude.{◌≡◌, ◌<◌, IsTrue, All, Ok};
 ghost use Rattle.bench_types.specs.Step.{step_check, settings_of};
 
+mod random;
 mod sessions;
 
 use crate::replay_slow;
-use bench_types::{Call, Config, Header, Items, Name, Step, TaskArgs};
+use bench_types::{Call, Config, Header, Items, Name, Refusal, Reply, Row, Step, TaskArgs};
 use sessions::{Group, Line, Made};
 use std::alloc::{AllocError, Global};
+use std::process::Abort;
 use std::test::Fail;
 
-/// The header of a group, its tasks named T0, T1 and so on.
-fn header_of(alloc: Global, group: &Group) -> Result<Header, Fail> {
+/// A header whose tasks have these priorities and masks, and are named T0, T1 and so on.
+fn header_of(alloc: Global, config: Config, args: &[(u32, u32)]) -> Result<Header, Fail> {
     let mut tasks = Vec::new(alloc);
-    for (number, (priority, mask)) in group.tasks.iter().enumerate() {
+    for (number, (priority, mask)) in args.iter().enumerate() {
         let name = Name::new(&format!(in alloc; "T{number}")?)?;
         tasks.push(TaskArgs {
             name,
@@ -21,6 +23,13 @@ fn header_of(alloc: Global, group: &Group) -> Result<Header, Fail> {
             mask: *mask,
         })?;
     }
+    Ok(Header {
+        config,
+        tasks: Items::new(tasks),
+    })
+}
+
+fn group_header(alloc: Global, group: &Group) -> Result<Header, Fail> {
     let config = Config {
         cores: group.cores,
         priorities: group.priorities,
@@ -28,10 +37,7 @@ fn header_of(alloc: Global, group: &Group) -> Result<Header, Fail> {
         tick: group.tick,
         mutexes: 0,
     };
-    Ok(Header {
-        config,
-        tasks: Items::new(tasks),
-    })
+    header_of(alloc, config, group.tasks)
 }
 
 fn step_of(made: &Made) -> Step {
@@ -58,21 +64,107 @@ fn are_checked(header: &Header, steps: &[Step]) -> bool
     steps.iter().all(|step| step.check(header).is_ok())
 }
 
+fn replayed(
+    rt: &(impl Alloc + Abort),
+    alloc: Global,
+    header: &Header,
+    steps: &[Step],
+) -> Result<Vec<(Reply, Row)>, Fail> {
+    header.check()?;
+    assert!(rt; are_checked(header, steps));
+    Ok(replay_slow(rt, alloc, header, steps)?)
+}
+
 #[test]
 fn replays_the_sessions(rt: HostRuntime) -> Result<(), Fail> {
     for group in sessions::groups() {
         let about = group.about;
-        let header = header_of(rt.alloc(), group)?;
-        header.check()?;
+        let header = group_header(rt.alloc(), group)?;
         for session in group.sessions {
             let steps = steps_of(rt.alloc(), session)?;
-            assert!(rt; are_checked(&header, &steps), "{about}");
-            let outcomes = replay_slow(&rt, rt.alloc(), &header, &steps)?;
+            let outcomes = replayed(&rt, rt.alloc(), &header, &steps)?;
             assert_eq!(rt; outcomes.len(), session.len(), "{about}");
             for ((reply, row), (made, answer, tasks)) in outcomes.iter().zip(*session) {
                 assert_eq!(rt; reply, answer, "{about}: {made:?}");
                 assert_eq!(rt; row.as_slice(), *tasks, "{about}: {made:?}");
             }
+        }
+    }
+    Ok(())
+}
+
+/// The digit at a place of a word, which goes on behind 9 with `a`.
+fn digit(word: &str, place: usize) -> u32
+    ensures { result < 36 }
+{
+    match word.as_bytes().get(place) {
+        Some(byte) if byte.is_ascii_digit() => u32::from(*byte - b'0'),
+        Some(byte) if byte.is_ascii_lowercase() => u32::from(*byte - b'a') + 10,
+        _ => 0,
+    }
+}
+
+fn read_header(alloc: Global, text: &str) -> Result<Header, Fail> {
+    let mut words = text.split(' ');
+    let config = Config {
+        cores: digit(words.next().unwrap_or(""), 0),
+        priorities: digit(words.next().unwrap_or(""), 0),
+        slicing: words.next() == Some("s"),
+        tick: words.next().unwrap_or("").parse().unwrap_or(0),
+        mutexes: 0,
+    };
+    let mut args = Vec::new(alloc);
+    for word in words {
+        let mask = digit(word, 1) * 16 + digit(word, 2);
+        args.push((digit(word, 0), mask))?;
+    }
+    header_of(alloc, config, &args)
+}
+
+fn read_step(word: &str) -> Step {
+    let core = digit(word, 1);
+    let call = match word.as_bytes().first() {
+        Some(b's') => return Step::Switch { core },
+        Some(b'y') => Call::Yield,
+        Some(b'd') => Call::Delay(digit(word, 3)),
+        Some(b'f') => Call::Finish,
+        _ => return Step::Tick,
+    };
+    let task = digit(word, 2);
+    Step::Call { core, task, call }
+}
+
+fn read_reply(word: &str) -> Reply {
+    match word.as_bytes().first() {
+        Some(b'b') => Reply::Blocked,
+        Some(b'2') => Reply::Refused(Refusal::Displaced),
+        Some(b'3') => Reply::Refused(Refusal::SwitchDue),
+        Some(b'4') => Reply::Refused(Refusal::InCall),
+        Some(b'5') => Reply::Refused(Refusal::NotInCall),
+        Some(b'0') => Reply::Refused(Refusal::NotDue),
+        _ => Reply::Done,
+    }
+}
+
+fn read_steps(alloc: Global, text: &str) -> Result<Vec<Step>, AllocError> {
+    text.split(' ').step_by(2).map(read_step).collect(alloc)
+}
+
+fn is_answer(answer: &str, reply: &Reply, row: &Row) -> bool {
+    let mut tasks = row.as_slice().iter().enumerate();
+    *reply == read_reply(answer) && tasks.all(|(core, task)| *task == digit(answer, core + 1))
+}
+
+#[test]
+fn replays_the_random_sessions(rt: HostRuntime) -> Result<(), Fail> {
+    for session in random::SESSIONS {
+        let (head, text) = session.split_once(" | ").unwrap_or((session, ""));
+        let header = read_header(rt.alloc(), head)?;
+        let steps = read_steps(rt.alloc(), text)?;
+        let outcomes = replayed(&rt, rt.alloc(), &header, &steps)?;
+        assert_eq!(rt; outcomes.len(), 24, "{session}");
+        for ((reply, row), answer) in outcomes.iter().zip(text.split(' ').skip(1).step_by(2)) {
+            assert!(rt; is_answer(answer, reply, row), "{answer} in {session}");
         }
     }
     Ok(())

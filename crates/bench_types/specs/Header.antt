@@ -9,9 +9,9 @@ use Rattle.bench_types.specs.declared.header.Config.{Config}
 use Rattle.bench_types.specs.declared.header.TaskArgs.{TaskArgs}
 use Rattle.bench_types.specs.declared.header.Header.{Header}
 
--- 2 to 8 cores, 1 to 32 priorities, at most 32 mutexes, no time slicing yet
+-- 2 to 8 cores, 1 to 32 priorities, at most 32 mutexes
 abbrev pub has_valid_config : Config → Bool
-has_valid_config config = is_within 2 8 config.cores && is_within 1 32 config.priorities && not config.slicing && nat_le config.mutexes 32
+has_valid_config config = is_within 2 8 config.cores && is_within 1 32 config.priorities && nat_le config.mutexes 32
 
 -- the bits of a core affinity mask that mean a core
 abbrev pub cores_of_mask : ℕ → ℕ → ℕ

@@ -12,7 +12,7 @@ pub struct Config {
     pub cores: u32,
     /// How many priorities there are, 1 to 32 (`configMAX_PRIORITIES`). A larger number is a higher priority.
     pub priorities: u32,
-    /// Whether tasks of one priority share the cores by turns (`configUSE_TIME_SLICING`). It has to be false yet.
+    /// Whether tasks of one priority share the cores by turns (`configUSE_TIME_SLICING`).
     pub slicing: bool,
     /// The tick count at the start, in ticks.
     pub tick: u32,
@@ -91,7 +91,6 @@ fn is_valid_config(config: &Config) -> bool
         && config.cores <= 8
         && 1 <= config.priorities
         && config.priorities <= 32
-        && !config.slicing
         && config.mutexes <= 32
 }
 
@@ -185,11 +184,12 @@ mod tests {
     }
 
     #[test]
-    fn takes_each_tick_but_no_slicing(rt: HostRuntime) -> Result<(), Fail> {
-        for (slicing, tick, fits) in [
-            (false, 0, true),
-            (false, 4_294_967_295, true),
-            (true, 0, false),
+    fn takes_each_tick_and_slicing(rt: HostRuntime) -> Result<(), Fail> {
+        for (slicing, tick) in [
+            (false, 0),
+            (false, 4_294_967_295),
+            (true, 0),
+            (true, 4_294_967_295),
         ] {
             let config = Config {
                 slicing,
@@ -197,7 +197,7 @@ mod tests {
                 ..CONFIG
             };
             let header = samples::header(rt.alloc(), config, &[("A", 0, 3)])?;
-            assert_eq!(rt; header.check(), answer(fits), "at {config:?}");
+            assert_eq!(rt; header.check(), Ok(()), "at {config:?}");
         }
         Ok(())
     }

@@ -23,6 +23,8 @@ pub struct CoreLook {
 /// What the control block of a task holds, beside its places in lists.
 #[derive(Clone, Copy, Debug, PartialEq, Eq, Hash)]
 pub struct TaskControl {
+    /// The base priority (`uxBasePriority`).
+    pub base: u32,
     /// The priority in use.
     pub in_use: u32,
     /// The core affinity mask, cut to the bits that mean a core (`uxCoreAffinityMask`).

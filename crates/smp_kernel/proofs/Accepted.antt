@@ -7,7 +7,8 @@ use Rattle.bench_types.specs.declared.step.Step.TheVariants.{Tick, Switch}
 use Rattle.bench_types.specs.declared.step.Step.TheVariants as steps
 use Rattle.bench_types.specs.Step.{step_check, core_check, task_check, call_check, ◌>>◌}
 use Rattle.bench_model.specs.Search.{has}
-use Rattle.bench_model.specs.State.{refusal, performed, after}
+use Rattle.bench_model.specs.State.{refusal}
+use Rattle.bench_model.specs.Steps.{performed, after}
 use Rattle.bench_model.specs.Lists.{View, list_moves}
 use Rattle.bench_types.proofs.Passes.{both_pass, checked_core, checked_task}
 use Rattle.bench_model.proofs.SeenSteps.{not_displaced}

@@ -1,20 +1,14 @@
--- No task is ready and waits, whatever move is made, and what follows for a switch.
-use Rattle.std.proofs.Common.{◌≡◌, ℕ, Bool, true, false, cond, not, eqb, ◌&&◌, ◌||◌, List, [], ◌∷◌, length, map, Option, refl, sym, ap, ◌∙◌, arith}
-use Rattle.std.specs.Prelude.{unwrap_or}
-use Rattle.std.specs.List.{find}
-use Rattle.std.proofs.lemmas.List.{length-set}
+-- No task is ready and waits, whatever move is made.
+use Rattle.std.proofs.Common.{◌≡◌, ℕ, Bool, true, false, cond, not, eqb, ◌&&◌, ◌||◌, List, [], ◌∷◌, map, refl, ap, ◌∙◌, arith}
 use Rattle.std.proofs.lemmas.Bool.Decides.{nat_tests}
 use Rattle.bench_types.specs.declared.kernel_data.Delayed.{Delayed}
-use Rattle.bench_types.specs.declared.kernel_data.Settings.{Settings}
-use Rattle.bench_types.specs.declared.step.Call.{Call}
 use Rattle.bench_model.specs.Search.{placed, without, has}
-use Rattle.bench_model.specs.Control.{Control, current, may_select, run_on}
-use Rattle.bench_model.specs.State.{switched}
-use Rattle.bench_model.specs.Lists.{Lists, View, list_moves, outranks, wakes_first, pick, make_ready}
+use Rattle.bench_model.specs.Control.{Control, current}
+use Rattle.bench_model.specs.Lists.{outranks, wakes_first}
 use Rattle.bench_model.proofs.Filters.{has-filter}
 use Rattle.bench_model.proofs.Ranks.{list_any-placed}
-use Rattle.smp_kernel.specs.Parts.{CoreView, DelayView, is_waiting, cancelled, aged, advanced, core_queued, core_switched}
-use Rattle.smp_kernel.specs.Kernel.{IsApart, kernel_view}
+use Rattle.smp_kernel.specs.Parts.{DelayView, is_waiting, cancelled, aged, advanced}
+use Rattle.smp_kernel.specs.Kernel.{IsApart}
 
 waiting-cancelled : (t task : ℕ) (delayed : List Delayed) → is_waiting t (cancelled task delayed) ≡ (not (eqb t task) && is_waiting t delayed)
 waiting-cancelled t task [] = grind arith
@@ -57,49 +51,14 @@ apart_waiting entry ready delayed apart t found = at (has t ready) refl
     at true before = grind (arith, nat_tests, found, before, apart t before, waiting-placed t entry delayed, has-filter (λ m. not (eqb m entry.task)) t ready)
     at false before = absurd (cc (found, before, has-filter (λ m. not (eqb m entry.task)) t ready, and_false (not (eqb t entry.task))))
 
-pub apart_switched : (core : ℕ) (view : CoreView) (delayed : List Delayed) → IsApart view.ready delayed → IsApart (core_switched core view).ready delayed
-unfolding core_switched core_queued
-apart_switched core view delayed apart = at (has (current view.control core) view.ready) refl
+-- the ready lists as a core selects
+pub apart_queued : (core : ℕ) (control : Control) (ready : List ℕ) (delayed : List Delayed) → IsApart ready delayed → IsApart (cond (has (current control core) ready) (placed (outranks control) (current control core) (without (current control core) ready)) ready) delayed
+apart_queued core control ready delayed apart = at (has (current control core) ready) refl
   where
-    at : (b : Bool) → has (current view.control core) view.ready ≡ b → (t : ℕ) → has t (cond b (record view { ready = placed (outranks view.control) (current view.control core) (without (current view.control core) view.ready) }) view).ready ≡ true → is_waiting t delayed ≡ false
-    at true before t found = moved (has t view.ready) refl
+    at : (b : Bool) → has (current control core) ready ≡ b → IsApart (cond b (placed (outranks control) (current control core) (without (current control core) ready)) ready) delayed
+    at true before t found = moved (has t ready) refl
       where
-        moved : (b : Bool) → has t view.ready ≡ b → is_waiting t delayed ≡ false
+        moved : (b : Bool) → has t ready ≡ b → is_waiting t delayed ≡ false
         moved true here = apart t here
-        moved false gone = absurd (grind (arith, nat_tests, found, before, gone, has-moved view.control t (current view.control core) view.ready))
+        moved false gone = absurd (grind (arith, nat_tests, found, before, gone, has-moved control t (current control core) ready))
     at false before t found = apart t found
-
-pub switched_cores : (core : ℕ) (view : CoreView) → length (core_switched core view).control.cores ≡ length view.control.cores
-unfolding core_switched core_queued
-switched_cores core view = at (has (current view.control core) view.ready)
-  where
-    at : (b : Bool) → length (let queued : CoreView = cond b (record view { ready = placed (outranks view.control) (current view.control core) (without (current view.control core) view.ready) }) view in run_on core (unwrap_or (find (may_select queued.control core) queued.ready) (current view.control core)) queued.control).cores ≡ length view.control.cores
-    at true = length-set view.control.cores core _
-    at false = length-set view.control.cores core _
-
-pub switched_controls : (core : ℕ) (view : CoreView) → (core_switched core view).control.tasks ≡ view.control.tasks
-unfolding core_switched core_queued
-switched_controls core view = elim (has (current view.control core) view.ready) as (λ b. (cond b (record view { ready = placed (outranks view.control) (current view.control core) (without (current view.control core) view.ready) }) view).control.tasks ≡ view.control.tasks) [ true ↦ refl | false ↦ refl ]
-
-abbrev moved : ℕ → CoreView → List ℕ
-moved task view = placed (outranks view.control) task (without task view.ready)
-
-abbrev running_on : ℕ → CoreView → ℕ → CoreView
-running_on core queued left = record queued { control = run_on core (unwrap_or (find (may_select queued.control core) queued.ready) left) queued.control }
-
-abbrev kernel_on : ℕ → View → Lists → View
-kernel_on core view orders = record view {
-  control = run_on core (unwrap_or (pick view.control core orders) (current view.control core)) view.control;
-  orders = orders;
-}
-
--- a switch of the core part is the switch of the kernel
-pub switch_seen : (settings : Settings) (cores : CoreView) (calls : List (Option Call)) (delays : DelayView) (core : ℕ) → IsApart cores.ready delays.delayed → kernel_view settings (core_switched core cores) calls delays ≡ switched list_moves core (kernel_view settings cores calls delays)
-unfolding core_switched core_queued switched pick make_ready
-switch_seen settings cores calls delays core apart = at (has (current cores.control core) cores.ready) refl
-  where
-    at : (b : Bool) → has (current cores.control core) cores.ready ≡ b → kernel_view settings (running_on core (cond b (record cores { ready = moved (current cores.control core) cores }) cores) (current cores.control core)) calls delays ≡ kernel_on core (kernel_view settings cores calls delays) (cond b (make_ready cores.control (current cores.control core) (kernel_view settings cores calls delays).orders) (kernel_view settings cores calls delays).orders)
-    at true here =
-        ap (λ waiting. kernel_view settings (running_on core (record cores { ready = moved (current cores.control core) cores }) (current cores.control core)) calls (record delays { delayed = waiting }))
-        (sym (cancelled_free (current cores.control core) delays.delayed (apart (current cores.control core) here)))
-    at false gone = refl

@@ -1,8 +1,6 @@
-pub mod Listings
-pub mod Picks
-pub mod Queues
 pub mod Waits
 pub mod Apart
+pub mod CoreMoves
 pub mod Ticks
 pub mod Accepted
 pub mod Stands

@@ -14,8 +14,9 @@ use Rattle.bench_types.specs.Step.{step_check, IsStepOfWords, IsCheckedStep}
 use Rattle.bench_model.specs.declared.row.Standing.{Standing}
 use Rattle.bench_model.specs.declared.row.Standing.TheVariants as standing
 use Rattle.bench_model.specs.Search.{numbers}
-use Rattle.bench_model.specs.Control.{current}
-use Rattle.bench_model.specs.State.{refusal, switched, ticked, yielded, blocked, called, performed, after}
+use Rattle.bench_model.specs.Control.{core_at, current}
+use Rattle.bench_model.specs.State.{refusal, yielded, blocked}
+use Rattle.bench_model.specs.Steps.{woken, ticked, called, performed, after}
 use Rattle.bench_model.specs.Table.{Stamps, Table, row_at, stamp_of, is_ready, wakes_at, due}
 use Rattle.bench_model.specs.Lists as seen
 use Rattle.bench_model.specs.Lists.{Lists, View, list_moves, lists_of, image}
@@ -26,10 +27,10 @@ use Rattle.bench_model.specs.Equal.{StandsFor}
 use Rattle.bench_model.proofs.Filters.{All-weaker}
 use Rattle.bench_model.proofs.Stamped.{numbers_below, by_stamp_none}
 use Rattle.bench_model.proofs.SeenMoves.{is_ready_seen, due_seen}
-use Rattle.bench_model.proofs.SeenSteps.{after_seen}
-use Rattle.bench_model.proofs.SoundSteps.{after_sound}
+use Rattle.bench_model.proofs.Steps.{after_seen, after_sound}
 use Rattle.smp_kernel.specs.Parts.{due_tasks}
 use Rattle.smp_kernel.specs.Kernel.{IsSettled, StandsForSome}
+use Rattle.smp_kernel.proofs.CoreMoves.{turned_settings, woken_settings, sliced_settings}
 
 not_yet : (stamps : Stamps) → WakesInTime stamps → (i : ℕ) → i < length stamps.rows → wakes_at stamps.tick (row_at stamps i).standing ≡ false
 not_yet stamps in_time i low = at (row_at stamps i).standing refl
@@ -90,9 +91,11 @@ called_settings core task (Delay ticks) view = elim (eqb ticks 0) as (λ b. (con
 called_settings core task Finish view = refl
 
 performed_settings : (step : Step) (view : View) → (performed list_moves step view).1.settings ≡ view.settings
-unfolding performed ticked switched
-performed_settings Tick view = refl
-performed_settings (Switch core) view = refl
+unfolding performed ticked
+performed_settings Tick view =
+    let later = record view { orders = seen.advance view.orders } in
+    sliced_settings (woken list_moves (seen.due later.orders) later) ∙ woken_settings (seen.due later.orders) later
+performed_settings (Switch core) view = turned_settings core view
 performed_settings (steps.Call core task call) view = called_settings core task call view
 
 after_settings : (step : Step) (view : View) → (after list_moves step view).1.settings ≡ view.settings
@@ -102,6 +105,9 @@ after_settings step view = elim (refusal view.control view.calls step) as (λ wh
 -- a step leaves the settings as they are
 pub settings_after : (view later : View) (step : Step) (reply : Reply) → outcome reply later ≡ after list_moves step view → later.settings ≡ view.settings
 settings_after view later step reply made = ap (λ (r : Reply × View). r.1.settings) made ∙ after_settings step view
+
+pub look_of : (view : View) (table : Table) (core : ℕ) → StandsFor view table → core_at view.control core ≡ core_at table.control core
+look_of view table core stands = ap (λ (v : View). core_at v.control core) (sym stands.shows)
 
 pub tick_of : (view : View) (table : Table) → StandsFor view table → view.orders.tick ≡ table.orders.tick % 2 ^ 32
 unfolding lists_of

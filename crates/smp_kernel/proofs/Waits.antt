@@ -12,7 +12,7 @@ use Rattle.bench_model.proofs.Filters.{filter-filter, filter-map, filter_all, fi
 use Rattle.bench_model.proofs.Ranks.{ranked-push, filter-ranked, list_any-ranked, map-ranked, ranked_same}
 use Rattle.bench_model.proofs.SeenMoves.{wakes_first-IsRank}
 use Rattle.smp_kernel.specs.Parts.{DelayView, seen_delays, is_waiting, cancelled, aged, advanced, due_tasks}
-use Rattle.smp_kernel.specs.Shape.{IsListing}
+use Rattle.ready_core.specs.Shape.{IsListing}
 
 abbrev task_of : Delayed → ℕ
 task_of entry = entry.task

@@ -10,10 +10,11 @@ use Rattle.bench_model.specs.Control.{current, is_due}
 use Rattle.bench_model.specs.Table.{Table}
 use Rattle.bench_model.specs.Lists.{View}
 use Rattle.bench_model.specs.Equal.{StandsFor}
-use Rattle.smp_kernel.specs.Parts.{CoreView, DelayView, is_waiting, due_tasks}
+use Rattle.bench_model.specs.Cores.{CoresView}
+use Rattle.smp_kernel.specs.Parts.{DelayView, is_waiting, due_tasks}
 
 -- what a kernel of these parts shows
-abbrev pub kernel_view : Settings → CoreView → List (Option Call) → DelayView → View
+abbrev pub kernel_view : Settings → CoresView → List (Option Call) → DelayView → View
 kernel_view settings cores calls delays = record {
   settings = settings;
   control = cores.control;
@@ -25,8 +26,10 @@ kernel_view settings cores calls delays = record {
 abbrev pub IsApart : List ℕ → List Delayed → Type 0
 IsApart ready delayed = (task : ℕ) → has task ready ≡ true → is_waiting task delayed ≡ false
 
--- the parts are of the settings' sizes, and no task is ready and waits
-pub record IsKernelShape (settings : Settings) (core_part : CoreView) (call_part : List (Option Call)) (delay_part : DelayView) : Type 0 where
+-- the parts are of the settings, and no task is ready and waits
+pub record IsKernelShape (settings : Settings) (core_part : CoresView) (call_part : List (Option Call)) (delay_part : DelayView) : Type 0 where
+  pub priorities : core_part.priorities ≡ settings.priorities
+  pub slicing : core_part.slicing ≡ settings.slicing
   pub cores : length core_part.control.cores ≡ settings.cores
   pub controls : length core_part.control.tasks ≡ settings.tasks
   pub calls : length call_part ≡ settings.tasks

@@ -1,7 +1,7 @@
 ghost use Rattle.std.specs.Prelude.{◌≡◌, ◌+◌, ◌-◌, ◌<◌, ◌%◌, ◌^◌, ◌↔◌, IsErr, IfOk, Ok, Err, min};
 ghost use Rattle.bench_types.specs.Header.{header_check};
 ghost use Rattle.bench_types.specs.Step.{settings_of, step_check};
-ghost use Rattle.bench_model.specs.Control.{current};
+ghost use Rattle.bench_model.specs.Control.{core_at, current};
 ghost use Rattle.bench_model.specs.Table.{Table};
 ghost use Rattle.bench_model.specs.Start.{start};
 ghost use Rattle.bench_model.specs.Session.{step_of};
@@ -10,7 +10,7 @@ ghost use Rattle.smp_kernel.specs.Kernel.{StandsForSome};
 
 use crate::Meter;
 use crate::scheduler::Scheduler;
-use bench_types::{Header, Reply, Step};
+use bench_types::{CoreLook, Header, Reply, Step};
 use std::alloc::{AllocError, Global};
 use std::marker::Model;
 
@@ -86,6 +86,14 @@ impl Kernel {
         ensures sound { StandsForSome self.now }
     {
         self.scheduler.running(core)
+    }
+
+    /// The core's current task and its flags.
+    pub fn core_look(&self, core: u32) -> CoreLook
+        requires { core < self.now.settings.cores }
+        ensures { (table : Table) → StandsFor self.now table → result ≡ core_at table.control core }
+    {
+        self.scheduler.core_look(core)
     }
 
     /// The tick count, in ticks, as a number of 32 bits.

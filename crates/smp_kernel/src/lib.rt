@@ -4,7 +4,6 @@
 mod delays;
 mod kernel;
 mod meter;
-mod ready_cores;
 mod scheduler;
 
 pub use kernel::{Kernel, StartFault};

@@ -2,16 +2,18 @@ ghost use Rattle.std.specs.Prelude.{◌≡◌, ◌<◌, [], true, IfOk, Ok, None
 ghost use Rattle.bench_types.specs.Header.{header_check};
 ghost use Rattle.bench_types.specs.Step.{step_check, IsOfWords, IsStepOfWords};
 ghost use Rattle.bench_model.specs.Search.{has};
-ghost use Rattle.bench_model.specs.Control.{current};
+ghost use Rattle.bench_model.specs.Control.{core_at, current, is_due};
 ghost use Rattle.bench_model.specs.Start.{first_lists, unstarted, start_seen};
-ghost use Rattle.bench_model.specs.State.{call_refusal, refusal, switched, ticked, yielded, blocked, called, performed, after};
-ghost use Rattle.bench_model.specs.Lists.{list_moves, make_ready};
+ghost use Rattle.bench_model.specs.State.{call_refusal, refusal, yielded, blocked};
+ghost use Rattle.bench_model.specs.Seek.{wake, switched_and_sought, sliced};
+ghost use Rattle.bench_model.specs.Steps.{ticked, called, performed, after};
+ghost use Rattle.bench_model.specs.Lists.{list_moves};
 ghost use Rattle.smp_kernel.specs.Parts.{due_tasks};
 ghost use Rattle.smp_kernel.specs.Kernel.{IsSettled, FindsItsPlace};
 
 use crate::delays::Delays;
-use crate::ready_cores::ReadyCores;
-use bench_types::{Call, Header, Refusal, Reply, Settings, Step};
+use bench_types::{Call, CoreLook, Header, Refusal, Reply, Settings, Step};
+use ready_core::Cores;
 use std::alloc::{AllocError, Global};
 use std::marker::Model;
 
@@ -19,7 +21,7 @@ use std::marker::Model;
 #[derive(Debug, Drop)]
 pub struct Scheduler {
     settings: Settings,
-    cores: ReadyCores,
+    cores: Cores,
     /// Per task its unfinished call.
     calls: Vec<Option<Call>>,
     delays: Delays,
@@ -66,7 +68,7 @@ impl Scheduler {
         };
         Ok(Scheduler {
             settings,
-            cores: ReadyCores::new(alloc, header)?,
+            cores: Cores::new(alloc, header)?,
             calls: no_calls(alloc, tasks)?,
             delays: Delays::new(alloc, tasks, config.tick)?,
         })
@@ -79,6 +81,14 @@ impl Scheduler {
         ensures task { result < self.now.settings.tasks }
     {
         self.cores.running(core)
+    }
+
+    /// The core's current task and its flags.
+    pub fn core_look(&self, core: u32) -> CoreLook
+        requires { core < self.now.settings.cores }
+        ensures { result ≡ core_at self.now.control core }
+    {
+        self.cores.flags(core)
     }
 
     /// The tick count, in ticks.
@@ -101,6 +111,15 @@ impl Scheduler {
         }
     }
 
+    // Whether the core was asked to switch, by itself or by another.
+    fn is_due(&self, core: u32) -> bool
+        requires { core < self.now.settings.cores }
+        ensures { result ≡ is_due self.now.control core }
+    {
+        let look = self.core_look(core);
+        look.pend || look.asked
+    }
+
     // Why the step is refused, the first reason that applies.
     #[tactic(auto, unfolding(bench_model::specs::State::refusal))]
     fn refusal(&self, step: &Step) -> Option<Refusal>
@@ -111,7 +130,7 @@ impl Scheduler {
         match step {
             Step::Tick => None,
             Step::Switch { core } => {
-                if self.cores.is_due(*core) {
+                if self.is_due(*core) {
                     None
                 } else {
                     Some(Refusal::NotDue)
@@ -121,7 +140,7 @@ impl Scheduler {
                 let unfinished = unfinished_refusal(self.calls[*task as usize], *call);
                 if self.cores.running(*core) != *task {
                     Some(Refusal::Displaced)
-                } else if self.cores.is_due(*core) {
+                } else if self.is_due(*core) {
                     Some(Refusal::SwitchDue)
                 } else {
                     unfinished
@@ -131,7 +150,7 @@ impl Scheduler {
     }
 
     // What a step that is not refused answers and does.
-    #[tactic(auto, unfolding(bench_model::specs::State::performed))]
+    #[tactic(auto, unfolding(bench_model::specs::Steps::performed))]
     fn perform(&mut self, step: &Step) -> Reply
         requires { FindsItsPlace self.old step.now }
         ensures { (result, self.new) ≡ performed list_moves step.now self.old }
@@ -149,39 +168,44 @@ impl Scheduler {
         }
     }
 
-    // One tick more. Each task that has waited long enough then is made ready.
-    #[tactic(auto, unfolding(bench_model::specs::State::ticked))]
+    // One tick more. Each task that has waited long enough then is woken, and then time slices end.
     fn tick(&mut self)
         requires { due_tasks self.old.orders.delayed ≡ [] }
         ensures { self.new ≡ ticked list_moves self.old }
     {
         self.delays.advance();
         while let Some(task) = self.delays.first_due() {
-            self.make_ready(task);
+            self.wake(task);
         }
+        self.slice();
     }
 
-    // The task waits no more and goes to the end of its ready list.
-    #[tactic(auto, unfolding(bench_model::specs::Lists::make_ready))]
-    fn make_ready(&mut self, task: u32)
+    // The task waits no more, goes to the end of its ready list, and core 0 seeks a core for it.
+    fn wake(&mut self, task: u32)
         requires { task < self.old.settings.tasks }
-        ensures { self.new ≡ record self.old { orders = make_ready self.old.control task self.old.orders } }
+        ensures { self.new ≡ wake list_moves 0 task self.old }
     {
-        self.cores.make_ready(task);
+        self.cores.make_ready(0, task);
         self.delays.cancel(task);
     }
 
-    // The core runs the task that it selects.
-    #[tactic(auto, unfolding(bench_model::specs::State::switched))]
+    // The end of time slices.
+    fn slice(&mut self)
+        ensures { self.new ≡ sliced list_moves self.old }
+    {
+        self.cores.slice();
+    }
+
+    // The core runs the task that it selects, and another core is sought for the task that lost it.
     fn switch(&mut self, core: u32)
         requires { core < self.old.settings.cores }
-        ensures { self.new ≡ switched list_moves core self.old }
+        ensures { self.new ≡ switched_and_sought list_moves core self.old }
     {
-        self.cores.switch(core);
+        self.cores.select(core);
     }
 
     // What a call that is not refused answers and does.
-    #[tactic(auto, unfolding(bench_model::specs::State::called))]
+    #[tactic(auto, unfolding(bench_model::specs::Steps::called))]
     fn call(&mut self, core: u32, task: u32, call: Call) -> Reply
         requires core { core < self.old.settings.cores }
         requires task { task < self.old.settings.tasks }
@@ -228,7 +252,7 @@ impl Scheduler {
     {
         self.cores.ask(core, core);
         self.calls[task as usize] = Some(call);
-        self.cores.leave(task);
+        self.cores.unready(task);
         self.delays.delay(task, ticks);
     }
 }

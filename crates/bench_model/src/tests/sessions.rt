@@ -1,4 +1,4 @@
-//! The sessions, each step with its reply and the tasks that run behind it, core 0 first.
+//! Sessions without time slicing, each step with its reply and the tasks that run behind it, core 0 first.
 use Made::{Delay, Finish, Switch, Tick, Yield};
 use bench_types::Refusal::{Displaced, InCall, NotDue, NotInCall, SwitchDue};
 use bench_types::Reply::{self, Blocked, Done, Refused};
@@ -152,7 +152,7 @@ fn two_ties() -> &'static Group {
                 (Switch(1), Done, &[6, 2]),
                 (Tick, Done, &[6, 2]),
                 (Tick, Done, &[6, 2]),
-                (Delay(0, 6, 1), Blocked, &[6, 2]),
+                (Delay(0, 6, 1), Refused(SwitchDue), &[6, 2]),
             ],
         ],
     };
@@ -246,7 +246,7 @@ fn shared_wakes() -> &'static Group {
                 (Tick, Done, &[4, 5]),
                 (Yield(0, 4), Done, &[4, 5]),
                 (Switch(0), Done, &[2, 5]),
-                (Delay(1, 5, 5), Blocked, &[2, 5]),
+                (Delay(1, 5, 5), Refused(SwitchDue), &[2, 5]),
                 (Yield(1, 5), Refused(SwitchDue), &[2, 5]),
                 (Switch(1), Done, &[2, 3]),
             ],
@@ -259,7 +259,7 @@ fn shared_wakes() -> &'static Group {
                 (Delay(1, 4, 1), Blocked, &[5, 4]),
                 (Switch(1), Done, &[5, 0]),
                 (Tick, Done, &[5, 0]),
-                (Yield(0, 5), Done, &[5, 0]),
+                (Yield(0, 5), Refused(SwitchDue), &[5, 0]),
                 (Switch(0), Done, &[3, 0]),
                 (Finish(0, 3), Done, &[3, 0]),
                 (Delay(0, 3, 5), Blocked, &[3, 0]),
@@ -278,7 +278,7 @@ fn shared_wakes() -> &'static Group {
                 (Tick, Done, &[4, 5]),
                 (Delay(0, 4, 9), Blocked, &[4, 5]),
                 (Switch(0), Done, &[3, 5]),
-                (Delay(1, 5, 9), Blocked, &[3, 5]),
+                (Delay(1, 5, 9), Refused(SwitchDue), &[3, 5]),
                 (Switch(1), Done, &[3, 2]),
             ],
             &[
@@ -345,7 +345,7 @@ fn turn_at_once() -> &'static Group {
                 (Delay(0, 2, 1), Blocked, &[2, 4]),
                 (Switch(0), Done, &[0, 4]),
                 (Tick, Done, &[0, 4]),
-                (Yield(1, 4), Done, &[0, 4]),
+                (Yield(1, 4), Refused(SwitchDue), &[0, 4]),
                 (Switch(1), Done, &[0, 2]),
                 (Delay(1, 2, 1), Refused(InCall), &[0, 2]),
                 (Finish(1, 2), Done, &[0, 2]),
@@ -430,7 +430,7 @@ fn turn_at_third_tick() -> &'static Group {
                 (Delay(0, 3, 2), Blocked, &[3, 4, 5]),
                 (Switch(0), Done, &[6, 4, 5]),
                 (Tick, Done, &[6, 4, 5]),
-                (Delay(2, 5, 0), Done, &[6, 4, 5]),
+                (Delay(2, 5, 0), Refused(SwitchDue), &[6, 4, 5]),
             ],
         ],
     };
@@ -451,10 +451,10 @@ fn affine_tasks() -> &'static Group {
                 (Delay(1, 4, 2), Blocked, &[3, 4]),
                 (Switch(1), Done, &[3, 5]),
                 (Tick, Done, &[3, 5]),
-                (Yield(0, 3), Done, &[3, 5]),
+                (Yield(0, 3), Refused(SwitchDue), &[3, 5]),
                 (Switch(0), Done, &[2, 5]),
                 (Tick, Done, &[2, 5]),
-                (Yield(1, 5), Done, &[2, 5]),
+                (Yield(1, 5), Refused(SwitchDue), &[2, 5]),
                 (Switch(1), Done, &[2, 4]),
             ],
             &[
@@ -484,8 +484,8 @@ fn affine_tasks() -> &'static Group {
                 (Switch(1), Done, &[2, 5]),
                 (Tick, Done, &[2, 5]),
                 (Delay(0, 2, 1), Blocked, &[2, 5]),
-                (Switch(1), Refused(NotDue), &[2, 5]),
-                (Yield(0, 2), Refused(SwitchDue), &[2, 5]),
+                (Switch(1), Done, &[2, 4]),
+                (Yield(0, 2), Refused(SwitchDue), &[2, 4]),
             ],
             &[
                 (Delay(0, 2, 1), Blocked, &[2, 4]),
@@ -518,7 +518,7 @@ fn odd_masks() -> &'static Group {
                 (Delay(1, 2, 1), Blocked, &[3, 2]),
                 (Switch(1), Done, &[3, 4]),
                 (Tick, Done, &[3, 4]),
-                (Yield(1, 4), Done, &[3, 4]),
+                (Yield(1, 4), Refused(SwitchDue), &[3, 4]),
                 (Switch(1), Done, &[3, 2]),
             ],
             &[
@@ -529,7 +529,7 @@ fn odd_masks() -> &'static Group {
                 (Delay(1, 2, 1), Blocked, &[4, 2]),
                 (Switch(1), Done, &[4, 0]),
                 (Tick, Done, &[4, 0]),
-                (Delay(0, 4, 0), Done, &[4, 0]),
+                (Delay(0, 4, 0), Refused(SwitchDue), &[4, 0]),
             ],
         ],
     };
@@ -625,26 +625,6 @@ fn few_tasks() -> &'static Group {
                 (Tick, Done, &[2, 1, 0]),
                 (Tick, Done, &[2, 1, 0]),
             ],
-            &[
-                (Delay(1, 4, 1), Blocked, &[3, 4, 0]),
-                (Switch(1), Done, &[3, 1, 0]),
-                (Switch(0), Refused(NotDue), &[3, 1, 0]),
-                (Delay(0, 3, 2), Blocked, &[3, 1, 0]),
-                (Tick, Done, &[3, 1, 0]),
-                (Tick, Done, &[3, 1, 0]),
-                (Tick, Done, &[3, 1, 0]),
-                (Tick, Done, &[3, 1, 0]),
-            ],
-            &[
-                (Delay(0, 3, 2), Blocked, &[3, 4, 0]),
-                (Tick, Done, &[3, 4, 0]),
-                (Switch(2), Refused(NotDue), &[3, 4, 0]),
-                (Tick, Done, &[3, 4, 0]),
-                (Yield(1, 4), Done, &[3, 4, 0]),
-                (Tick, Done, &[3, 4, 0]),
-                (Tick, Done, &[3, 4, 0]),
-                (Finish(1, 4), Refused(SwitchDue), &[3, 4, 0]),
-            ],
         ],
     };
     GROUP
@@ -689,16 +669,6 @@ fn idle_ties() -> &'static Group {
                 (Delay(2, 5, 2), Blocked, &[7, 6, 5]),
                 (Tick, Done, &[7, 6, 5]),
             ],
-            &[
-                (Delay(2, 4, 1), Blocked, &[7, 3, 4]),
-                (Tick, Done, &[7, 3, 4]),
-                (Delay(0, 7, 2), Blocked, &[7, 3, 4]),
-                (Delay(1, 3, 2), Blocked, &[7, 3, 4]),
-                (Tick, Done, &[7, 3, 4]),
-                (Finish(1, 3), Refused(SwitchDue), &[7, 3, 4]),
-                (Tick, Done, &[7, 3, 4]),
-                (Switch(0), Done, &[7, 3, 4]),
-            ],
         ],
     };
     GROUP
@@ -718,7 +688,7 @@ fn last_core() -> &'static Group {
                 (Delay(7, 8, 1), Blocked, &[0, 1, 2, 3, 4, 5, 6, 8]),
                 (Switch(7), Done, &[0, 1, 2, 3, 4, 5, 6, 7]),
                 (Tick, Done, &[0, 1, 2, 3, 4, 5, 6, 7]),
-                (Switch(7), Refused(NotDue), &[0, 1, 2, 3, 4, 5, 6, 7]),
+                (Switch(7), Done, &[0, 1, 2, 3, 4, 5, 6, 8]),
             ],
             &[
                 (Finish(7, 8), Refused(NotInCall), &[0, 1, 2, 3, 4, 5, 6, 8]),
@@ -792,7 +762,11 @@ fn ten_tasks() -> &'static Group {
                     Refused(NotInCall),
                     &[8, 10, 11, 14, 12, 13, 9, 16],
                 ),
-                (Yield(6, 9), Done, &[8, 10, 11, 14, 12, 13, 9, 16]),
+                (
+                    Yield(6, 9),
+                    Refused(SwitchDue),
+                    &[8, 10, 11, 14, 12, 13, 9, 16],
+                ),
             ],
         ],
     };

@@ -7,7 +7,9 @@ ghost use Rattle.bench_model.specs.Equal.{StandsFor};
 use super::{Kernel, StartFault};
 use crate::Meter;
 use bench_model::replay_slow;
-use bench_types::{Call, Config, Header, Items, Name, Refusal, Reply, Row, Step, TaskArgs};
+use bench_types::{
+    Call, Config, CoreLook, Header, Items, Name, Refusal, Reply, Row, Step, TaskArgs,
+};
 use std::alloc::{AllocError, Global};
 use std::process::Abort;
 use std::test::Fail;
@@ -42,13 +44,13 @@ fn header_of(alloc: Global, config: Config, args: &[(&str, u32, u32)]) -> Result
     })
 }
 
-fn config_of(cores: u32, tick: u32) -> Config
+fn config_of(cores: u32, slicing: bool, tick: u32) -> Config
     ensures { result.cores ≡ cores }
 {
     Config {
         cores,
         priorities: 5,
-        slicing: false,
+        slicing,
         tick,
         mutexes: 0,
     }
@@ -113,19 +115,19 @@ fn play(
 }
 
 // 2 cores, and tasks A (2), B (3) and C (4), of which A has the higher priority.
-fn three_tasks(alloc: Global) -> Result<Header, AllocError>
+fn three_tasks(alloc: Global, slicing: bool) -> Result<Header, AllocError>
     ensures { IfOk result (λ header. header.config.cores ≡ 2) }
 {
     header_of(
         alloc,
-        config_of(2, 0),
+        config_of(2, slicing, 0),
         &[("A", 2, 3), ("B", 1, 3), ("C", 1, 3)],
     )
 }
 
 #[test]
 fn a_delay_and_a_yield(rt: HostRuntime) -> Result<(), Fail> {
-    let header = three_tasks(rt.alloc())?;
+    let header = three_tasks(rt.alloc(), false)?;
     let places = [
         (call(2, Call::Delay(2)), Reply::Blocked, (2, 3)),
         (Step::Switch { core: 0 }, Reply::Done, (4, 3)),
@@ -146,7 +148,7 @@ fn a_delay_and_a_yield(rt: HostRuntime) -> Result<(), Fail> {
 
 #[test]
 fn unfinished_calls(rt: HostRuntime) -> Result<(), Fail> {
-    let header = three_tasks(rt.alloc())?;
+    let header = three_tasks(rt.alloc(), false)?;
     let places = [
         (call(2, Call::Delay(1)), Reply::Blocked, (2, 3)),
         (Step::Tick, Reply::Done, (2, 3)),
@@ -189,7 +191,7 @@ fn unfinished_calls(rt: HostRuntime) -> Result<(), Fail> {
 
 #[test]
 fn one_task_alone(rt: HostRuntime) -> Result<(), Fail> {
-    let header = header_of(rt.alloc(), config_of(2, 0), &[("A", 2, 3)])?;
+    let header = header_of(rt.alloc(), config_of(2, false, 0), &[("A", 2, 3)])?;
     let places = [
         (Step::Tick, Reply::Done, (2, 0)),
         (
@@ -210,14 +212,119 @@ fn one_task_alone(rt: HostRuntime) -> Result<(), Fail> {
 }
 
 #[test]
+fn one_task_beside_two_idle_tasks(rt: HostRuntime) -> Result<(), Fail> {
+    let header = header_of(rt.alloc(), config_of(2, true, 0), &[("A", 2, 3)])?;
+    let places = [
+        (Step::Tick, Reply::Done, (2, 0)),
+        (Step::Switch { core: 1 }, Reply::Done, (2, 1)),
+    ];
+    play(
+        &rt,
+        rt.alloc(),
+        &mut Meter::new(&rt),
+        &header,
+        (2, 0),
+        &places,
+    );
+    Ok(())
+}
+
+#[test]
+fn two_tasks_take_turns(rt: HostRuntime) -> Result<(), Fail> {
+    let header = three_tasks(rt.alloc(), true)?;
+    let turns = [
+        (Step::Tick, Reply::Done, (2, 3)),
+        (Step::Switch { core: 1 }, Reply::Done, (2, 4)),
+    ];
+    play(
+        &rt,
+        rt.alloc(),
+        &mut Meter::new(&rt),
+        &header,
+        (2, 3),
+        &turns,
+    );
+    let not_due = [(
+        Step::Switch { core: 0 },
+        Reply::Refused(Refusal::NotDue),
+        (2, 3),
+    )];
+    play(
+        &rt,
+        rt.alloc(),
+        &mut Meter::new(&rt),
+        &header,
+        (2, 3),
+        &not_due,
+    );
+    Ok(())
+}
+
+#[test]
+fn a_woken_task_takes_a_core(rt: HostRuntime) -> Result<(), Fail> {
+    let header = three_tasks(rt.alloc(), true)?;
+    let [first, second] = [Step::Switch { core: 0 }, Step::Switch { core: 1 }];
+    let sleeps = [
+        (call(2, Call::Delay(2)), Reply::Blocked, (2, 3)),
+        (first, Reply::Done, (4, 3)),
+        (Step::Tick, Reply::Done, (4, 3)),
+        (first, Reply::Done, (4, 3)),
+        (second, Reply::Done, (4, 3)),
+        (Step::Tick, Reply::Done, (4, 3)),
+    ];
+    for ends in [
+        [(first, Reply::Done, (2, 3)), (second, Reply::Done, (2, 4))],
+        [(second, Reply::Done, (4, 2)), (first, Reply::Done, (3, 2))],
+    ] {
+        let mut places = Vec::from_slice(rt.alloc(), &sleeps)?;
+        places.extend_from_slice(&ends)?;
+        play(
+            &rt,
+            rt.alloc(),
+            &mut Meter::new(&rt),
+            &header,
+            (2, 3),
+            &places,
+        );
+    }
+    Ok(())
+}
+
+fn flags(kernel: &Kernel) -> [(bool, bool); 2]
+    requires { kernel.now.settings.cores ≡ 2 }
+{
+    let (first, second) = (kernel.core_look(0), kernel.core_look(1));
+    [(first.pend, first.asked), (second.pend, second.asked)]
+}
+
+#[test]
+fn looks_of_cores(rt: HostRuntime) -> Result<(), Fail> {
+    let header = three_tasks(rt.alloc(), true)?;
+    let mut meter = Meter::new(&rt);
+    let mut kernel = started(&rt, rt.alloc(), &header);
+    assert_eq!(rt; flags(&kernel), [(false, false), (false, false)]);
+    step(&rt, &mut kernel, &mut meter, &header, &call(2, Call::Yield));
+    assert_eq!(rt; flags(&kernel), [(true, false), (false, false)]);
+    step(&rt, &mut kernel, &mut meter, &header, &Step::Tick);
+    assert_eq!(rt; flags(&kernel), [(true, false), (false, true)]);
+    let look = CoreLook {
+        current: 3,
+        pend: false,
+        asked: true,
+    };
+    assert_eq!(rt; kernel.core_look(1), look);
+    Ok(())
+}
+
+#[test]
 fn a_bad_header(rt: HostRuntime) -> Result<(), Fail> {
-    let header = header_of(rt.alloc(), config_of(1, 0), &[("A", 2, 3)])?;
+    let header = header_of(rt.alloc(), config_of(1, false, 0), &[("A", 2, 3)])?;
     let started = Kernel::start(rt.alloc(), &header);
     assert!(rt; matches!(started, Err(StartFault::BadHeader)));
     Ok(())
 }
 
-// A header of 8 cores and 64 tasks, with the last 96 ticks before the tick count wraps.
+// A header of 8 cores and 64 tasks with time slicing, with the last 96 ticks before the tick count wraps.
 fn large_header(alloc: Global) -> Result<Header, AllocError>
     ensures { IfOk result (λ header. header.config.cores ≡ 8) }
 {
@@ -233,12 +340,12 @@ fn large_header(alloc: Global) -> Result<Header, AllocError>
         }
     }
     Ok(Header {
-        config: config_of(8, 4_294_967_200),
+        config: config_of(8, true, 4_294_967_200),
         tasks: Items::new(tasks),
     })
 }
 
-// Some step, chosen by a number of 16 bits, of the current task of a core or of any user task.
+// Some step, chosen by a number of 16 bits: mostly a switch of a core that is due, or a call of its current task.
 fn some_step(kernel: &Kernel, choice: u32) -> Step
     requires cores { kernel.now.settings.cores ≡ 8 }
     requires choice { choice < 2 ^ 16 }
@@ -251,25 +358,16 @@ fn some_step(kernel: &Kernel, choice: u32) -> Step
     } else {
         running
     };
-    match choice / 8 % 16 {
-        0..=3 => Step::Tick,
-        4..=8 => Step::Switch { core },
-        9..=10 => Step::Call {
-            core,
-            task,
-            call: Call::Yield,
-        },
-        11..=13 => Step::Call {
-            core,
-            task,
-            call: Call::Delay(chooser),
-        },
-        _ => Step::Call {
-            core,
-            task,
-            call: Call::Finish,
-        },
-    }
+    let look = kernel.core_look(core);
+    let call = match choice / 8 % 16 {
+        0 => return Step::Tick,
+        15 => return Step::Switch { core },
+        _ if look.pend || look.asked => return Step::Switch { core },
+        1..=2 => Call::Yield,
+        3..=7 => Call::Delay(chooser),
+        _ => Call::Finish,
+    };
+    Step::Call { core, task, call }
 }
 
 fn code_of(reply: Reply) -> u32 {
@@ -302,13 +400,13 @@ fn with_running(digest: u32, kernel: &Kernel) -> u32
 
 // The digest and the last tick count were computed by a program that was written apart from this one, over a flat table.
 #[test]
-fn a_thousand_steps(rt: HostRuntime) -> Result<(), Fail> {
+fn two_thousand_steps(rt: HostRuntime) -> Result<(), Fail> {
     let header = large_header(rt.alloc())?;
     let mut meter = Meter::new(&rt);
     let mut kernel = started(&rt, rt.alloc(), &header);
     let mut random: u32 = 1;
     let mut digest: u32 = 0;
-    for _ in 0..1000 {
+    for _ in 0..2000 {
         random = random.wrapping_mul(1_664_525).wrapping_add(1_013_904_223);
         let next = some_step(&kernel, random >> 16);
         let reply = step(&rt, &mut kernel, &mut meter, &header, &next);
@@ -316,12 +414,12 @@ fn a_thousand_steps(rt: HostRuntime) -> Result<(), Fail> {
     }
     assert_eq!(rt;
         (digest, kernel.tick(), meter.count()),
-        (1_016_326_939, 166, 1000)
+        (370_025_982, 32, 2000)
     );
     Ok(())
 }
 
-// A thousand steps of which most are not refused.
+// Two thousand steps of which most are not refused.
 fn some_steps(
     rt: &impl Abort,
     alloc: Global,
@@ -330,10 +428,10 @@ fn some_steps(
 ) -> Result<Vec<Step>, AllocError>
     requires { header.now.config.cores ≡ 8 }
 {
-    let mut steps = Vec::with_capacity(alloc, 1000)?;
+    let mut steps = Vec::with_capacity(alloc, 2000)?;
     let mut kernel = started(rt, alloc, header);
     let mut random: u32 = 1;
-    for _ in 0..1000 {
+    for _ in 0..2000 {
         random = random.wrapping_mul(1_664_525).wrapping_add(1_013_904_223);
         let next = some_step(&kernel, random >> 16);
         step(rt, &mut kernel, meter, header, &next);
@@ -367,7 +465,7 @@ fn as_the_definitions_replay_it(rt: HostRuntime) -> Result<(), Fail> {
     let steps = some_steps(&rt, rt.alloc(), &mut meter, &header)?;
     assert!(rt; are_checked(&header, &steps));
     let outcomes = replay_slow(&rt, rt.alloc(), &header, &steps)?;
-    assert_eq!(rt; outcomes.len(), 1000);
+    assert_eq!(rt; outcomes.len(), 2000);
     let mut kernel = started(&rt, rt.alloc(), &header);
     for (next, (reply, row)) in steps.iter().zip(&outcomes) {
         assert_eq!(rt; step(&rt, &mut kernel, &mut meter, &header, next), *reply);
@@ -378,7 +476,7 @@ fn as_the_definitions_replay_it(rt: HostRuntime) -> Result<(), Fail> {
 
 #[test]
 fn two_steps(rt: HostRuntime) -> Result<(), Fail> {
-    let header = three_tasks(rt.alloc())?;
+    let header = three_tasks(rt.alloc(), false)?;
     let mut meter = Meter::new(&rt);
     let mut kernel = started(&rt, rt.alloc(), &header);
     let tick = Step::Tick;

@@ -1,4 +1,4 @@
-use Rattle.bench_model.proofs.SeenSteps.{after_seen}
+use Rattle.bench_model.proofs.Steps.{after_seen}
 use Rattle.bench_model.proofs.laws.step_is_seen.Goals as goal
 
 pub returns : goal.returns

@@ -1,4 +1,4 @@
-use Rattle.bench_model.proofs.SoundSteps.{after_sound}
+use Rattle.bench_model.proofs.Steps.{after_sound}
 use Rattle.bench_model.proofs.laws.step_keeps_sound.Goals as goal
 
 pub returns : goal.returns

@@ -1,5 +1,5 @@
 use Rattle.std.proofs.Common.{arith}
-use Rattle.smp_kernel.proofs.Listings.{listing_without}
+use Rattle.ready_core.proofs.Listings.{listing_without}
 use Rattle.smp_kernel.proofs.Waits.{map-cancelled, seen_cancel}
 use Rattle.smp_kernel.proofs.delays.Delays.cancel.Goals as goal
 

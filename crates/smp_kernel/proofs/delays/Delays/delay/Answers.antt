@@ -2,7 +2,7 @@ use Rattle.std.proofs.Common.{◌<◌, ap, arith}
 use Rattle.std.proofs.lemmas.List.{map-append, length-map}
 use Rattle.bench_types.specs.declared.kernel_data.Delayed.{Delayed}
 use Rattle.smp_kernel.specs.Parts.{DelayView}
-use Rattle.smp_kernel.proofs.Listings.{listing_push, listing_room}
+use Rattle.ready_core.proofs.Listings.{listing_push, listing_room}
 use Rattle.smp_kernel.proofs.Waits.{seen_free, seen_delay}
 use Rattle.smp_kernel.proofs.delays.Delays.delay.Goals as goal
 

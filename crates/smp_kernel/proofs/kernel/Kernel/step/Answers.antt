@@ -1,5 +1,5 @@
 use Rattle.std.proofs.Common.{◌∙◌, ap}
-use Rattle.bench_model.specs.State.{after}
+use Rattle.bench_model.specs.Steps.{after}
 use Rattle.bench_model.specs.Lists.{list_moves}
 use Rattle.bench_model.specs.Session.{step_of}
 use Rattle.smp_kernel.proofs.Stands.{settled_of, reply_of, stands_after, settings_after}

@@ -4,7 +4,9 @@ use Rattle.smp_kernel.proofs.Apart.{apart_waiting}
 use Rattle.smp_kernel.proofs.scheduler.Scheduler.block.Goals as goal
 
 pub invariant_of-self : goal.invariant_of-self
-invariant_of-self c = rw (c.delay.ensures, c.leave.ensures, c.ask.ensures) (record {
+invariant_of-self c = rw (c.delay.ensures, c.unready.ensures, c.ask.ensures) (record {
+  priorities = c.self.invariant.priorities;
+  slicing = c.self.invariant.slicing;
   cores = length-set _ c.args.core _ ∙ c.self.invariant.cores;
   controls = c.self.invariant.controls;
   calls = length-set _ c.args.task _ ∙ c.self.invariant.calls;

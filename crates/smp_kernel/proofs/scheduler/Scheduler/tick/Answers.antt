@@ -8,6 +8,8 @@ use Rattle.smp_kernel.proofs.scheduler.Scheduler.tick.Goals as goal
 pub invariant_of-self : goal.invariant_of-self
 unfolding advanced
 invariant_of-self c = rw c.advance.ensures (record {
+  priorities = c.self.invariant.priorities;
+  slicing = c.self.invariant.slicing;
   cores = c.self.invariant.cores;
   controls = c.self.invariant.controls;
   calls = c.self.invariant.calls;
@@ -22,10 +24,10 @@ pub loop-task-smaller : goal.loop-task-smaller
 loop-task-smaller c =
     let task = c.in-Some.task in
     let first = subst (λ (view : View). due_tasks view.orders.delayed ≡ task ∷ due_tasks (cancelled task view.orders.delayed)) c.self-in-loop-task.view_is c.in-Some.ensures.first in
-    due_fewer c.loop-task.self c.make_ready.new.self task first c.make_ready.ensures
+    due_fewer c.loop-task.self c.wake.new.self task first c.wake.ensures
 
 pub loop-task-preserved : goal.loop-task-preserved
 loop-task-preserved c =
     let task = c.in-Some.task in
     let first = subst (λ (view : View). due_tasks view.orders.delayed ≡ task ∷ due_tasks (cancelled task view.orders.delayed)) c.self-in-loop-task.view_is c.in-Some.ensures.first in
-    ap settled_from c.make_ready.ensures ∙ ticked_more c.loop-task.self task first ∙ c.loop-task.invariant
+    ap settled_from c.wake.ensures ∙ ticked_more c.loop-task.self task first ∙ c.loop-task.invariant

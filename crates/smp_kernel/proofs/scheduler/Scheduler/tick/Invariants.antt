@@ -1,11 +1,11 @@
 use Rattle.std.proofs.Common.{◌≡◌, length}
-use Rattle.bench_model.specs.State.{ticked}
+use Rattle.bench_model.specs.Steps.{ticked}
 use Rattle.bench_model.specs.Lists.{list_moves}
 use Rattle.smp_kernel.specs.Parts.{due_tasks}
 use Rattle.smp_kernel.proofs.Ticks.{settled_from}
 use Rattle.smp_kernel.proofs.scheduler.Scheduler.tick.Given as goal
 
--- making ready the tasks that are still due ends the tick
+-- waking the tasks that are still due, and slicing, ends the tick
 abbrev pub invariant-loop-task : goal.invariant-loop-task
 invariant-loop-task l = settled_from l.self ≡ ticked list_moves l.fn.self
 

@@ -1,0 +1,112 @@
+-- Each step: over lists it is the step of what was seen of the table before, and it keeps a sound table sound.
+use Rattle.std.proofs.Common.{◌≡◌, ℕ, ◌<◌, ◌≤◌, Bool, true, false, cond, eqb, length, Option, Some, None, refl, sym, ap, subst, ◌∙◌, arith}
+use Rattle.std.specs.Prelude.{slice_set}
+use Rattle.std.specs.Option.{option_map_or}
+use Rattle.std.proofs.lemmas.Bool.Decides.{nat_tests}
+use Rattle.std.proofs.lemmas.List.{length-set}
+use Rattle.bench_types.specs.declared.reply.Reply.{Reply}
+use Rattle.bench_types.specs.declared.reply.Reply.TheVariants.{Done, Blocked, Refused}
+use Rattle.bench_types.specs.declared.reply.Refusal.{Refusal}
+use Rattle.bench_types.specs.declared.step.Step.{Step}
+use Rattle.bench_types.specs.declared.step.Step.TheVariants.{Tick, Switch}
+use Rattle.bench_types.specs.declared.step.Step.TheVariants as steps
+use Rattle.bench_types.specs.declared.step.Call.{Call}
+use Rattle.bench_types.specs.declared.step.Call.TheVariants.{Yield, Delay, Finish}
+use Rattle.bench_types.proofs.Passes.{both_pass, checked_task}
+use Rattle.bench_types.specs.Step.{IsCheckedStep, IsCheckedCall, core_check, task_check, call_check, ◌>>◌}
+use Rattle.bench_model.specs.State.{refusal, yielded, blocked}
+use Rattle.bench_model.specs.Steps.{called, performed, after}
+use Rattle.bench_model.specs.Table.{Table, table_moves, is_ready}
+use Rattle.bench_model.specs.Lists.{View, list_moves, image}
+use Rattle.bench_model.specs.Laws.{seen_of}
+use Rattle.bench_model.specs.Equal.{Same}
+use Rattle.bench_model.specs.Session.{step_of}
+use Rattle.bench_model.specs.Sound.{IsInPlace, IsSound}
+use Rattle.bench_model.proofs.Restamps.{IsGiven}
+use Rattle.bench_model.proofs.SeenSteps.{yielded_seen, blocked_seen, in_place}
+use Rattle.bench_model.proofs.SoundSteps.{call_set, yielded_sound, blocked_sound}
+use Rattle.bench_model.proofs.Seeks.{sought_switch_seen, sought_switch_sound}
+use Rattle.bench_model.proofs.Ticks.{ticked_seen, ticked_sound}
+
+abbrev outcome_from : Reply → View → Reply × View
+outcome_from reply view = (reply, view)
+
+same_outcome : (reply : Reply) (one other : View) → one ≡ other → outcome_from reply one ≡ outcome_from reply other
+same_outcome reply one other a = ap (λ view. outcome_from reply view) a
+
+pub called_seen : (core task : ℕ) (call : Call) (table : Table) → IsGiven table.orders → task < length table.orders.rows → is_ready task table.orders ≡ true → seen_of (called table_moves core task call table) ≡ called list_moves core task call (image table)
+unfolding called
+called_seen core task Yield table given below ready = same_outcome Done _ _ (yielded_seen core table)
+called_seen core task (Delay ticks) table given below ready = either (eqb ticks 0)
+  where
+    either : (b : Bool) → seen_of (cond b (Done, yielded table_moves core table) (Blocked, blocked table_moves core task (Delay ticks) ticks table)) ≡ cond b (Done, yielded list_moves core (image table)) (Blocked, blocked list_moves core task (Delay ticks) ticks (image table))
+    either true = same_outcome Done _ _ (yielded_seen core table)
+    either false = same_outcome Blocked _ _ (blocked_seen core task (Delay ticks) ticks table given below ready)
+called_seen core task Finish table given below ready = refl
+
+pub performed_seen : (step : Step) (table : Table) → IsSound table → IsInPlace table step → seen_of (performed table_moves step table) ≡ performed list_moves step (image table)
+unfolding performed
+performed_seen Tick table sound place = same_outcome Done _ _ (ticked_seen table sound)
+performed_seen (Switch core) table sound place = same_outcome Done _ _ (sought_switch_seen table core sound (omega (arith, sound.sized.cores, place)))
+performed_seen (steps.Call core task call) table sound place = called_seen core task call table sound.stamped.given place.2 place.3
+
+after_from : (step : Step) (table : Table) (why : Option Refusal) → (why ≡ None → seen_of (performed table_moves step table) ≡ performed list_moves step (image table)) → seen_of (option_map_or (λ why. (Refused why, table)) why (performed table_moves step table)) ≡ option_map_or (λ why. (Refused why, image table)) why (performed list_moves step (image table))
+after_from step table None performs = performs refl
+after_from step table (Some why) performs = refl
+
+pub after_seen : (step : Step) (table : Table) → IsSound table → IsCheckedStep table.settings step → seen_of (after table_moves step table) ≡ after list_moves step (image table)
+unfolding after
+after_seen step table sound checked = after_from step table (refusal table.control table.calls step) (λ accepted. performed_seen step table sound (in_place step table sound checked.passes accepted))
+
+-- equal tables take every step alike
+pub equal_after : (a b : Table) (step : Step) → IsSound a → IsSound b → Same a b → IsCheckedStep a.settings step → ((step_of step a).0 ≡ (step_of step b).0) × Same (step_of step a).1 (step_of step b).1
+equal_after a b step sound other same checked =
+    let settings = ap (λ (view : View). view.settings) same in
+    let both : seen_of (step_of step a) ≡ seen_of (step_of step b) = after_seen step a sound checked ∙ ap (after list_moves step) same ∙ sym (after_seen step b other (subst (λ s. IsCheckedStep s step) settings checked)) in
+    (ap (λ (r : Reply × View). r.0) both, ap (λ (r : Reply × View). r.1) both)
+
+-- a call of a checked step on its core
+module _ (table : Table) (sound : IsSound table) (core task : ℕ) (call : Call) (place : IsInPlace table (steps.Call core task call)) (checked : IsCheckedCall table.settings call) (user : length table.control.cores ≤ task) where
+  finished_sound : IsSound (record table { calls = slice_set table.calls task None })
+  finished_sound = record {
+    sized = record {
+      cores = sound.sized.cores;
+      controls = sound.sized.controls;
+      calls = length-set table.calls task None ∙ sound.sized.calls;
+      rows = sound.sized.rows;
+      some_core = sound.sized.some_core;
+      idle_tasks = sound.sized.idle_tasks;
+    };
+    stamped = sound.stamped;
+    in_place = sound.in_place;
+    in_time = sound.in_time;
+    priorities = sound.priorities;
+    calls = call_set table.settings table.calls task None (omega (arith, sound.sized.calls, sound.sized.rows, place.2)) (λ other same. absurd (cc (same))) sound.calls;
+  }
+
+pub called_sound : (core task : ℕ) (call : Call) (table : Table) → IsSound table → IsInPlace table (steps.Call core task call) → IsCheckedCall table.settings call → length table.control.cores ≤ task → IsSound (called table_moves core task call table).1
+unfolding called
+called_sound core task Yield table sound place checked user = yielded_sound core table sound place.0
+called_sound core task (Delay ticks) table sound place checked user = either (eqb ticks 0) refl
+  where
+    either : (b : Bool) → eqb ticks 0 ≡ b → IsSound (cond {A = Reply × Table} b (Done, yielded table_moves core table) (Blocked, blocked table_moves core task (Delay ticks) ticks table)).1
+    either true none = yielded_sound core table sound place.0
+    either false some = blocked_sound core task (Delay ticks) ticks table sound place checked user (grind (arith, nat_tests, some)) checked.words
+called_sound core task Finish table sound place checked user = finished_sound table sound core task Finish place checked user
+
+pub performed_sound : (step : Step) (table : Table) → IsSound table → IsCheckedStep table.settings step → IsInPlace table step → IsSound (performed table_moves step table).1
+unfolding performed
+performed_sound Tick table sound checked place = ticked_sound table sound
+performed_sound (Switch core) table sound checked place = sought_switch_sound table core sound (omega (arith, sound.sized.cores, place))
+performed_sound (steps.Call core task call) table sound checked place =
+    let last = both_pass (core_check table.settings core >> task_check table.settings task) (call_check table.settings call) checked.passes in
+    let first = both_pass (core_check table.settings core) (task_check table.settings task) last.0 in
+    called_sound core task call table sound place (record { passes = last.1; words = checked.words }) (omega (arith, sound.sized.cores, (checked_task table.settings task first.1).0))
+
+pub after_sound : (step : Step) (table : Table) → IsSound table → IsCheckedStep table.settings step → IsSound (after table_moves step table).1
+unfolding after
+after_sound step table sound checked = from (refusal table.control table.calls step) refl
+  where
+    from : (why : Option Refusal) → refusal table.control table.calls step ≡ why → IsSound (option_map_or {U = Reply × Table} (λ why. (Refused why, table)) why (performed table_moves step table)).1
+    from None accepted = performed_sound step table sound checked (in_place step table sound checked.passes accepted)
+    from (Some why) refused = sound

@@ -1,0 +1,40 @@
+-- The cores, the control blocks and the ready lists: the part of what can be seen of a kernel that its choices of cores and of
+-- tasks read and change.
+use Rattle.std.specs.Prelude.{ℕ, List, [], length, Bool, ◌==◌}
+use Rattle.std.specs.Int.{bit_at}
+use Rattle.bench_model.specs.Control.{Control}
+use Rattle.bench_model.specs.Lists.{View}
+
+pub record CoresView : Type 0 where
+  pub priorities : ℕ
+  pub slicing : Bool
+  pub control : Control
+  -- the ready tasks, running ones too: the greatest priority in use first, each priority in the order of its ready list
+  pub ready : List ℕ
+
+-- the part of what can be seen of a kernel
+abbrev pub cores_of : View → CoresView
+cores_of view = record { priorities = view.settings.priorities; slicing = view.settings.slicing; control = view.control; ready = view.orders.ready }
+
+-- a kernel of which this is the part, where no task waits or is in a call
+abbrev pub alone : CoresView → View
+alone cores = record {
+  settings = record {
+    cores = length cores.control.cores;
+    priorities = cores.priorities;
+    slicing = cores.slicing;
+    mutexes = 0;
+    tasks = length cores.control.tasks;
+  };
+  control = cores.control;
+  calls = [];
+  orders = record { ready = cores.ready; tick = 0; delayed = [] };
+}
+
+-- what a rule of whole kernels does to this part
+abbrev pub on_cores : (View → View) → CoresView → CoresView
+on_cores rule cores = cores_of (rule (alone cores))
+
+-- the bit of the core is set among those of a mask
+abbrev pub has_core : ℕ → ℕ → Bool
+has_core mask core = bit_at mask core == 1

@@ -1,0 +1,81 @@
+-- The laws of cores and ready lists, and of changes of a control block. Each is the contract of a public function.
+use Rattle.std.specs.Prelude.{◌≡◌, ℕ, ◌<◌, List, [], ◌∷◌, length, Bool, true}
+use Rattle.bench_types.specs.declared.header.Header.{Header}
+use Rattle.bench_types.specs.declared.kernel_data.TaskControl.{TaskControl}
+use Rattle.bench_model.specs.Control.{Control, task_at, ask}
+use Rattle.bench_model.specs.Search.{without}
+use Rattle.bench_model.specs.Table.{Stamps, Table, table_moves, is_ready, delay}
+use Rattle.bench_model.specs.Lists.{list_moves, lists_of, image}
+use Rattle.bench_model.specs.Seek.{seek, wake, switched_and_sought, sliced}
+use Rattle.bench_model.specs.SeekLaws.{sought}
+use Rattle.bench_model.specs.Changes.{with_task, with_base, with_affinity, in_use_set}
+use Rattle.bench_model.specs.Cores.{CoresView, cores_of, on_cores}
+use Rattle.bench_model.specs.Sound.{IsStamped, IsBelow, IsSound}
+use Rattle.bench_model.specs.Start.{start}
+use Rattle.bench_model.specs.Examples.{three_tasks, waiting}
+
+-- the cores and ready lists that are seen of a table
+abbrev pub cores_seen : Table → CoresView
+cores_seen table = cores_of (image table)
+
+-- a change of a control block that keeps the priority in use changes no order of tasks
+abbrev pub ChangeIsApart : Type 0
+ChangeIsApart = (control : Control) (stamps : Stamps) (task : ℕ) (block : TaskControl) → block.in_use ≡ (task_at control task).in_use →
+    lists_of (with_task task block control) stamps ≡ lists_of control stamps
+
+-- and it keeps a table sound where both its priorities are below their number
+abbrev pub ChangeKeepsSound : Type 0
+ChangeKeepsSound = (table : Table) (task : ℕ) (block : TaskControl) → IsSound table → IsBelow table.settings.priorities block →
+    IsSound (record table { control = with_task task block table.control })
+
+-- seen as lists, setting the priority in use in a table is setting it over lists
+abbrev pub InUseIsSeen : Type 0
+InUseIsSeen = (table : Table) (task priority : ℕ) → IsSound table → task < table.settings.tasks →
+    image (in_use_set table_moves task priority table) ≡ in_use_set list_moves task priority (image table)
+
+abbrev pub InUseKeepsSound : Type 0
+InUseKeepsSound = (table : Table) (task priority : ℕ) → IsSound table → task < table.settings.tasks → priority < table.settings.priorities →
+    IsSound (in_use_set table_moves task priority table)
+
+-- what each rule does to the cores and ready lists that are seen of a table depends on them alone
+
+abbrev pub AskOnCores : Type 0
+AskOnCores = (table : Table) (acting core : ℕ) →
+    cores_seen (record table { control = ask acting core table.control }) ≡ record (cores_seen table) { control = ask acting core table.control }
+
+abbrev pub SeekOnCores : Type 0
+SeekOnCores = (table : Table) (acting task : ℕ) (among : ℕ → Bool) →
+    cores_seen (sought acting task among table) ≡ record (cores_seen table) { control = seek acting task among table.control }
+
+abbrev pub WakeOnCores : Type 0
+WakeOnCores = (table : Table) (acting task : ℕ) → IsStamped table.orders → task < length table.orders.rows →
+    cores_seen (wake table_moves acting task table) ≡ on_cores (wake list_moves acting task) (cores_seen table)
+
+abbrev pub WaitOnCores : Type 0
+WaitOnCores = (table : Table) (task ticks : ℕ) → IsSound table → task < table.settings.tasks → is_ready task table.orders ≡ true →
+    cores_seen (record table { orders = delay task ticks table.orders }) ≡ record (cores_seen table) { ready = without task (cores_seen table).ready }
+
+abbrev pub SwitchOnCores : Type 0
+SwitchOnCores = (table : Table) (core : ℕ) → IsSound table → core < table.settings.cores →
+    cores_seen (switched_and_sought table_moves core table) ≡ on_cores (switched_and_sought list_moves core) (cores_seen table)
+
+abbrev pub SlicesOnCores : Type 0
+SlicesOnCores = (table : Table) → IsSound table → cores_seen (sliced table_moves table) ≡ on_cores (sliced list_moves) (cores_seen table)
+
+abbrev pub InUseOnCores : Type 0
+InUseOnCores = (table : Table) (task priority : ℕ) → IsSound table → task < table.settings.tasks →
+    cores_seen (in_use_set table_moves task priority table) ≡ on_cores (in_use_set list_moves task priority) (cores_seen table)
+
+-- the ready tasks behind setting a priority in use, in the start of tasks 2, 3 and 4 with priorities 2, 1 and 1
+abbrev pub ready_behind : ℕ → ℕ → List ℕ
+ready_behind task priority = (cores_seen (in_use_set table_moves task priority (start three_tasks))).ready
+
+pub record WorkedChanges : Type 0 where
+  pub before : (cores_seen (start three_tasks)).ready ≡ 2 ∷ 3 ∷ 4 ∷ 0 ∷ 1 ∷ []
+  pub same_priority : ready_behind 3 1 ≡ 2 ∷ 4 ∷ 3 ∷ 0 ∷ 1 ∷ []
+  pub raised : ready_behind 3 2 ≡ 2 ∷ 3 ∷ 4 ∷ 0 ∷ 1 ∷ []
+  pub lowered : ready_behind 2 1 ≡ 3 ∷ 4 ∷ 2 ∷ 0 ∷ 1 ∷ []
+  pub lowest : ready_behind 2 0 ≡ 3 ∷ 4 ∷ 0 ∷ 1 ∷ 2 ∷ []
+  pub blocked_stays : (cores_seen (in_use_set table_moves 2 1 waiting)).ready ≡ (cores_seen waiting).ready
+  pub cut_mask : (task_at (with_affinity 3 6 (start three_tasks).control) 3).mask ≡ 2
+  pub base_alone : (task_at (with_base 3 4 (start three_tasks).control) 3) ≡ record (task_at (start three_tasks).control 3) { base = 4 }

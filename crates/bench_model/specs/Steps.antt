@@ -1,0 +1,38 @@
+-- The rules of the steps, over orders of tasks that are kept in one way or another.
+use Rattle.std.specs.Prelude.{ℕ, List, fold, ◌==◌, None, if◌then◌else◌, Some, slice_set}
+use Rattle.std.specs.Option.{option_map_or}
+use Rattle.bench_types.specs.declared.reply.Reply.{Reply}
+use Rattle.bench_types.specs.declared.reply.Reply.TheVariants.{Done, Blocked, Refused}
+use Rattle.bench_types.specs.declared.step.Step.{Step}
+use Rattle.bench_types.specs.declared.step.Step.TheVariants.{Tick, Switch}
+use Rattle.bench_types.specs.declared.step.Step.TheVariants as steps
+use Rattle.bench_types.specs.declared.step.Call.{Call}
+use Rattle.bench_types.specs.declared.step.Call.TheVariants.{Yield, Delay, Finish}
+use Rattle.bench_model.specs.State.{State, Moves, refusal, yielded, blocked}
+use Rattle.bench_model.specs.Seek.{wake, switched_and_sought, sliced}
+
+module _ {Orders : Type 0} (moves : Moves Orders) where
+  -- the tasks are woken in turn, by core 0
+  abbrev pub woken : List ℕ → State Orders → State Orders
+  woken tasks state = fold (λ later task. wake moves 0 task later) state tasks
+
+  -- The tick: each task that has waited long enough is woken, and then time slices end (V11 tasks.c, xTaskIncrementTick).
+  unfoldable pub ticked : State Orders → State Orders
+  ticked state = let later = moves.advance state.orders in sliced moves (woken (moves.due later) (record state { orders = later }))
+
+  -- What a call that is not refused answers and does (FreeRTOS Reference Manual, taskYIELD and vTaskDelay).
+  unfoldable pub called : ℕ → ℕ → Call → State Orders → Reply × State Orders
+  called core task Yield state = (Done, yielded moves core state)
+  called core task (Delay ticks) state =
+      if ticks == 0 then (Done, yielded moves core state) else (Blocked, blocked moves core task (Delay ticks) ticks state)
+  called core task Finish state = (Done, record state { calls = slice_set state.calls task None })
+
+  -- what a step that is not refused answers and does
+  unfoldable pub performed : Step → State Orders → Reply × State Orders
+  performed Tick state = (Done, ticked state)
+  performed (Switch core) state = (Done, switched_and_sought moves core state)
+  performed (steps.Call core task call) state = called core task call state
+
+  -- The step: its reply and the state afterwards. A refused step changes nothing.
+  unfoldable pub after : Step → State Orders → Reply × State Orders
+  after step state = option_map_or (λ why. (Refused why, state)) (refusal state.control state.calls step) (performed step state)

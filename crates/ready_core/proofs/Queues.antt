@@ -1,0 +1,84 @@
+-- What a queue of ready tasks shows when a task leaves it or comes to its end, and when a priority in use changes.
+use Rattle.std.proofs.Common.{◌≡◌, ℕ, Bool, true, false, cond, not, eqb, List, [], ◌∷◌, ◌++◌, sym, ap, ◌∙◌}
+use Rattle.bench_types.specs.declared.kernel_data.TaskControl.{TaskControl}
+use Rattle.bench_model.specs.Search.{placed, ranked, without, has}
+use Rattle.bench_model.specs.Control.{Control}
+use Rattle.bench_model.specs.Lists.{list_moves, make_ready, outranks}
+use Rattle.bench_model.specs.Changes.{with_task, with_in_use, in_use_set}
+use Rattle.bench_model.specs.Cores.{CoresView, cores_of, alone, on_cores}
+use Rattle.bench_model.proofs.Changes.{others_stay}
+use Rattle.bench_model.proofs.Ranks.{ranked-push, filter-ranked, list_any-ranked}
+use Rattle.bench_model.proofs.SeenMoves.{outranks-IsRank, without_absent}
+use Rattle.ready_core.specs.Fields.{seen_of}
+
+pub ready-without : (control : Control) (task : ℕ) (queue : List ℕ) → ranked (outranks control) (without task queue) ≡ without task (ranked (outranks control) queue)
+ready-without control task queue = sym (filter-ranked (outranks control) (outranks-IsRank control) (λ m. not (eqb m task)) queue)
+
+pub ready-last : (control : Control) (task : ℕ) (queue : List ℕ) → ranked (outranks control) (without task queue ++ task ∷ []) ≡ placed (outranks control) task (without task (ranked (outranks control) queue))
+ready-last control task queue = ranked-push (outranks control) (without task queue) task ∙ ap (placed (outranks control) task) (ready-without control task queue)
+
+pub ready-has : (control : Control) (task : ℕ) (queue : List ℕ) → has task (ranked (outranks control) queue) ≡ has task queue
+ready-has control task queue = list_any-ranked (outranks control) (λ m. eqb m task) queue
+
+-- with another control block for the task, which then goes to the end of its list
+pub ready_changed_last : (control : Control) (task : ℕ) (block : TaskControl) (queue : List ℕ) → ranked (outranks (with_task task block control)) (without task queue ++ task ∷ []) ≡ placed (outranks (with_task task block control)) task (without task (ranked (outranks control) queue))
+ready_changed_last control task block queue = ready-last (with_task task block control) task queue ∙ ap (placed (outranks (with_task task block control)) task) (others_stay control task block queue)
+
+-- with another control block for a task that is not ready
+pub ready_changed : (control : Control) (task : ℕ) (block : TaskControl) (queue : List ℕ) → has task queue ≡ false → ranked (outranks (with_task task block control)) queue ≡ ranked (outranks control) queue
+ready_changed control task block queue absent =
+    sym (without_absent task (ranked (outranks (with_task task block control)) queue) (ready-has (with_task task block control) task queue ∙ absent))
+    ∙ others_stay control task block queue
+    ∙ without_absent task (ranked (outranks control) queue) (ready-has control task queue ∙ absent)
+
+-- the same on what can be seen
+pub seen_leave : (priorities : ℕ) (slicing : Bool) (control : Control) (queue : List ℕ) (task : ℕ) (view : CoresView) → seen_of priorities slicing control queue ≡ view → seen_of priorities slicing control (without task queue) ≡ record view { ready = without task view.ready }
+seen_leave priorities slicing control queue task view shows =
+    ap (λ ready. record (seen_of priorities slicing control queue) { ready = ready }) (ready-without control task queue)
+    ∙ ap (λ (v : CoresView). record v { ready = without task v.ready }) shows
+
+pub seen_last : (priorities : ℕ) (slicing : Bool) (control : Control) (queue : List ℕ) (task : ℕ) (view : CoresView) → seen_of priorities slicing control queue ≡ view → seen_of priorities slicing control (without task queue ++ task ∷ []) ≡ record view { ready = placed (outranks view.control) task (without task view.ready) }
+seen_last priorities slicing control queue task view shows =
+    ap (λ ready. record (seen_of priorities slicing control queue) { ready = ready }) (ready-last control task queue)
+    ∙ ap (λ (v : CoresView). record v { ready = placed (outranks v.control) task (without task v.ready) }) shows
+
+pub seen_has : (priorities : ℕ) (slicing : Bool) (control : Control) (queue : List ℕ) (task : ℕ) (view : CoresView) → seen_of priorities slicing control queue ≡ view → has task queue ≡ has task view.ready
+seen_has priorities slicing control queue task view shows = sym (ready-has control task queue) ∙ ap (λ (v : CoresView). has task v.ready) shows
+
+-- what can be seen where the priority in use of a ready task was set, and where that of another was
+pub in_use_ready : (priorities : ℕ) (slicing : Bool) (control : Control) (queue : List ℕ) (task priority : ℕ) → has task queue ≡ true → seen_of priorities slicing (with_in_use task priority control) (without task queue ++ task ∷ []) ≡ on_cores (in_use_set list_moves task priority) (seen_of priorities slicing control queue)
+unfolding in_use_set make_ready
+in_use_ready priorities slicing control queue task priority there = at (has task (ranked (outranks control) queue)) (ready-has control task queue ∙ there)
+  where
+    before : CoresView
+    before = seen_of priorities slicing control queue
+
+    changed : Control
+    changed = with_in_use task priority control
+
+    at : (b : Bool) → b ≡ true → seen_of priorities slicing changed (without task queue ++ task ∷ []) ≡ cores_of (record (alone before) { control = changed; orders = cond b (make_ready changed task (alone before).orders) (alone before).orders })
+    at true is = ap (λ ready. record (seen_of priorities slicing changed queue) { ready = ready }) (ready_changed_last control task _ queue)
+    at false is = absurd (cc (is))
+
+pub in_use_blocked : (priorities : ℕ) (slicing : Bool) (control : Control) (queue : List ℕ) (task priority : ℕ) → has task queue ≡ false → seen_of priorities slicing (with_in_use task priority control) queue ≡ on_cores (in_use_set list_moves task priority) (seen_of priorities slicing control queue)
+unfolding in_use_set make_ready
+in_use_blocked priorities slicing control queue task priority absent = at (has task (ranked (outranks control) queue)) (ready-has control task queue ∙ absent)
+  where
+    before : CoresView
+    before = seen_of priorities slicing control queue
+
+    changed : Control
+    changed = with_in_use task priority control
+
+    at : (b : Bool) → b ≡ false → seen_of priorities slicing changed queue ≡ cores_of (record (alone before) { control = changed; orders = cond b (make_ready changed task (alone before).orders) (alone before).orders })
+    at true is = absurd (cc (is))
+    at false is = ap (λ ready. record (seen_of priorities slicing changed queue) { ready = ready }) (ready_changed control task _ queue absent)
+
+abbrev view_from : ℕ → Bool → Control → List ℕ → CoresView
+view_from priorities slicing control ready = record { priorities = priorities; slicing = slicing; control = control; ready = ready }
+
+same_fields : (p q : ℕ) (a b : Bool) (control other : Control) (xs ys : List ℕ) → p ≡ q → a ≡ b → control ≡ other → xs ≡ ys → view_from p a control xs ≡ view_from q b other ys
+same_fields p q a b control other xs ys one two three four = cc
+
+pub same_view : (one other : CoresView) → one.priorities ≡ other.priorities → one.slicing ≡ other.slicing → one.control ≡ other.control → one.ready ≡ other.ready → one ≡ other
+same_view one other a b c d = same_fields _ _ _ _ _ _ _ _ a b c d

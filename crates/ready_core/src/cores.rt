@@ -1,0 +1,495 @@
+ghost use Rattle.std.specs.Prelude.{◌≡◌, ℕ, ◌↔◌, ◌<◌, ◌≤◌, ◌&&◌, nat_lt, if◌then◌else◌, length, true, not, find, unwrap_or, IsTrue, IfOk, IfSome, Ok};
+ghost use Rattle.std.specs.Option.{ForSome};
+ghost use Rattle.bench_types.specs.Header.{header_check};
+ghost use Rattle.bench_model.specs.Search.{placed, without, has};
+ghost use Rattle.bench_model.specs.Control.{core_at, task_at, current, is_idle, is_elsewhere, may_select, ask, run_on};
+ghost use Rattle.bench_model.specs.State.{switched};
+ghost use Rattle.bench_model.specs.Lists.{list_moves, outranks};
+ghost use Rattle.bench_model.specs.Start.{first_lists, unstarted};
+ghost use Rattle.bench_model.specs.Seek.{effective, is_running, gives_way, asked_for, seek, may_move, wake, switched_and_sought, ready_in, shares_its_time, sliced};
+ghost use Rattle.bench_model.specs.Changes.{with_base, with_affinity, with_preemption, in_use_set};
+ghost use Rattle.bench_model.specs.Cores.{cores_of, alone, on_cores, has_core};
+ghost use Rattle.ready_core.specs.Fields.{better_of, may_be_asked, stays_asked};
+
+use crate::first::{cut_mask, first_controls, first_looks, first_queue};
+use crate::ready_list::{copy_with_room, has_company, have_same_lists, remove_task, requeue};
+use bench_types::{CoreLook, Header, TaskControl};
+use std::alloc::{AllocError, Global};
+use std::marker::Model;
+use std::ops::Range;
+
+/// The cores, the tasks' control blocks and the ready lists.
+#[derive(Debug, Drop)]
+pub struct Cores {
+    priorities: u32,
+    slicing: bool,
+    cores: Vec<CoreLook>,
+    tasks: Vec<TaskControl>,
+    /// The ready tasks, running ones too. The longer a task has been in its ready list, the earlier it stands here.
+    ready: Vec<u32>,
+}
+
+impl Model for Cores {
+    ghost use Rattle.std.specs.Vec.{vec_capacity};
+    ghost use Rattle.bench_model.specs.Cores.{CoresView};
+    ghost use Rattle.ready_core.specs.Fields.{control_from, seen_of};
+    ghost use Rattle.ready_core.specs.Shape.{IsShape};
+
+    ghost Value = { CoresView };
+
+    ghost view = { λ of. seen_of of.priorities of.slicing (control_from of.cores.items of.tasks.items) of.ready.items };
+
+    ghost invariant = { λ of. IsShape of.priorities of.cores.items of.tasks.items of.ready.items (vec_capacity of.ready) };
+}
+
+impl Cores {
+    /// The start, before any core has selected: core c has idle task c, and all tasks are ready, the user tasks in
+    /// header order and the idle tasks behind them.
+    pub fn new(alloc: Global, header: &Header) -> Result<Self, AllocError>
+        requires { header_check header.now ≡ Ok tt }
+        ensures { IfOk result (λ start. start ≡ cores_of (unstarted (first_lists header.now) header.now)) }
+    {
+        let cores = header.config.cores;
+        let users = header.tasks.as_slice().len() as u32;
+        Ok(Cores {
+            priorities: header.config.priorities,
+            slicing: header.config.slicing,
+            cores: first_looks(alloc, cores)?,
+            tasks: first_controls(alloc, header)?,
+            ready: first_queue(alloc, cores, users)?,
+        })
+    }
+
+    /// A second value, equal to this one.
+    pub fn copy(&self, alloc: Global) -> Result<Self, AllocError>
+        ensures { IfOk result (λ copy. copy ≡ self.now) }
+    {
+        Ok(Cores {
+            priorities: self.priorities,
+            slicing: self.slicing,
+            cores: Vec::from_slice(alloc, &self.cores)?,
+            tasks: Vec::from_slice(alloc, &self.tasks)?,
+            ready: copy_with_room(alloc, &self.ready, self.tasks.len())?,
+        })
+    }
+
+    /// Whether all that can be seen of the two is equal.
+    pub fn same(&self, other: &Self) -> bool
+        ensures { IsTrue result ↔ (self.now ≡ other.now) }
+    {
+        self.has_same_settings(other)
+            && (self.has_same_control(other)
+                && have_same_lists(&self.tasks, self.priorities, &self.ready, &other.ready))
+    }
+
+    /// The current task of the core.
+    pub fn running(&self, core: u32) -> u32
+        requires { core < length self.now.control.cores }
+        ensures current { result ≡ current self.now.control core }
+        ensures task { result < length self.now.control.tasks }
+    {
+        self.cores[core as usize].current
+    }
+
+    /// The core's current task and its flags.
+    pub fn flags(&self, core: u32) -> CoreLook
+        requires { core < length self.now.control.cores }
+        ensures { result ≡ core_at self.now.control core }
+    {
+        let place = core as usize;
+        self.cores[place]
+    }
+
+    /// The base priority of the task.
+    pub fn base(&self, task: u32) -> u32
+        requires { task < length self.now.control.tasks }
+        ensures { result ≡ (task_at self.now.control task).base }
+    {
+        self.control(task).base
+    }
+
+    /// The priority in use of the task.
+    pub fn in_use(&self, task: u32) -> u32
+        requires { task < length self.now.control.tasks }
+        ensures in_use { result ≡ (task_at self.now.control task).in_use }
+        ensures below { result < self.now.priorities }
+    {
+        self.control(task).in_use
+    }
+
+    /// The core affinity mask of the task, cut to the bits that mean a core.
+    pub fn mask(&self, task: u32) -> u32
+        requires { task < length self.now.control.tasks }
+        ensures { result ≡ (task_at self.now.control task).mask }
+    {
+        self.control(task).mask
+    }
+
+    /// Whether a core may be asked to give the task up for another.
+    pub fn preempt(&self, task: u32) -> bool
+        requires { task < length self.now.control.tasks }
+        ensures { result ≡ (task_at self.now.control task).preempt }
+    {
+        self.control(task).preempt
+    }
+
+    /// Whether the task is in a ready list.
+    pub fn ready(&self, task: u32) -> bool
+        ensures { result ≡ has task self.now.ready }
+    {
+        self.ready.contains(&task)
+    }
+
+    /// The core that acts notes a switch for itself; any other core is asked.
+    pub fn ask(&mut self, acting: u32, core: u32)
+        requires { core < length self.old.control.cores }
+        ensures { self.new ≡ record self.old { control = ask acting core self.old.control } }
+    {
+        if core == acting {
+            self.cores[core as usize].pend = true;
+        } else {
+            self.cores[core as usize].asked = true;
+        }
+    }
+
+    /// Seeks a core for a ready task among those whose bit is set.
+    pub fn yield_for(&mut self, acting: u32, task: u32, cores: u32)
+        requires task { task < length self.old.control.tasks }
+        requires ready { has task self.old.ready ≡ true }
+        ensures { self.new ≡ record self.old { control = seek acting task (has_core cores) self.old.control } }
+    {
+        self.seek(acting, task, cores);
+    }
+
+    /// The task goes to the end of the ready list of its priority in use, and a core of its mask is sought for it.
+    #[tactic(auto, unfolding(bench_model::specs::Seek::wake, bench_model::specs::Lists::make_ready))]
+    pub fn make_ready(&mut self, acting: u32, task: u32)
+        requires { task < length self.old.control.tasks }
+        ensures { self.new ≡ on_cores (wake list_moves acting task) self.old }
+    {
+        self.move_last(task);
+        self.seek(acting, task, self.mask(task));
+    }
+
+    /// The task leaves the ready lists. No flag of a core changes.
+    pub fn unready(&mut self, task: u32)
+        ensures { self.new ≡ record self.old { ready = without task self.old.ready } }
+    {
+        remove_task(&mut self.ready, task);
+    }
+
+    /// The switch: the core's ready current task goes to the end of its list, and the core runs the first ready task
+    /// that it may select then. It is due no more. For a ready task that lost the core another is sought.
+    #[tactic(auto, unfolding(bench_model::specs::Seek::switched_and_sought, bench_model::specs::Seek::resettled))]
+    pub fn select(&mut self, core: u32)
+        requires { core < length self.old.control.cores }
+        ensures { self.new ≡ on_cores (switched_and_sought list_moves core) self.old }
+    {
+        let left = self.running(core);
+        self.switch(core);
+        let runs = self.running(core);
+        if runs != left && self.ready(left) {
+            self.seek(core, left, self.cores_left(left, runs, core));
+        }
+    }
+
+    /// The end of time slices, where they are on: each core that is not due, and whose task has preemption on and stands
+    /// in a ready list of more than one, is asked to switch, core 0 by itself.
+    pub fn slice(&mut self)
+        ensures { self.new ≡ on_cores (sliced list_moves) self.old }
+    {
+        if self.slicing {
+            for core in 0..self.core_numbers().end {
+                self.end_slice(core);
+            }
+        }
+    }
+
+    /// The priority in use of the task becomes this one. A ready task goes to the end of the ready list of it, also
+    /// where it had that priority.
+    pub fn set_in_use(&mut self, task: u32, priority: u32)
+        requires task { task < length self.old.control.tasks }
+        requires priority { priority < self.old.priorities }
+        ensures { self.new ≡ on_cores (in_use_set list_moves task priority) self.old }
+    {
+        let is_ready = self.ready(task);
+        self.tasks[task as usize].in_use = priority;
+        if is_ready {
+            requeue(&mut self.ready, task);
+        }
+    }
+
+    /// The base priority of the task becomes this one; its priority in use stays.
+    pub fn set_base(&mut self, task: u32, priority: u32)
+        requires { task < length self.old.control.tasks }
+        ensures { self.new ≡ record self.old { control = with_base task priority self.old.control } }
+    {
+        self.tasks[task as usize].base = priority;
+    }
+
+    /// The core affinity mask of the task becomes this one, cut to the bits that mean a core.
+    pub fn set_mask(&mut self, task: u32, mask: u32)
+        requires { task < length self.old.control.tasks }
+        ensures { self.new ≡ record self.old { control = with_affinity task mask self.old.control } }
+    {
+        let cut = cut_mask(mask, self.core_numbers().end);
+        self.tasks[task as usize].mask = cut;
+    }
+
+    /// Whether a core may be asked to give the task up for another.
+    pub fn set_preempt(&mut self, task: u32, on: bool)
+        requires { task < length self.old.control.tasks }
+        ensures { self.new ≡ record self.old { control = with_preemption task on self.old.control } }
+    {
+        self.tasks[task as usize].preempt = on;
+    }
+
+    fn control(&self, task: u32) -> TaskControl
+        requires { task < length self.now.control.tasks }
+        ensures control { result ≡ task_at self.now.control task }
+        ensures below { result.in_use < self.now.priorities }
+    {
+        self.tasks[task as usize]
+    }
+
+    fn core_numbers(&self) -> Range<u32>
+        ensures numbers { result ≡ record { start = 0; end = length self.now.control.cores } }
+        ensures few { length self.now.control.cores ≤ 8 }
+    {
+        0..self.cores.len() as u32
+    }
+
+    // Whether the number of priorities and slicing are equal.
+    fn has_same_settings(&self, other: &Self) -> bool
+        ensures { IsTrue result ↔ ((self.now.priorities ≡ other.now.priorities) × (self.now.slicing ≡ other.now.slicing)) }
+    {
+        self.priorities == other.priorities && self.slicing == other.slicing
+    }
+
+    // Whether all that cores and control blocks hold is equal.
+    fn has_same_control(&self, other: &Self) -> bool
+        ensures { IsTrue result ↔ (self.now.control ≡ other.now.control) }
+    {
+        self.cores == other.cores && self.tasks == other.tasks
+    }
+
+    // Whether the bit of the core is set. There are fewer cores than bits.
+    fn has_bit(&self, mask: u32, core: u32) -> bool
+        requires { core < length self.now.control.cores }
+        ensures bit { result ≡ has_core mask core }
+        ensures few { length self.now.control.cores ≤ 8 }
+    {
+        core < self.core_numbers().end && (mask >> core) & 1 == 1
+    }
+
+    fn is_idle(&self, task: u32) -> bool
+        ensures { result ≡ is_idle self.now.control task }
+    {
+        (task as usize) < self.cores.len()
+    }
+
+    // Whether the task is on a core that no other core asked to switch.
+    fn is_running(&self, task: u32) -> bool
+        ensures { result ≡ is_running self.now.control task }
+    {
+        self.core_numbers().any(|core| self.running(core) == task && !self.flags(core).asked)
+    }
+
+    // Whether the effective priority of one task is below that of the other.
+    fn stands_below(&self, task: u32, other: u32) -> bool
+        requires task { task < length self.now.control.tasks }
+        requires other { other < length self.now.control.tasks }
+        ensures { result ≡ nat_lt (effective self.now.control task) (effective self.now.control other) }
+    {
+        let is_lower = self.is_idle(task) || self.in_use(task) < self.in_use(other);
+        !self.is_idle(other) && is_lower
+    }
+
+    // Whether the core is not due and runs a task that may be given up for this one.
+    fn gives_way(&self, task: u32, core: u32) -> bool
+        requires task { task < length self.now.control.tasks }
+        requires core { core < length self.now.control.cores }
+        ensures { result ≡ gives_way self.now.control task core }
+    {
+        let look = self.flags(core);
+        let runs = self.running(core);
+        !look.pend && !look.asked && self.preempt(runs) && self.stands_below(runs, task)
+    }
+
+    // The core that is asked of those below this one and it.
+    fn better_core(&self, task: u32, among: u32, best: Option<u32>, core: u32) -> Option<u32>
+        requires task { task < length self.now.control.tasks }
+        requires core { core < length self.now.control.cores }
+        requires best { ForSome best (λ b. b < length self.now.control.cores) }
+        ensures better { result ≡ better_of (stays_asked self.now.control) (may_be_asked self.now.control task (has_core among)) best core }
+        ensures core { ForSome result (λ better. better < length self.now.control.cores) }
+    {
+        let is_better = match best {
+            None => true,
+            Some(best) => !self.stands_below(self.running(best), self.running(core)),
+        };
+        let may_be_asked = self.has_bit(among, core) && self.gives_way(task, core);
+        if may_be_asked && is_better {
+            Some(core)
+        } else {
+            best
+        }
+    }
+
+    // The core that is asked for the task among those whose bit is set.
+    fn asked_for(&self, task: u32, among: u32) -> Option<u32>
+        requires { task < length self.now.control.tasks }
+        ensures asked { result ≡ asked_for self.now.control task (has_core among) }
+        ensures core { ForSome result (λ core. core < length self.now.control.cores) }
+    {
+        let mut best = None;
+        for core in 0..self.core_numbers().end {
+            best = self.better_core(task, among, best, core);
+        }
+        best
+    }
+
+    #[tactic(auto, unfolding(bench_model::specs::Seek::seek))]
+    fn seek(&mut self, acting: u32, task: u32, among: u32)
+        requires { task < length self.old.control.tasks }
+        ensures { self.new ≡ record self.old { control = seek acting task (has_core among) self.old.control } }
+    {
+        if !self.is_running(task) {
+            if let Some(core) = self.asked_for(task, among) {
+                self.ask(acting, core);
+            }
+        }
+    }
+
+    // Whether the task is the current one of another core.
+    fn is_elsewhere(&self, core: u32, task: u32) -> bool
+        ensures { result ≡ is_elsewhere self.now.control core task }
+    {
+        self.core_numbers()
+            .any(|other| other != core && self.running(other) == task)
+    }
+
+    // Whether the core may select the task where it is ready.
+    fn is_selectable(&self, core: u32, task: u32) -> bool
+        requires core { core < length self.now.control.cores }
+        requires task { task < length self.now.control.tasks }
+        ensures { result ≡ may_select self.now.control core task }
+    {
+        let is_allowed = self.is_idle(task) || self.has_bit(self.mask(task), core);
+        is_allowed && !self.is_elsewhere(core, task)
+    }
+
+    // The best task so far, or one that came to its ready list behind it, where the core may select it and it is better.
+    fn better_task(&self, core: u32, best: Option<u32>, task: u32) -> Option<u32>
+        requires core { core < length self.now.control.cores }
+        requires best { ForSome best (λ b. b < length self.now.control.tasks) }
+        requires task { task < length self.now.control.tasks }
+        ensures better { result ≡ better_of (outranks self.now.control) (may_select self.now.control core) best task }
+        ensures task { ForSome result (λ better. better < length self.now.control.tasks) }
+    {
+        let is_better = match best {
+            None => true,
+            Some(best) => self.in_use(best) < self.in_use(task),
+        };
+        if self.is_selectable(core, task) && is_better {
+            Some(task)
+        } else {
+            best
+        }
+    }
+
+    // The first task of the ready lists that the core may select, from the greatest priority in use down.
+    fn pick(&self, core: u32) -> Option<u32>
+        requires { core < length self.now.control.cores }
+        ensures first { result ≡ find (may_select self.now.control core) self.now.ready }
+        ensures task { IfSome result (λ task. task < length self.now.control.tasks) }
+    {
+        let mut best = None;
+        for task in &self.ready {
+            best = self.better_task(core, best, *task);
+        }
+        best
+    }
+
+    // The task goes to the end of the ready list of its priority in use.
+    fn move_last(&mut self, task: u32)
+        requires { task < length self.old.control.tasks }
+        ensures { self.new ≡ record self.old { ready = placed (outranks self.old.control) task (without task self.old.ready) } }
+    {
+        requeue(&mut self.ready, task);
+    }
+
+    fn run(&mut self, core: u32, task: u32)
+        requires core { core < length self.old.control.cores }
+        requires task { task < length self.old.control.tasks }
+        ensures { self.new ≡ record self.old { control = run_on core task self.old.control } }
+    {
+        self.cores[core as usize] = CoreLook {
+            current: task,
+            pend: false,
+            asked: false,
+        };
+    }
+
+    // The switch without the seek.
+    #[tactic(auto, unfolding(bench_model::specs::State::switched, bench_model::specs::Lists::pick, bench_model::specs::Lists::make_ready))]
+    fn switch(&mut self, core: u32)
+        requires { core < length self.old.control.cores }
+        ensures switched { self.new ≡ on_cores (switched list_moves core) self.old }
+        ensures cores { length self.new.control.cores ≡ length self.old.control.cores }
+        ensures tasks { self.new.control.tasks ≡ self.old.control.tasks }
+    {
+        let left = self.running(core);
+        if self.ready(left) {
+            self.move_last(left);
+        }
+        let next = self.pick(core).unwrap_or(left);
+        self.run(core, next);
+    }
+
+    // Where a task may go that lost a core to another: the cores of its mask; where it could stay on the lost core, those
+    // of them that the other can't run on.
+    fn cores_left(&self, loser: u32, winner: u32, lost: u32) -> u32
+        requires loser { loser < length self.now.control.tasks }
+        requires winner { winner < length self.now.control.tasks }
+        requires lost { lost < length self.now.control.cores }
+        ensures { (core : ℕ) → core < length self.now.control.cores → has_core result core ≡ may_move self.now.control loser winner lost core }
+    {
+        let mask = self.mask(loser);
+        if self.has_bit(mask, lost) {
+            mask & !self.mask(winner)
+        } else {
+            mask
+        }
+    }
+
+    // Whether the task stands in a ready list of more than one.
+    fn has_company(&self, task: u32) -> bool
+        requires { task < length self.now.control.tasks }
+        ensures { result ≡ (has task self.now.ready && nat_lt 1 (length (ready_in list_moves (task_at self.now.control task).in_use (alone self.now)))) }
+    {
+        self.ready(task) && has_company(&self.tasks, &self.ready, task)
+    }
+
+    // Whether the core's task has to share its time with another of its priority.
+    fn shares_its_time(&self, core: u32) -> bool
+        requires { core < length self.now.control.cores }
+        ensures { result ≡ shares_its_time list_moves (alone self.now) core }
+    {
+        let look = self.flags(core);
+        let runs = self.running(core);
+        !look.pend && !look.asked && self.preempt(runs) && self.has_company(runs)
+    }
+
+    fn end_slice(&mut self, core: u32)
+        requires { core < length self.old.control.cores }
+        ensures { self.new ≡ (if shares_its_time list_moves (alone self.old) core then record self.old { control = ask 0 core self.old.control } else self.old) }
+    {
+        if self.shares_its_time(core) {
+            self.ask(0, core);
+        }
+    }
+}
+
+#[cfg(test)]
+mod tests;

@@ -1,0 +1,231 @@
+ghost use Rattle.std.specs.Prelude.{◌≡◌, ◌<◌, length, Ok, IsTrue};
+ghost use Rattle.bench_types.specs.Header.{header_check};
+
+use super::Cores;
+use bench_types::{Config, Header, Items, Name, TaskArgs};
+use std::alloc::{AllocError, Global};
+use std::process::Abort;
+use std::test::Fail;
+
+fn header_of(alloc: Global, cores: u32, args: &[(u32, u32)]) -> Result<Header, Fail> {
+    let mut tasks = Vec::with_capacity(alloc, args.len())?;
+    for (number, (priority, mask)) in args.iter().enumerate() {
+        let name = Name::new(&format!(in alloc; "T{number}")?)?;
+        tasks.push(TaskArgs {
+            name,
+            priority: *priority,
+            mask: *mask,
+        })?;
+    }
+    let config = Config {
+        cores,
+        priorities: 5,
+        slicing: false,
+        tick: 0,
+        mutexes: 0,
+    };
+    Ok(Header {
+        config,
+        tasks: Items::new(tasks),
+    })
+}
+
+fn is_checked(header: &Header) -> bool
+    ensures { IsTrue result → header_check header.now ≡ Ok tt }
+{
+    header.check().is_ok()
+}
+
+fn has_task(cores: &Cores, task: u32) -> bool
+    ensures { IsTrue result → task < length cores.now.control.tasks }
+{
+    (task as usize) < cores.tasks.len()
+}
+
+fn has_core(cores: &Cores, core: u32) -> bool
+    ensures { IsTrue result → core < length cores.now.control.cores }
+{
+    (core as usize) < cores.cores.len()
+}
+
+fn has_priority(cores: &Cores, priority: u32) -> bool
+    ensures { IsTrue result → priority < cores.now.priorities }
+{
+    priority < cores.priorities
+}
+
+fn select(rt: &impl Abort, cores: &mut Cores, core: u32) {
+    assert!(rt; has_core(cores, core));
+    cores.select(core);
+}
+
+fn make_ready(rt: &impl Abort, cores: &mut Cores, task: u32) {
+    assert!(rt; has_task(cores, task));
+    cores.make_ready(0, task);
+}
+
+fn set_in_use(rt: &impl Abort, cores: &mut Cores, task: u32, priority: u32) {
+    assert!(rt; has_task(cores, task));
+    assert!(rt; has_priority(cores, priority));
+    cores.set_in_use(task, priority);
+}
+
+fn set_mask(rt: &impl Abort, cores: &mut Cores, task: u32, mask: u32) {
+    assert!(rt; has_task(cores, task));
+    cores.set_mask(task, mask);
+}
+
+fn set_preempt(rt: &impl Abort, cores: &mut Cores, task: u32, on: bool) {
+    assert!(rt; has_task(cores, task));
+    cores.set_preempt(task, on);
+}
+
+// Task 2 and so on with these priorities and masks, behind the choice of each of two cores.
+fn started(rt: &impl Abort, alloc: Global, args: &[(u32, u32)]) -> Result<Cores, Fail> {
+    let header = header_of(alloc, 2, args)?;
+    assert!(rt; is_checked(&header));
+    let mut cores = Cores::new(alloc, &header)?;
+    select(rt, &mut cores, 0);
+    select(rt, &mut cores, 1);
+    Ok(cores)
+}
+
+// What is seen of a core: its task, and whether it asked itself or was asked.
+fn look(rt: &impl Abort, cores: &Cores, core: u32) -> (u32, bool, bool) {
+    assert!(rt; has_core(cores, core));
+    let look = cores.flags(core);
+    assert_eq!(rt; cores.running(core), look.current);
+    (look.current, look.pend, look.asked)
+}
+
+fn looks(rt: &impl Abort, cores: &Cores) -> [(u32, bool, bool); 2] {
+    [look(rt, cores, 0), look(rt, cores, 1)]
+}
+
+#[test]
+fn start(rt: HostRuntime) -> Result<(), Fail> {
+    let cores = started(&rt, rt.alloc(), &[(2, 3), (1, 3), (1, 0xFFFF_FFFE)])?;
+    assert_eq!(&rt; looks(&rt, &cores), [(2, false, false), (3, false, false)]);
+    assert!(&rt; has_task(&cores, 4));
+    assert_eq!(&rt; (cores.base(4), cores.in_use(4), cores.mask(4)), (1, 1, 2));
+    assert!(&rt; cores.preempt(4) && cores.ready(4));
+    Ok(())
+}
+
+#[test]
+fn woken_task_is_sought_a_core(rt: HostRuntime) -> Result<(), Fail> {
+    let mut cores = started(&rt, rt.alloc(), &[(2, 3), (1, 3), (1, 3)])?;
+    cores.unready(2);
+    assert!(&rt; !cores.ready(2));
+    select(&rt, &mut cores, 0);
+    assert_eq!(&rt; looks(&rt, &cores), [(4, false, false), (3, false, false)]);
+    let mut other = cores.copy(rt.alloc())?;
+    // Of two cores of one priority that of the greater number is asked.
+    make_ready(&rt, &mut cores, 2);
+    assert_eq!(&rt; looks(&rt, &cores), [(4, false, false), (3, false, true)]);
+    // The task there is not to be preempted.
+    set_preempt(&rt, &mut other, 3, false);
+    make_ready(&rt, &mut other, 2);
+    assert_eq!(&rt; looks(&rt, &other), [(4, true, false), (3, false, false)]);
+    Ok(())
+}
+
+#[test]
+fn idle_is_below_priority_0(rt: HostRuntime) -> Result<(), Fail> {
+    let mut cores = started(&rt, rt.alloc(), &[(0, 3), (1, 3)])?;
+    cores.unready(3);
+    select(&rt, &mut cores, 0);
+    assert_eq!(&rt; looks(&rt, &cores), [(0, false, false), (2, false, false)]);
+    make_ready(&rt, &mut cores, 3);
+    assert_eq!(&rt; looks(&rt, &cores), [(0, true, false), (2, false, false)]);
+    Ok(())
+}
+
+#[test]
+fn yields_for_a_task_among_cores(rt: HostRuntime) -> Result<(), Fail> {
+    let mut cores = started(&rt, rt.alloc(), &[(1, 3), (1, 3), (1, 3)])?;
+    set_in_use(&rt, &mut cores, 4, 3);
+    assert!(&rt; has_task(&cores, 4));
+    assert!(&rt; cores.ready(4));
+    cores.yield_for(1, 4, 0);
+    assert_eq!(&rt; looks(&rt, &cores), [(2, false, false), (3, false, false)]);
+    assert!(&rt; has_task(&cores, 4));
+    assert!(&rt; cores.ready(4));
+    cores.yield_for(1, 4, 1);
+    assert_eq!(&rt; looks(&rt, &cores), [(2, false, true), (3, false, false)]);
+    Ok(())
+}
+
+#[test]
+fn displaced_task_finds_another_core(rt: HostRuntime) -> Result<(), Fail> {
+    let mut cores = started(&rt, rt.alloc(), &[(3, 1), (2, 1), (1, 3)])?;
+    cores.unready(2);
+    select(&rt, &mut cores, 0);
+    set_mask(&rt, &mut cores, 3, 0xFFFF_FFFF);
+    assert!(&rt; has_task(&cores, 3));
+    assert_eq!(&rt; cores.mask(3), 3);
+    make_ready(&rt, &mut cores, 2);
+    assert_eq!(&rt; looks(&rt, &cores), [(3, true, false), (4, false, false)]);
+    select(&rt, &mut cores, 0);
+    assert_eq!(&rt; looks(&rt, &cores), [(2, false, false), (4, false, true)]);
+    select(&rt, &mut cores, 1);
+    assert_eq!(&rt; looks(&rt, &cores), [(2, false, false), (3, false, false)]);
+    Ok(())
+}
+
+#[test]
+fn asked_cores_are_due(rt: HostRuntime) -> Result<(), Fail> {
+    let mut cores = started(&rt, rt.alloc(), &[(1, 3), (1, 3), (1, 3)])?;
+    for core in 0..2 {
+        assert!(&rt; has_core(&cores, core));
+        cores.ask(1, core);
+    }
+    assert_eq!(&rt; looks(&rt, &cores), [(2, false, true), (3, true, false)]);
+    select(&rt, &mut cores, 1);
+    assert_eq!(&rt; looks(&rt, &cores), [(2, false, true), (4, false, false)]);
+    Ok(())
+}
+
+#[test]
+fn priority_in_use(rt: HostRuntime) -> Result<(), Fail> {
+    let mut cores = started(&rt, rt.alloc(), &[(1, 3), (1, 3), (1, 3), (1, 3)])?;
+    // The priority that it has: the task goes to the end of its list.
+    set_in_use(&rt, &mut cores, 4, 1);
+    select(&rt, &mut cores, 0);
+    assert_eq!(&rt; look(&rt, &cores, 0), (5, false, false));
+    assert!(&rt; has_task(&cores, 4));
+    cores.set_base(4, 3);
+    set_in_use(&rt, &mut cores, 4, 3);
+    assert!(&rt; has_task(&cores, 4));
+    assert_eq!(&rt; (cores.base(4), cores.in_use(4)), (3, 3));
+    select(&rt, &mut cores, 0);
+    assert_eq!(&rt; look(&rt, &cores, 0), (4, false, false));
+    Ok(())
+}
+
+#[test]
+fn time_slices(rt: HostRuntime) -> Result<(), Fail> {
+    let mut cores = started(&rt, rt.alloc(), &[(2, 3), (1, 3), (1, 3)])?;
+    cores.slice();
+    assert_eq!(&rt; looks(&rt, &cores), [(2, false, false), (3, false, false)]);
+    cores.slicing = true;
+    cores.slice();
+    assert_eq!(&rt; looks(&rt, &cores), [(2, false, false), (3, false, true)]);
+    Ok(())
+}
+
+#[test]
+fn same_lists_in_another_turn(rt: HostRuntime) -> Result<(), Fail> {
+    let mut one = started(&rt, rt.alloc(), &[(2, 3), (1, 3), (1, 3)])?;
+    let mut other = one.copy(rt.alloc())?;
+    assert!(&rt; one.same(&other));
+    set_in_use(&rt, &mut one, 3, 1);
+    assert!(&rt; !one.same(&other));
+    set_in_use(&rt, &mut one, 2, 2);
+    set_in_use(&rt, &mut other, 2, 2);
+    set_in_use(&rt, &mut other, 3, 1);
+    assert!(&rt; one.same(&other));
+    set_preempt(&rt, &mut one, 4, false);
+    assert!(&rt; !one.same(&other));
+    Ok(())
+}

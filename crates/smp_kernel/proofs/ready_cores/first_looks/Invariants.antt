@@ -1,7 +1,0 @@
-use Rattle.std.proofs.Common.{◌≡◌, map}
-use Rattle.bench_model.specs.Search.{numbers}
-use Rattle.bench_model.specs.Start.{first_look}
-use Rattle.smp_kernel.proofs.ready_cores.first_looks.Given as goal
-
-abbrev pub invariant-loop-core : goal.invariant-loop-core
-invariant-loop-core l = l.looks.items ≡ map first_look (numbers l.core)

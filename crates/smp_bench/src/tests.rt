@@ -198,18 +198,20 @@ fn refused_sessions(rt: HostRuntime) -> Result<(), Fail> {
         expect(&rt, rt.alloc(), input, Status::Refused, output)?;
     }
     let table = [
-        ("\"2\"", "false", "1", "B", "refused H2 cores\n"),
-        ("2", "false", "1", "A", "refused F1\n"),
-        ("2", "true", "1", "B", "refused F1\n"),
-        ("2", "false", "2", "B", "refused F2 steps[1]\n"),
+        ("\"2\"", "true", "1", "B", "refused H2 cores\n"),
+        ("2", "true", "1", "A", "refused F1\n"),
+        ("2", "true", "2", "B", "refused F2 steps[1]\n"),
     ];
     for (cores, slicing, core, name, output) in table {
         let input = written(rt.alloc(), cores, slicing, core, name)?;
         expect(&rt, rt.alloc(), &input, Status::Refused, output)?;
     }
-    let input = written(rt.alloc(), "2", "false", "1", "B")?;
-    let output = "start A B\n0 done A B\n1 refused E10 A B\n";
-    expect(&rt, rt.alloc(), &input, Status::Fine, output)
+    for (slicing, last) in [("false", "1 refused E10 A B\n"), ("true", "1 done A C\n")] {
+        let input = written(rt.alloc(), "2", slicing, "1", "B")?;
+        let output = format!(in rt.alloc(); "start A B\n0 done A B\n{last}")?;
+        expect(&rt, rt.alloc(), &input, Status::Fine, &output)?;
+    }
+    Ok(())
 }
 
 /// Ends as one of two; which of them, `rt try --test --fail-alloc N` decides.

@@ -21,7 +21,7 @@ const SWITCH_0: Step = Step::Switch { core: 0 };
 const SWITCH_1: Step = Step::Switch { core: 1 };
 
 /// 2 cores, and the tasks 2, 3 and 4 on both: A of priority 2, B and C of priority 1.
-fn three_tasks(alloc: Global) -> Result<Header, Fail> {
+fn three_tasks(alloc: Global, slicing: bool) -> Result<Header, Fail> {
     let mut tasks = Vec::new(alloc);
     for (name, priority) in [("A", 2), ("B", 1), ("C", 1)] {
         let name = Name::new(name)?;
@@ -34,7 +34,7 @@ fn three_tasks(alloc: Global) -> Result<Header, Fail> {
     let config = Config {
         cores: 2,
         priorities: 5,
-        slicing: false,
+        slicing,
         tick: 0,
         mutexes: 0,
     };
@@ -45,9 +45,13 @@ fn three_tasks(alloc: Global) -> Result<Header, Fail> {
 }
 
 fn store_of(alloc: Global, steps: &[Step], meter: &mut Meter) -> Result<Store, Fail> {
+    open(alloc, three_tasks(alloc, false)?, steps, meter)
+}
+
+fn open(alloc: Global, header: Header, steps: &[Step], meter: &mut Meter) -> Result<Store, Fail> {
     let mut all = Vec::new(alloc);
     all.extend_from_slice(steps)?;
-    Ok(Store::open(alloc, three_tasks(alloc)?, all, 64, meter)?)
+    Ok(Store::open(alloc, header, all, 64, meter)?)
 }
 
 fn ticks(alloc: Global, count: u32) -> Result<Vec<Step>, AllocError> {
@@ -175,7 +179,7 @@ fn refuses_what_is_no_session(rt: HostRuntime) -> Result<(), Fail> {
         ),
     ] {
         let mut meter = Meter::new(&rt);
-        let Header { config, tasks: all } = three_tasks(alloc)?;
+        let Header { config, tasks: all } = three_tasks(alloc, false)?;
         let mut all = all.into_vec();
         all.truncate(tasks);
         let header = Header {
@@ -202,7 +206,7 @@ fn refuses_what_is_no_session(rt: HostRuntime) -> Result<(), Fail> {
 fn opens_with_each_span(rt: HostRuntime) -> Result<(), Fail> {
     for span in [1, MOST_SPAN] {
         let mut meter = Meter::new(&rt);
-        let header = three_tasks(rt.alloc())?;
+        let header = three_tasks(rt.alloc(), false)?;
         let store = Store::open(rt.alloc(), header, Vec::new(rt.alloc()), span, &mut meter)?;
         assert_eq!(rt; store.len(), 0);
         assert_row(&rt, &store, 0, &[2, 3]);
@@ -213,10 +217,11 @@ fn opens_with_each_span(rt: HostRuntime) -> Result<(), Fail> {
 #[test]
 fn replays_what_follows_an_insert(rt: HostRuntime) -> Result<(), Fail> {
     let mut meter = Meter::new(&rt);
-    let mut store = store_of(rt.alloc(), &[Step::Tick, SWITCH_1, A_DELAYS], &mut meter)?;
-    let not_due = Reply::Refused(Refusal::NotDue);
-    let replies = [Reply::Done, not_due, Reply::Blocked];
-    assert_replay(&rt, &store, replies.as_slice(), &[2, 3]);
+    let header = three_tasks(rt.alloc(), true)?;
+    let steps = [Step::Tick, SWITCH_1, A_DELAYS];
+    let mut store = open(rt.alloc(), header, steps.as_slice(), &mut meter)?;
+    let replies = [Reply::Done, Reply::Done, Reply::Blocked];
+    assert_replay(&rt, &store, replies.as_slice(), &[2, 4]);
 
     let first = Edit::Insert {
         at: 0,
@@ -226,10 +231,10 @@ fn replays_what_follows_an_insert(rt: HostRuntime) -> Result<(), Fail> {
     let replies = [
         Reply::Blocked,
         Reply::Done,
-        not_due,
+        Reply::Done,
         Reply::Refused(Refusal::SwitchDue),
     ];
-    assert_replay(&rt, &store, replies.as_slice(), &[2, 3]);
+    assert_replay(&rt, &store, replies.as_slice(), &[2, 4]);
 
     let second = Edit::Insert {
         at: 1,
@@ -240,7 +245,7 @@ fn replays_what_follows_an_insert(rt: HostRuntime) -> Result<(), Fail> {
         Reply::Blocked,
         Reply::Done,
         Reply::Done,
-        not_due,
+        Reply::Done,
         Reply::Refused(Refusal::Displaced),
     ];
     assert_replay(&rt, &store, replies.as_slice(), &[4, 3]);
@@ -272,7 +277,8 @@ fn removes_and_replaces(rt: HostRuntime) -> Result<(), Fail> {
 fn changes_a_task(rt: HostRuntime) -> Result<(), Fail> {
     for (priority, row) in [(3, [3, 2]), (1, [2, 3])] {
         let mut meter = Meter::new(&rt);
-        let mut store = store_of(rt.alloc(), &[], &mut meter)?;
+        let header = three_tasks(rt.alloc(), true)?;
+        let mut store = open(rt.alloc(), header, &[], &mut meter)?;
         let edit = Edit::ChangeTask {
             task: 3,
             priority,
@@ -405,7 +411,7 @@ fn stays_where_memory_is_wanting(rt: HostRuntime) -> Result<(), Fail> {
 #[test]
 fn keeps_the_most_steps_and_no_more(rt: HostRuntime) -> Result<(), Fail> {
     let mut meter = Meter::new(&rt);
-    let header = three_tasks(rt.alloc())?;
+    let header = three_tasks(rt.alloc(), false)?;
     let steps = ticks(rt.alloc(), MOST_STEPS)?;
     let mut store = Store::open(rt.alloc(), header, steps, 64, &mut meter)?;
     assert_eq!(rt; store.len(), MOST_STEPS);

@@ -276,7 +276,7 @@ pub(super) const JUDGED: [(&str, &str, &str); 55] = [
     ("\"priorities\":5", "\"priorities\":1", "F1"),
     ("\"priorities\":5", "\"priorities\":32", "read"),
     ("\"priorities\":5", "\"priorities\":3", "read"),
-    ("\"slicing\":false", "\"slicing\":true", "F1"),
+    ("\"slicing\":false", "\"slicing\":true", "read"),
     ("\"tick\":0", "\"tick\":4294967295", "read"),
     ("\"mutexes\":0", "\"mutexes\":32", "read"),
     ("\"mutexes\":0", "\"mutexes\":33", "F1"),
@@ -656,8 +656,8 @@ pub(super) const PAIRS: [(&str, &str, &str, &str, &str); 40] = [
         "F1",
     ),
     (
-        "\"slicing\":false",
-        "\"slicing\":true",
+        "\"priorities\":5",
+        "\"priorities\":33",
         "\"by\":\"B\"",
         "\"by\":\"X\"",
         "F1",
@@ -735,7 +735,7 @@ pub(super) const TEXTS: [(&str, &str); 31] = [
     ),
     (
         "{\"cores\":2,\"format\":1,\"mutexes\":0,\"priorities\":5,\"slicing\":true,\"steps\":[{\"do\":\"tick\"},{\"core\":1,\"do\":\"switch\"}],\"tasks\":[{\"mask\":3,\"name\":\"A\",\"priority\":2},{\"mask\":3,\"name\":\"B\",\"priority\":1},{\"mask\":3,\"name\":\"C\",\"priority\":1}],\"tick\":0}",
-        "F1",
+        "read",
     ),
     ("", "H1"),
     ("{\"cores\":2", "H1"),

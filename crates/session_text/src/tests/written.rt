@@ -7,10 +7,14 @@ use std::alloc::{AllocError, Global};
 use std::test::Fail;
 
 /// Texts of sessions, and what is written for them: worked out by hand from the format's description.
-const WRITTEN: [(&str, &str); 4] = [
+const WRITTEN: [(&str, &str); 5] = [
     (
         "{\"cores\":2,\"format\":1,\"mutexes\":0,\"priorities\":5,\"slicing\":false,\"steps\":[{\"do\":\"tick\"},{\"core\":1,\"do\":\"switch\"}],\"tasks\":[{\"mask\":3,\"name\":\"A\",\"priority\":2},{\"mask\":3,\"name\":\"B\",\"priority\":1},{\"mask\":3,\"name\":\"C\",\"priority\":1}],\"tick\":0}",
         "{\"cores\":2,\"format\":1,\"mutexes\":0,\"priorities\":5,\"slicing\":false,\"steps\":[{\"do\":\"tick\"},{\"core\":1,\"do\":\"switch\"}],\"tasks\":[{\"mask\":3,\"name\":\"A\",\"priority\":2},{\"mask\":3,\"name\":\"B\",\"priority\":1},{\"mask\":3,\"name\":\"C\",\"priority\":1}],\"tick\":0}",
+    ),
+    (
+        "{\"cores\":2,\"format\":1,\"mutexes\":0,\"priorities\":5,\"slicing\":true,\"steps\":[{\"do\":\"tick\"},{\"core\":1,\"do\":\"switch\"}],\"tasks\":[{\"mask\":3,\"name\":\"A\",\"priority\":2},{\"mask\":3,\"name\":\"B\",\"priority\":1},{\"mask\":3,\"name\":\"C\",\"priority\":1}],\"tick\":0}",
+        "{\"cores\":2,\"format\":1,\"mutexes\":0,\"priorities\":5,\"slicing\":true,\"steps\":[{\"do\":\"tick\"},{\"core\":1,\"do\":\"switch\"}],\"tasks\":[{\"mask\":3,\"name\":\"A\",\"priority\":2},{\"mask\":3,\"name\":\"B\",\"priority\":1},{\"mask\":3,\"name\":\"C\",\"priority\":1}],\"tick\":0}",
     ),
     (
         SESSION,

@@ -1,22 +1,17 @@
 -- The rules that seek no core: each of a table, seen as lists, is that of what was seen of the table before.
-use Rattle.std.proofs.Common.{◌≡◌, ℕ, ◌<◌, Bool, true, false, cond, eqb, List, [], ◌∷◌, length, Option, Some, None, Ok, refl, sym, ap, subst, ◌∙◌, arith}
+use Rattle.std.proofs.Common.{◌≡◌, ℕ, ◌<◌, Bool, true, false, cond, eqb, List, length, Option, Some, None, Ok, refl, sym, ap, subst, ◌∙◌, arith}
 use Rattle.std.specs.Prelude.{unwrap_or, slice_set}
-use Rattle.std.specs.Option.{option_map_or}
-use Rattle.std.specs.List.{fold, AllByRecursion}
+use Rattle.std.specs.List.{AllByRecursion}
 use Rattle.std.proofs.lemmas.Bool.{true_from_ne_false}
 use Rattle.std.proofs.lemmas.Bool.Decides.{nat_tests}
-use Rattle.bench_types.specs.declared.reply.Reply.{Reply}
-use Rattle.bench_types.specs.declared.reply.Reply.TheVariants.{Done, Blocked, Refused}
-use Rattle.bench_types.specs.declared.reply.Refusal.{Refusal}
 use Rattle.bench_types.specs.declared.step.Step.{Step}
 use Rattle.bench_types.specs.declared.step.Step.TheVariants.{Tick, Switch}
 use Rattle.bench_types.specs.declared.step.Step.TheVariants as steps
 use Rattle.bench_types.specs.declared.step.Call.{Call}
-use Rattle.bench_types.specs.declared.step.Call.TheVariants.{Yield, Delay, Finish}
 use Rattle.bench_types.specs.declared.kernel_data.Settings.{Settings}
 use Rattle.bench_types.specs.declared.kernel_data.CoreLook.{CoreLook}
 use Rattle.bench_types.proofs.Passes.{both_pass, checked_core}
-use Rattle.bench_types.specs.Step.{IsCheckedStep, step_check, core_check, task_check, call_check, ◌>>◌}
+use Rattle.bench_types.specs.Step.{step_check, core_check, task_check, call_check, ◌>>◌}
 use Rattle.bench_model.specs.declared.row.Standing.TheVariants.{Ready}
 use Rattle.bench_model.specs.Search.{numbers}
 use Rattle.bench_model.specs.Control.{Control, current, run_on, is_due}
@@ -24,11 +19,7 @@ use Rattle.bench_model.specs.State.{State, refusal, switched, yielded, blocked}
 use Rattle.bench_model.specs.Table.{Stamps, Table, table_moves, wakes_at, is_ready, row_at, stamp_of, pick, make_ready, delay, advance, due}
 use Rattle.bench_model.specs.Lists as seen
 use Rattle.bench_model.specs.Lists.{Lists, View, list_moves, lists_of, image}
-use Rattle.bench_model.specs.Laws.{seen_of}
-use Rattle.bench_model.specs.Equal.{Same}
-use Rattle.bench_model.specs.Session.{step_of}
 use Rattle.bench_model.specs.Sound.{IsInPlace, IsStamped, IsSound, WakesInTime}
-use Rattle.bench_model.proofs.Filters.{All-weaker}
 use Rattle.bench_model.proofs.Stamped.{numbers_below, All-by_stamp}
 use Rattle.bench_model.proofs.Restamps.{IsGiven, moved_length, moved_given, moved_once}
 use Rattle.bench_model.proofs.SeenMoves.{is_ready_seen, pick_seen, make_ready_seen, delay_seen, advance_seen, due_seen, IsAhead, IsNotPast}

@@ -1,25 +1,17 @@
 -- The rules that seek no core keep a sound table sound.
 use Rattle.std.proofs.Common.{◌≡◌, ◌≢◌, ℕ, suc, ◌+◌, ◌<◌, ◌≤◌, ◌^◌, Bool, true, false, cond, not, eqb, ◌&&◌, ◌||◌, List, [], ◌∷◌, length, Option, Some, None, refl, sym, ap, subst, ◌∙◌, arith, inl, inr}
 use Rattle.std.specs.Prelude.{unwrap_or, slice_set, IsSome}
-use Rattle.std.specs.Option.{option_map_or}
 use Rattle.std.specs.List.{fold, AllByRecursion}
 use Rattle.std.proofs.lemmas.Bool.Decides.{nat_tests}
 use Rattle.std.proofs.lemmas.Bool.{cases_eq}
 use Rattle.std.proofs.lemmas.List.{length-set, get_or-set_same, get_or-set_other}
-use Rattle.bench_types.specs.declared.reply.Reply.{Reply}
-use Rattle.bench_types.specs.declared.reply.Reply.TheVariants.{Done, Refused}
-use Rattle.bench_types.specs.declared.reply.Reply.TheVariants as reply
-use Rattle.bench_types.specs.declared.reply.Refusal.{Refusal}
-use Rattle.bench_types.specs.declared.step.Step.{Step}
 use Rattle.bench_types.specs.declared.step.Step.TheVariants.{Tick, Switch}
 use Rattle.bench_types.specs.declared.step.Step.TheVariants as steps
 use Rattle.bench_types.specs.declared.step.Call.{Call}
-use Rattle.bench_types.specs.declared.step.Call.TheVariants.{Yield, Delay, Finish}
 use Rattle.bench_types.specs.declared.kernel_data.CoreLook.{CoreLook}
 use Rattle.bench_types.specs.declared.kernel_data.Settings.{Settings}
 use Rattle.bench_types.specs.declared.kernel_data.TaskControl.{TaskControl}
-use Rattle.bench_types.proofs.Passes.{both_pass, checked_task}
-use Rattle.bench_types.specs.Step.{IsCheckedStep, IsCheckedCall, core_check, task_check, call_check, ◌>>◌}
+use Rattle.bench_types.specs.Step.{IsCheckedCall}
 use Rattle.bench_model.specs.declared.row.Standing.{Standing}
 use Rattle.bench_model.specs.declared.row.Standing.TheVariants.{Ready, Blocked}
 use Rattle.bench_model.specs.declared.row.TaskRow.{TaskRow}
@@ -32,7 +24,7 @@ use Rattle.bench_model.proofs.Filters.{All-weaker}
 use Rattle.bench_model.proofs.Stamped.{numbers_have, has-by_stamp}
 use Rattle.bench_model.proofs.Restamps.{row_same, row_other, moved_length, moved_once}
 use Rattle.bench_model.proofs.Selects.{selects, list_any_at}
-use Rattle.bench_model.proofs.SeenSteps.{in_place, queued, queued_once, make_ready_once, due_below}
+use Rattle.bench_model.proofs.SeenSteps.{queued, queued_once, make_ready_once, due_below}
 
 module _ (control : Control) (core : ℕ) (look : CoreLook) where
   abbrev changed : Control

@@ -1,5 +1,5 @@
 -- No flag is set at the start: each core gives up its idle task, for which no core is sought.
-use Rattle.std.proofs.Common.{◌≡◌, ℕ, zero, suc, ◌+◌, ◌<◌, ◌≤◌, Bool, true, false, cond, not, eqb, ltb, ◌&&◌, ◌||◌, length, Option, Some, None, Ok, refl, ap, subst, sym, ◌∙◌, arith, inl, inr}
+use Rattle.std.proofs.Common.{◌≡◌, ℕ, zero, suc, ◌+◌, ◌<◌, ◌≤◌, Bool, true, false, cond, not, eqb, ◌&&◌, ◌||◌, length, Option, Some, None, refl, ap, subst, sym, ◌∙◌, arith, inl, inr}
 use Rattle.std.specs.Prelude.{unwrap_or}
 use Rattle.std.specs.Option.{option_map_or}
 use Rattle.std.specs.List.{fold, range_with_len}
@@ -7,7 +7,6 @@ use Rattle.std.proofs.lemmas.Bool.{cases_eq}
 use Rattle.std.proofs.lemmas.Bool.Decides.{nat_tests}
 use Rattle.bench_types.specs.declared.header.Header.{Header}
 use Rattle.bench_types.specs.declared.kernel_data.CoreLook.{CoreLook}
-use Rattle.bench_model.specs.Search.{numbers}
 use Rattle.bench_model.specs.Control.{Control, current, is_due, is_idle, ask, run_on}
 use Rattle.bench_model.specs.State.{selected, switched}
 use Rattle.bench_model.specs.Table.{Table, table_moves, is_ready}

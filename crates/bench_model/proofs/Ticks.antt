@@ -4,7 +4,7 @@ use Rattle.std.specs.List.{fold, AllByRecursion}
 use Rattle.bench_model.specs.Control.{Control, in_mask}
 use Rattle.bench_model.specs.State.{State}
 use Rattle.bench_model.specs.Steps.{woken, ticked}
-use Rattle.bench_model.specs.Table.{Stamps, Table, table_moves, make_ready, advance, due}
+use Rattle.bench_model.specs.Table.{Table, table_moves, advance, due}
 use Rattle.bench_model.specs.Lists as seen
 use Rattle.bench_model.specs.Lists.{Lists, View, list_moves, lists_of, image}
 use Rattle.bench_model.specs.Seek.{seek, wake, sliced}

@@ -1,9 +1,8 @@
 -- What the rules do to the cores and ready lists of a kernel, where no task is ready and waits: they read these alone.
 use Rattle.std.proofs.Common.{◌≡◌, ℕ, Bool, true, false, cond, not, eqb, ◌&&◌, List, [], ◌∷◌, length, Option, refl, sym, ap, ◌∙◌}
 use Rattle.std.specs.Prelude.{unwrap_or}
-use Rattle.std.specs.List.{fold, find}
+use Rattle.std.specs.List.{find}
 use Rattle.std.proofs.lemmas.List.{length-set}
-use Rattle.bench_types.specs.declared.kernel_data.Delayed.{Delayed}
 use Rattle.bench_types.specs.declared.kernel_data.Settings.{Settings}
 use Rattle.bench_types.specs.declared.step.Call.{Call}
 use Rattle.bench_model.specs.Search.{placed, without, has}

@@ -1,5 +1,5 @@
 -- What changes of a control block do to the orders of a table, and that they keep it sound.
-use Rattle.std.proofs.Common.{◌≡◌, ◌≢◌, ℕ, ◌<◌, Bool, true, false, cond, not, eqb, List, [], ◌∷◌, ◌++◌, length, map, get_or, refl, sym, ap, subst, ◌∙◌, arith, inl, inr}
+use Rattle.std.proofs.Common.{◌≡◌, ◌≢◌, ℕ, ◌<◌, Bool, true, false, cond, not, eqb, List, [], length, get_or, refl, sym, ap, subst, ◌∙◌, arith, inl, inr}
 use Rattle.std.proofs.Math.ListN.{get_or-map}
 use Rattle.std.proofs.Math.Path.{fun_ext}
 use Rattle.std.proofs.Math.Seq.{map-set_same}
@@ -15,9 +15,9 @@ use Rattle.bench_model.specs.Table.{Stamps, Table, table_moves, stands_ready, is
 use Rattle.bench_model.specs.Lists as seen
 use Rattle.bench_model.specs.Lists.{Lists, list_moves, lists_of, outranks, image}
 use Rattle.bench_model.specs.Sound.{IsBelow, IsSound}
-use Rattle.bench_model.proofs.Filters.{All-filter_passes, All-weaker}
-use Rattle.bench_model.proofs.Ranks.{map-ranked, filter-ranked, All-ranked}
-use Rattle.bench_model.proofs.Restamps.{IsGiven, standing_so, has-standing_so}
+use Rattle.bench_model.proofs.Filters.{All-filter_passes}
+use Rattle.bench_model.proofs.Ranks.{map-ranked, filter-ranked}
+use Rattle.bench_model.proofs.Restamps.{standing_so}
 use Rattle.bench_model.proofs.SeenMoves.{outranks-IsRank, is_ready_seen, make_ready_seen, without_absent}
 use Rattle.bench_model.proofs.SeenSteps.{same_state}
 use Rattle.bench_model.proofs.SoundSteps.{ready_sound}

@@ -1,8 +1,8 @@
 -- What each rule does to cores and ready lists depends on them alone.
-use Rattle.std.proofs.Common.{◌≡◌, ℕ, ◌<◌, Bool, true, false, cond, not, eqb, ◌&&◌, List, length, refl, sym, ap, ◌∙◌, arith}
+use Rattle.std.proofs.Common.{◌≡◌, ℕ, ◌<◌, Bool, true, false, cond, not, eqb, ◌&&◌, length, refl, sym, ap, ◌∙◌, arith}
 use Rattle.std.specs.Prelude.{unwrap_or}
 use Rattle.bench_model.specs.Search.{without, has}
-use Rattle.bench_model.specs.Control.{Control, current, ask, ask_each, run_on, may_select}
+use Rattle.bench_model.specs.Control.{Control, current, ask, ask_each, run_on}
 use Rattle.bench_model.specs.State.{switched}
 use Rattle.bench_model.specs.Table.{Table, table_moves, is_ready, delay}
 use Rattle.bench_model.specs.Lists as seen
@@ -10,7 +10,7 @@ use Rattle.bench_model.specs.Lists.{Lists, View, list_moves, lists_of, image}
 use Rattle.bench_model.specs.Seek.{seek, may_move, wake, resettled, switched_and_sought, shares_its_time, sliced}
 use Rattle.bench_model.specs.SeekLaws.{sought}
 use Rattle.bench_model.specs.Changes.{with_in_use, in_use_set}
-use Rattle.bench_model.specs.Cores.{CoresView, cores_of, alone, on_cores}
+use Rattle.bench_model.specs.Cores.{cores_of, alone, on_cores}
 use Rattle.bench_model.specs.CoresLaws.{cores_seen}
 use Rattle.bench_model.specs.Sound.{IsStamped, IsSound}
 use Rattle.bench_model.proofs.Changes.{in_use_seen}

@@ -1,6 +1,5 @@
 -- The laws of cores and ready lists, and of changes of a control block. Each is the contract of a public function.
 use Rattle.std.specs.Prelude.{◌≡◌, ℕ, ◌<◌, List, [], ◌∷◌, length, Bool, true}
-use Rattle.bench_types.specs.declared.header.Header.{Header}
 use Rattle.bench_types.specs.declared.kernel_data.TaskControl.{TaskControl}
 use Rattle.bench_model.specs.Control.{Control, task_at, ask}
 use Rattle.bench_model.specs.Search.{without}

@@ -1,15 +1,18 @@
 -- What a queue of ready tasks shows when a task leaves it or comes to its end, and when a priority in use changes.
-use Rattle.std.proofs.Common.{◌≡◌, ℕ, Bool, true, false, cond, not, eqb, List, [], ◌∷◌, ◌++◌, sym, ap, ◌∙◌}
+use Rattle.std.proofs.Common.{◌≡◌, ◌<◌, length, get_or, arith, ℕ, Bool, true, false, cond, not, eqb, List, [], ◌∷◌, ◌++◌, sym, ap, ◌∙◌}
+use Rattle.std.specs.Prelude.{slice_set}
+use Rattle.std.proofs.lemmas.List.{get_or_default}
+use Rattle.bench_types.specs.declared.kernel_data.CoreLook.{CoreLook}
 use Rattle.bench_types.specs.declared.kernel_data.TaskControl.{TaskControl}
 use Rattle.bench_model.specs.Search.{placed, ranked, without, has}
-use Rattle.bench_model.specs.Control.{Control}
+use Rattle.bench_model.specs.Control.{Control, task_at}
 use Rattle.bench_model.specs.Lists.{list_moves, make_ready, outranks}
 use Rattle.bench_model.specs.Changes.{with_task, with_in_use, in_use_set}
 use Rattle.bench_model.specs.Cores.{CoresView, cores_of, alone, on_cores}
 use Rattle.bench_model.proofs.Changes.{others_stay}
 use Rattle.bench_model.proofs.Ranks.{ranked-push, filter-ranked, list_any-ranked}
 use Rattle.bench_model.proofs.SeenMoves.{outranks-IsRank, without_absent}
-use Rattle.ready_core.specs.Fields.{seen_of}
+use Rattle.ready_core.specs.Fields.{control_from, seen_of}
 
 pub ready-without : (control : Control) (task : ℕ) (queue : List ℕ) → ranked (outranks control) (without task queue) ≡ without task (ranked (outranks control) queue)
 ready-without control task queue = sym (filter-ranked (outranks control) (outranks-IsRank control) (λ m. not (eqb m task)) queue)
@@ -45,10 +48,10 @@ seen_last priorities slicing control queue task view shows =
 pub seen_has : (priorities : ℕ) (slicing : Bool) (control : Control) (queue : List ℕ) (task : ℕ) (view : CoresView) → seen_of priorities slicing control queue ≡ view → has task queue ≡ has task view.ready
 seen_has priorities slicing control queue task view shows = sym (ready-has control task queue) ∙ ap (λ (v : CoresView). has task v.ready) shows
 
--- what can be seen where the priority in use of a ready task was set, and where that of another was
-pub in_use_ready : (priorities : ℕ) (slicing : Bool) (control : Control) (queue : List ℕ) (task priority : ℕ) → has task queue ≡ true → seen_of priorities slicing (with_in_use task priority control) (without task queue ++ task ∷ []) ≡ on_cores (in_use_set list_moves task priority) (seen_of priorities slicing control queue)
+-- what can be seen where the priority in use of a task was set, and the task went to the end of its list if it is ready
+in_use_shown : (priorities : ℕ) (slicing : Bool) (control : Control) (queue : List ℕ) (task priority : ℕ) (is_ready : Bool) → has task queue ≡ is_ready → seen_of priorities slicing (with_in_use task priority control) (cond is_ready (without task queue ++ task ∷ []) queue) ≡ on_cores (in_use_set list_moves task priority) (seen_of priorities slicing control queue)
 unfolding in_use_set make_ready
-in_use_ready priorities slicing control queue task priority there = at (has task (ranked (outranks control) queue)) (ready-has control task queue ∙ there)
+in_use_shown priorities slicing control queue task priority is_ready is = at is_ready is (has task (ranked (outranks control) queue)) (ready-has control task queue ∙ is)
   where
     before : CoresView
     before = seen_of priorities slicing control queue
@@ -56,23 +59,29 @@ in_use_ready priorities slicing control queue task priority there = at (has task
     changed : Control
     changed = with_in_use task priority control
 
-    at : (b : Bool) → b ≡ true → seen_of priorities slicing changed (without task queue ++ task ∷ []) ≡ cores_of (record (alone before) { control = changed; orders = cond b (make_ready changed task (alone before).orders) (alone before).orders })
-    at true is = ap (λ ready. record (seen_of priorities slicing changed queue) { ready = ready }) (ready_changed_last control task _ queue)
-    at false is = absurd (cc (is))
+    shown : List ℕ → CoresView
+    shown ready = record (seen_of priorities slicing changed queue) { ready = ready }
 
-pub in_use_blocked : (priorities : ℕ) (slicing : Bool) (control : Control) (queue : List ℕ) (task priority : ℕ) → has task queue ≡ false → seen_of priorities slicing (with_in_use task priority control) queue ≡ on_cores (in_use_set list_moves task priority) (seen_of priorities slicing control queue)
-unfolding in_use_set make_ready
-in_use_blocked priorities slicing control queue task priority absent = at (has task (ranked (outranks control) queue)) (ready-has control task queue ∙ absent)
-  where
-    before : CoresView
-    before = seen_of priorities slicing control queue
+    at : (b : Bool) → has task queue ≡ b → (d : Bool) → d ≡ b → seen_of priorities slicing changed (cond b (without task queue ++ task ∷ []) queue) ≡ cores_of (record (alone before) { control = changed; orders = cond d (make_ready changed task (alone before).orders) (alone before).orders })
+    at true there true same = ap shown (ready_changed_last control task _ queue)
+    at false absent false same = ap shown (ready_changed control task _ queue absent)
+    at true there false same = absurd (cc (same))
+    at false absent true same = absurd (cc (same))
 
-    changed : Control
-    changed = with_in_use task priority control
+abbrev no_task : TaskControl
+no_task = record { base = 0; in_use = 0; mask = 0; preempt = false }
 
-    at : (b : Bool) → b ≡ false → seen_of priorities slicing changed queue ≡ cores_of (record (alone before) { control = changed; orders = cond b (make_ready changed task (alone before).orders) (alone before).orders })
-    at true is = absurd (cc (is))
-    at false is = ap (λ ready. record (seen_of priorities slicing changed queue) { ready = ready }) (ready_changed control task _ queue absent)
+-- the same on fields and what they show, where `old` is the control block that the task had
+pub seen_in_use : (priorities : ℕ) (slicing : Bool) (cores : List CoreLook) (tasks : List TaskControl) (queue : List ℕ) (task priority : ℕ) (old : TaskControl) (view : CoresView) (is_ready : Bool) →
+    seen_of priorities slicing (control_from cores tasks) queue ≡ view → old ≡ get_or tasks task old → task < length view.control.tasks → has task view.ready ≡ is_ready →
+    seen_of priorities slicing (control_from cores (slice_set tasks task (record old { in_use = priority }))) (cond is_ready (without task queue ++ task ∷ []) queue) ≡ on_cores (in_use_set list_moves task priority) view
+seen_in_use priorities slicing cores tasks queue task priority old view is_ready shows is_old low is =
+    let control = control_from cores tasks in
+    let below : task < length tasks = omega (arith, low, ap (λ (v : CoresView). length v.control.tasks) shows) in
+    let block : old ≡ task_at control task = is_old ∙ get_or_default tasks task old no_task below in
+    ap (λ (b : TaskControl). seen_of priorities slicing (with_task task (record b { in_use = priority }) control) (cond is_ready (without task queue ++ task ∷ []) queue)) block
+    ∙ in_use_shown priorities slicing control queue task priority is_ready (seen_has priorities slicing control queue task view shows ∙ is)
+    ∙ ap (on_cores (in_use_set list_moves task priority)) shows
 
 abbrev view_from : ℕ → Bool → Control → List ℕ → CoresView
 view_from priorities slicing control ready = record { priorities = priorities; slicing = slicing; control = control; ready = ready }
@@ -80,5 +89,6 @@ view_from priorities slicing control ready = record { priorities = priorities; s
 same_fields : (p q : ℕ) (a b : Bool) (control other : Control) (xs ys : List ℕ) → p ≡ q → a ≡ b → control ≡ other → xs ≡ ys → view_from p a control xs ≡ view_from q b other ys
 same_fields p q a b control other xs ys one two three four = cc
 
+-- views are equal where their fields are
 pub same_view : (one other : CoresView) → one.priorities ≡ other.priorities → one.slicing ≡ other.slicing → one.control ≡ other.control → one.ready ≡ other.ready → one ≡ other
 same_view one other a b c d = same_fields _ _ _ _ _ _ _ _ a b c d

@@ -15,13 +15,13 @@ use Rattle.bench_types.specs.Header.{has_valid_args, is_header}
 use Rattle.bench_types.specs.Name.{is_name}
 use Rattle.bench_types.specs.Step.{IsStepOfWords}
 use Rattle.session_text.specs.Accepted.{items_accepted}
-use Rattle.session_text.specs.Array.{each_at}
-use Rattle.session_text.specs.Header.{task_at, config_at, tasks_at, header_at}
+use Rattle.session_text.specs.Array.{each_at, list_at}
+use Rattle.session_text.specs.Header.{task_at, config_at, header_at}
 use Rattle.session_text.specs.Member.{number_at, text_at, flag_at, array_at}
 use Rattle.bench_types.proofs.Passes.{IsCheckedHeader, header_facts}
 use Rattle.session_text.specs.Names.{names_of}
 use Rattle.session_text.specs.Session.{format_at, session_at, session_accepted, session, step_fault}
-use Rattle.session_text.specs.Step.{step_at, kind_at, step_of_kind_at, task_named_at, call_at, steps_at}
+use Rattle.session_text.specs.Step.{step_at, kind_at, step_of_kind_at, task_named_at, call_at}
 use Rattle.session_text.specs.Written.{task_data, task_name, step_data, session_data, IsSession, IsTyped, WrittenReadsBack}
 use Rattle.session_text.proofs.Limits.{IsInPlace, in_place}
 use Rattle.session_text.proofs.Passing.{all_accepted}
@@ -73,7 +73,7 @@ are_named config [] each = refl
 are_named config (task ∷ tasks) each = and_from _ _ each.0.1.named (are_named config tasks each.1)
 
 header_read : (header : Header) (steps : List Step) (at : List ℕ) → is_header header ≡ true → IsWritable header steps → header_at at (session_data header steps) ≡ Ok (Ok header)
-unfolding session_data header_at tasks_at array_at
+unfolding session_data header_at list_at array_at
 header_read header steps at valid h =
     rw (config_read header steps at h, tasks_read header.config _ 0 header.tasks h.limits.few_priorities h.each_task, are_named header.config header.tasks h.each_task, valid) refl
 
@@ -81,8 +81,8 @@ format_read : (header : Header) (steps : List Step) (at : List ℕ) → format_a
 unfolding session_data format_at number_at
 format_read header steps at = refl
 
-steps_at_read : (header : Header) (steps : List Step) (at : List ℕ) → IsWritable header steps → steps_at (names_of header) at (session_data header steps) ≡ Ok steps
-unfolding session_data steps_at array_at
+steps_at_read : (header : Header) (steps : List Step) (at : List ℕ) → IsWritable header steps → list_at (step_at (names_of header)) at (codes "steps") (session_data header steps) ≡ Ok steps
+unfolding session_data list_at array_at
 steps_at_read header steps at h = steps_read header _ 0 steps h.limits h.each_step
 
 session_read : (header : Header) (steps : List Step) (at : List ℕ) → is_header header ≡ true → IsWritable header steps → session_at at (session_data header steps) ≡ Ok (Ok header, steps)

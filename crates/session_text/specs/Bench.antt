@@ -10,7 +10,8 @@ use Rattle.bench_types.specs.Edit.{edit_check}
 use Rattle.session_text.specs.declared.fault.TextFault.{TextFault}
 use Rattle.session_text.specs.declared.bench.Bench.{Bench}
 use Rattle.session_text.specs.Accepted.{items_accepted}
-use Rattle.session_text.specs.Edit.{edits_at}
+use Rattle.session_text.specs.Array.{list_at}
+use Rattle.session_text.specs.Edit.{edit_at}
 use Rattle.session_text.specs.Member.{object_at, only_at}
 use Rattle.session_text.specs.Names.{known_names}
 use Rattle.session_text.specs.Outcome.{◌>>=◌}
@@ -33,7 +34,7 @@ unfoldable pub shapes_at : List ℕ → Data → Data → Result (Result Header 
 shapes_at at d inner = do
   members ← object_at at d
   read ← session_at (member_path at (codes "session")) inner
-  edits ← edits_at (known_names read.0) at d
+  edits ← list_at (edit_at (known_names read.0)) at (codes "edits") d
   only ← only_at at bench_members members
   Ok (read.0, read.1, edits)
 

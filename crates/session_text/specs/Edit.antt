@@ -10,7 +10,6 @@ use Rattle.session_text.specs.declared.fault.TextFault.{TextFault}
 use Rattle.session_text.specs.declared.edit.EditKind.{EditKind}
 use Rattle.session_text.specs.declared.edit.EditKind.TheVariants.{Insert, Remove, Replace, Change}
 use Rattle.session_text.specs.Accepted.{item_accepted}
-use Rattle.session_text.specs.Array.{each_at}
 use Rattle.session_text.specs.Member.{object_at, member_at, number_at, text_at, array_at, only_at}
 use Rattle.session_text.specs.Names.{TaskNames, names_of}
 use Rattle.session_text.specs.Outcome.{◌>>=◌, found}
@@ -67,11 +66,6 @@ edit_at names at d = do
   made ← edit_of_kind_at names which at d
   only ← only_at at (edit_members_of which) members
   Ok made
-
-unfoldable pub edits_at : TaskNames → List ℕ → Data → Result (List Edit) TextFault
-edits_at names at d = do
-  items ← array_at at (codes "edits") d
-  each_at (edit_at names) (member_path at (codes "edits")) 0 items
 
 -- the edit that a text spells under a header, or its first fault
 unfoldable pub edit_text : Header → List ℕ → Result Edit TextFault

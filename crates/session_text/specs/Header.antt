@@ -10,7 +10,7 @@ use Rattle.bench_types.specs.declared.header.Header.{Header}
 use Rattle.bench_types.specs.Header.{is_header}
 use Rattle.bench_types.specs.Name.{is_name}
 use Rattle.session_text.specs.declared.fault.TextFault.{TextFault}
-use Rattle.session_text.specs.Array.{each_at}
+use Rattle.session_text.specs.Array.{list_at}
 use Rattle.session_text.specs.Member.{object_at, number_at, text_at, flag_at, array_at, only_at}
 use Rattle.session_text.specs.Outcome.{◌>>=◌}
 use Rattle.session_text.specs.Path.{member_path}
@@ -37,11 +37,6 @@ task_at at d = do
   only ← only_at at task_members members
   Ok (record { name = name; priority = priority; mask = mask })
 
-unfoldable pub tasks_at : List ℕ → Data → Result (List TaskArgs) TextFault
-tasks_at at d = do
-  items ← array_at at (codes "tasks") d
-  each_at task_at (member_path at (codes "tasks")) 0 items
-
 -- F1 where the name is none
 abbrev pub named : TaskArgs → Result TaskArgs Fault
 named task = if is_name task.name then Ok task else Err BadHeader
@@ -54,5 +49,5 @@ accepted header = if list_all (λ task. is_name task.name) header.tasks && is_he
 unfoldable pub header_at : List ℕ → Data → Result (Result Header Fault) TextFault
 header_at at d = do
   config ← config_at at d
-  tasks ← tasks_at at d
+  tasks ← list_at task_at at (codes "tasks") d
   Ok (accepted (record { config = config; tasks = tasks }))

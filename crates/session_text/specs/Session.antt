@@ -14,9 +14,10 @@ use Rattle.session_text.specs.Header.{header_at}
 use Rattle.session_text.specs.Member.{object_at, number_at, only_at}
 use Rattle.session_text.specs.Names.{known_names}
 use Rattle.session_text.specs.Accepted.{items_accepted}
+use Rattle.session_text.specs.Array.{list_at}
 use Rattle.session_text.specs.Outcome.{◌>>=◌, bad_shape}
 use Rattle.session_text.specs.Path.{member_path}
-use Rattle.session_text.specs.Step.{steps_at}
+use Rattle.session_text.specs.Step.{step_at}
 
 -- H1 where the bytes are no UTF-8, or no JSON
 abbrev pub json_or_fault : Option Data → Result Data TextFault
@@ -41,7 +42,7 @@ session_at at d = do
   members ← object_at at d
   format ← format_at at d
   header ← header_at at d
-  steps ← steps_at (known_names header) at d
+  steps ← list_at (step_at (known_names header)) at (codes "steps") d
   only ← only_at at session_members members
   Ok (header, steps)
 

@@ -10,7 +10,6 @@ use Rattle.session_text.specs.declared.step.Kind.{Kind}
 use Rattle.session_text.specs.declared.step.Kind.TheVariants as kind
 use Rattle.session_text.specs.declared.step.CallKind.{CallKind}
 use Rattle.session_text.specs.declared.step.CallKind.TheVariants as callkind
-use Rattle.session_text.specs.Array.{each_at}
 use Rattle.session_text.specs.Member.{object_at, number_at, text_at, array_at, only_at}
 use Rattle.session_text.specs.Names.{TaskNames, number_of}
 use Rattle.session_text.specs.Outcome.{◌>>=◌, found}
@@ -70,8 +69,3 @@ step_at names at d = do
   made ← step_of_kind_at names which at d
   only ← only_at at (members_of which) members
   Ok made
-
-unfoldable pub steps_at : TaskNames → List ℕ → Data → Result (List Step) TextFault
-steps_at names at d = do
-  items ← array_at at (codes "steps") d
-  each_at (step_at names) (member_path at (codes "steps")) 0 items

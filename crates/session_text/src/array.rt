@@ -1,10 +1,11 @@
 ghost use Rattle.std.specs.Prelude.{◌≡◌};
-ghost use Rattle.serde_json.specs.View.{items_view};
-ghost use Rattle.session_text.specs.Array.{each_at};
+ghost use Rattle.serde_json.specs.View.{items_view, view};
+ghost use Rattle.session_text.specs.Array.{each_at, list_at};
 ghost use Rattle.session_text.specs.Outcome.{Gives};
 ghost use Rattle.session_text.specs.Path.{path_of};
 
 use crate::fault::Stop;
+use crate::member::array_at;
 use crate::path::Place;
 use serde_json::Value;
 use std::alloc::Global;
@@ -28,7 +29,7 @@ pub(crate) trait ReadItem<'v> {
 }
 
 /// Reads the items of the array at the place, one after another.
-pub(crate) fn each<'v, R: ReadItem<'v>>(
+fn each<'v, R: ReadItem<'v>>(
     alloc: Global,
     reader: &R,
     place: &Place<'_>,
@@ -42,4 +43,20 @@ pub(crate) fn each<'v, R: ReadItem<'v>>(
         items.push(reader.read(alloc, &Place::Item(place, index), value)?)?;
     }
     Ok(items)
+}
+
+/// Reads the items of the array that is this member of the object at the place.
+#[tactic(auto, unfolding(crate::specs::Array::list_at))]
+pub(crate) fn list_at<'v, R: ReadItem<'v>>(
+    alloc: Global,
+    reader: &R,
+    place: &Place<'_>,
+    name: &str,
+    value: &'v Value,
+) -> Result<Vec<R::Item>, Stop>
+    ensures { Gives (λ items. items.items) result
+        (list_at (R.reading reader.now) (path_of place.now) name.now (view value.now)) }
+{
+    let values = array_at(alloc, place, name, value)?;
+    each(alloc, reader, &Place::Member(place, name), values)
 }

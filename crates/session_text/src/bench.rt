@@ -9,7 +9,8 @@ ghost use Rattle.session_text.specs.Path.{path_of};
 ghost use Rattle.session_text.specs.Session.{Answers};
 
 use crate::accepted::items_accepted;
-use crate::edit::edits_at;
+use crate::array::list_at;
+use crate::edit::Edits;
 use crate::fault::{Stop, TextFault};
 use crate::member::{object_at, only_at};
 use crate::path::Place;
@@ -103,7 +104,9 @@ fn shapes_at(
 {
     let members = object_at(alloc, place, value)?;
     let (header, steps) = session_at(alloc, &Place::Member(place, "session"), session)?;
-    let edits = edits_at(alloc, &known_names(alloc, &header)?, place, value)?;
+    let names = known_names(alloc, &header)?;
+    let edits = list_at(alloc, &Edits { names: &names }, place, "edits", value)?;
+    drop(names);
     only_at(alloc, place, &["session", "edits"], members)?;
     Ok((header, steps, edits))
 }

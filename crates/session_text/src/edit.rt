@@ -2,15 +2,15 @@ ghost use Rattle.std.specs.Prelude.{◌≡◌, IfOk, IsTrue, Ok, map};
 ghost use Rattle.serde_json.specs.View.{view};
 ghost use Rattle.bench_types.specs.Edit.{edit_check};
 ghost use Rattle.bench_types.specs.Header.{is_header};
-ghost use Rattle.session_text.specs.Edit.{edit_kind_at, edit_kind_of, edit_members_of, edit_of_kind_at, edit_text, edits_at, new_step_at};
+ghost use Rattle.session_text.specs.Edit.{edit_kind_at, edit_kind_of, edit_members_of, edit_of_kind_at, edit_text, new_step_at};
 ghost use Rattle.session_text.specs.Outcome.{Gives};
 ghost use Rattle.session_text.specs.Path.{path_of};
 ghost use Rattle.session_text.specs.Session.{Answers};
 
 use crate::accepted::item_accepted;
-use crate::array::{ReadItem, each};
+use crate::array::ReadItem;
 use crate::fault::{Stop, TextFault};
-use crate::member::{array_at, bad_shape, member_at, number_at, object_at, only_at, text_at};
+use crate::member::{bad_shape, member_at, number_at, object_at, only_at, text_at};
 use crate::names::Names;
 use crate::path::Place;
 use crate::session::document;
@@ -137,8 +137,8 @@ fn edit_of_kind_at(
 
 /// Reads edits, under the names of the tasks.
 #[derive(Clone, Copy)]
-struct Edits<'n, 'a> {
-    names: &'n Names<'a>,
+pub(crate) struct Edits<'n, 'a> {
+    pub(crate) names: &'n Names<'a>,
 }
 
 impl<'v> ReadItem<'v> for Edits<'_, '_> {
@@ -156,23 +156,4 @@ impl<'v> ReadItem<'v> for Edits<'_, '_> {
         only_at(alloc, place, kind.members(), members)?;
         Ok(edit)
     }
-}
-
-#[tactic(auto, unfolding(crate::specs::Edit::edits_at))]
-pub(crate) fn edits_at(
-    alloc: Global,
-    names: &Names<'_>,
-    place: &Place<'_>,
-    value: &Value,
-) -> Result<Vec<Edit>, Stop>
-    ensures { Gives (λ edits. edits.items) result
-        (edits_at names.now (path_of place.now) (view value.now)) }
-{
-    let values = array_at(alloc, place, "edits", value)?;
-    each(
-        alloc,
-        &Edits { names },
-        &Place::Member(place, "edits"),
-        values,
-    )
 }

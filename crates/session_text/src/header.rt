@@ -1,13 +1,13 @@
 ghost use Rattle.std.specs.Prelude.{◌≡◌, IfOk, IsTrue};
 ghost use Rattle.serde_json.specs.View.{view};
 ghost use Rattle.bench_types.specs.Header.{is_header};
-ghost use Rattle.session_text.specs.Header.{accepted, config_at, header_at, named, task_at, tasks_at};
+ghost use Rattle.session_text.specs.Header.{accepted, config_at, header_at, named, task_at};
 ghost use Rattle.session_text.specs.Outcome.{Gives};
 ghost use Rattle.session_text.specs.Path.{path_of};
 
-use crate::array::{ReadItem, each};
+use crate::array::{ReadItem, list_at};
 use crate::fault::Stop;
-use crate::member::{array_at, flag_at, number_at, object_at, only_at, text_at};
+use crate::member::{flag_at, number_at, object_at, only_at, text_at};
 use crate::path::Place;
 use bench_types::{Config, Fault, Header, Items, Name, TaskArgs};
 use serde_json::Value;
@@ -84,18 +84,6 @@ impl<'v> ReadItem<'v> for Tasks {
     }
 }
 
-#[tactic(auto, unfolding(crate::specs::Header::tasks_at))]
-fn tasks_at<'v>(
-    alloc: Global,
-    place: &Place<'_>,
-    value: &'v Value,
-) -> Result<Vec<TaskShape<'v>>, Stop>
-    ensures { Gives (λ tasks. tasks.items) result (tasks_at (path_of place.now) (view value.now)) }
-{
-    let values = array_at(alloc, place, "tasks", value)?;
-    each(alloc, &Tasks, &Place::Member(place, "tasks"), values)
-}
-
 /// The header, or F1. Only memory ends the call early.
 fn accepted(
     alloc: Global,
@@ -135,6 +123,6 @@ pub(crate) fn header_at(
     ensures valid { IfOk result (λ header. IfOk header (λ valid. IsTrue (is_header valid))) }
 {
     let config = config_at(alloc, place, value)?;
-    let shapes = tasks_at(alloc, place, value)?;
+    let shapes = list_at(alloc, &Tasks, place, "tasks", value)?;
     Ok(accepted(alloc, config, shapes.as_slice())?)
 }

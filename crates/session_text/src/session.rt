@@ -1,20 +1,21 @@
-ghost use Rattle.std.specs.Prelude.{◌≡◌, IfOk, IsTrue};
+ghost use Rattle.std.specs.Prelude.{◌≡◌, IfOk, IsTrue, codes};
 ghost use Rattle.serde_json.specs.View.{view};
 ghost use Rattle.std.specs.Result.{ForOk};
 ghost use Rattle.bench_types.specs.Header.{is_header};
+ghost use Rattle.session_text.specs.Array.{list_at};
 ghost use Rattle.session_text.specs.Names.{known_names};
 ghost use Rattle.session_text.specs.Outcome.{Gives};
 ghost use Rattle.session_text.specs.Path.{path_of};
+ghost use Rattle.session_text.specs.Step.{step_at};
 ghost use Rattle.session_text.specs.Session.{document, format_at, session, session_accepted, session_at, Answers, IsChecked};
-ghost use Rattle.session_text.specs.Step.{steps_at};
 
 use crate::accepted::items_accepted;
+use crate::array::list_at;
 use crate::fault::{Stop, TextFault, Why};
 use crate::header::header_at;
 use crate::member::{bad_shape, number_at, object_at, only_at};
 use crate::names::Names;
 use crate::path::{Path, Place};
-use crate::step::steps_at;
 use bench_types::{Fault, Header, Step};
 use serde_json::{Category, Value};
 use std::alloc::{AllocError, Global};
@@ -80,6 +81,21 @@ pub(crate) fn known_names(
     }
 }
 
+/// The steps, under the names of the header.
+fn steps_at(
+    alloc: Global,
+    header: &Result<Header, Fault>,
+    place: &Place<'_>,
+    value: &Value,
+) -> Result<Vec<Step>, Stop>
+    requires { ForOk header.now (λ header. IsTrue (is_header header)) }
+    ensures { Gives (λ steps. steps.items) result
+        (list_at (step_at (known_names header.now)) (path_of place.now) (codes "steps") (view value.now)) }
+{
+    let names = known_names(alloc, header)?;
+    list_at(alloc, &names, place, "steps", value)
+}
+
 /// The header, accepted or not, and the steps: shapes alone are judged.
 #[tactic(auto, unfolding(crate::specs::Session::session_at))]
 pub(crate) fn session_at(
@@ -94,7 +110,7 @@ pub(crate) fn session_at(
     let members = object_at(alloc, place, value)?;
     format_at(alloc, place, value)?;
     let header = header_at(alloc, place, value)?;
-    let steps = steps_at(alloc, &known_names(alloc, &header)?, place, value)?;
+    let steps = steps_at(alloc, &header, place, value)?;
     only_at(
         alloc,
         place,

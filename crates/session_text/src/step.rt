@@ -2,11 +2,11 @@ ghost use Rattle.std.specs.Prelude.{◌≡◌, map};
 ghost use Rattle.serde_json.specs.View.{view};
 ghost use Rattle.session_text.specs.Outcome.{Gives};
 ghost use Rattle.session_text.specs.Path.{path_of};
-ghost use Rattle.session_text.specs.Step.{call_at, kind_at, kind_of, members_of, step_at, step_of_kind_at, steps_at, task_named_at};
+ghost use Rattle.session_text.specs.Step.{call_at, kind_at, kind_of, members_of, step_at, step_of_kind_at, task_named_at};
 
-use crate::array::{ReadItem, each};
+use crate::array::ReadItem;
 use crate::fault::Stop;
-use crate::member::{array_at, bad_shape, number_at, object_at, only_at, text_at};
+use crate::member::{bad_shape, number_at, object_at, only_at, text_at};
 use crate::names::Names;
 use crate::path::Place;
 use bench_types::{Call, Step};
@@ -129,18 +129,4 @@ impl<'v> ReadItem<'v> for Names<'_> {
         only_at(alloc, place, kind.members(), members)?;
         Ok(step)
     }
-}
-
-#[tactic(auto, unfolding(crate::specs::Step::steps_at))]
-pub(crate) fn steps_at(
-    alloc: Global,
-    names: &Names<'_>,
-    place: &Place<'_>,
-    value: &Value,
-) -> Result<Vec<Step>, Stop>
-    ensures { Gives (λ steps. steps.items) result
-        (steps_at names.now (path_of place.now) (view value.now)) }
-{
-    let values = array_at(alloc, place, "steps", value)?;
-    each(alloc, names, &Place::Member(place, "steps"), values)
 }

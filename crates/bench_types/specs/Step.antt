@@ -1,7 +1,8 @@
 -- Which steps a session of a header may have.
 use Rattle.std.specs.Prelude.{◌≡◌, ℕ, ◌+◌, ◌^◌, ◌<◌, length, nat_lt, nat_le, ◌&&◌, Result, Ok, Err, if◌then◌else◌, ⊤}
 use Rattle.bench_types.specs.declared.fault.Fault.{Fault}
-use Rattle.bench_types.specs.declared.fault.Fault.TheVariants.{BadCore, BadTask}
+use Rattle.bench_types.specs.declared.fault.Fault.TheVariants.{BadCore, BadTask, BadArgument}
+use Rattle.bench_types.specs.Header.{cores_of_mask}
 use Rattle.bench_types.specs.declared.header.Header.{Header}
 use Rattle.bench_types.specs.declared.kernel_data.Settings.{Settings}
 use Rattle.bench_types.specs.declared.step.Step.{Step}
@@ -27,17 +28,25 @@ core_check settings core = if nat_lt core settings.cores then Ok tt else Err Bad
 abbrev pub task_check : Settings → ℕ → Result ⊤ Fault
 task_check settings task = if nat_le settings.cores task && nat_lt task settings.tasks then Ok tt else Err BadTask
 
--- the fault of a call's arguments
-abbrev pub call_check : Settings → Call → Result ⊤ Fault
-call_check settings call.Yield = Ok tt
-call_check settings (call.Delay ticks) = Ok tt
-call_check settings call.Finish = Ok tt
+-- F5: the mask allows no core
+abbrev pub mask_check : Settings → ℕ → Result ⊤ Fault
+mask_check settings mask = if nat_lt 0 (cores_of_mask settings.cores mask) then Ok tt else Err BadArgument
 
 -- the second where the first is no fault
 infixl 10 ◌>>◌
 abbrev pub ◌>>◌ : {Why : Type 0} → Result ⊤ Why → Result ⊤ Why → Result ⊤ Why
 Ok done >> next = next
 Err fault >> next = Err fault
+
+-- the fault of a call's arguments: the task that it is for, then the mask
+abbrev pub call_check : Settings → Call → Result ⊤ Fault
+call_check settings call.Yield = Ok tt
+call_check settings (call.Delay ticks) = Ok tt
+call_check settings call.Finish = Ok tt
+call_check settings (call.PrioritySet task priority) = task_check settings task
+call_check settings (call.AffinitySet task mask) = task_check settings task >> mask_check settings mask
+call_check settings (call.PreemptOff task) = task_check settings task
+call_check settings (call.PreemptOn task) = task_check settings task
 
 -- the faults of a step, in the order in which they are tried
 abbrev pub step_check : Settings → Step → Result ⊤ Fault
@@ -50,6 +59,10 @@ abbrev pub IsOfWords : Call → Type 0
 IsOfWords call.Yield = ⊤
 IsOfWords (call.Delay ticks) = ticks < 2 ^ 32
 IsOfWords call.Finish = ⊤
+IsOfWords (call.PrioritySet task priority) = priority < 2 ^ 32
+IsOfWords (call.AffinitySet task mask) = mask < 2 ^ 32
+IsOfWords (call.PreemptOff task) = ⊤
+IsOfWords (call.PreemptOn task) = ⊤
 
 abbrev pub IsStepOfWords : Step → Type 0
 IsStepOfWords step.Tick = ⊤

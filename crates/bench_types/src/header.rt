@@ -114,7 +114,7 @@ pub(crate) fn allows_numbers(config: &Config, priority: u32, mask: u32) -> bool
 }
 
 /// Whether a bit of the mask means one of so many cores. A mask has no bit for a core of number 32 or more.
-fn allows_core(cores: u32, mask: u32) -> bool
+pub(crate) fn allows_core(cores: u32, mask: u32) -> bool
     ensures { result ≡ nat_lt 0 (cores_of_mask cores mask) }
 {
     if cores < 32 {

@@ -1,6 +1,7 @@
 ghost use Rattle.std.specs.Prelude.{◌≡◌};
-ghost use Rattle.bench_types.specs.Step.{settings_of, call_check, core_check, step_check, task_check};
+ghost use Rattle.bench_types.specs.Step.{settings_of, call_check, core_check, mask_check, step_check, task_check};
 
+use crate::header::allows_core;
 use crate::{Fault, Header};
 
 /// One event of a session.
@@ -21,6 +22,14 @@ pub enum Call {
     Yield,
     /// `vTaskDelay`, of so many ticks.
     Delay(u32),
+    /// `vTaskPrioritySet` of the task. A priority that is none counts as the greatest.
+    PrioritySet { task: u32, priority: u32 },
+    /// `vTaskCoreAffinitySet` of the task. Bits at or above the number of cores mean nothing.
+    AffinitySet { task: u32, mask: u32 },
+    /// `vTaskPreemptionDisable` of the task.
+    PreemptOff(u32),
+    /// `vTaskPreemptionEnable` of the task.
+    PreemptOn(u32),
     /// The return of the task's unfinished call, once the task runs again.
     Finish,
 }
@@ -43,12 +52,19 @@ impl Step {
 }
 
 impl Call {
-    /// The fault of the call's arguments. No call so far has an argument that can be at fault.
+    /// The fault of the call's arguments: F3 where the task that it is for is no user task, else F5 where a mask
+    /// allows no core.
     pub fn check(&self, header: &Header) -> Result<(), Fault>
         ensures { result ≡ call_check (settings_of header.now) self.now }
     {
         match self {
             Call::Yield | Call::Delay(_) | Call::Finish => Ok(()),
+            Call::PrioritySet { task, priority: _ } => check_task(*task, header),
+            Call::AffinitySet { task, mask } => {
+                check_task(*task, header)?;
+                check_mask(*mask, header)
+            }
+            Call::PreemptOff(task) | Call::PreemptOn(task) => check_task(*task, header),
         }
     }
 }
@@ -70,6 +86,16 @@ pub(crate) fn check_task(task: u32, header: &Header) -> Result<(), Fault>
     let is_user = header.config.cores <= task
         && ((task - header.config.cores) as usize) < tasks.len();
     if is_user { Ok(()) } else { Err(Fault::BadTask) }
+}
+
+fn check_mask(mask: u32, header: &Header) -> Result<(), Fault>
+    ensures { result ≡ mask_check (settings_of header.now) mask }
+{
+    if allows_core(header.config.cores, mask) {
+        Ok(())
+    } else {
+        Err(Fault::BadArgument)
+    }
 }
 
 #[cfg(test)]
@@ -125,6 +151,44 @@ mod tests {
             Call::Finish,
         ] {
             assert_eq!(rt; call.check(&header), Ok(()), "at {call:?}");
+        }
+        Ok(())
+    }
+
+    #[test]
+    fn limits_the_task_that_a_call_is_for(rt: HostRuntime) -> Result<(), Fail> {
+        let header = samples::crowd(rt.alloc(), 3)?;
+        for (task, answer) in [
+            (1, Err(Fault::BadTask)),
+            (2, Ok(())),
+            (4, Ok(())),
+            (5, Err(Fault::BadTask)),
+        ] {
+            for call in [
+                Call::PrioritySet { task, priority: 99 },
+                Call::AffinitySet { task, mask: 3 },
+                Call::PreemptOff(task),
+                Call::PreemptOn(task),
+            ] {
+                assert_eq!(rt; call.check(&header), answer, "at {call:?}");
+            }
+        }
+        Ok(())
+    }
+
+    #[test]
+    fn limits_the_mask(rt: HostRuntime) -> Result<(), Fail> {
+        let header = samples::crowd(rt.alloc(), 3)?;
+        for (task, mask, answer) in [
+            (2, 0, Err(Fault::BadArgument)),
+            (2, 1, Ok(())),
+            (2, 2, Ok(())),
+            (2, 4, Err(Fault::BadArgument)),
+            (2, 6, Ok(())),
+            (5, 4, Err(Fault::BadTask)),
+        ] {
+            let call = Call::AffinitySet { task, mask };
+            assert_eq!(rt; call.check(&header), answer, "at {task} and {mask}");
         }
         Ok(())
     }

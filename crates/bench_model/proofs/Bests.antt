@@ -8,7 +8,7 @@ use Rattle.bench_model.proofs.Filters.{All-has, All-weaker, list_all_from, list_
 use Rattle.bench_model.proofs.Ranks.{IsRank}
 
 -- what a search finds passes and is there
-found : (p : ℕ → Bool) (ids : List ℕ) (i : ℕ) → find p ids ≡ Some i → (has i ids ≡ true) × (p i ≡ true)
+pub found : (p : ℕ → Bool) (ids : List ℕ) (i : ℕ) → find p ids ≡ Some i → (has i ids ≡ true) × (p i ≡ true)
 found p [] i same = absurd (cc (same))
 found p (j ∷ ids) i same = at (p j) refl (λ same. found p ids i same)
   where

@@ -1,9 +1,10 @@
 -- Each step: over lists it is the step of what was seen of the table before, and it keeps a sound table sound.
-use Rattle.std.proofs.Common.{◌≡◌, ℕ, ◌<◌, ◌≤◌, Bool, true, false, cond, eqb, length, Option, Some, None, refl, sym, ap, subst, ◌∙◌, arith}
+use Rattle.std.proofs.Common.{◌≡◌, ℕ, ◌<◌, ◌≤◌, Bool, true, false, cond, eqb, length, Option, Some, None, Ok, refl, sym, ap, subst, ◌∙◌, arith}
 use Rattle.std.specs.Prelude.{slice_set}
 use Rattle.std.specs.Option.{option_map_or}
 use Rattle.std.proofs.lemmas.Bool.Decides.{nat_tests}
 use Rattle.std.proofs.lemmas.List.{length-set}
+use Rattle.bench_types.specs.declared.kernel_data.Settings.{Settings}
 use Rattle.bench_types.specs.declared.reply.Reply.{Reply}
 use Rattle.bench_types.specs.declared.reply.Reply.TheVariants.{Done, Blocked, Refused}
 use Rattle.bench_types.specs.declared.reply.Refusal.{Refusal}
@@ -11,10 +12,11 @@ use Rattle.bench_types.specs.declared.step.Step.{Step}
 use Rattle.bench_types.specs.declared.step.Step.TheVariants.{Tick, Switch}
 use Rattle.bench_types.specs.declared.step.Step.TheVariants as steps
 use Rattle.bench_types.specs.declared.step.Call.{Call}
-use Rattle.bench_types.specs.declared.step.Call.TheVariants.{Yield, Delay, Finish}
+use Rattle.bench_types.specs.declared.step.Call.TheVariants.{Yield, Delay, Finish, PrioritySet, AffinitySet, PreemptOff, PreemptOn}
 use Rattle.bench_types.proofs.Passes.{both_pass, checked_task}
-use Rattle.bench_types.specs.Step.{IsCheckedStep, IsCheckedCall, core_check, task_check, call_check, ◌>>◌}
+use Rattle.bench_types.specs.Step.{IsCheckedStep, IsCheckedCall, core_check, task_check, mask_check, call_check, ◌>>◌}
 use Rattle.bench_model.specs.State.{refusal, yielded, blocked}
+use Rattle.bench_model.specs.Sets.{priority_set, affinity_set, preemption_off, preemption_on}
 use Rattle.bench_model.specs.Steps.{called, performed, after}
 use Rattle.bench_model.specs.Table.{Table, table_moves, is_ready}
 use Rattle.bench_model.specs.Lists.{View, list_moves, image}
@@ -22,10 +24,10 @@ use Rattle.bench_model.specs.Laws.{seen_of}
 use Rattle.bench_model.specs.Equal.{Same}
 use Rattle.bench_model.specs.Session.{step_of}
 use Rattle.bench_model.specs.Sound.{IsInPlace, IsSound}
-use Rattle.bench_model.proofs.Restamps.{IsGiven}
 use Rattle.bench_model.proofs.SeenSteps.{yielded_seen, blocked_seen, in_place}
 use Rattle.bench_model.proofs.SoundSteps.{call_set, yielded_sound, blocked_sound}
 use Rattle.bench_model.proofs.Seeks.{sought_switch_seen, sought_switch_sound}
+use Rattle.bench_model.proofs.Sets.{priority_seen, priority_sound, affinity_seen, affinity_sound, off_seen, off_sound, on_seen, on_sound}
 use Rattle.bench_model.proofs.Ticks.{ticked_seen, ticked_sound}
 
 abbrev outcome_from : Reply → View → Reply × View
@@ -34,21 +36,39 @@ outcome_from reply view = (reply, view)
 same_outcome : (reply : Reply) (one other : View) → one ≡ other → outcome_from reply one ≡ outcome_from reply other
 same_outcome reply one other a = ap (λ view. outcome_from reply view) a
 
-pub called_seen : (core task : ℕ) (call : Call) (table : Table) → IsGiven table.orders → task < length table.orders.rows → is_ready task table.orders ≡ true → seen_of (called table_moves core task call table) ≡ called list_moves core task call (image table)
+-- the task that a checked call is for
+set_task : (settings : Settings) (task : ℕ) → task_check settings task ≡ Ok tt → task < settings.tasks
+set_task settings task passes = (checked_task settings task passes).1
+
+masked_task : (settings : Settings) (task mask : ℕ) → (task_check settings task >> mask_check settings mask) ≡ Ok tt → task < settings.tasks
+masked_task settings task mask passes = set_task settings task (both_pass (task_check settings task) (mask_check settings mask) passes).0
+
+-- the call of a checked step, and that its caller is a user task
+checked_call : (settings : Settings) (core task : ℕ) (call : Call) → IsCheckedStep settings (steps.Call core task call) → IsCheckedCall settings call × (settings.cores ≤ task)
+checked_call settings core task call checked =
+    let last = both_pass (core_check settings core >> task_check settings task) (call_check settings call) checked.passes in
+    let first = both_pass (core_check settings core) (task_check settings task) last.0 in
+    (record { passes = last.1; words = checked.words }, (checked_task settings task first.1).0)
+
+pub called_seen : (core task : ℕ) (call : Call) (table : Table) → IsSound table → IsCheckedCall table.settings call → task < length table.orders.rows → is_ready task table.orders ≡ true → seen_of (called table_moves core task call table) ≡ called list_moves core task call (image table)
 unfolding called
-called_seen core task Yield table given below ready = same_outcome Done _ _ (yielded_seen core table)
-called_seen core task (Delay ticks) table given below ready = either (eqb ticks 0)
+called_seen core task Yield table sound checked below ready = same_outcome Done _ _ (yielded_seen core table)
+called_seen core task (Delay ticks) table sound checked below ready = either (eqb ticks 0)
   where
     either : (b : Bool) → seen_of (cond b (Done, yielded table_moves core table) (Blocked, blocked table_moves core task (Delay ticks) ticks table)) ≡ cond b (Done, yielded list_moves core (image table)) (Blocked, blocked list_moves core task (Delay ticks) ticks (image table))
     either true = same_outcome Done _ _ (yielded_seen core table)
-    either false = same_outcome Blocked _ _ (blocked_seen core task (Delay ticks) ticks table given below ready)
-called_seen core task Finish table given below ready = refl
+    either false = same_outcome Blocked _ _ (blocked_seen core task (Delay ticks) ticks table sound.stamped.given below ready)
+called_seen core task Finish table sound checked below ready = refl
+called_seen core task (PrioritySet other priority) table sound checked below ready = same_outcome Done _ _ (priority_seen table core other priority sound (set_task table.settings other checked.passes))
+called_seen core task (AffinitySet other mask) table sound checked below ready = same_outcome Done _ _ (affinity_seen table core other mask sound (masked_task table.settings other mask checked.passes))
+called_seen core task (PreemptOff other) table sound checked below ready = same_outcome Done _ _ (off_seen table other)
+called_seen core task (PreemptOn other) table sound checked below ready = same_outcome Done _ _ (on_seen table core other)
 
-pub performed_seen : (step : Step) (table : Table) → IsSound table → IsInPlace table step → seen_of (performed table_moves step table) ≡ performed list_moves step (image table)
+pub performed_seen : (step : Step) (table : Table) → IsSound table → IsCheckedStep table.settings step → IsInPlace table step → seen_of (performed table_moves step table) ≡ performed list_moves step (image table)
 unfolding performed
-performed_seen Tick table sound place = same_outcome Done _ _ (ticked_seen table sound)
-performed_seen (Switch core) table sound place = same_outcome Done _ _ (sought_switch_seen table core sound (omega (arith, sound.sized.cores, place)))
-performed_seen (steps.Call core task call) table sound place = called_seen core task call table sound.stamped.given place.2 place.3
+performed_seen Tick table sound checked place = same_outcome Done _ _ (ticked_seen table sound)
+performed_seen (Switch core) table sound checked place = same_outcome Done _ _ (sought_switch_seen table core sound (omega (arith, sound.sized.cores, place)))
+performed_seen (steps.Call core task call) table sound checked place = called_seen core task call table sound (checked_call table.settings core task call checked).0 place.2 place.3
 
 after_from : (step : Step) (table : Table) (why : Option Refusal) → (why ≡ None → seen_of (performed table_moves step table) ≡ performed list_moves step (image table)) → seen_of (option_map_or (λ why. (Refused why, table)) why (performed table_moves step table)) ≡ option_map_or (λ why. (Refused why, image table)) why (performed list_moves step (image table))
 after_from step table None performs = performs refl
@@ -56,7 +76,7 @@ after_from step table (Some why) performs = refl
 
 pub after_seen : (step : Step) (table : Table) → IsSound table → IsCheckedStep table.settings step → seen_of (after table_moves step table) ≡ after list_moves step (image table)
 unfolding after
-after_seen step table sound checked = after_from step table (refusal table.control table.calls step) (λ accepted. performed_seen step table sound (in_place step table sound checked.passes accepted))
+after_seen step table sound checked = after_from step table (refusal table.control table.calls step) (λ accepted. performed_seen step table sound checked (in_place step table sound checked.passes accepted))
 
 -- equal tables take every step alike
 pub equal_after : (a b : Table) (step : Step) → IsSound a → IsSound b → Same a b → IsCheckedStep a.settings step → ((step_of step a).0 ≡ (step_of step b).0) × Same (step_of step a).1 (step_of step b).1
@@ -93,15 +113,18 @@ called_sound core task (Delay ticks) table sound place checked user = either (eq
     either true none = yielded_sound core table sound place.0
     either false some = blocked_sound core task (Delay ticks) ticks table sound place checked user (grind (arith, nat_tests, some)) checked.words
 called_sound core task Finish table sound place checked user = finished_sound table sound core task Finish place checked user
+called_sound core task (PrioritySet other priority) table sound place checked user = priority_sound table core other priority sound (set_task table.settings other checked.passes)
+called_sound core task (AffinitySet other mask) table sound place checked user = affinity_sound table core other mask sound (masked_task table.settings other mask checked.passes)
+called_sound core task (PreemptOff other) table sound place checked user = off_sound table other sound (set_task table.settings other checked.passes)
+called_sound core task (PreemptOn other) table sound place checked user = on_sound table core other sound (set_task table.settings other checked.passes)
 
 pub performed_sound : (step : Step) (table : Table) → IsSound table → IsCheckedStep table.settings step → IsInPlace table step → IsSound (performed table_moves step table).1
 unfolding performed
 performed_sound Tick table sound checked place = ticked_sound table sound
 performed_sound (Switch core) table sound checked place = sought_switch_sound table core sound (omega (arith, sound.sized.cores, place))
 performed_sound (steps.Call core task call) table sound checked place =
-    let last = both_pass (core_check table.settings core >> task_check table.settings task) (call_check table.settings call) checked.passes in
-    let first = both_pass (core_check table.settings core) (task_check table.settings task) last.0 in
-    called_sound core task call table sound place (record { passes = last.1; words = checked.words }) (omega (arith, sound.sized.cores, (checked_task table.settings task first.1).0))
+    let call_checked = checked_call table.settings core task call checked in
+    called_sound core task call table sound place call_checked.0 (omega (arith, sound.sized.cores, call_checked.1))
 
 pub after_sound : (step : Step) (table : Table) → IsSound table → IsCheckedStep table.settings step → IsSound (after table_moves step table).1
 unfolding after

@@ -12,6 +12,8 @@ pub mod Seek
 pub mod SeekExamples
 pub mod SeekLaws
 pub mod Session
+pub mod SetLaws
+pub mod Sets
 pub mod Sound
 pub mod Start
 pub mod SlowDue

@@ -7,9 +7,10 @@ use Rattle.bench_types.specs.declared.step.Step.{Step}
 use Rattle.bench_types.specs.declared.step.Step.TheVariants.{Tick, Switch}
 use Rattle.bench_types.specs.declared.step.Step.TheVariants as steps
 use Rattle.bench_types.specs.declared.step.Call.{Call}
-use Rattle.bench_types.specs.declared.step.Call.TheVariants.{Yield, Delay, Finish}
+use Rattle.bench_types.specs.declared.step.Call.TheVariants.{Yield, Delay, Finish, PrioritySet, AffinitySet, PreemptOff, PreemptOn}
 use Rattle.bench_model.specs.State.{State, Moves, refusal, yielded, blocked}
 use Rattle.bench_model.specs.Seek.{wake, switched_and_sought, sliced}
+use Rattle.bench_model.specs.Sets.{priority_set, affinity_set, preemption_off, preemption_on}
 
 module _ {Orders : Type 0} (moves : Moves Orders) where
   -- the tasks are woken in turn, by core 0
@@ -20,12 +21,16 @@ module _ {Orders : Type 0} (moves : Moves Orders) where
   unfoldable pub ticked : State Orders → State Orders
   ticked state = let later = moves.advance state.orders in sliced moves (woken (moves.due later) (record state { orders = later }))
 
-  -- What a call that is not refused answers and does (FreeRTOS Reference Manual, taskYIELD and vTaskDelay).
+  -- What a call that is not refused answers and does (FreeRTOS Reference Manual, taskYIELD and vTaskDelay). The core acts.
   unfoldable pub called : ℕ → ℕ → Call → State Orders → Reply × State Orders
   called core task Yield state = (Done, yielded moves core state)
   called core task (Delay ticks) state =
       if ticks == 0 then (Done, yielded moves core state) else (Blocked, blocked moves core task (Delay ticks) ticks state)
   called core task Finish state = (Done, record state { calls = slice_set state.calls task None })
+  called core task (PrioritySet other priority) state = (Done, priority_set moves core other priority state)
+  called core task (AffinitySet other mask) state = (Done, affinity_set moves core other mask state)
+  called core task (PreemptOff other) state = (Done, preemption_off moves other state)
+  called core task (PreemptOn other) state = (Done, preemption_on moves core other state)
 
   -- what a step that is not refused answers and does
   unfoldable pub performed : Step → State Orders → Reply × State Orders

@@ -5,6 +5,7 @@ pub mod cores_laws;
 pub mod laws;
 mod row;
 pub mod seek_laws;
+pub mod set_laws;
 mod slow;
 #[cfg(test)]
 mod tests;

@@ -1,5 +1,5 @@
 ghost use Rattle.std.specs.Prelude.{◌≡◌, ℕ, ◌<◌, ◌≤◌, ◌^◌, ◌+◌, ◌==◌, ◌&&◌, length, ◌++◌, map, replicate, option_map, slice_get, All, None, IfOk, IfSome, nat_le, Ok};
-ghost use Rattle.bench_types.specs.Step.{step_check, settings_of, IsStepOfWords};
+ghost use Rattle.bench_types.specs.Step.{call_check, step_check, settings_of, IsStepOfWords};
 ghost use Rattle.bench_types.specs.Header.{header_check};
 ghost use Rattle.bench_model.specs.Control.{is_elsewhere, is_allowed, may_select, is_due, current, run_on, running};
 ghost use Rattle.bench_model.specs.State.{call_refusal, refusal, queued, switched, yielded, blocked};
@@ -13,6 +13,7 @@ ghost use Rattle.bench_model.specs.Start.{first_look, ready_row, idle_control, u
 ghost use Rattle.bench_model.specs.SlowDue.{first_due};
 
 mod seek;
+mod sets;
 
 use crate::{Standing, TaskRow};
 use bench_types::{
@@ -307,6 +308,7 @@ impl SlowTable {
     fn call(&mut self, core: u32, task: u32, call: Call) -> Reply
         requires core { core < length self.old.control.cores }
         requires task { task < length self.old.orders.rows }
+        requires checked { call_check self.old.settings call ≡ Ok tt }
         requires room { self.old.orders.next + 1 < 2 ^ 128 }
         requires time { self.old.orders.tick + 2 ^ 32 < 2 ^ 128 }
         ensures { (result, self.new) ≡ called table_moves core task call self.old }
@@ -314,17 +316,16 @@ impl SlowTable {
         match call {
             Call::Delay(ticks) if ticks != 0 => {
                 self.block(core, task, call, ticks);
-                Reply::Blocked
+                return Reply::Blocked;
             }
-            Call::Yield | Call::Delay(_) => {
-                self.ask_itself(core);
-                Reply::Done
-            }
-            Call::Finish => {
-                self.calls[task as usize] = None;
-                Reply::Done
-            }
+            Call::Yield | Call::Delay(_) => self.ask_itself(core),
+            Call::Finish => self.calls[task as usize] = None,
+            Call::PrioritySet { task, priority } => self.set_priority(core, task, priority),
+            Call::AffinitySet { task, mask } => self.set_affinity(core, task, mask),
+            Call::PreemptOff(task) => self.preempt_off(task),
+            Call::PreemptOn(task) => self.preempt_on(core, task),
         }
+        Reply::Done
     }
 
     fn is_due(&self, core: u32) -> bool
@@ -353,6 +354,7 @@ impl SlowTable {
     fn perform(&mut self, step: &Step) -> Reply
         requires sound { IsSound self.old }
         requires fits { IsInPlace self.old step.now }
+        requires checked { step_check self.old.settings step.now ≡ Ok tt }
         requires room { self.old.orders.next + length self.old.orders.rows < 2 ^ 128 }
         requires time { self.old.orders.tick + 2 ^ 32 < 2 ^ 128 }
         ensures { (result, self.new) ≡ performed table_moves step.now self.old }

@@ -9,7 +9,7 @@ ghost use Rattle.bench_model.specs.Table.{table_moves, is_ready};
 use super::SlowTable;
 
 impl SlowTable {
-    fn in_mask(&self, task: u32, core: u32) -> bool
+    pub(super) fn in_mask(&self, task: u32, core: u32) -> bool
         requires core { core < length self.now.control.cores }
         requires task { task < length self.now.orders.rows }
         ensures { result ≡ in_mask self.now.control task core }
@@ -30,7 +30,7 @@ impl SlowTable {
     }
 
     // Whether the core has the task and no other core asked it to switch.
-    fn keeps_running(&self, core: u32, task: u32) -> bool
+    pub(super) fn keeps_running(&self, core: u32, task: u32) -> bool
         requires { core < length self.now.control.cores }
         ensures { result ≡ (current self.now.control core == task && not (core_at self.now.control core).asked) }
     {
@@ -44,7 +44,7 @@ impl SlowTable {
             .any(|core| self.keeps_running(core, task))
     }
 
-    fn has_preemption_on(&self, task: u32) -> bool
+    pub(super) fn has_preemption_on(&self, task: u32) -> bool
         requires { task < length self.now.orders.rows }
         ensures { result ≡ (task_at self.now.control task).preempt }
     {
@@ -119,7 +119,7 @@ impl SlowTable {
             .find(|core| self.is_asked_first(task, lost, *core))
     }
 
-    fn ask(&mut self, acting: u32, core: u32)
+    pub(super) fn ask(&mut self, acting: u32, core: u32)
         requires { core < length self.old.control.cores }
         ensures { self.new ≡ record self.old { control = ask acting core self.old.control } }
     {

@@ -12,6 +12,7 @@ pub mod Seeks
 pub mod SeenMoves
 pub mod SeenSteps
 pub mod Selects
+pub mod SetExamples
 pub mod Sets
 pub mod SlowRuns
 pub mod SlowSlices

@@ -12,6 +12,7 @@ pub mod Seek
 pub mod SeekExamples
 pub mod SeekLaws
 pub mod Session
+pub mod SetExamples
 pub mod SetLaws
 pub mod Sets
 pub mod Sound

@@ -1,5 +1,6 @@
 //! The laws of the calls that set a task's priority, core affinity mask and preemption, each on a function that does nothing.
 ghost use Rattle.bench_model.specs.SetLaws.{RunsOnSomeCore, AskItsCoreIsSeen, RankedAnewIsSeen, MaskedAnewIsSeen, PrioritySetIsSeen, AffinitySetIsSeen, PreemptionOffIsSeen, PreemptionOnIsSeen, AskItsCoreKeepsSound, RankedAnewKeepsSound, MaskedAnewKeepsSound, PrioritySetKeepsSound, AffinitySetKeepsSound, PreemptionOffKeepsSound, PreemptionOnKeepsSound};
+ghost use Rattle.bench_model.specs.SetExamples.{WorkedPriorities, WorkedMasks, WorkedPreemption};
 
 /// A task runs where there is a core that it runs on.
 pub fn runs_on_some_core()
@@ -74,4 +75,19 @@ pub fn preemption_off_keeps_sound()
 /// A sound table is sound when preemption was turned on.
 pub fn preemption_on_keeps_sound()
     ensures { PreemptionOnKeepsSound }
+{}
+
+/// Who is asked and sought a core behind new priorities, as it was worked out by hand.
+pub fn worked_priorities()
+    ensures { WorkedPriorities }
+{}
+
+/// Who is asked and sought a core behind new masks, as it was worked out by hand.
+pub fn worked_masks()
+    ensures { WorkedMasks }
+{}
+
+/// What turning preemption off and on does, as it was worked out by hand.
+pub fn worked_preemption()
+    ensures { WorkedPreemption }
 {}

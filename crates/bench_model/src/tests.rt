@@ -4,6 +4,7 @@ ghost use Rattle.bench_types.specs.Step.{step_check, settings_of};
 
 mod random;
 mod sessions;
+mod sets;
 
 use crate::replay_slow;
 use bench_types::{Call, Config, Header, Items, Name, Refusal, Reply, Row, Step, TaskArgs};
@@ -123,11 +124,22 @@ fn read_header(alloc: Global, text: &str) -> Result<Header, Fail> {
 
 fn read_step(word: &str) -> Step {
     let core = digit(word, 1);
+    let other = digit(word, 3);
     let call = match word.as_bytes().first() {
         Some(b's') => return Step::Switch { core },
         Some(b'y') => Call::Yield,
-        Some(b'd') => Call::Delay(digit(word, 3)),
+        Some(b'd') => Call::Delay(other),
         Some(b'f') => Call::Finish,
+        Some(b'p') => Call::PrioritySet {
+            task: other,
+            priority: digit(word, 4),
+        },
+        Some(b'a') => Call::AffinitySet {
+            task: other,
+            mask: digit(word, 4) * 16 + digit(word, 5),
+        },
+        Some(b'o') => Call::PreemptOff(other),
+        Some(b'e') => Call::PreemptOn(other),
         _ => return Step::Tick,
     };
     let task = digit(word, 2);
@@ -155,17 +167,26 @@ fn is_answer(answer: &str, reply: &Reply, row: &Row) -> bool {
     *reply == read_reply(answer) && tasks.all(|(core, task)| *task == digit(answer, core + 1))
 }
 
-#[test]
-fn replays_the_random_sessions(rt: HostRuntime) -> Result<(), Fail> {
-    for session in random::SESSIONS {
-        let (head, text) = session.split_once(" | ").unwrap_or((session, ""));
-        let header = read_header(rt.alloc(), head)?;
-        let steps = read_steps(rt.alloc(), text)?;
-        let outcomes = replayed(&rt, rt.alloc(), &header, &steps)?;
+fn replays_lines(rt: &(impl Alloc + Abort), alloc: Global, lines: &[&str]) -> Result<(), Fail> {
+    for session in lines {
+        let (head, text) = session.split_once(" | ").unwrap_or((*session, ""));
+        let header = read_header(alloc, head)?;
+        let steps = read_steps(alloc, text)?;
+        let outcomes = replayed(rt, alloc, &header, &steps)?;
         assert_eq!(rt; outcomes.len(), 24, "{session}");
         for ((reply, row), answer) in outcomes.iter().zip(text.split(' ').skip(1).step_by(2)) {
             assert!(rt; is_answer(answer, reply, row), "{answer} in {session}");
         }
     }
     Ok(())
+}
+
+#[test]
+fn replays_the_random_sessions(rt: HostRuntime) -> Result<(), Fail> {
+    replays_lines(&rt, rt.alloc(), &random::SESSIONS)
+}
+
+#[test]
+fn replays_the_sessions_of_sets(rt: HostRuntime) -> Result<(), Fail> {
+    replays_lines(&rt, rt.alloc(), &sets::SESSIONS)
 }

@@ -2,7 +2,7 @@
 ghost use Rattle.std.specs.Prelude.{◌≡◌, ◌<◌, ◌+◌, ◌^◌, length, IfSome};
 ghost use Rattle.bench_model.specs.Changes.{with_base, with_affinity, with_preemption, in_use_set};
 ghost use Rattle.bench_model.specs.Sets.{runs_on, ask_its_core, capped, in_use_behind, ranked_anew, masked_anew, priority_set, affinity_set, preemption_off, preemption_on};
-ghost use Rattle.bench_model.specs.Table.{table_moves};
+ghost use Rattle.bench_model.specs.Table.{table_moves, is_ready};
 
 use super::SlowTable;
 use bench_types::TaskControl;
@@ -104,12 +104,14 @@ impl SlowTable {
     #[tactic(auto, unfolding(crate::specs::Sets::masked_anew))]
     fn mask_anew(&mut self, acting: u32, task: u32)
         requires { task < length self.old.orders.rows }
-        ensures { self.new ≡ record self.old { control = masked_anew acting task (table_moves.is_ready task self.old.orders) self.old.control } }
+        ensures { self.new ≡ record self.old { control = masked_anew acting task (is_ready task self.old.orders) self.old.control } }
     {
-        match self.its_core(task) {
-            Some(core) if !self.in_mask(task, core) => self.ask(acting, core),
-            None if self.is_ready(task) => self.seek(acting, task, None),
-            _ => (),
+        if let Some(core) = self.its_core(task) {
+            if !self.in_mask(task, core) {
+                self.ask(acting, core);
+            }
+        } else if self.is_ready(task) {
+            self.seek(acting, task, None);
         }
     }
 

@@ -17,9 +17,9 @@ use Rattle.bench_types.specs.declared.step.Call.{Call}
 use Rattle.bench_types.specs.declared.step.Call.TheVariants as call
 use Rattle.bench_types.specs.Name.{is_name, is_name_byte, is_within}
 use Rattle.bench_types.specs.Step.{IsOfWords, IsStepOfWords}
-use Rattle.session_text.specs.Written.{task_data, task_name, call_data, step_data, session_data, IsTyped}
+use Rattle.session_text.specs.Written.{task_data, task_name, bare_call, call_for, call_data, step_data, session_data, IsTyped}
 use Rattle.bench_types.proofs.Passes.{IsCheckedHeader}
-use Rattle.session_text.proofs.Limits.{IsInPlace}
+use Rattle.session_text.proofs.Limits.{IsInPlace, HasTarget}
 use Rattle.session_text.proofs.ReadBack.{IsPlain, ArePlain}
 
 ascii_bytes : (bytes : List ℕ) → list_all is_name_byte bytes ≡ true → are_ascii bytes ≡ true
@@ -37,19 +37,29 @@ utf8_name name named =
 pub task_plain : (task : TaskArgs) → is_name task.name ≡ true → task.priority < 2 ^ 64 → task.mask < 2 ^ 64 → IsPlain (task_data task)
 task_plain task named priority mask = (refl, refl, mask, (refl, refl, utf8_name task.name named, (refl, refl, priority, tt)))
 
-pub call_plain : (by : List ℕ) (core : ℕ) (made : Call) → IsUtf8 by → core < 2 ^ 64 → IsOfWords made → IsPlain (call_data by core made)
-call_plain by core call.Yield utf8 small words = (refl, refl, utf8, (refl, refl, small, (refl, refl, IsUtf8-are_ascii _ refl, tt)))
-call_plain by core (call.Delay ticks) utf8 small words = (refl, refl, utf8, (refl, refl, small, (refl, refl, IsUtf8-are_ascii _ refl, (refl, refl, omega arith, tt))))
-call_plain by core call.Finish utf8 small words = (refl, refl, utf8, (refl, refl, small, (refl, refl, IsUtf8-are_ascii _ refl, tt)))
-
 -- the names of tasks are UTF-8
 abbrev pub AreNames : Header → Type 0
 AreNames header = (task : ℕ) → task < header.config.cores + length header.tasks → header.config.cores ≤ task → IsUtf8 (task_name header task)
 
+bare_plain : (by : List ℕ) (core : ℕ) (word : List ℕ) → IsUtf8 by → core < 2 ^ 64 → IsUtf8 word → IsPlain (bare_call by core word)
+bare_plain by core word utf8 small word_utf8 = (refl, refl, utf8, (refl, refl, small, (refl, refl, word_utf8, tt)))
+
+for_plain : (by : List ℕ) (core : ℕ) (word to : List ℕ) → IsUtf8 by → core < 2 ^ 64 → IsUtf8 word → IsUtf8 to → IsPlain (call_for by core word to)
+for_plain by core word to utf8 small word_utf8 to_utf8 = (refl, refl, utf8, (refl, refl, small, (refl, refl, word_utf8, (refl, refl, to_utf8, tt))))
+
+pub call_plain : (header : Header) (by : List ℕ) (core : ℕ) (made : Call) → AreNames header → HasTarget header made → IsUtf8 by → core < 2 ^ 64 → IsOfWords made → IsPlain (call_data header by core made)
+call_plain header by core call.Yield names target utf8 small words = bare_plain by core _ utf8 small (IsUtf8-are_ascii _ refl)
+call_plain header by core (call.Delay ticks) names target utf8 small words = (refl, refl, utf8, (refl, refl, small, (refl, refl, IsUtf8-are_ascii _ refl, (refl, refl, omega arith, tt))))
+call_plain header by core (call.PrioritySet task priority) names target utf8 small words = (refl, refl, utf8, (refl, refl, small, (refl, refl, IsUtf8-are_ascii _ refl, (refl, refl, omega arith, (refl, refl, names task target.1 target.0, tt)))))
+call_plain header by core (call.AffinitySet task mask) names target utf8 small words = (refl, refl, utf8, (refl, refl, small, (refl, refl, IsUtf8-are_ascii _ refl, (refl, refl, omega arith, (refl, refl, names task target.1 target.0, tt)))))
+call_plain header by core (call.PreemptOff task) names target utf8 small words = for_plain by core _ _ utf8 small (IsUtf8-are_ascii _ refl) (names task target.1 target.0)
+call_plain header by core (call.PreemptOn task) names target utf8 small words = for_plain by core _ _ utf8 small (IsUtf8-are_ascii _ refl) (names task target.1 target.0)
+call_plain header by core call.Finish names target utf8 small words = bare_plain by core _ utf8 small (IsUtf8-are_ascii _ refl)
+
 step_plain : (header : Header) (made : Step) → header.config.cores ≤ 8 → AreNames header → IsInPlace header made → IsStepOfWords made → IsPlain (step_data header made)
 step_plain header step.Tick few names place words = (refl, refl, IsUtf8-are_ascii _ refl, tt)
 step_plain header (step.Switch core) few names place words = (refl, refl, omega arith, (refl, refl, IsUtf8-are_ascii _ refl, tt))
-step_plain header (step.Call core task made) few names place words = call_plain (task_name header task) core made (names task place.2 place.1) (omega arith) words
+step_plain header (step.Call core task made) few names place words = call_plain header (task_name header task) core made names place.target (names task place.caller.1 place.caller.0) (omega (arith, place.core_there)) words
 
 steps_plain : (header : Header) (steps : List Step) → header.config.cores ≤ 8 → AreNames header → AllByRecursion (λ made. IsInPlace header made × IsStepOfWords made) steps → ArePlain (items_of (map (step_data header) steps))
 steps_plain header [] few names each = tt
@@ -117,15 +127,19 @@ items_within : {A : Type 0} (data_of : A → Data) (n : ℕ) → ((x : A) → de
 items_within data_of n each [] = omega arith
 items_within data_of n each (x ∷ xs) = omega (arith, each x, items_within data_of n each xs)
 
-call_depth : (by : List ℕ) (core : ℕ) (made : Call) → depth (call_data by core made) ≤ 1
-call_depth by core call.Yield = omega arith
-call_depth by core (call.Delay ticks) = omega arith
-call_depth by core call.Finish = omega arith
+call_depth : (header : Header) (by : List ℕ) (core : ℕ) (made : Call) → depth (call_data header by core made) ≤ 1
+call_depth header by core call.Yield = omega arith
+call_depth header by core (call.Delay ticks) = omega arith
+call_depth header by core (call.PrioritySet task priority) = omega arith
+call_depth header by core (call.AffinitySet task mask) = omega arith
+call_depth header by core (call.PreemptOff task) = omega arith
+call_depth header by core (call.PreemptOn task) = omega arith
+call_depth header by core call.Finish = omega arith
 
 step_depth : (header : Header) (made : Step) → depth (step_data header made) ≤ 1
 step_depth header step.Tick = omega arith
 step_depth header (step.Switch core) = omega arith
-step_depth header (step.Call core task made) = call_depth (task_name header task) core made
+step_depth header (step.Call core task made) = call_depth header (task_name header task) core made
 
 pub session_depth : (header : Header) (steps : List Step) → depth (session_data header steps) ≤ max_depth
 unfolding session_data

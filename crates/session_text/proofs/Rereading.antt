@@ -10,20 +10,21 @@ use Rattle.bench_types.specs.declared.header.TaskArgs.{TaskArgs}
 use Rattle.bench_types.specs.declared.header.Header.{Header}
 use Rattle.bench_types.specs.declared.step.Step.{Step}
 use Rattle.bench_types.specs.declared.step.Step.TheVariants as step
+use Rattle.bench_types.specs.declared.step.Call.{Call}
 use Rattle.bench_types.specs.declared.step.Call.TheVariants as call
 use Rattle.bench_types.specs.Header.{has_valid_args, is_header}
 use Rattle.bench_types.specs.Name.{is_name}
-use Rattle.bench_types.specs.Step.{IsStepOfWords}
+use Rattle.bench_types.specs.Step.{IsOfWords, IsStepOfWords}
 use Rattle.session_text.specs.Accepted.{items_accepted}
 use Rattle.session_text.specs.Array.{each_at, list_at}
 use Rattle.session_text.specs.Header.{task_at, config_at, header_at}
 use Rattle.session_text.specs.Member.{number_at, text_at, flag_at, array_at}
 use Rattle.bench_types.proofs.Passes.{IsCheckedHeader, header_facts}
-use Rattle.session_text.specs.Names.{names_of}
+use Rattle.session_text.specs.Names.{names_of, number_of}
 use Rattle.session_text.specs.Session.{format_at, session_at, session_accepted, session, step_fault}
 use Rattle.session_text.specs.Step.{step_at, kind_at, step_of_kind_at, task_named_at, call_at}
 use Rattle.session_text.specs.Written.{task_data, task_name, step_data, session_data, IsSession, IsTyped, WrittenReadsBack}
-use Rattle.session_text.proofs.Limits.{IsInPlace, in_place}
+use Rattle.session_text.proofs.Limits.{IsInPlace, IsCallInPlace, IsUserTask, in_place}
 use Rattle.session_text.proofs.Passing.{all_accepted}
 use Rattle.session_text.proofs.Plain.{IsTask, IsWritable, session_plain, session_depth, utf8_name}
 use Rattle.session_text.proofs.ReadBack.{document-compact_text}
@@ -39,21 +40,40 @@ tasks_read config at index (task ∷ tasks) few each =
     let priority : task.priority < config.priorities = grind (arith, nat_tests, each.0.0) in
     rw (task_read _ task (omega arith) each.0.1.mask, tasks_read config at (suc index) tasks few each.1) refl
 
-step_read : (header : Header) (at : List ℕ) (made : Step) → IsCheckedHeader header → IsInPlace header made → IsStepOfWords made → step_at (names_of header) at (step_data header made) ≡ Ok made
+target_named : (header : Header) (task : ℕ) → IsCheckedHeader header → IsUserTask header task → number_of (names_of header) (task_name header task) ≡ task
+target_named header task h there = number_of_name header task there.0 there.1 h.once
+
+call_read : (header : Header) (at : List ℕ) (core task : ℕ) (made : Call) → IsCheckedHeader header → IsCallInPlace header core task made → IsOfWords made → step_at (names_of header) at (step_data header (step.Call core task made)) ≡ Ok (step.Call core task made)
 unfolding step_at kind_at text_at step_of_kind_at number_at task_named_at call_at
+call_read header at core task call.Yield h place words =
+    let small : core < 2 ^ 32 = omega (arith, h.few_cores, place.core_there) in
+    rw (lt-ltb _ _ small, target_named header task h place.caller) refl
+call_read header at core task (call.Delay ticks) h place words =
+    let small : core < 2 ^ 32 = omega (arith, h.few_cores, place.core_there) in
+    rw (lt-ltb _ _ small, lt-ltb _ _ words, target_named header task h place.caller) refl
+call_read header at core task (call.PrioritySet to priority) h place words =
+    let small : core < 2 ^ 32 = omega (arith, h.few_cores, place.core_there) in
+    rw (lt-ltb _ _ small, lt-ltb _ _ words, target_named header task h place.caller, target_named header to h place.target) refl
+call_read header at core task (call.AffinitySet to mask) h place words =
+    let small : core < 2 ^ 32 = omega (arith, h.few_cores, place.core_there) in
+    rw (lt-ltb _ _ small, lt-ltb _ _ words, target_named header task h place.caller, target_named header to h place.target) refl
+call_read header at core task (call.PreemptOff to) h place words =
+    let small : core < 2 ^ 32 = omega (arith, h.few_cores, place.core_there) in
+    rw (lt-ltb _ _ small, target_named header task h place.caller, target_named header to h place.target) refl
+call_read header at core task (call.PreemptOn to) h place words =
+    let small : core < 2 ^ 32 = omega (arith, h.few_cores, place.core_there) in
+    rw (lt-ltb _ _ small, target_named header task h place.caller, target_named header to h place.target) refl
+call_read header at core task call.Finish h place words =
+    let small : core < 2 ^ 32 = omega (arith, h.few_cores, place.core_there) in
+    rw (lt-ltb _ _ small, target_named header task h place.caller) refl
+
+step_read : (header : Header) (at : List ℕ) (made : Step) → IsCheckedHeader header → IsInPlace header made → IsStepOfWords made → step_at (names_of header) at (step_data header made) ≡ Ok made
+unfolding step_at kind_at text_at step_of_kind_at number_at
 step_read header at step.Tick h place words = refl
 step_read header at (step.Switch core) h place words =
     let small : core < 2 ^ 32 = omega (arith, h.few_cores) in
     rw (lt-ltb _ _ small) refl
-step_read header at (step.Call core task call.Yield) h place words =
-    let small : core < 2 ^ 32 = omega (arith, h.few_cores) in
-    rw (lt-ltb _ _ small, number_of_name header task place.1 place.2 h.once) refl
-step_read header at (step.Call core task (call.Delay ticks)) h place words =
-    let small : core < 2 ^ 32 = omega (arith, h.few_cores) in
-    rw (lt-ltb _ _ small, lt-ltb _ _ words, number_of_name header task place.1 place.2 h.once) refl
-step_read header at (step.Call core task call.Finish) h place words =
-    let small : core < 2 ^ 32 = omega (arith, h.few_cores) in
-    rw (lt-ltb _ _ small, number_of_name header task place.1 place.2 h.once) refl
+step_read header at (step.Call core task made) h place words = call_read header at core task made h place words
 
 steps_read : (header : Header) (at : List ℕ) (index : ℕ) (steps : List Step) → IsCheckedHeader header → AllByRecursion (λ made. IsInPlace header made × IsStepOfWords made) steps → each_at (step_at (names_of header)) at index (items_of (map (step_data header) steps)) ≡ Ok steps
 steps_read header at index [] h each = refl

@@ -17,7 +17,16 @@ use Rattle.session_text.specs.Path.{member_path}
 
 -- the words of `do`
 abbrev pub kinds : List (List ℕ × Kind)
-kinds = (codes "tick", kind.Tick) ∷ (codes "switch", kind.Switch) ∷ (codes "yield", kind.Call callkind.Yield) ∷ (codes "delay", kind.Call callkind.Delay) ∷ (codes "finish", kind.Call callkind.Finish) ∷ []
+kinds =
+    (codes "tick", kind.Tick) ∷
+    (codes "switch", kind.Switch) ∷
+    (codes "yield", kind.Call callkind.Yield) ∷
+    (codes "delay", kind.Call callkind.Delay) ∷
+    (codes "priority_set", kind.Call callkind.PrioritySet) ∷
+    (codes "affinity_set", kind.Call callkind.AffinitySet) ∷
+    (codes "preempt_off", kind.Call callkind.PreemptOff) ∷
+    (codes "preempt_on", kind.Call callkind.PreemptOn) ∷
+    (codes "finish", kind.Call callkind.Finish) ∷ []
 
 abbrev pub kind_of : List ℕ → Option Kind
 kind_of word = option_map (λ entry. entry.1) (find (λ entry. bytes_eq word entry.0) kinds)
@@ -31,6 +40,10 @@ kind_at at d = do
 abbrev pub arguments_of : CallKind → List (List ℕ)
 arguments_of callkind.Yield = []
 arguments_of callkind.Delay = codes "ticks" ∷ []
+arguments_of callkind.PrioritySet = codes "to" ∷ codes "priority" ∷ []
+arguments_of callkind.AffinitySet = codes "to" ∷ codes "mask" ∷ []
+arguments_of callkind.PreemptOff = codes "to" ∷ []
+arguments_of callkind.PreemptOn = codes "to" ∷ []
 arguments_of callkind.Finish = []
 
 abbrev pub members_of : Kind → List (List ℕ)
@@ -44,12 +57,27 @@ task_named_at names at name d = do
   text ← text_at at name d
   Ok (number_of names text)
 
-unfoldable pub call_at : CallKind → List ℕ → Data → Result Call TextFault
-call_at callkind.Yield at d = Ok call.Yield
-call_at callkind.Delay at d = do
+-- `to` names the task that a call is for
+unfoldable pub call_at : TaskNames → CallKind → List ℕ → Data → Result Call TextFault
+call_at names callkind.Yield at d = Ok call.Yield
+call_at names callkind.Delay at d = do
   ticks ← number_at at (codes "ticks") d
   Ok (call.Delay ticks)
-call_at callkind.Finish at d = Ok call.Finish
+call_at names callkind.PrioritySet at d = do
+  task ← task_named_at names at (codes "to") d
+  priority ← number_at at (codes "priority") d
+  Ok (call.PrioritySet task priority)
+call_at names callkind.AffinitySet at d = do
+  task ← task_named_at names at (codes "to") d
+  mask ← number_at at (codes "mask") d
+  Ok (call.AffinitySet task mask)
+call_at names callkind.PreemptOff at d = do
+  task ← task_named_at names at (codes "to") d
+  Ok (call.PreemptOff task)
+call_at names callkind.PreemptOn at d = do
+  task ← task_named_at names at (codes "to") d
+  Ok (call.PreemptOn task)
+call_at names callkind.Finish at d = Ok call.Finish
 
 unfoldable pub step_of_kind_at : TaskNames → Kind → List ℕ → Data → Result Step TextFault
 step_of_kind_at names kind.Tick at d = Ok step.Tick
@@ -59,7 +87,7 @@ step_of_kind_at names kind.Switch at d = do
 step_of_kind_at names (kind.Call which) at d = do
   core ← number_at at (codes "core") d
   task ← task_named_at names at (codes "by") d
-  made ← call_at which at d
+  made ← call_at names which at d
   Ok (step.Call core task made)
 
 unfoldable pub step_at : TaskNames → List ℕ → Data → Result Step TextFault

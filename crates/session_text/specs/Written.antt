@@ -31,16 +31,27 @@ task_data task = object_with ((codes "mask", whole task.mask) ∷ (codes "name",
 abbrev pub task_name : Header → ℕ → List ℕ
 task_name header task = (slice_index_or header.tasks (task - header.config.cores) (record { name = []; priority = 0; mask = 0 })).name
 
--- a call on a core, by the task of this name
-abbrev pub call_data : List ℕ → ℕ → Call → Data
-call_data by core call.Yield = object_with ((codes "by", string by) ∷ (codes "core", whole core) ∷ (codes "do", string (codes "yield")) ∷ [])
-call_data by core (call.Delay ticks) = object_with ((codes "by", string by) ∷ (codes "core", whole core) ∷ (codes "do", string (codes "delay")) ∷ (codes "ticks", whole ticks) ∷ [])
-call_data by core call.Finish = object_with ((codes "by", string by) ∷ (codes "core", whole core) ∷ (codes "do", string (codes "finish")) ∷ [])
+-- a call by the task of this name on a core: the call's word is all that is said of it
+abbrev pub bare_call : List ℕ → ℕ → List ℕ → Data
+bare_call by core word = object_with ((codes "by", string by) ∷ (codes "core", whole core) ∷ (codes "do", string word) ∷ [])
+
+-- the same, for the task of the other name
+abbrev pub call_for : List ℕ → ℕ → List ℕ → List ℕ → Data
+call_for by core word to = object_with ((codes "by", string by) ∷ (codes "core", whole core) ∷ (codes "do", string word) ∷ (codes "to", string to) ∷ [])
+
+abbrev pub call_data : Header → List ℕ → ℕ → Call → Data
+call_data header by core call.Yield = bare_call by core (codes "yield")
+call_data header by core (call.Delay ticks) = object_with ((codes "by", string by) ∷ (codes "core", whole core) ∷ (codes "do", string (codes "delay")) ∷ (codes "ticks", whole ticks) ∷ [])
+call_data header by core (call.PrioritySet task priority) = object_with ((codes "by", string by) ∷ (codes "core", whole core) ∷ (codes "do", string (codes "priority_set")) ∷ (codes "priority", whole priority) ∷ (codes "to", string (task_name header task)) ∷ [])
+call_data header by core (call.AffinitySet task mask) = object_with ((codes "by", string by) ∷ (codes "core", whole core) ∷ (codes "do", string (codes "affinity_set")) ∷ (codes "mask", whole mask) ∷ (codes "to", string (task_name header task)) ∷ [])
+call_data header by core (call.PreemptOff task) = call_for by core (codes "preempt_off") (task_name header task)
+call_data header by core (call.PreemptOn task) = call_for by core (codes "preempt_on") (task_name header task)
+call_data header by core call.Finish = bare_call by core (codes "finish")
 
 abbrev pub step_data : Header → Step → Data
 step_data header step.Tick = object_with ((codes "do", string (codes "tick")) ∷ [])
 step_data header (step.Switch core) = object_with ((codes "core", whole core) ∷ (codes "do", string (codes "switch")) ∷ [])
-step_data header (step.Call core task made) = call_data (task_name header task) core made
+step_data header (step.Call core task made) = call_data header (task_name header task) core made
 
 abbrev pub tasks_data : List TaskArgs → Data
 tasks_data tasks = array (items_of (map task_data tasks))

@@ -26,6 +26,10 @@ pub(crate) enum Kind {
 pub(crate) enum CallKind {
     Yield,
     Delay,
+    PrioritySet,
+    AffinitySet,
+    PreemptOff,
+    PreemptOn,
     Finish,
 }
 
@@ -38,6 +42,10 @@ impl Kind {
             "switch" => Some(Kind::Switch),
             "yield" => Some(Kind::Call(CallKind::Yield)),
             "delay" => Some(Kind::Call(CallKind::Delay)),
+            "priority_set" => Some(Kind::Call(CallKind::PrioritySet)),
+            "affinity_set" => Some(Kind::Call(CallKind::AffinitySet)),
+            "preempt_off" => Some(Kind::Call(CallKind::PreemptOff)),
+            "preempt_on" => Some(Kind::Call(CallKind::PreemptOn)),
             "finish" => Some(Kind::Call(CallKind::Finish)),
             _ => None,
         }
@@ -52,6 +60,9 @@ impl Kind {
             Kind::Switch => &["do", "core"],
             Kind::Call(CallKind::Yield | CallKind::Finish) => &["do", "core", "by"],
             Kind::Call(CallKind::Delay) => &["do", "core", "by", "ticks"],
+            Kind::Call(CallKind::PrioritySet) => &["do", "core", "by", "to", "priority"],
+            Kind::Call(CallKind::AffinitySet) => &["do", "core", "by", "to", "mask"],
+            Kind::Call(CallKind::PreemptOff | CallKind::PreemptOn) => &["do", "core", "by", "to"],
         }
     }
 }
@@ -82,12 +93,35 @@ pub(crate) fn task_named_at(
 }
 
 #[tactic(auto, unfolding(crate::specs::Step::call_at))]
-fn call_at(alloc: Global, kind: CallKind, place: &Place<'_>, value: &Value) -> Result<Call, Stop>
-    ensures { Gives (λ call. call) result (call_at kind (path_of place.now) (view value.now)) }
+fn call_at(
+    alloc: Global,
+    names: &Names<'_>,
+    kind: CallKind,
+    place: &Place<'_>,
+    value: &Value,
+) -> Result<Call, Stop>
+    ensures { Gives (λ call. call) result
+        (call_at names.now kind (path_of place.now) (view value.now)) }
 {
     match kind {
         CallKind::Yield => Ok(Call::Yield),
         CallKind::Delay => Ok(Call::Delay(number_at(alloc, place, "ticks", value)?)),
+        CallKind::PrioritySet => Ok(Call::PrioritySet {
+            task: task_named_at(alloc, names, place, "to", value)?,
+            priority: number_at(alloc, place, "priority", value)?,
+        }),
+        CallKind::AffinitySet => Ok(Call::AffinitySet {
+            task: task_named_at(alloc, names, place, "to", value)?,
+            mask: number_at(alloc, place, "mask", value)?,
+        }),
+        CallKind::PreemptOff => {
+            let task = task_named_at(alloc, names, place, "to", value)?;
+            Ok(Call::PreemptOff(task))
+        }
+        CallKind::PreemptOn => {
+            let task = task_named_at(alloc, names, place, "to", value)?;
+            Ok(Call::PreemptOn(task))
+        }
         CallKind::Finish => Ok(Call::Finish),
     }
 }
@@ -111,7 +145,7 @@ fn step_of_kind_at(
         Kind::Call(kind) => Ok(Step::Call {
             core: number_at(alloc, place, "core", value)?,
             task: task_named_at(alloc, names, place, "by", value)?,
-            call: call_at(alloc, kind, place, value)?,
+            call: call_at(alloc, names, kind, place, value)?,
         }),
     }
 }

@@ -1,3 +1,4 @@
+mod calls;
 mod documents;
 mod rows;
 mod written;

@@ -1,8 +1,8 @@
 ghost use Rattle.std.specs.Prelude.{◌≡◌, ◌+◌, ◌<◌, ◌≤◌, All, IfOk, Ok, OnOk, length};
 ghost use Rattle.serde_json.specs.View.{view};
-ghost use Rattle.bench_types.specs.Step.{IsOfWords, IsStepOfWords};
+ghost use Rattle.bench_types.specs.Step.{IsOfWords, IsStepOfWords, call_check, settings_of};
 ghost use Rattle.session_text.specs.Session.{session, step_fault, IsChecked};
-ghost use Rattle.session_text.specs.Written.{call_data, session_data, step_data, steps_data, task_data, task_name, tasks_data, written, IsSession, IsTyped};
+ghost use Rattle.session_text.specs.Written.{bare_call, call_data, call_for, session_data, step_data, steps_data, task_data, task_name, tasks_data, written, IsSession, IsTyped};
 
 use bench_types::{Call, Config, Header, Step, TaskArgs};
 use serde_json::{Value, json};
@@ -84,22 +84,53 @@ fn step_value(alloc: Global, header: &Header, step: &Step) -> Result<Value, Allo
         Step::Tick => json!(in alloc; {"do": "tick"}),
         Step::Switch { core } => json!(in alloc; {"core": *core, "do": "switch"}),
         Step::Call { core, task, call } => {
-            call_value(alloc, task_name(header, *task), *core, *call)
+            call_value(alloc, header, task_name(header, *task), *core, *call)
         }
     }
 }
 
-fn call_value(alloc: Global, by: &str, core: u32, call: Call) -> Result<Value, AllocError>
-    ensures value { IfOk result (λ value. view value ≡ call_data by.now core call) }
+fn call_value(
+    alloc: Global,
+    header: &Header,
+    by: &str,
+    core: u32,
+    call: Call,
+) -> Result<Value, AllocError>
+    requires { call_check (settings_of header.now) call ≡ Ok tt }
+    ensures value { IfOk result (λ value. view value ≡ call_data header.now by.now core call) }
     ensures typed { OnOk result (IsOfWords call) }
 {
     match call {
-        Call::Yield => json!(in alloc; {"by": by, "core": core, "do": "yield"}),
+        Call::Yield => bare_call(alloc, by, core, "yield"),
         Call::Delay(ticks) => {
             json!(in alloc; {"by": by, "core": core, "do": "delay", "ticks": ticks})
         }
-        Call::Finish => json!(in alloc; {"by": by, "core": core, "do": "finish"}),
+        Call::PrioritySet { task, priority } => {
+            let to = task_name(header, task);
+            json!(in alloc; {
+                "by": by, "core": core, "do": "priority_set", "priority": priority, "to": to
+            })
+        }
+        Call::AffinitySet { task, mask } => {
+            let to = task_name(header, task);
+            json!(in alloc; {"by": by, "core": core, "do": "affinity_set", "mask": mask, "to": to})
+        }
+        Call::PreemptOff(task) => call_for(alloc, by, core, "preempt_off", task_name(header, task)),
+        Call::PreemptOn(task) => call_for(alloc, by, core, "preempt_on", task_name(header, task)),
+        Call::Finish => bare_call(alloc, by, core, "finish"),
     }
+}
+
+fn bare_call(alloc: Global, by: &str, core: u32, word: &str) -> Result<Value, AllocError>
+    ensures { IfOk result (λ value. view value ≡ bare_call by.now core word.now) }
+{
+    json!(in alloc; {"by": by, "core": core, "do": word})
+}
+
+fn call_for(alloc: Global, by: &str, core: u32, word: &str, to: &str) -> Result<Value, AllocError>
+    ensures { IfOk result (λ value. view value ≡ call_for by.now core word.now to.now) }
+{
+    json!(in alloc; {"by": by, "core": core, "do": word, "to": to})
 }
 
 fn task_name(header: &Header, task: u32) -> &str

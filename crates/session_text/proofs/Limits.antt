@@ -10,6 +10,7 @@ use Rattle.bench_types.proofs.Passes.{both_pass, checked_core, checked_task}
 use Rattle.bench_types.specs.Step.{settings_of, core_check, task_check, mask_check, call_check, ◌>>◌}
 use Rattle.session_text.specs.Session.{step_fault}
 
+-- the number of a user task
 abbrev pub IsUserTask : Header → ℕ → Type 0
 IsUserTask header task = (header.config.cores ≤ task) × (task < header.config.cores + length header.tasks)
 
@@ -23,12 +24,13 @@ HasTarget header (call.PreemptOff task) = IsUserTask header task
 HasTarget header (call.PreemptOn task) = IsUserTask header task
 HasTarget header call.Finish = ⊤
 
--- the core and the caller of a step are there, and the task that its call is for
+-- the core and the caller of a call are there, and the task that it is for
 pub record IsCallInPlace (header : Header) (core task : ℕ) (made : Call) : Type 0 where
   pub core_there : core < header.config.cores
   pub caller : IsUserTask header task
   pub target : HasTarget header made
 
+-- the same of a step
 abbrev pub IsInPlace : Header → Step → Type 0
 IsInPlace header step.Tick = ⊤
 IsInPlace header (step.Switch core) = core < header.config.cores

@@ -1,5 +1,5 @@
 -- A session that is written is read back.
-use Rattle.std.proofs.Common.{◌≡◌, ℕ, suc, ◌-◌, ◌^◌, ◌<◌, ◌≤◌, true, List, [], ◌∷◌, map, codes, refl, arith, lt-ltb, Ok}
+use Rattle.std.proofs.Common.{◌≡◌, ℕ, suc, ◌-◌, ◌^◌, ◌<◌, ◌≤◌, true, List, [], ◌∷◌, map, codes, refl, arith, ltb, lt-ltb, Ok}
 use Rattle.std.specs.List.{list_all, AllByRecursion}
 use Rattle.std.proofs.lemmas.Bool.{and_parts, and_from}
 use Rattle.std.proofs.lemmas.Bool.Decides.{nat_tests}
@@ -43,36 +43,23 @@ tasks_read config at index (task ∷ tasks) few each =
 target_named : (header : Header) (task : ℕ) → IsCheckedHeader header → IsUserTask header task → number_of (names_of header) (task_name header task) ≡ task
 target_named header task h there = number_of_name header task there.0 there.1 h.once
 
+core_number : (header : Header) (core : ℕ) → IsCheckedHeader header → core < header.config.cores → ltb core (2 ^ 32) ≡ true
+core_number header core h there = lt-ltb _ _ (omega (arith, h.few_cores))
+
 call_read : (header : Header) (at : List ℕ) (core task : ℕ) (made : Call) → IsCheckedHeader header → IsCallInPlace header core task made → IsOfWords made → step_at (names_of header) at (step_data header (step.Call core task made)) ≡ Ok (step.Call core task made)
 unfolding step_at kind_at text_at step_of_kind_at number_at task_named_at call_at
-call_read header at core task call.Yield h place words =
-    let small : core < 2 ^ 32 = omega (arith, h.few_cores, place.core_there) in
-    rw (lt-ltb _ _ small, target_named header task h place.caller) refl
-call_read header at core task (call.Delay ticks) h place words =
-    let small : core < 2 ^ 32 = omega (arith, h.few_cores, place.core_there) in
-    rw (lt-ltb _ _ small, lt-ltb _ _ words, target_named header task h place.caller) refl
-call_read header at core task (call.PrioritySet to priority) h place words =
-    let small : core < 2 ^ 32 = omega (arith, h.few_cores, place.core_there) in
-    rw (lt-ltb _ _ small, lt-ltb _ _ words, target_named header task h place.caller, target_named header to h place.target) refl
-call_read header at core task (call.AffinitySet to mask) h place words =
-    let small : core < 2 ^ 32 = omega (arith, h.few_cores, place.core_there) in
-    rw (lt-ltb _ _ small, lt-ltb _ _ words, target_named header task h place.caller, target_named header to h place.target) refl
-call_read header at core task (call.PreemptOff to) h place words =
-    let small : core < 2 ^ 32 = omega (arith, h.few_cores, place.core_there) in
-    rw (lt-ltb _ _ small, target_named header task h place.caller, target_named header to h place.target) refl
-call_read header at core task (call.PreemptOn to) h place words =
-    let small : core < 2 ^ 32 = omega (arith, h.few_cores, place.core_there) in
-    rw (lt-ltb _ _ small, target_named header task h place.caller, target_named header to h place.target) refl
-call_read header at core task call.Finish h place words =
-    let small : core < 2 ^ 32 = omega (arith, h.few_cores, place.core_there) in
-    rw (lt-ltb _ _ small, target_named header task h place.caller) refl
+call_read header at core task call.Yield h place words = rw (core_number header core h place.core_there, target_named header task h place.caller) refl
+call_read header at core task (call.Delay ticks) h place words = rw (core_number header core h place.core_there, lt-ltb _ _ words, target_named header task h place.caller) refl
+call_read header at core task (call.PrioritySet to priority) h place words = rw (core_number header core h place.core_there, lt-ltb _ _ words, target_named header task h place.caller, target_named header to h place.target) refl
+call_read header at core task (call.AffinitySet to mask) h place words = rw (core_number header core h place.core_there, lt-ltb _ _ words, target_named header task h place.caller, target_named header to h place.target) refl
+call_read header at core task (call.PreemptOff to) h place words = rw (core_number header core h place.core_there, target_named header task h place.caller, target_named header to h place.target) refl
+call_read header at core task (call.PreemptOn to) h place words = rw (core_number header core h place.core_there, target_named header task h place.caller, target_named header to h place.target) refl
+call_read header at core task call.Finish h place words = rw (core_number header core h place.core_there, target_named header task h place.caller) refl
 
 step_read : (header : Header) (at : List ℕ) (made : Step) → IsCheckedHeader header → IsInPlace header made → IsStepOfWords made → step_at (names_of header) at (step_data header made) ≡ Ok made
 unfolding step_at kind_at text_at step_of_kind_at number_at
 step_read header at step.Tick h place words = refl
-step_read header at (step.Switch core) h place words =
-    let small : core < 2 ^ 32 = omega (arith, h.few_cores) in
-    rw (lt-ltb _ _ small) refl
+step_read header at (step.Switch core) h place words = rw (core_number header core h place) refl
 step_read header at (step.Call core task made) h place words = call_read header at core task made h place words
 
 steps_read : (header : Header) (at : List ℕ) (index : ℕ) (steps : List Step) → IsCheckedHeader header → AllByRecursion (λ made. IsInPlace header made × IsStepOfWords made) steps → each_at (step_at (names_of header)) at index (items_of (map (step_data header) steps)) ≡ Ok steps

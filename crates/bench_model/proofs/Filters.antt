@@ -1,5 +1,5 @@
 -- Filters of lists, and which of two tests pass what a filter keeps.
-use Rattle.std.proofs.Common.{◌≡◌, ℕ, Bool, true, false, cond, not, eqb, ◌&&◌, ◌||◌, List, [], ◌∷◌, ◌++◌, map, Some, None, refl, arith}
+use Rattle.std.proofs.Common.{◌≡◌, ℕ, Bool, true, false, cond, not, eqb, ◌&&◌, ◌||◌, List, [], ◌∷◌, ◌++◌, map, Some, None, refl, ap, arith}
 use Rattle.std.specs.List.{filter, find, fold, list_any, list_all, AllByRecursion}
 use Rattle.std.proofs.lemmas.Bool.Decides.{nat_tests}
 use Rattle.std.proofs.lemmas.Bool.{eqb-true}
@@ -75,6 +75,15 @@ module _ {X : Type 0} where
   pub find_none : (p : X → Bool) (xs : List X) → AllByRecursion (λ x. p x ≡ false) xs → find p xs ≡ None
   find_none p [] fails = refl
   find_none p (x ∷ xs) fails = grind (arith, fails.0, find_none p xs fails.1)
+
+  -- where all that pass are one item, that is found or none
+  pub find_sole : (p : X → Bool) (x : X) (xs : List X) → AllByRecursion (λ y. p y ≡ true → y ≡ x) xs → find p xs ≡ cond (list_any p xs) (Some x) None
+  find_sole p x [] sole = refl
+  find_sole p x (y ∷ ys) sole = at (p y) refl (find_sole p x ys sole.1)
+    where
+      at : (b : Bool) → p y ≡ b → find p ys ≡ cond (list_any p ys) (Some x) None → cond b (Some y) (find p ys) ≡ cond (b || list_any p ys) (Some x) None
+      at true is rest = ap Some (sole.0 is)
+      at false is rest = rest
 
   pub list_all_from : (p : X → Bool) (xs : List X) → AllByRecursion (λ x. p x ≡ true) xs → list_all p xs ≡ true
   list_all_from p [] passes = refl

@@ -5,6 +5,7 @@ pub mod CoresAlone
 pub mod EditedSessions
 pub mod Examples
 pub mod Filters
+pub mod Looks
 pub mod Ranks
 pub mod Restamps
 pub mod SeekExamples

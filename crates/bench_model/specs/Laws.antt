@@ -15,6 +15,7 @@ use Rattle.bench_model.specs.Steps.{woken, after}
 use Rattle.bench_model.specs.Table.{Stamps, Table, table_moves, is_ready, pick, make_ready, delay, advance, due}
 use Rattle.bench_model.specs.Lists as seen
 use Rattle.bench_model.specs.Lists.{Lists, View, list_moves, lists_of, image}
+use Rattle.bench_model.specs.Looks.{task_look, look_in}
 use Rattle.bench_model.specs.Sound.{IsStamped, WakesInTime, IsInPlace, IsSound}
 use Rattle.bench_model.specs.Start.{start, start_seen}
 use Rattle.bench_model.specs.Session.{step_of}
@@ -63,6 +64,10 @@ EditKeepsSession = (session : Session) (edit : Edit) → IsSession session → a
 abbrev pub ReadyIsSeen : Type 0
 ReadyIsSeen = (control : Control) (stamps : Stamps) (task : ℕ) → IsStamped stamps → task < length stamps.rows →
     seen.is_ready task (lists_of control stamps) ≡ is_ready task stamps
+
+-- what the lists of a table show of a task is what the table shows of it
+abbrev pub LookIsSeen : Type 0
+LookIsSeen = (table : Table) (task : ℕ) → IsSound table → task < table.settings.tasks → look_in (image table) task ≡ task_look table task
 
 abbrev pub ReadyAtEndIsSeen : Type 0
 ReadyAtEndIsSeen = (control : Control) (stamps : Stamps) (task : ℕ) → IsStamped stamps → task < length stamps.rows →

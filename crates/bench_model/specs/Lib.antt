@@ -7,6 +7,7 @@ pub mod Equal
 pub mod Examples
 pub mod Laws
 pub mod Lists
+pub mod Looks
 pub mod Search
 pub mod Seek
 pub mod SeekExamples

@@ -1,5 +1,5 @@
 //! The laws between the definitions, each on a function that does nothing: its contract is the law, for every table.
-ghost use Rattle.bench_model.specs.Laws.{StartIsSound, StartAsksNone, StepKeepsSound, SwitchFindsTask, StartIsSeen, StepIsSeen, EqualStaysEqual, EditKeepsSession, ReadyIsSeen, ReadyAtEndIsSeen, PickIsSeen, SwitchIsSeen, DelayIsSeen, BlockIsSeen, TickIsSeen, WokenIsSeen, CoresAreApart};
+ghost use Rattle.bench_model.specs.Laws.{StartIsSound, StartAsksNone, StepKeepsSound, SwitchFindsTask, StartIsSeen, StepIsSeen, EqualStaysEqual, EditKeepsSession, ReadyIsSeen, LookIsSeen, ReadyAtEndIsSeen, PickIsSeen, SwitchIsSeen, DelayIsSeen, BlockIsSeen, TickIsSeen, WokenIsSeen, CoresAreApart};
 ghost use Rattle.bench_model.specs.Examples.{WorkedSessions, TimedSessions, EqualTables};
 
 /// Every kernel that starts from a checked header has a sound table.
@@ -45,6 +45,11 @@ pub fn edit_keeps_session()
 /// A task is among the ready tasks that are seen where its row is ready.
 pub fn ready_is_seen()
     ensures { ReadyIsSeen }
+{}
+
+/// What the lists of a table show of a task, its ticks left among it, is what its row and its wake say.
+pub fn look_is_seen()
+    ensures { LookIsSeen }
 {}
 
 /// A new stamp is the end of the task's ready list.

@@ -40,3 +40,22 @@ pub struct Delayed {
     /// The ticks that are left.
     pub left: u32,
 }
+
+/// What can be seen of a task.
+#[derive(Clone, Copy, Debug, PartialEq, Eq, Hash)]
+pub struct TaskLook {
+    /// The priority in use, that of its ready list (`uxPriority`).
+    pub in_use: u32,
+    /// The base priority (`uxBasePriority`).
+    pub base: u32,
+    /// The core affinity mask, cut to the bits that mean a core (`uxCoreAffinityMask`).
+    pub mask: u32,
+    /// Whether a core may be asked to give it up for another task (`xPreemptionDisable` is false).
+    pub preempt: bool,
+    /// Whether it is in a ready list (`eReady`, or `eRunning` on a core).
+    pub ready: bool,
+    /// The ticks to the wake of a blocked task (`xStateListItem` holds the tick count of it); none for a ready task.
+    pub left: Option<u32>,
+    /// Whether it made a call that has not returned.
+    pub in_call: bool,
+}

@@ -16,7 +16,7 @@ pub use edit::{Edit, EditFault, MOST_STEPS};
 pub use fault::Fault;
 pub use header::{Config, Header, TaskArgs};
 pub use items::Items;
-pub use kernel_data::{CoreLook, Delayed, Settings, TaskControl};
+pub use kernel_data::{CoreLook, Delayed, Settings, TaskControl, TaskLook};
 pub use name::Name;
 pub use reply::{Refusal, Reply, Row};
 pub use step::{Call, Step};

@@ -37,10 +37,10 @@ same_outcome : (reply : Reply) (one other : View) → one ≡ other → outcome_
 same_outcome reply one other a = ap (λ view. outcome_from reply view) a
 
 -- the task that a checked call is for
-set_task : (settings : Settings) (task : ℕ) → task_check settings task ≡ Ok tt → task < settings.tasks
+pub set_task : (settings : Settings) (task : ℕ) → task_check settings task ≡ Ok tt → task < settings.tasks
 set_task settings task passes = (checked_task settings task passes).1
 
-masked_task : (settings : Settings) (task mask : ℕ) → (task_check settings task >> mask_check settings mask) ≡ Ok tt → task < settings.tasks
+pub masked_task : (settings : Settings) (task mask : ℕ) → (task_check settings task >> mask_check settings mask) ≡ Ok tt → task < settings.tasks
 masked_task settings task mask passes = set_task settings task (both_pass (task_check settings task) (mask_check settings mask) passes).0
 
 -- the call of a checked step, and that its caller is a user task

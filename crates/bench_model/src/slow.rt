@@ -306,6 +306,7 @@ impl SlowTable {
 
     #[tactic(auto, unfolding(crate::specs::Steps::called))]
     fn call(&mut self, core: u32, task: u32, call: Call) -> Reply
+        requires sound { IsSound self.old }
         requires core { core < length self.old.control.cores }
         requires task { task < length self.old.orders.rows }
         requires checked { call_check self.old.settings call ≡ Ok tt }

@@ -15,16 +15,18 @@ use Rattle.bench_types.specs.declared.step.Step.{Step}
 use Rattle.bench_types.specs.declared.step.Step.TheVariants.{Tick, Switch}
 use Rattle.bench_types.specs.declared.step.Step.TheVariants as steps
 use Rattle.bench_types.specs.declared.step.Call.{Call}
-use Rattle.bench_types.specs.declared.step.Call.TheVariants.{Yield, Delay, Finish}
+use Rattle.bench_types.specs.declared.step.Call.TheVariants.{Yield, Delay, Finish, PrioritySet, AffinitySet, PreemptOff, PreemptOn}
 use Rattle.bench_types.specs.declared.kernel_data.Settings.{Settings}
 use Rattle.bench_types.specs.Header.{header_check}
 use Rattle.bench_types.proofs.Passes.{checked_header}
 use Rattle.bench_types.specs.Step.{settings_of, IsCheckedStep}
 use Rattle.bench_model.specs.Search.{numbers}
-use Rattle.bench_model.specs.Control.{running, current, ask_each}
+use Rattle.bench_model.specs.Changes.{with_base, in_use_set}
+use Rattle.bench_model.specs.Control.{task_at, running, current, ask_each}
 use Rattle.bench_model.specs.State.{refusal, switched, yielded, blocked}
 use Rattle.bench_model.specs.Steps.{woken, ticked, called, performed, after}
 use Rattle.bench_model.specs.Seek.{seek, may_move, wake, resettled, switched_and_sought, shares_its_time, sliced}
+use Rattle.bench_model.specs.Sets.{capped, in_use_behind, priority_set, affinity_set, preemption_off, preemption_on}
 use Rattle.bench_model.specs.Table.{Stamps, Table, table_moves, is_ready, make_ready, delay, advance, due}
 use Rattle.bench_model.specs.Sound.{IsSound}
 use Rattle.bench_model.specs.Start.{first_stamps, unstarted, started, start}
@@ -165,8 +167,32 @@ ticked_near table =
 switched_near : (core : ℕ) (table : Table) → 0 < length table.orders.rows → IsNear table (switched_and_sought table_moves core table)
 switched_near core table some = (omega (arith, turned_next core table), omega (arith, turned_tick core table))
 
+in_use_near : (task priority : ℕ) (table : Table) → 0 < length table.orders.rows → IsNear table (in_use_set table_moves task priority table)
+unfolding in_use_set make_ready
+in_use_near task priority table some = at (is_ready task table.orders)
+  where
+    at : (b : Bool) → IsNear table (record table { orders = cond b (make_ready task table.orders) table.orders })
+    at true = (omega arith, omega arith)
+    at false = (omega arith, omega arith)
+
+either_near : (table one other : Table) (b : Bool) → IsNear table one → IsNear table other → IsNear table (cond b one other)
+either_near table one other true here there = here
+either_near table one other false here there = there
+
+abbrev based : ℕ → ℕ → Table → Table
+based task priority table = record table { control = with_base task (capped table.settings.priorities priority) table.control }
+
+abbrev in_use : ℕ → ℕ → Table → ℕ
+in_use task priority table = in_use_behind (task_at table.control task) (capped table.settings.priorities priority)
+
+priority_near : (acting task priority : ℕ) (table : Table) → 0 < length table.orders.rows → IsNear table (priority_set table_moves acting task priority table)
+unfolding priority_set
+priority_near acting task priority table some =
+    either_near table table _ (eqb (capped table.settings.priorities priority) (task_at table.control task).base) (omega arith, omega arith)
+    (in_use_near task (in_use task priority table) (based task priority table) some)
+
 called_near : (core task : ℕ) (call : Call) (table : Table) → 0 < length table.orders.rows → IsNear table (called table_moves core task call table).1
-unfolding called yielded blocked delay
+unfolding called yielded blocked delay affinity_set preemption_off preemption_on
 called_near core task Yield table some = (omega arith, omega arith)
 called_near core task (Delay ticks) table some = at (eqb ticks 0)
   where
@@ -174,6 +200,10 @@ called_near core task (Delay ticks) table some = at (eqb ticks 0)
     at true = (omega arith, omega arith)
     at false = (omega arith, omega arith)
 called_near core task Finish table some = (omega arith, omega arith)
+called_near core task (PrioritySet other priority) table some = priority_near core other priority table some
+called_near core task (AffinitySet other mask) table some = (omega arith, omega arith)
+called_near core task (PreemptOff other) table some = (omega arith, omega arith)
+called_near core task (PreemptOn other) table some = (omega arith, omega arith)
 
 performed_near : (step : Step) (table : Table) → 0 < length table.orders.rows → IsNear table (performed table_moves step table).1
 unfolding performed
@@ -235,8 +265,16 @@ replaying_starts header steps table outcomes passes starts none =
       time = omega (arith, turns_tick cores before, ticks, first.1);
     })
 
+either_settings : (settings : Settings) (one other : Table) (b : Bool) → one.settings ≡ settings → other.settings ≡ settings → (cond b one other).settings ≡ settings
+either_settings settings one other true here there = here
+either_settings settings one other false here there = there
+
+priority_settings : (acting task priority : ℕ) (table : Table) → (priority_set table_moves acting task priority table).settings ≡ table.settings
+unfolding priority_set in_use_set
+priority_settings acting task priority table = either_settings table.settings table _ (eqb (capped table.settings.priorities priority) (task_at table.control task).base) refl refl
+
 called_settings : (core task : ℕ) (call : Call) (table : Table) → (called table_moves core task call table).1.settings ≡ table.settings
-unfolding called yielded blocked
+unfolding called yielded blocked affinity_set preemption_off preemption_on
 called_settings core task Yield table = refl
 called_settings core task (Delay ticks) table = at (eqb ticks 0)
   where
@@ -244,6 +282,10 @@ called_settings core task (Delay ticks) table = at (eqb ticks 0)
     at true = refl
     at false = refl
 called_settings core task Finish table = refl
+called_settings core task (PrioritySet other priority) table = priority_settings core other priority table
+called_settings core task (AffinitySet other mask) table = refl
+called_settings core task (PreemptOff other) table = refl
+called_settings core task (PreemptOn other) table = refl
 
 performed_settings : (step : Step) (table : Table) → (performed table_moves step table).1.settings ≡ table.settings
 unfolding performed ticked

@@ -18,10 +18,11 @@ pub finds_its_place : (step : Step) (view : View) → IsSettled view → step_ch
 finds_its_place Tick view settled passes accepted = settled.none_due
 finds_its_place (Switch core) view settled passes accepted = checked_core view.settings core passes
 finds_its_place (steps.Call core task call) view settled passes accepted =
-    let in_range = both_pass (core_check view.settings core) (task_check view.settings task) (both_pass (core_check view.settings core >> task_check view.settings task) (call_check view.settings call) passes).0 in
+    let both = both_pass (core_check view.settings core >> task_check view.settings task) (call_check view.settings call) passes in
+    let in_range = both_pass (core_check view.settings core) (task_check view.settings task) both.0 in
     let low = checked_core view.settings core in_range.0 in
     let found = not_displaced view.control view.calls core task call accepted in
-    (low, (checked_task view.settings task in_range.1).1, ap (λ i. has i view.orders.ready) (sym found.0) ∙ settled.runs_ready core low found.1)
+    (low, (checked_task view.settings task in_range.1).1, ap (λ i. has i view.orders.ready) (sym found.0) ∙ settled.runs_ready core low found.1, both.1)
 
 pub after_refused : (step : Step) (view : View) (why : Refusal) → refusal view.control view.calls step ≡ Some why → (Refused why, view) ≡ after list_moves step view
 unfolding after

@@ -3,7 +3,7 @@ use Rattle.std.proofs.Common.{◌≡◌, ℕ, Bool, true, false, cond, not, eqb,
 use Rattle.std.proofs.lemmas.Bool.Decides.{nat_tests}
 use Rattle.bench_types.specs.declared.kernel_data.Delayed.{Delayed}
 use Rattle.bench_model.specs.Search.{placed, without, has}
-use Rattle.bench_model.specs.Control.{Control, current}
+use Rattle.bench_model.specs.Control.{Control}
 use Rattle.bench_model.specs.Lists.{outranks, wakes_first}
 use Rattle.bench_model.proofs.Filters.{has-filter}
 use Rattle.bench_model.proofs.Ranks.{list_any-placed}
@@ -51,14 +51,22 @@ apart_waiting entry ready delayed apart t found = at (has t ready) refl
     at true before = grind (arith, nat_tests, found, before, apart t before, waiting-placed t entry delayed, has-filter (λ m. not (eqb m entry.task)) t ready)
     at false before = absurd (cc (found, before, has-filter (λ m. not (eqb m entry.task)) t ready, and_false (not (eqb t entry.task))))
 
--- the ready lists as a core selects
-pub apart_queued : (core : ℕ) (control : Control) (ready : List ℕ) (delayed : List Delayed) → IsApart ready delayed → IsApart (cond (has (current control core) ready) (placed (outranks control) (current control core) (without (current control core) ready)) ready) delayed
-apart_queued core control ready delayed apart = at (has (current control core) ready) refl
+-- the ready lists where a task that is ready goes to the end of its list
+pub apart_queued : (task : ℕ) (control : Control) (ready : List ℕ) (delayed : List Delayed) → IsApart ready delayed → IsApart (cond (has task ready) (placed (outranks control) task (without task ready)) ready) delayed
+apart_queued task control ready delayed apart = at (has task ready) refl
   where
-    at : (b : Bool) → has (current control core) ready ≡ b → IsApart (cond b (placed (outranks control) (current control core) (without (current control core) ready)) ready) delayed
+    at : (b : Bool) → has task ready ≡ b → IsApart (cond b (placed (outranks control) task (without task ready)) ready) delayed
     at true before t found = moved (has t ready) refl
       where
         moved : (b : Bool) → has t ready ≡ b → is_waiting t delayed ≡ false
         moved true here = apart t here
-        moved false gone = absurd (grind (arith, nat_tests, found, before, gone, has-moved control t (current control core) ready))
+        moved false gone = absurd (grind (arith, nat_tests, found, before, gone, has-moved control t task ready))
     at false before t found = apart t found
+
+-- and it stays ready
+pub ready_queued : (task : ℕ) (control : Control) (ready : List ℕ) → has task (cond (has task ready) (placed (outranks control) task (without task ready)) ready) ≡ has task ready
+ready_queued task control ready = at (has task ready) refl
+  where
+    at : (b : Bool) → has task ready ≡ b → has task (cond b (placed (outranks control) task (without task ready)) ready) ≡ b
+    at true before = grind (arith, nat_tests, has-moved control task task ready)
+    at false before = before

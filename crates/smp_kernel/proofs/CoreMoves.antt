@@ -10,6 +10,7 @@ use Rattle.bench_model.specs.Control.{Control, current, may_select, in_mask, run
 use Rattle.bench_model.specs.State.{switched}
 use Rattle.bench_model.specs.Seek.{seek, may_move, wake, resettled, switched_and_sought, shares_its_time, sliced}
 use Rattle.bench_model.specs.Steps.{woken}
+use Rattle.bench_model.specs.Changes.{with_in_use, in_use_set}
 use Rattle.bench_model.specs.Cores.{CoresView, cores_of, alone, on_cores}
 use Rattle.bench_model.specs.Lists.{Lists, View, list_moves, outranks, pick, make_ready}
 use Rattle.bench_model.proofs.SoundSteps.{IsAskedMore}
@@ -22,21 +23,19 @@ use Rattle.smp_kernel.proofs.Apart.{cancelled_free}
 abbrev with_part : View → Control → List ℕ → View
 with_part view control ready = record view { control = control; orders = record view.orders { ready = ready } }
 
--- the ready lists as the core selects: its ready task is at the end of its list
+-- the ready lists where a task that is ready goes to the end of its list
 abbrev pub queue_of : ℕ → Control → List ℕ → List ℕ
-queue_of core control ready =
-    let left = current control core in
-    cond (has left ready) (placed (outranks control) left (without left ready)) ready
+queue_of task control ready = cond (has task ready) (placed (outranks control) task (without task ready)) ready
 
 -- the cores when it has selected
 abbrev selected_by : ℕ → Control → List ℕ → Control
-selected_by core control ready = run_on core (unwrap_or (find (may_select control core) (queue_of core control ready)) (current control core)) control
+selected_by core control ready = run_on core (unwrap_or (find (may_select control core) (queue_of (current control core) control ready)) (current control core)) control
 
 -- the cores behind the seek for the task that it had
 abbrev settled_by : ℕ → ℕ → Control → List ℕ → Control
 settled_by core loser control ready = cond (not (eqb (current control core) loser) && has loser ready) (seek core loser (may_move control loser (current control core) core) control) control
 
-switch_part : (core : ℕ) (view : View) → IsApart view.orders.ready view.orders.delayed → switched list_moves core view ≡ with_part view (selected_by core view.control view.orders.ready) (queue_of core view.control view.orders.ready)
+switch_part : (core : ℕ) (view : View) → IsApart view.orders.ready view.orders.delayed → switched list_moves core view ≡ with_part view (selected_by core view.control view.orders.ready) (queue_of (current view.control core) view.control view.orders.ready)
 unfolding switched pick make_ready
 switch_part core view apart = at (has left view.orders.ready) refl
   where
@@ -66,15 +65,15 @@ resettle_part core loser view = at (not (eqb (current view.control core) loser) 
 
 -- the cores behind a switch
 abbrev turned_by : ℕ → Control → List ℕ → Control
-turned_by core control ready = settled_by core (current control core) (selected_by core control ready) (queue_of core control ready)
+turned_by core control ready = settled_by core (current control core) (selected_by core control ready) (queue_of (current control core) control ready)
 
-turn_part : (core : ℕ) (view : View) → IsApart view.orders.ready view.orders.delayed → switched_and_sought list_moves core view ≡ with_part view (turned_by core view.control view.orders.ready) (queue_of core view.control view.orders.ready)
+turn_part : (core : ℕ) (view : View) → IsApart view.orders.ready view.orders.delayed → switched_and_sought list_moves core view ≡ with_part view (turned_by core view.control view.orders.ready) (queue_of (current view.control core) view.control view.orders.ready)
 unfolding switched_and_sought
 turn_part core view apart =
     ap (resettled list_moves core (current view.control core)) (switch_part core view apart)
-    ∙ resettle_part core (current view.control core) (with_part view (selected_by core view.control view.orders.ready) (queue_of core view.control view.orders.ready))
+    ∙ resettle_part core (current view.control core) (with_part view (selected_by core view.control view.orders.ready) (queue_of (current view.control core) view.control view.orders.ready))
 
-pub turned_cores : (core : ℕ) (cores : CoresView) → on_cores (switched_and_sought list_moves core) cores ≡ record cores { control = turned_by core cores.control cores.ready; ready = queue_of core cores.control cores.ready }
+pub turned_cores : (core : ℕ) (cores : CoresView) → on_cores (switched_and_sought list_moves core) cores ≡ record cores { control = turned_by core cores.control cores.ready; ready = queue_of (current cores.control core) cores.control cores.ready }
 turned_cores core cores = ap cores_of (turn_part core (alone cores) (λ task ready. refl))
 
 -- a switch of the core part is the switch of the kernel
@@ -103,7 +102,7 @@ pub turned_kept : (core : ℕ) (cores : CoresView) → IsKept cores (on_cores (s
 unfolding switched_and_sought resettled switched
 turned_kept core cores =
     let same = turned_cores core cores in
-    let more = settled_more core (current cores.control core) (selected_by core cores.control cores.ready) (queue_of core cores.control cores.ready) in
+    let more = settled_more core (current cores.control core) (selected_by core cores.control cores.ready) (queue_of (current cores.control core) cores.control cores.ready) in
     record {
       priorities = ap (λ (part : CoresView). part.priorities) same;
       slicing = ap (λ (part : CoresView). part.slicing) same;
@@ -111,7 +110,7 @@ turned_kept core cores =
       controls = ap (λ (part : CoresView). length part.control.tasks) same ∙ ap length more.tasks;
     }
 
-pub turned_ready : (core : ℕ) (cores : CoresView) → (on_cores (switched_and_sought list_moves core) cores).ready ≡ queue_of core cores.control cores.ready
+pub turned_ready : (core : ℕ) (cores : CoresView) → (on_cores (switched_and_sought list_moves core) cores).ready ≡ queue_of (current cores.control core) cores.control cores.ready
 turned_ready core cores = ap (λ (part : CoresView). part.ready) (turned_cores core cores)
 
 -- waking a task
@@ -128,6 +127,31 @@ wake_kept task cores =
 pub wake_ready : (task : ℕ) (cores : CoresView) → (on_cores (wake list_moves 0 task) cores).ready ≡ placed (outranks cores.control) task (without task cores.ready)
 unfolding wake make_ready
 wake_ready task cores = refl
+
+-- setting a priority in use
+in_use_part : (task priority : ℕ) (view : View) → IsApart view.orders.ready view.orders.delayed → in_use_set list_moves task priority view ≡ with_part view (with_in_use task priority view.control) (queue_of task (with_in_use task priority view.control) view.orders.ready)
+unfolding in_use_set make_ready
+in_use_part task priority view apart = at (has task view.orders.ready) refl
+  where
+    later : Control
+    later = with_in_use task priority view.control
+
+    with_orders : Lists → View
+    with_orders orders = record view { control = later; orders = orders }
+
+    moved : List ℕ
+    moved = placed (outranks later) task (without task view.orders.ready)
+
+    at : (b : Bool) → has task view.orders.ready ≡ b → with_orders (cond b (record view.orders { ready = moved; delayed = cancelled task view.orders.delayed }) view.orders) ≡ with_orders (record view.orders { ready = cond b moved view.orders.ready })
+    at true here = ap (λ waiting. with_orders (record view.orders { ready = moved; delayed = waiting })) (cancelled_free task view.orders.delayed (apart task here))
+    at false gone = refl
+
+pub in_use_cores : (task priority : ℕ) (cores : CoresView) → on_cores (in_use_set list_moves task priority) cores ≡ record cores { control = with_in_use task priority cores.control; ready = queue_of task (with_in_use task priority cores.control) cores.ready }
+in_use_cores task priority cores = ap cores_of (in_use_part task priority (alone cores) (λ task ready. refl))
+
+pub in_use_seen : (settings : Settings) (cores : CoresView) (calls : List (Option Call)) (delays : DelayView) (task priority : ℕ) → IsApart cores.ready delays.delayed → kernel_view settings (on_cores (in_use_set list_moves task priority) cores) calls delays ≡ in_use_set list_moves task priority (kernel_view settings cores calls delays)
+in_use_seen settings cores calls delays task priority apart =
+    ap (λ part. kernel_view settings part calls delays) (in_use_cores task priority cores) ∙ sym (in_use_part task priority (kernel_view settings cores calls delays) apart)
 
 -- the end of time slices
 pub slice_seen : (settings : Settings) (cores : CoresView) (calls : List (Option Call)) (delays : DelayView) → cores.slicing ≡ settings.slicing → kernel_view settings (on_cores (sliced list_moves) cores) calls delays ≡ sliced list_moves (kernel_view settings cores calls delays)

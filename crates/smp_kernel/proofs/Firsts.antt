@@ -1,11 +1,13 @@
 -- The parts of a start, what they keep, and the cores that select in turn.
-use Rattle.std.proofs.Common.{◌≡◌, ℕ, ◌+◌, ◌<◌, ◌%◌, ◌^◌, List, [], ◌∷◌, length, replicate, None, refl, sym, ap, ◌∙◌, arith}
+use Rattle.std.proofs.Common.{◌≡◌, ℕ, ◌+◌, ◌<◌, ◌%◌, ◌^◌, List, [], ◌∷◌, length, replicate, None, Ok, refl, sym, ap, ◌∙◌, arith}
 use Rattle.std.specs.List.{fold, IsDistinct}
 use Rattle.std.proofs.lemmas.List.{length-map, length-replicate}
 use Rattle.std.proofs.lemmas.List.Elements.{All-nil}
 use Rattle.std.proofs.lemmas.List.FromFn.{length-range_with_len}
 use Rattle.bench_types.specs.declared.header.Header.{Header}
+use Rattle.bench_types.specs.Header.{header_check}
 use Rattle.bench_types.specs.Step.{settings_of}
+use Rattle.bench_types.proofs.Passes.{checked_header}
 use Rattle.bench_model.specs.Search.{numbers, ranked}
 use Rattle.bench_model.specs.Cores.{cores_of}
 use Rattle.bench_model.specs.Lists.{View, list_moves}
@@ -58,11 +60,13 @@ seen_unstarted header low =
     let cut : header.config.tick ≡ header.config.tick % 2 ^ 32 = omega (arith, low) in
     ap (λ tick. kernel_view (settings_of header) (cores_of (unstarted (first_lists header) header)) (replicate (header.config.cores + length header.tasks) None) (no_delays (header.config.cores + length header.tasks) tick)) cut
 
-pub first_kernel_shape : (header : Header) → IsKernelShape (settings_of header) (cores_of (unstarted (first_lists header) header)) (replicate (header.config.cores + length header.tasks) None) (no_delays (header.config.cores + length header.tasks) header.config.tick)
+pub first_kernel_shape : (header : Header) → header_check header ≡ Ok tt → IsKernelShape (settings_of header) (cores_of (unstarted (first_lists header) header)) (replicate (header.config.cores + length header.tasks) None) (no_delays (header.config.cores + length header.tasks) header.config.tick)
 unfolding unstarted
-first_kernel_shape header = record {
+first_kernel_shape header passes = record {
   priorities = refl;
   slicing = refl;
+  few_cores = (checked_header header passes).few_cores;
+  some_priority = (checked_header header passes).some_priority;
   cores = length-map (numbers header.config.cores) first_look ∙ length-range_with_len 0 header.config.cores;
   controls = first_tasks header;
   calls = length-replicate (header.config.cores + length header.tasks) None;

@@ -9,13 +9,16 @@ use Rattle.bench_types.specs.declared.step.Step.{Step}
 use Rattle.bench_types.specs.declared.step.Step.TheVariants.{Tick, Switch}
 use Rattle.bench_types.specs.declared.step.Step.TheVariants as steps
 use Rattle.bench_types.specs.declared.step.Call.{Call}
-use Rattle.bench_types.specs.declared.step.Call.TheVariants.{Yield, Delay, Finish}
+use Rattle.bench_types.specs.declared.step.Call.TheVariants.{Yield, Delay, Finish, PrioritySet, AffinitySet, PreemptOff, PreemptOn}
 use Rattle.bench_types.specs.Step.{step_check, IsStepOfWords, IsCheckedStep}
 use Rattle.bench_model.specs.declared.row.Standing.{Standing}
 use Rattle.bench_model.specs.declared.row.Standing.TheVariants as standing
-use Rattle.bench_model.specs.Search.{numbers}
-use Rattle.bench_model.specs.Control.{core_at, current}
+use Rattle.bench_model.specs.Search.{numbers, has}
+use Rattle.bench_model.specs.Control.{core_at, task_at, current}
 use Rattle.bench_model.specs.State.{refusal, yielded, blocked}
+use Rattle.bench_model.specs.Changes.{with_base, in_use_set}
+use Rattle.bench_model.specs.Sets.{capped, in_use_behind, ranked_anew, priority_set, affinity_set, preemption_off, preemption_on}
+use Rattle.bench_model.specs.Looks.{task_look, look_in}
 use Rattle.bench_model.specs.Steps.{woken, ticked, called, performed, after}
 use Rattle.bench_model.specs.Table.{Stamps, Table, row_at, stamp_of, is_ready, wakes_at, due}
 use Rattle.bench_model.specs.Lists as seen
@@ -27,6 +30,7 @@ use Rattle.bench_model.specs.Equal.{StandsFor}
 use Rattle.bench_model.proofs.Filters.{All-weaker}
 use Rattle.bench_model.proofs.Stamped.{numbers_below, by_stamp_none}
 use Rattle.bench_model.proofs.SeenMoves.{is_ready_seen, due_seen}
+use Rattle.bench_model.proofs.Looks.{look_seen}
 use Rattle.bench_model.proofs.Steps.{after_seen, after_sound}
 use Rattle.smp_kernel.specs.Parts.{due_tasks}
 use Rattle.smp_kernel.specs.Kernel.{IsSettled, StandsForSome}
@@ -84,11 +88,23 @@ stands_after view later step reply passes words made table stands = record {
   shows = ap (λ (r : Reply × View). r.1) (after_stands view table step stands passes words ∙ sym made);
 }
 
+priority_settings : (core task priority : ℕ) (view : View) → (priority_set list_moves core task priority view).settings ≡ view.settings
+unfolding priority_set in_use_set
+priority_settings core task priority view =
+    let block = task_at view.control task in
+    let new = capped view.settings.priorities priority in
+    let later = in_use_set list_moves task (in_use_behind block new) (record view { control = with_base task new view.control }) in
+    elim (eqb new block.base) as (λ b. (cond b view (record later { control = ranked_anew core task block.base new (has task view.orders.ready) later.control })).settings ≡ view.settings) [ true ↦ refl | false ↦ refl ]
+
 called_settings : (core task : ℕ) (call : Call) (view : View) → (called list_moves core task call view).1.settings ≡ view.settings
-unfolding called yielded blocked
+unfolding called yielded blocked affinity_set preemption_off preemption_on
 called_settings core task Yield view = refl
 called_settings core task (Delay ticks) view = elim (eqb ticks 0) as (λ b. (cond b (outcome Done (yielded list_moves core view)) (outcome Blocked (blocked list_moves core task (Delay ticks) ticks view))).1.settings ≡ view.settings) [ true ↦ refl | false ↦ refl ]
 called_settings core task Finish view = refl
+called_settings core task (PrioritySet other priority) view = priority_settings core other priority view
+called_settings core task (AffinitySet other mask) view = refl
+called_settings core task (PreemptOff other) view = refl
+called_settings core task (PreemptOn other) view = refl
 
 performed_settings : (step : Step) (view : View) → (performed list_moves step view).1.settings ≡ view.settings
 unfolding performed ticked
@@ -108,6 +124,11 @@ settings_after view later step reply made = ap (λ (r : Reply × View). r.1.sett
 
 pub look_of : (view : View) (table : Table) (core : ℕ) → StandsFor view table → core_at view.control core ≡ core_at table.control core
 look_of view table core stands = ap (λ (v : View). core_at v.control core) (sym stands.shows)
+
+pub task_look_of : (view : View) (table : Table) (task : ℕ) → task < view.settings.tasks → StandsFor view table → look_in view task ≡ task_look table task
+task_look_of view table task low stands =
+    let below : task < table.settings.tasks = omega (arith, low, ap (λ (v : View). v.settings.tasks) stands.shows) in
+    ap (λ (v : View). look_in v task) (sym stands.shows) ∙ look_seen table task stands.sound below
 
 pub tick_of : (view : View) (table : Table) → StandsFor view table → view.orders.tick ≡ table.orders.tick % 2 ^ 32
 unfolding lists_of

@@ -1,10 +1,11 @@
 -- A kernel's parts together, and what a step needs of them.
-use Rattle.std.specs.Prelude.{◌≡◌, ℕ, ◌<◌, List, [], length, true, false, Option}
+use Rattle.std.specs.Prelude.{◌≡◌, ℕ, ◌<◌, ◌≤◌, List, [], length, true, false, Option, Ok}
 use Rattle.bench_types.specs.declared.kernel_data.Delayed.{Delayed}
 use Rattle.bench_types.specs.declared.kernel_data.Settings.{Settings}
 use Rattle.bench_types.specs.declared.step.Call.{Call}
 use Rattle.bench_types.specs.declared.step.Step.{Step}
 use Rattle.bench_types.specs.declared.step.Step.TheVariants as step
+use Rattle.bench_types.specs.Step.{call_check}
 use Rattle.bench_model.specs.Search.{has}
 use Rattle.bench_model.specs.Control.{current, is_due}
 use Rattle.bench_model.specs.Table.{Table}
@@ -30,6 +31,8 @@ IsApart ready delayed = (task : ℕ) → has task ready ≡ true → is_waiting 
 pub record IsKernelShape (settings : Settings) (core_part : CoresView) (call_part : List (Option Call)) (delay_part : DelayView) : Type 0 where
   pub priorities : core_part.priorities ≡ settings.priorities
   pub slicing : core_part.slicing ≡ settings.slicing
+  pub few_cores : settings.cores ≤ 8
+  pub some_priority : 0 < settings.priorities
   pub cores : length core_part.control.cores ≡ settings.cores
   pub controls : length core_part.control.tasks ≡ settings.tasks
   pub calls : length call_part ≡ settings.tasks
@@ -41,11 +44,11 @@ pub record IsSettled (view : View) : Type 0 where
   pub none_due : due_tasks view.orders.delayed ≡ []
   pub runs_ready : (core : ℕ) → core < view.settings.cores → is_due view.control core ≡ false → has (current view.control core) view.orders.ready ≡ true
 
--- what a step finds that is not refused: no task that is due, its core, and for a call its ready task
+-- what a step finds that is not refused: no task that is due, its core, and for a call its ready task and what it is for
 abbrev pub FindsItsPlace : View → Step → Type 0
 FindsItsPlace view step.Tick = due_tasks view.orders.delayed ≡ []
 FindsItsPlace view (step.Switch core) = core < view.settings.cores
-FindsItsPlace view (step.Call core task call) = (core < view.settings.cores) × (task < view.settings.tasks) × (has task view.orders.ready ≡ true)
+FindsItsPlace view (step.Call core task call) = (core < view.settings.cores) × (task < view.settings.tasks) × (has task view.orders.ready ≡ true) × (call_check view.settings call ≡ Ok tt)
 
 -- there is a sound table that a kernel of which this can be seen stands for
 abbrev pub StandsForSome : View → Type 0

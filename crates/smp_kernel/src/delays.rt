@@ -3,6 +3,7 @@ ghost use Rattle.std.specs.Vec.{vec_capacity};
 ghost use Rattle.bench_types.specs.declared.kernel_data.Delayed.{Delayed};
 ghost use Rattle.bench_model.specs.Search.{placed};
 ghost use Rattle.bench_model.specs.Lists.{wakes_first};
+ghost use Rattle.bench_model.specs.Looks.{left_in};
 ghost use Rattle.smp_kernel.specs.Parts.{is_waiting, cancelled, aged, advanced, due_tasks, no_delays};
 
 use bench_types::Delayed;
@@ -67,6 +68,13 @@ impl Delays {
         cancel_entry(&mut self.waiting, task);
     }
 
+    /// The ticks that are left to the wake of the task; none where it doesn't wait.
+    pub fn left(&self, task: u32) -> Option<u32>
+        ensures { result ≡ left_in task self.now.delayed }
+    {
+        left_of(&self.waiting, task)
+    }
+
     /// One tick passes, when no task has waited long enough before. The tick count wraps.
     pub fn advance(&mut self)
         requires { due_tasks self.old.delayed ≡ [] }
@@ -99,6 +107,16 @@ fn age(waiting: &mut [Delayed])
     for entry in waiting {
         entry.left = entry.left.saturating_sub(1);
     }
+}
+
+// The ticks that are left in the entry of the task.
+fn left_of(waiting: &[Delayed], task: u32) -> Option<u32>
+    ensures { result ≡ left_in task waiting.now }
+{
+    waiting
+        .iter()
+        .find(|entry| entry.task == task)
+        .map(|entry| entry.left)
 }
 
 // The task of the first entry with no tick left.

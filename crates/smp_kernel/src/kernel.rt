@@ -4,13 +4,14 @@ ghost use Rattle.bench_types.specs.Step.{settings_of, step_check};
 ghost use Rattle.bench_model.specs.Control.{core_at, current};
 ghost use Rattle.bench_model.specs.Table.{Table};
 ghost use Rattle.bench_model.specs.Start.{start};
+ghost use Rattle.bench_model.specs.Looks.{task_look};
 ghost use Rattle.bench_model.specs.Session.{step_of};
 ghost use Rattle.bench_model.specs.Equal.{StandsFor};
 ghost use Rattle.smp_kernel.specs.Kernel.{StandsForSome};
 
 use crate::Meter;
 use crate::scheduler::Scheduler;
-use bench_types::{CoreLook, Header, Reply, Step};
+use bench_types::{CoreLook, Header, Reply, Step, TaskLook};
 use std::alloc::{AllocError, Global};
 use std::marker::Model;
 
@@ -94,6 +95,14 @@ impl Kernel {
         ensures { (table : Table) → StandsFor self.now table → result ≡ core_at table.control core }
     {
         self.scheduler.core_look(core)
+    }
+
+    /// What can be seen of the task.
+    pub fn look(&self, task: u32) -> TaskLook
+        requires { task < self.now.settings.tasks }
+        ensures { (table : Table) → StandsFor self.now table → result ≡ task_look table task }
+    {
+        self.scheduler.look(task)
     }
 
     /// The tick count, in ticks, as a number of 32 bits.

@@ -1,6 +1,6 @@
-ghost use Rattle.std.specs.Prelude.{◌≡◌, ◌<◌, [], true, IfOk, Ok, None, replicate};
+ghost use Rattle.std.specs.Prelude.{◌≡◌, ◌<◌, ◌≤◌, length, [], true, IfOk, Ok, None, replicate};
 ghost use Rattle.bench_types.specs.Header.{header_check};
-ghost use Rattle.bench_types.specs.Step.{step_check, IsOfWords, IsStepOfWords};
+ghost use Rattle.bench_types.specs.Step.{call_check, step_check, IsOfWords, IsStepOfWords};
 ghost use Rattle.bench_model.specs.Search.{has};
 ghost use Rattle.bench_model.specs.Control.{core_at, current, is_due};
 ghost use Rattle.bench_model.specs.Start.{first_lists, unstarted, start_seen};
@@ -8,14 +8,18 @@ ghost use Rattle.bench_model.specs.State.{call_refusal, refusal, yielded, blocke
 ghost use Rattle.bench_model.specs.Seek.{wake, switched_and_sought, sliced};
 ghost use Rattle.bench_model.specs.Steps.{ticked, called, performed, after};
 ghost use Rattle.bench_model.specs.Lists.{list_moves};
+ghost use Rattle.bench_model.specs.Looks.{look_in};
 ghost use Rattle.smp_kernel.specs.Parts.{due_tasks};
 ghost use Rattle.smp_kernel.specs.Kernel.{IsSettled, FindsItsPlace};
 
+mod sets;
+
 use crate::delays::Delays;
-use bench_types::{Call, CoreLook, Header, Refusal, Reply, Settings, Step};
+use bench_types::{Call, CoreLook, Header, Refusal, Reply, Settings, Step, TaskLook};
 use ready_core::Cores;
 use std::alloc::{AllocError, Global};
 use std::marker::Model;
+use std::ops::Range;
 
 /// A kernel as far as it can be seen: its parts, and the moves of a step.
 #[derive(Debug, Drop)]
@@ -91,6 +95,23 @@ impl Scheduler {
         self.cores.flags(core)
     }
 
+    /// What can be seen of the task.
+    #[tactic(auto, unfolding(bench_model::specs::Looks::look_in))]
+    pub fn look(&self, task: u32) -> TaskLook
+        requires { task < self.now.settings.tasks }
+        ensures { result ≡ look_in self.now task }
+    {
+        TaskLook {
+            in_use: self.cores.in_use(task),
+            base: self.cores.base(task),
+            mask: self.cores.mask(task),
+            preempt: self.cores.preempt(task),
+            ready: self.cores.ready(task),
+            left: self.delays.left(task),
+            in_call: self.calls[task as usize].is_some(),
+        }
+    }
+
     /// The tick count, in ticks.
     pub fn tick_count(&self) -> u32
         ensures { result ≡ self.now.orders.tick }
@@ -109,6 +130,14 @@ impl Scheduler {
             Some(why) => Reply::Refused(why),
             None => self.perform(step),
         }
+    }
+
+    fn core_numbers(&self) -> Range<u32>
+        ensures numbers { result ≡ record { start = 0; end = self.now.settings.cores } }
+        ensures few { self.now.settings.cores ≤ 8 }
+        ensures all { length self.now.control.cores ≡ self.now.settings.cores }
+    {
+        0..self.settings.cores
     }
 
     // Whether the core was asked to switch, by itself or by another.
@@ -210,27 +239,22 @@ impl Scheduler {
         requires core { core < self.old.settings.cores }
         requires task { task < self.old.settings.tasks }
         requires ready { has task self.old.orders.ready ≡ true }
+        requires checked { call_check self.old.settings call ≡ Ok tt }
         ensures { (result, self.new) ≡ called list_moves core task call self.old }
     {
         match call {
-            Call::Yield => {
-                self.ask_itself(core);
-                Reply::Done
+            Call::Delay(ticks) if ticks != 0 => {
+                self.block(core, task, call, ticks);
+                return Reply::Blocked;
             }
-            Call::Delay(ticks) => {
-                if ticks == 0 {
-                    self.ask_itself(core);
-                    Reply::Done
-                } else {
-                    self.block(core, task, call, ticks);
-                    Reply::Blocked
-                }
-            }
-            Call::Finish => {
-                self.calls[task as usize] = None;
-                Reply::Done
-            }
+            Call::Yield | Call::Delay(_) => self.ask_itself(core),
+            Call::Finish => self.calls[task as usize] = None,
+            Call::PrioritySet { task, priority } => self.set_priority(core, task, priority),
+            Call::AffinitySet { task, mask } => self.set_affinity(core, task, mask),
+            Call::PreemptOff(task) => self.preempt_off(task),
+            Call::PreemptOn(task) => self.preempt_on(core, task),
         }
+        Reply::Done
     }
 
     // The core asks itself to switch.
@@ -276,10 +300,14 @@ fn unfinished_refusal(unfinished: Option<Call>, call: Call) -> Option<Refusal>
         None => match call {
             Call::Finish => Some(Refusal::NotInCall),
             Call::Yield | Call::Delay(_) => None,
+            Call::PrioritySet { .. } | Call::AffinitySet { .. } => None,
+            Call::PreemptOff(_) | Call::PreemptOn(_) => None,
         },
         Some(_) => match call {
             Call::Finish => None,
             Call::Yield | Call::Delay(_) => Some(Refusal::InCall),
+            Call::PrioritySet { .. } | Call::AffinitySet { .. } => Some(Refusal::InCall),
+            Call::PreemptOff(_) | Call::PreemptOn(_) => Some(Refusal::InCall),
         },
     }
 }

@@ -4,13 +4,16 @@ ghost use Rattle.bench_model.specs.Table.{Table};
 ghost use Rattle.bench_model.specs.Session.{step_of};
 ghost use Rattle.bench_model.specs.Equal.{StandsFor};
 
+mod looks;
+mod sets;
+
 use super::{Kernel, StartFault};
 use crate::Meter;
 use bench_model::replay_slow;
 use bench_types::{
-    Call, Config, CoreLook, Header, Items, Name, Refusal, Reply, Row, Step, TaskArgs,
+    Call, Config, CoreLook, Header, Items, Name, Refusal, Reply, Row, Step, TaskArgs, TaskLook,
 };
-use std::alloc::{AllocError, Global};
+use std::alloc::{Alloc, AllocError, Global};
 use std::process::Abort;
 use std::test::Fail;
 
@@ -297,6 +300,15 @@ fn flags(kernel: &Kernel) -> [(bool, bool); 2]
     [(first.pend, first.asked), (second.pend, second.asked)]
 }
 
+fn look(rt: &impl Abort, kernel: &Kernel, header: &Header, task: u32) -> TaskLook
+    requires { kernel.now.settings ≡ settings_of header.now }
+{
+    let cores = header.config.cores;
+    let users = header.tasks.as_slice().len();
+    assert!(rt; task < cores || ((task - cores) as usize) < users);
+    kernel.look(task)
+}
+
 #[test]
 fn looks_of_cores(rt: HostRuntime) -> Result<(), Fail> {
     let header = three_tasks(rt.alloc(), true)?;
@@ -419,12 +431,50 @@ fn two_thousand_steps(rt: HostRuntime) -> Result<(), Fail> {
     Ok(())
 }
 
-// Two thousand steps of which most are not refused.
+// The step, or a call in its place that sets something of some task, chosen by a number of 16 bits: where the step is the
+// return of a call that the core's task didn't make.
+fn with_set(kernel: &Kernel, step: Step, choice: u32) -> Step
+    requires cores { kernel.now.settings.cores ≡ 8 }
+    requires choice { choice < 2 ^ 16 }
+{
+    let Step::Call {
+        core,
+        task: caller,
+        call: Call::Finish,
+    } = step
+    else {
+        return step;
+    };
+    if core >= 8 || kernel.look(kernel.running(core)).in_call {
+        return step;
+    }
+    let task = 8 + choice / 4 % 64;
+    let call = match choice % 4 {
+        0 => Call::PrioritySet {
+            task,
+            priority: choice / 256 % 6,
+        },
+        1 => Call::AffinitySet {
+            task,
+            mask: choice / 256 | 1 << (choice / 1024 % 8) | 256,
+        },
+        2 => Call::PreemptOff(task),
+        _ => Call::PreemptOn(task),
+    };
+    Step::Call {
+        core,
+        task: caller,
+        call,
+    }
+}
+
+// Two thousand steps of which most are not refused, where it is so with calls that set something of a task.
 fn some_steps(
     rt: &impl Abort,
     alloc: Global,
     meter: &mut Meter,
     header: &Header,
+    sets: bool,
 ) -> Result<Vec<Step>, AllocError>
     requires { header.now.config.cores ≡ 8 }
 {
@@ -433,7 +483,11 @@ fn some_steps(
     let mut random: u32 = 1;
     for _ in 0..2000 {
         random = random.wrapping_mul(1_664_525).wrapping_add(1_013_904_223);
-        let next = some_step(&kernel, random >> 16);
+        let mut next = some_step(&kernel, random >> 16);
+        if sets {
+            random = random.wrapping_mul(1_664_525).wrapping_add(1_013_904_223);
+            next = with_set(&kernel, next, random >> 16);
+        }
         step(rt, &mut kernel, meter, header, &next);
         steps.push(next)?;
     }
@@ -457,21 +511,34 @@ fn check_running(rt: &impl Abort, kernel: &Kernel, row: &Row)
     }
 }
 
+// The steps and the current tasks behind them are those of the replay over the definitions.
+fn check_replay(
+    rt: &(impl Abort + Alloc),
+    alloc: Global,
+    meter: &mut Meter,
+    header: &Header,
+    steps: &[Step],
+) -> Result<(), Fail>
+    requires { header.now.config.cores ≡ 8 }
+{
+    header.check()?;
+    assert!(rt; are_checked(header, steps));
+    let outcomes = replay_slow(rt, alloc, header, steps)?;
+    assert_eq!(rt; outcomes.len(), steps.len());
+    let mut kernel = started(rt, alloc, header);
+    for (next, (reply, row)) in steps.iter().zip(&outcomes) {
+        assert_eq!(rt; step(rt, &mut kernel, meter, header, next), *reply);
+        check_running(rt, &kernel, row);
+    }
+    Ok(())
+}
+
 #[test]
 fn as_the_definitions_replay_it(rt: HostRuntime) -> Result<(), Fail> {
     let header = large_header(rt.alloc())?;
-    header.check()?;
     let mut meter = Meter::new(&rt);
-    let steps = some_steps(&rt, rt.alloc(), &mut meter, &header)?;
-    assert!(rt; are_checked(&header, &steps));
-    let outcomes = replay_slow(&rt, rt.alloc(), &header, &steps)?;
-    assert_eq!(rt; outcomes.len(), 2000);
-    let mut kernel = started(&rt, rt.alloc(), &header);
-    for (next, (reply, row)) in steps.iter().zip(&outcomes) {
-        assert_eq!(rt; step(&rt, &mut kernel, &mut meter, &header, next), *reply);
-        check_running(&rt, &kernel, row);
-    }
-    Ok(())
+    let steps = some_steps(&rt, rt.alloc(), &mut meter, &header, false)?;
+    check_replay(&rt, rt.alloc(), &mut meter, &header, &steps)
 }
 
 #[test]

@@ -7,6 +7,8 @@ pub invariant_of-self : goal.invariant_of-self
 invariant_of-self c = rw (c.delay.ensures, c.unready.ensures, c.ask.ensures) (record {
   priorities = c.self.invariant.priorities;
   slicing = c.self.invariant.slicing;
+  few_cores = c.self.invariant.few_cores;
+  some_priority = c.self.invariant.some_priority;
   cores = length-set _ c.args.core _ ∙ c.self.invariant.cores;
   controls = c.self.invariant.controls;
   calls = length-set _ c.args.task _ ∙ c.self.invariant.calls;

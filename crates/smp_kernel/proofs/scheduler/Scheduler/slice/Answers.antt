@@ -10,6 +10,8 @@ invariant_of-self c =
     rw c.slice.ensures (record {
       priorities = kept.priorities ∙ c.self.invariant.priorities;
       slicing = kept.slicing ∙ c.self.invariant.slicing;
+      few_cores = c.self.invariant.few_cores;
+      some_priority = c.self.invariant.some_priority;
       cores = kept.cores ∙ c.self.invariant.cores;
       controls = kept.controls ∙ c.self.invariant.controls;
       calls = c.self.invariant.calls;

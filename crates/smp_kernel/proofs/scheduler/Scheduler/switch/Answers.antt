@@ -1,4 +1,5 @@
 use Rattle.std.proofs.Common.{ap, ◌∙◌}
+use Rattle.bench_model.specs.Control.{current}
 use Rattle.bench_model.specs.Lists.{list_moves}
 use Rattle.bench_model.specs.Seek.{switched_and_sought}
 use Rattle.smp_kernel.proofs.Apart.{apart_queued}
@@ -11,11 +12,13 @@ invariant_of-self c =
     rw c.select.ensures (record {
       priorities = kept.priorities ∙ c.self.invariant.priorities;
       slicing = kept.slicing ∙ c.self.invariant.slicing;
+      few_cores = c.self.invariant.few_cores;
+      some_priority = c.self.invariant.some_priority;
       cores = kept.cores ∙ c.self.invariant.cores;
       controls = kept.controls ∙ c.self.invariant.controls;
       calls = c.self.invariant.calls;
       delays = c.self.invariant.delays;
-      apart = rw (turned_ready c.args.core c.self.inside.cores) (apart_queued c.args.core c.self.inside.cores.control _ _ c.self.invariant.apart);
+      apart = rw (turned_ready c.args.core c.self.inside.cores) (apart_queued (current c.self.inside.cores.control c.args.core) c.self.inside.cores.control _ _ c.self.invariant.apart);
     })
 
 pub returns : goal.returns

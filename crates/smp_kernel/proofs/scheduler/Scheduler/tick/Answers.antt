@@ -10,6 +10,8 @@ unfolding advanced
 invariant_of-self c = rw c.advance.ensures (record {
   priorities = c.self.invariant.priorities;
   slicing = c.self.invariant.slicing;
+  few_cores = c.self.invariant.few_cores;
+  some_priority = c.self.invariant.some_priority;
   cores = c.self.invariant.cores;
   controls = c.self.invariant.controls;
   calls = c.self.invariant.calls;

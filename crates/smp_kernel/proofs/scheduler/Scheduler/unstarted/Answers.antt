@@ -5,7 +5,7 @@ use Rattle.smp_kernel.proofs.scheduler.Scheduler.unstarted.Goals as goal
 
 pub invariant_of-result : goal.invariant_of-result
 invariant_of-result c =
-    rw (c.in_ok-new.ensures, c.in_ok-no_calls.ensures, c.in_ok-new-2.ensures.none, c.as_slice.ensures) (first_kernel_shape c.args.header.now)
+    rw (c.in_ok-new.ensures, c.in_ok-no_calls.ensures, c.in_ok-new-2.ensures.none, c.as_slice.ensures) (first_kernel_shape c.args.header.now c.requires)
 
 pub returns : goal.returns
 returns c =

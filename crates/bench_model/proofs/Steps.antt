@@ -16,7 +16,6 @@ use Rattle.bench_types.specs.declared.step.Call.TheVariants.{Yield, Delay, Finis
 use Rattle.bench_types.proofs.Passes.{both_pass, checked_task}
 use Rattle.bench_types.specs.Step.{IsCheckedStep, IsCheckedCall, core_check, task_check, mask_check, call_check, ◌>>◌}
 use Rattle.bench_model.specs.State.{refusal, yielded, blocked}
-use Rattle.bench_model.specs.Sets.{priority_set, affinity_set, preemption_off, preemption_on}
 use Rattle.bench_model.specs.Steps.{called, performed, after}
 use Rattle.bench_model.specs.Table.{Table, table_moves, is_ready}
 use Rattle.bench_model.specs.Lists.{View, list_moves, image}

@@ -35,8 +35,8 @@ left_seen control stamps task given below =
     let waiting = standing_so waits stamps in
     let is_its = λ (entry : Delayed). eqb entry.task task in
     let sole : AllByRecursion (λ entry. is_its entry ≡ true → entry ≡ delayed_of stamps task) (map (delayed_of stamps) waiting) =
-        All-map (λ entry. is_its entry ≡ true → entry ≡ delayed_of stamps task) (delayed_of stamps) waiting
-        (All_each (λ i. eqb i task ≡ true → delayed_of stamps i ≡ delayed_of stamps task) (λ i is. ap (delayed_of stamps) (eqb-true i task is)) waiting) in
+    All-map (λ entry. is_its entry ≡ true → entry ≡ delayed_of stamps task) (delayed_of stamps) waiting
+    (All_each (λ i. eqb i task ≡ true → delayed_of stamps i ≡ delayed_of stamps task) (λ i is. ap (delayed_of stamps) (eqb-true i task is)) waiting) in
     ap (option_map (λ (entry : Delayed). entry.left))
     (find_sole is_its (delayed_of stamps task) (ranked wakes_first (map (delayed_of stamps) waiting)) (All-ranked wakes_first (λ entry. is_its entry ≡ true → entry ≡ delayed_of stamps task) (map (delayed_of stamps) waiting) sole)
     ∙ ap (λ b. cond b (Some (delayed_of stamps task)) None)

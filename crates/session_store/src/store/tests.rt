@@ -274,6 +274,48 @@ fn removes_and_replaces(rt: HostRuntime) -> Result<(), Fail> {
 }
 
 #[test]
+fn replays_turns_behind_a_replaced_step(rt: HostRuntime) -> Result<(), Fail> {
+    let mut meter = Meter::new(&rt);
+    let header = three_tasks(rt.alloc(), true)?;
+    let steps = [
+        A_DELAYS,
+        SWITCH_0,
+        Step::Tick,
+        SWITCH_0,
+        SWITCH_1,
+        Step::Tick,
+        SWITCH_0,
+        SWITCH_1,
+    ];
+    let mut store = open(rt.alloc(), header, steps.as_slice(), &mut meter)?;
+    assert_row(&rt, &store, 8, &[2, 4]);
+    let edit = Edit::Replace {
+        at: 0,
+        step: Step::Call {
+            core: 0,
+            task: 2,
+            call: Call::Yield,
+        },
+    };
+    assert_eq!(rt; store.apply(rt.alloc(), edit, &mut meter), Ok(whole(8)));
+    let not_due = Reply::Refused(Refusal::NotDue);
+    let replies = [
+        Reply::Done,
+        Reply::Done,
+        Reply::Done,
+        not_due,
+        Reply::Done,
+        Reply::Done,
+        not_due,
+        Reply::Done,
+    ];
+    assert_replay(&rt, &store, replies.as_slice(), &[2, 3]);
+    assert_row(&rt, &store, 5, &[2, 4]);
+    assert_eq!(rt; meter.count(), 16);
+    Ok(())
+}
+
+#[test]
 fn changes_a_task(rt: HostRuntime) -> Result<(), Fail> {
     for (priority, row) in [(3, [3, 2]), (1, [2, 3])] {
         let mut meter = Meter::new(&rt);

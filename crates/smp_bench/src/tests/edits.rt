@@ -61,6 +61,32 @@ fn an_edit_behind_a_refused_one(rt: HostRuntime) -> Result<(), Fail> {
     expect(&rt, rt.alloc(), &input, Status::Fine, &output)
 }
 
+const TURNS: &str =
+    r#"{"do":"delay","core":0,"by":"A","ticks":2},{"do":"switch","core":0},{"do":"tick"},{"do":"switch","core":0},{"do":"switch","core":1},{"do":"tick"},{"do":"switch","core":0},{"do":"switch","core":1}"#;
+
+#[test]
+fn edited_turns(rt: HostRuntime) -> Result<(), Fail> {
+    let session = format!(in rt.alloc();
+        r#"{{"format":1,"cores":2,"priorities":5,"slicing":true,"tick":0,"mutexes":0,"tasks":[{ABC}],"steps":[{TURNS}]}}"#
+    )?;
+    let input = bench(rt.alloc(), &session, YIELD_AT_0)?;
+    let output =
+        "edit 0 from 0 met 8 replayed 8\nstart A B\n0 done A B\n1 done A B\n2 done A B\n3 refused E10 A B\n4 done A C\n5 done A C\n6 refused E10 A C\n7 done A B\n";
+    expect(&rt, rt.alloc(), &input, Status::Fine, output)
+}
+
+#[test]
+fn set_affinities_and_priorities(rt: HostRuntime) -> Result<(), Fail> {
+    let tasks =
+        r#"{"name":"U","priority":3,"mask":1},{"name":"V","priority":2,"mask":1},{"name":"W","priority":1,"mask":3}"#;
+    let steps =
+        r#"{"do":"delay","core":0,"by":"U","ticks":1},{"do":"switch","core":0},{"do":"affinity_set","core":0,"by":"V","to":"V","mask":3},{"do":"tick"},{"do":"switch","core":0},{"do":"switch","core":1},{"do":"priority_set","core":1,"by":"V","to":"V","priority":0},{"do":"finish","core":0,"by":"U"},{"do":"preempt_off","core":0,"by":"U","to":"V"},{"do":"preempt_on","core":0,"by":"U","to":"U"}"#;
+    let input = session(rt.alloc(), tasks, steps)?;
+    let output =
+        "start U W\n0 blocked U W\n1 done V W\n2 done V W\n3 done V W\n4 done U W\n5 done U V\n6 done U V\n7 done U V\n8 done U V\n9 done U V\n";
+    expect(&rt, rt.alloc(), &input, Status::Fine, output)
+}
+
 const BAD_EDIT: &str = r#"{"edit":"insert","at":0,"step":{"do":"switch","core":2}}"#;
 
 #[test]

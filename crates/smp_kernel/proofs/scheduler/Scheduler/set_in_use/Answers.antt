@@ -1,4 +1,4 @@
-use Rattle.std.proofs.Common.{◌∙◌, ap, length}
+use Rattle.std.proofs.Common.{◌∙◌, ap}
 use Rattle.std.proofs.lemmas.List.{length-set}
 use Rattle.bench_model.specs.Search.{has}
 use Rattle.bench_model.specs.Lists.{View, list_moves}

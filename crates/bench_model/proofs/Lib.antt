@@ -6,6 +6,7 @@ pub mod EditedSessions
 pub mod Examples
 pub mod Filters
 pub mod Looks
+pub mod NoteExamples
 pub mod Ranks
 pub mod Restamps
 pub mod SeekExamples

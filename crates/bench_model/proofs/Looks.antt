@@ -1,7 +1,7 @@
 -- What the lists of a table show of one task.
-use Rattle.std.proofs.Common.{◌≡◌, ℕ, ◌-◌, ◌<◌, Bool, true, false, cond, eqb, ◌||◌, List, [], ◌∷◌, length, map, Option, Some, None, refl, sym, ap, ◌∙◌, arith}
+use Rattle.std.proofs.Common.{◌≡◌, ℕ, ◌-◌, ◌<◌, Bool, true, cond, eqb, ◌||◌, List, [], ◌∷◌, length, map, Option, Some, None, refl, ap, ◌∙◌, arith}
 use Rattle.std.specs.Prelude.{is_some, option_map, unwrap_or}
-use Rattle.std.specs.List.{find, list_any, AllByRecursion}
+use Rattle.std.specs.List.{list_any, AllByRecursion}
 use Rattle.std.proofs.lemmas.Bool.{eqb-true}
 use Rattle.bench_types.specs.declared.kernel_data.Delayed.{Delayed}
 use Rattle.bench_types.specs.declared.kernel_data.TaskControl.{TaskControl}
@@ -10,7 +10,7 @@ use Rattle.bench_model.specs.declared.row.Standing.{Standing}
 use Rattle.bench_model.specs.declared.row.Standing.TheVariants.{Ready, Blocked}
 use Rattle.bench_model.specs.Control.{Control, task_at}
 use Rattle.bench_model.specs.State.{call_at}
-use Rattle.bench_model.specs.Search.{has, ranked}
+use Rattle.bench_model.specs.Search.{ranked}
 use Rattle.bench_model.specs.Table.{Stamps, Table, row_at, wake_in}
 use Rattle.bench_model.specs.Lists.{lists_of, delayed_of, wakes_first, image}
 use Rattle.bench_model.specs.Looks.{ticks_left, task_look, left_in, look_in}

@@ -8,6 +8,8 @@ pub mod Examples
 pub mod Laws
 pub mod Lists
 pub mod Looks
+pub mod NoteExamples
+pub mod Notes
 pub mod Search
 pub mod Seek
 pub mod SeekExamples

@@ -1,9 +1,9 @@
 -- What can be seen of one task.
-use Rattle.std.specs.Prelude.{ℕ, ◌-◌, ◌==◌, List, find, Option, None, option_map, is_some}
+use Rattle.std.specs.Prelude.{ℕ, ◌-◌, ◌==◌, List, find, Option, option_map, is_some}
 use Rattle.bench_types.specs.declared.kernel_data.Delayed.{Delayed}
 use Rattle.bench_types.specs.declared.kernel_data.TaskLook.{TaskLook}
 use Rattle.bench_model.specs.Control.{task_at}
-use Rattle.bench_model.specs.State.{State, call_at}
+use Rattle.bench_model.specs.State.{call_at}
 use Rattle.bench_model.specs.Search.{has}
 use Rattle.bench_model.specs.Table.{Stamps, Table, row_at, wake_in, is_ready}
 use Rattle.bench_model.specs.Lists.{View}

@@ -7,6 +7,7 @@ mod header;
 mod items;
 mod kernel_data;
 mod name;
+mod note;
 mod reply;
 #[cfg(test)]
 mod samples;
@@ -18,5 +19,6 @@ pub use header::{Config, Header, TaskArgs};
 pub use items::Items;
 pub use kernel_data::{CoreLook, Delayed, Settings, TaskControl, TaskLook};
 pub use name::Name;
+pub use note::{Action, NoteState, Notification};
 pub use reply::{Refusal, Reply, Row};
 pub use step::{Call, Step};

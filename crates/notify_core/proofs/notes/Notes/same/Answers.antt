@@ -1,4 +1,4 @@
-use Rattle.std.proofs.Common.{◌≡◌, ℕ, Bool, true, eqb, ◌&&◌, List, ◌∙◌, ap, sym, subst, arith, refl}
+use Rattle.std.proofs.Common.{◌≡◌, ℕ, true, ◌∙◌, sym, subst, arith, refl}
 use Rattle.std.specs.Bool.{Decides}
 use Rattle.std.proofs.lemmas.Bool.Decides.{nat_tests}
 use Rattle.std.proofs.lemmas.Slice.Eq.{slice_eq-Decides}

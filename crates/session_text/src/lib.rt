@@ -10,6 +10,7 @@ mod header;
 pub mod laws;
 mod member;
 mod names;
+mod node;
 mod path;
 mod session;
 mod step;

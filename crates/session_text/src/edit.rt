@@ -13,7 +13,6 @@ use crate::names::Names;
 use crate::node::Node;
 use crate::path::Place;
 use crate::session::document;
-use crate::step::task_named_at;
 use bench_types::{Edit, Header, Step};
 use std::alloc::Global;
 
@@ -120,7 +119,7 @@ fn edit_of_kind_at(names: &Names<'_>, kind: EditKind, node: &Node<'_, '_>) -> Re
             step: new_step_at(names, node)?,
         }),
         EditKind::Change => Ok(Edit::ChangeTask {
-            task: task_named_at(names, node, "task")?,
+            task: names.task_named_at(node, "task")?,
             priority: node.number("priority")?,
             mask: node.number("mask")?,
         }),

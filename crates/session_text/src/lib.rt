@@ -4,6 +4,7 @@
 mod accepted;
 mod array;
 mod bench;
+mod call;
 mod edit;
 mod fault;
 mod header;

@@ -1,13 +1,14 @@
 ghost use Rattle.std.specs.Prelude.{◌≡◌, map};
 ghost use Rattle.session_text.specs.Node.{data_of, place_of};
 ghost use Rattle.session_text.specs.Outcome.{Gives};
-ghost use Rattle.session_text.specs.Step.{call_at, kind_at, kind_of, members_of, step_at, step_of_kind_at, task_named_at};
+ghost use Rattle.session_text.specs.Step.{kind_at, kind_of, members_of, step_at, step_of_kind_at};
 
 use crate::array::ReadItem;
+use crate::call::{CallKind, call_at};
 use crate::fault::Stop;
 use crate::names::Names;
 use crate::node::Node;
-use bench_types::{Call, Step};
+use bench_types::Step;
 
 /// What `do` says of a step.
 #[derive(Clone, Copy)]
@@ -15,18 +16,6 @@ pub(crate) enum Kind {
     Tick,
     Switch,
     Call(CallKind),
-}
-
-/// What `do` says of a call.
-#[derive(Clone, Copy)]
-pub(crate) enum CallKind {
-    Yield,
-    Delay,
-    PrioritySet,
-    AffinitySet,
-    PreemptOff,
-    PreemptOn,
-    Finish,
 }
 
 impl Kind {
@@ -70,37 +59,6 @@ fn kind_at(node: &Node<'_, '_>) -> Result<Kind, Stop>
     node.found("do", Kind::of(node.text("do")?))
 }
 
-/// The number of the task that the member names.
-#[tactic(auto, unfolding(crate::specs::Step::task_named_at))]
-pub(crate) fn task_named_at(names: &Names<'_>, node: &Node<'_, '_>, name: &str) -> Result<u32, Stop>
-    ensures { Gives (λ task. task) result
-        (task_named_at names.now (place_of node.now) name.now (data_of node.now)) }
-{
-    Ok(names.number_of(node.text(name)?))
-}
-
-#[tactic(auto, unfolding(crate::specs::Step::call_at))]
-fn call_at(names: &Names<'_>, kind: CallKind, node: &Node<'_, '_>) -> Result<Call, Stop>
-    ensures { Gives (λ call. call) result
-        (call_at names.now kind (place_of node.now) (data_of node.now)) }
-{
-    match kind {
-        CallKind::Yield => Ok(Call::Yield),
-        CallKind::Delay => Ok(Call::Delay(node.number("ticks")?)),
-        CallKind::PrioritySet => Ok(Call::PrioritySet {
-            task: task_named_at(names, node, "to")?,
-            priority: node.number("priority")?,
-        }),
-        CallKind::AffinitySet => Ok(Call::AffinitySet {
-            task: task_named_at(names, node, "to")?,
-            mask: node.number("mask")?,
-        }),
-        CallKind::PreemptOff => Ok(Call::PreemptOff(task_named_at(names, node, "to")?)),
-        CallKind::PreemptOn => Ok(Call::PreemptOn(task_named_at(names, node, "to")?)),
-        CallKind::Finish => Ok(Call::Finish),
-    }
-}
-
 #[tactic(auto, unfolding(crate::specs::Step::step_of_kind_at))]
 fn step_of_kind_at(names: &Names<'_>, kind: Kind, node: &Node<'_, '_>) -> Result<Step, Stop>
     ensures { Gives (λ step. step) result
@@ -113,7 +71,7 @@ fn step_of_kind_at(names: &Names<'_>, kind: Kind, node: &Node<'_, '_>) -> Result
         }),
         Kind::Call(kind) => Ok(Step::Call {
             core: node.number("core")?,
-            task: task_named_at(names, node, "by")?,
+            task: names.task_named_at(node, "by")?,
             call: call_at(names, kind, node)?,
         }),
     }

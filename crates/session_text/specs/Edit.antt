@@ -10,7 +10,7 @@ use Rattle.session_text.specs.declared.fault.TextFault.{TextFault}
 use Rattle.session_text.specs.declared.edit.EditKind.{EditKind}
 use Rattle.session_text.specs.declared.edit.EditKind.TheVariants.{Insert, Remove, Replace, Change}
 use Rattle.session_text.specs.Accepted.{item_accepted}
-use Rattle.session_text.specs.Member.{object_at, member_at, number_at, text_at, array_at, only_at}
+use Rattle.session_text.specs.Member.{object_at, member_at, number_at, text_at, only_at}
 use Rattle.session_text.specs.Names.{TaskNames, names_of}
 use Rattle.session_text.specs.Outcome.{◌>>=◌, found}
 use Rattle.session_text.specs.Path.{member_path}

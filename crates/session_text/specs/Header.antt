@@ -11,9 +11,8 @@ use Rattle.bench_types.specs.Header.{is_header}
 use Rattle.bench_types.specs.Name.{is_name}
 use Rattle.session_text.specs.declared.fault.TextFault.{TextFault}
 use Rattle.session_text.specs.Array.{list_at}
-use Rattle.session_text.specs.Member.{object_at, number_at, text_at, flag_at, array_at, only_at}
+use Rattle.session_text.specs.Member.{object_at, number_at, text_at, flag_at, only_at}
 use Rattle.session_text.specs.Outcome.{◌>>=◌}
-use Rattle.session_text.specs.Path.{member_path}
 
 unfoldable pub config_at : List ℕ → Data → Result Config TextFault
 config_at at d = do

@@ -5,6 +5,7 @@ pub mod Edit
 pub mod Header
 pub mod Member
 pub mod Names
+pub mod Node
 pub mod Outcome
 pub mod Path
 pub mod Session

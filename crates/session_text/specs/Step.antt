@@ -8,9 +8,9 @@ use Rattle.bench_types.specs.declared.step.Call.TheVariants as call
 use Rattle.session_text.specs.declared.fault.TextFault.{TextFault}
 use Rattle.session_text.specs.declared.step.Kind.{Kind}
 use Rattle.session_text.specs.declared.step.Kind.TheVariants as kind
-use Rattle.session_text.specs.declared.step.CallKind.{CallKind}
-use Rattle.session_text.specs.declared.step.CallKind.TheVariants as callkind
-use Rattle.session_text.specs.Member.{object_at, number_at, text_at, array_at, only_at}
+use Rattle.session_text.specs.declared.call.CallKind.{CallKind}
+use Rattle.session_text.specs.declared.call.CallKind.TheVariants as callkind
+use Rattle.session_text.specs.Member.{object_at, number_at, text_at, only_at}
 use Rattle.session_text.specs.Names.{TaskNames, number_of}
 use Rattle.session_text.specs.Outcome.{◌>>=◌, found}
 use Rattle.session_text.specs.Path.{member_path}

@@ -1,9 +1,9 @@
 ghost use Rattle.std.specs.Prelude.{◌≡◌, All, Ok, OnOk};
 ghost use Rattle.session_text.specs.Accepted.{item_accepted, items_accepted};
-ghost use Rattle.session_text.specs.Outcome.{Gives, StopsAt};
-ghost use Rattle.session_text.specs.Path.{path_of, path_text};
+ghost use Rattle.session_text.specs.Outcome.{Gives};
+ghost use Rattle.session_text.specs.Path.{path_of};
 
-use crate::fault::{Stop, TextFault, Why};
+use crate::fault::{Stop, Why};
 use crate::path::Place;
 use bench_types::{Edit, Fault, Header, Step};
 use std::alloc::Global;
@@ -52,7 +52,7 @@ pub(crate) fn item_accepted<T: Judged>(
 {
     match item.judge(header) {
         Ok(()) => Ok(()),
-        Err(fault) => Err(bad_item(alloc, place, fault)),
+        Err(fault) => Err(Stop::at(alloc, place, Why::Bench(fault))),
     }
 }
 
@@ -71,16 +71,4 @@ pub(crate) fn items_accepted<T: Judged>(
         item_accepted(alloc, header, &Place::Item(&*place, index), item)?;
     }
     Ok(())
-}
-
-fn bad_item(alloc: Global, place: &Place<'_>, fault: Fault) -> Stop
-    ensures { StopsAt (record { why = Why.Bench fault; path = path_text (path_of place.now) }) result }
-{
-    match place.to_path(alloc) {
-        Ok(path) => Stop::Fault(TextFault {
-            why: Why::Bench(fault),
-            path,
-        }),
-        Err(_) => Stop::Memory,
-    }
 }

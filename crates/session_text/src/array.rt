@@ -1,11 +1,12 @@
 ghost use Rattle.std.specs.Prelude.{◌≡◌};
-ghost use Rattle.serde_json.specs.View.{items_view, view};
+ghost use Rattle.serde_json.specs.View.{items_view};
 ghost use Rattle.session_text.specs.Array.{each_at, list_at};
+ghost use Rattle.session_text.specs.Node.{data_of, place_of};
 ghost use Rattle.session_text.specs.Outcome.{Gives};
 ghost use Rattle.session_text.specs.Path.{path_of};
 
 use crate::fault::Stop;
-use crate::member::array_at;
+use crate::node::Node;
 use crate::path::Place;
 use serde_json::Value;
 use std::alloc::Global;
@@ -14,18 +15,17 @@ use std::alloc::Global;
 pub(crate) trait ReadItem<'v> {
     ghost use Rattle.std.specs.Prelude.{ℕ, List, Result};
     ghost use Rattle.serde_json.specs.Data.{Data};
-    ghost use Rattle.serde_json.specs.View.{view};
     ghost use Rattle.session_text.specs.declared.fault.TextFault.{TextFault};
+    ghost use Rattle.session_text.specs.Node.{data_of, place_of};
     ghost use Rattle.session_text.specs.Outcome.{Gives};
-    ghost use Rattle.session_text.specs.Path.{path_of};
 
     type Item: Drop;
 
     ghost reading: { Self → List ℕ → Data → Result Self.Item TextFault };
 
-    fn read(&self, alloc: Global, place: &Place<'_>, value: &'v Value) -> Result<Self::Item, Stop>
+    fn read(&self, node: &Node<'_, 'v>) -> Result<Self::Item, Stop>
         ensures { Gives (λ item. item) result
-            (reading self.now (path_of place.now) (view value.now)) };
+            (reading self.now (place_of node.now) (data_of node.now)) };
 }
 
 /// Reads the items of the array at the place, one after another.
@@ -40,23 +40,26 @@ fn each<'v, R: ReadItem<'v>>(
 {
     let mut items = Vec::with_capacity(alloc, values.len())?;
     for (index, value) in values.iter().enumerate() {
-        items.push(reader.read(alloc, &Place::Item(place, index), value)?)?;
+        let place = &Place::Item(place, index);
+        items.push(reader.read(&Node {
+            alloc,
+            place,
+            value,
+        })?)?;
     }
     Ok(items)
 }
 
-/// Reads the items of the array that is this member of the object at the place.
+/// Reads the items of the array that is this member of the object.
 #[tactic(auto, unfolding(crate::specs::Array::list_at))]
 pub(crate) fn list_at<'v, R: ReadItem<'v>>(
-    alloc: Global,
     reader: &R,
-    place: &Place<'_>,
+    node: &Node<'_, 'v>,
     name: &str,
-    value: &'v Value,
 ) -> Result<Vec<R::Item>, Stop>
     ensures { Gives (λ items. items.items) result
-        (list_at (R.reading reader.now) (path_of place.now) name.now (view value.now)) }
+        (list_at (R.reading reader.now) (place_of node.now) name.now (data_of node.now)) }
 {
-    let values = array_at(alloc, place, name, value)?;
-    each(alloc, reader, &Place::Member(place, name), values)
+    let values = node.array(name)?;
+    each(node.alloc, reader, &Place::Member(node.place, name), values)
 }

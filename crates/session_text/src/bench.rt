@@ -4,6 +4,7 @@ ghost use Rattle.serde_json.specs.View.{view};
 ghost use Rattle.bench_types.specs.Edit.{edit_check};
 ghost use Rattle.bench_types.specs.Header.{is_header};
 ghost use Rattle.session_text.specs.Bench.{bench_accepted, bench_at, bench_text, edited_at, edits_accepted, shapes_at, unedited_at, IsCheckedBench};
+ghost use Rattle.session_text.specs.Node.{data_of, place_of};
 ghost use Rattle.session_text.specs.Outcome.{Gives};
 ghost use Rattle.session_text.specs.Path.{path_of};
 ghost use Rattle.session_text.specs.Session.{Answers};
@@ -12,7 +13,7 @@ use crate::accepted::items_accepted;
 use crate::array::list_at;
 use crate::edit::Edits;
 use crate::fault::{Stop, TextFault};
-use crate::member::{object_at, only_at};
+use crate::node::Node;
 use crate::path::Place;
 use crate::session::{document, known_names, session_accepted, session_at};
 use bench_types::{Edit, Fault, Header, Items, Step};
@@ -45,69 +46,70 @@ fn bench_text(alloc: Global, text: &[u8]) -> Result<Bench, Stop>
     ensures checked { IfOk result IsCheckedBench }
 {
     let value = document(alloc, text)?;
-    bench_at(alloc, &Place::Top, &value)
+    bench_at(&Node {
+        alloc,
+        place: &Place::Top,
+        value: &value,
+    })
 }
 
-fn bench_at(alloc: Global, place: &Place<'_>, value: &Value) -> Result<Bench, Stop>
-    ensures reading { Gives (λ bench. bench) result (bench_at (path_of place.now) (view value.now)) }
+fn bench_at(node: &Node<'_, '_>) -> Result<Bench, Stop>
+    ensures reading { Gives (λ bench. bench) result (bench_at (place_of node.now) (data_of node.now)) }
     ensures checked { IfOk result IsCheckedBench }
 {
-    match value.get("session") {
-        Some(session) => edited_at(alloc, place, value, session),
-        None => unedited_at(alloc, place, value),
+    match node.value.get("session") {
+        Some(session) => edited_at(node, session),
+        None => unedited_at(node),
     }
 }
 
 /// The session with no edits.
 #[tactic(auto, unfolding(crate::specs::Bench::unedited_at))]
-fn unedited_at(alloc: Global, place: &Place<'_>, value: &Value) -> Result<Bench, Stop>
+fn unedited_at(node: &Node<'_, '_>) -> Result<Bench, Stop>
     ensures reading { Gives (λ bench. bench) result
-        (unedited_at (path_of place.now) (view value.now)) }
+        (unedited_at (place_of node.now) (data_of node.now)) }
     ensures checked { IfOk result IsCheckedBench }
 {
-    let (header, steps) = session_at(alloc, place, value)?;
-    let (header, steps) = session_accepted(alloc, place, header, steps)?;
+    let (header, steps) = session_at(node)?;
+    let (header, steps) = session_accepted(node.alloc, node.place, header, steps)?;
     Ok(Bench {
         header,
         steps: Items::new(steps),
-        edits: Items::new(Vec::new(alloc)),
+        edits: Items::new(Vec::new(node.alloc)),
     })
 }
 
 /// The session, which was found as the member `session`, and its edits.
 #[tactic(auto, unfolding(crate::specs::Bench::edited_at))]
-fn edited_at(
-    alloc: Global,
-    place: &Place<'_>,
-    value: &Value,
-    session: &Value,
-) -> Result<Bench, Stop>
+fn edited_at(node: &Node<'_, '_>, session: &Value) -> Result<Bench, Stop>
     ensures reading { Gives (λ bench. bench) result
-        (edited_at (path_of place.now) (view value.now) (view session.now)) }
+        (edited_at (place_of node.now) (data_of node.now) (view session.now)) }
     ensures checked { IfOk result IsCheckedBench }
 {
-    let (header, steps, edits) = shapes_at(alloc, place, value, session)?;
-    bench_accepted(alloc, place, header, steps, edits)
+    let (header, steps, edits) = shapes_at(node, session)?;
+    bench_accepted(node.alloc, node.place, header, steps, edits)
 }
 
 /// The header, accepted or not, the steps and the edits: shapes alone are judged.
 #[tactic(auto, unfolding(crate::specs::Bench::shapes_at))]
 fn shapes_at(
-    alloc: Global,
-    place: &Place<'_>,
-    value: &Value,
+    node: &Node<'_, '_>,
     session: &Value,
 ) -> Result<(Result<Header, Fault>, Vec<Step>, Vec<Edit>), Stop>
     ensures reading { Gives (λ read. (read.0, read.1.items, read.2.items)) result
-        (shapes_at (path_of place.now) (view value.now) (view session.now)) }
+        (shapes_at (place_of node.now) (data_of node.now) (view session.now)) }
     ensures valid { IfOk result (λ read. IfOk read.0 (λ header. IsTrue (is_header header))) }
 {
-    let members = object_at(alloc, place, value)?;
-    let (header, steps) = session_at(alloc, &Place::Member(place, "session"), session)?;
-    let names = known_names(alloc, &header)?;
-    let edits = list_at(alloc, &Edits { names: &names }, place, "edits", value)?;
+    let members = node.object()?;
+    let (header, steps) = session_at(&Node {
+        alloc: node.alloc,
+        place: &Place::Member(node.place, "session"),
+        value: session,
+    })?;
+    let names = known_names(node.alloc, &header)?;
+    let edits = list_at(&Edits { names: &names }, node, "edits")?;
     drop(names);
-    only_at(alloc, place, &["session", "edits"], members)?;
+    node.only(&["session", "edits"], members)?;
     Ok((header, steps, edits))
 }
 

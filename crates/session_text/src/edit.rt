@@ -1,22 +1,19 @@
 ghost use Rattle.std.specs.Prelude.{◌≡◌, IfOk, IsTrue, Ok, map};
-ghost use Rattle.serde_json.specs.View.{view};
 ghost use Rattle.bench_types.specs.Edit.{edit_check};
 ghost use Rattle.bench_types.specs.Header.{is_header};
 ghost use Rattle.session_text.specs.Edit.{edit_kind_at, edit_kind_of, edit_members_of, edit_of_kind_at, edit_text, new_step_at};
+ghost use Rattle.session_text.specs.Node.{data_of, place_of};
 ghost use Rattle.session_text.specs.Outcome.{Gives};
-ghost use Rattle.session_text.specs.Path.{path_of};
 ghost use Rattle.session_text.specs.Session.{Answers};
 
 use crate::accepted::item_accepted;
 use crate::array::ReadItem;
 use crate::fault::{Stop, TextFault};
-use crate::member::{bad_shape, member_at, number_at, object_at, only_at, text_at};
 use crate::names::Names;
+use crate::node::Node;
 use crate::path::Place;
 use crate::session::document;
-use crate::step::task_named_at;
 use bench_types::{Edit, Header, Step};
-use serde_json::Value;
 use std::alloc::Global;
 
 /// Reads an edit of a session with this header from a JSON text.
@@ -40,7 +37,11 @@ fn edit_text(alloc: Global, text: &[u8], header: &Header) -> Result<Edit, Stop>
 {
     let value = document(alloc, text)?;
     let names = Names::of(alloc, header)?;
-    let edit = Edits { names: &names }.read(alloc, &Place::Top, &value)?;
+    let edit = Edits { names: &names }.read(&Node {
+        alloc,
+        place: &Place::Top,
+        value: &value,
+    })?;
     item_accepted(alloc, header, &Place::Top, &edit)?;
     Ok(edit)
 }
@@ -80,57 +81,47 @@ impl EditKind {
 }
 
 #[tactic(auto, unfolding(crate::specs::Edit::edit_kind_at))]
-fn edit_kind_at(alloc: Global, place: &Place<'_>, value: &Value) -> Result<EditKind, Stop>
-    ensures { Gives (λ kind. kind) result (edit_kind_at (path_of place.now) (view value.now)) }
+fn edit_kind_at(node: &Node<'_, '_>) -> Result<EditKind, Stop>
+    ensures { Gives (λ kind. kind) result (edit_kind_at (place_of node.now) (data_of node.now)) }
 {
-    match EditKind::of(text_at(alloc, place, "edit", value)?) {
-        Some(kind) => Ok(kind),
-        None => Err(bad_shape(alloc, &Place::Member(place, "edit"))),
-    }
+    node.found("edit", EditKind::of(node.text("edit")?))
 }
 
 /// The step that the edit brings.
 #[tactic(auto, unfolding(crate::specs::Edit::new_step_at))]
-fn new_step_at(
-    alloc: Global,
-    names: &Names<'_>,
-    place: &Place<'_>,
-    value: &Value,
-) -> Result<Step, Stop>
+fn new_step_at(names: &Names<'_>, node: &Node<'_, '_>) -> Result<Step, Stop>
     ensures { Gives (λ step. step) result
-        (new_step_at names.now (path_of place.now) (view value.now)) }
+        (new_step_at names.now (place_of node.now) (data_of node.now)) }
 {
-    let step = member_at(alloc, place, "step", value)?;
-    names.read(alloc, &Place::Member(place, "step"), step)
+    let step = node.member("step")?;
+    names.read(&Node {
+        alloc: node.alloc,
+        place: &Place::Member(node.place, "step"),
+        value: step,
+    })
 }
 
 #[tactic(auto, unfolding(crate::specs::Edit::edit_of_kind_at))]
-fn edit_of_kind_at(
-    alloc: Global,
-    names: &Names<'_>,
-    kind: EditKind,
-    place: &Place<'_>,
-    value: &Value,
-) -> Result<Edit, Stop>
+fn edit_of_kind_at(names: &Names<'_>, kind: EditKind, node: &Node<'_, '_>) -> Result<Edit, Stop>
     ensures { Gives (λ edit. edit) result
-        (edit_of_kind_at names.now kind (path_of place.now) (view value.now)) }
+        (edit_of_kind_at names.now kind (place_of node.now) (data_of node.now)) }
 {
     match kind {
         EditKind::Insert => Ok(Edit::Insert {
-            at: number_at(alloc, place, "at", value)?,
-            step: new_step_at(alloc, names, place, value)?,
+            at: node.number("at")?,
+            step: new_step_at(names, node)?,
         }),
         EditKind::Remove => Ok(Edit::Remove {
-            at: number_at(alloc, place, "at", value)?,
+            at: node.number("at")?,
         }),
         EditKind::Replace => Ok(Edit::Replace {
-            at: number_at(alloc, place, "at", value)?,
-            step: new_step_at(alloc, names, place, value)?,
+            at: node.number("at")?,
+            step: new_step_at(names, node)?,
         }),
         EditKind::Change => Ok(Edit::ChangeTask {
-            task: task_named_at(alloc, names, place, "task", value)?,
-            priority: number_at(alloc, place, "priority", value)?,
-            mask: number_at(alloc, place, "mask", value)?,
+            task: names.task_named_at(node, "task")?,
+            priority: node.number("priority")?,
+            mask: node.number("mask")?,
         }),
     }
 }
@@ -149,11 +140,11 @@ impl<'v> ReadItem<'v> for Edits<'_, '_> {
     ghost reading = { λ edits. edit_at edits.names.now };
 
     #[tactic(auto, unfolding(crate::specs::Edit::edit_at))]
-    fn read(&self, alloc: Global, place: &Place<'_>, value: &'v Value) -> Result<Edit, Stop> {
-        let members = object_at(alloc, place, value)?;
-        let kind = edit_kind_at(alloc, place, value)?;
-        let edit = edit_of_kind_at(alloc, self.names, kind, place, value)?;
-        only_at(alloc, place, kind.members(), members)?;
+    fn read(&self, node: &Node<'_, 'v>) -> Result<Edit, Stop> {
+        let members = node.object()?;
+        let kind = edit_kind_at(node)?;
+        let edit = edit_of_kind_at(self.names, kind, node)?;
+        node.only(kind.members(), members)?;
         Ok(edit)
     }
 }

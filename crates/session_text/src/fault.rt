@@ -1,10 +1,11 @@
 ghost use Rattle.std.specs.Prelude.{◌≡◌};
 ghost use Rattle.session_text.specs.declared.fault.Stop.TheVariants.{Memory};
-ghost use Rattle.session_text.specs.Outcome.{told};
+ghost use Rattle.session_text.specs.Outcome.{told, StopsAt};
+ghost use Rattle.session_text.specs.Path.{path_of, path_text};
 
-use crate::Path;
+use crate::path::{Path, Place};
 use bench_types::Fault;
-use std::alloc::{AllocError, AllocFailed};
+use std::alloc::{AllocError, AllocFailed, Global};
 
 /// Why a text was not read, with the code that the output gives it.
 #[derive(Clone, Copy, Debug, PartialEq, Eq, Hash)]
@@ -32,6 +33,18 @@ pub struct TextFault {
 pub(crate) enum Stop {
     Memory,
     Fault(TextFault),
+}
+
+impl Stop {
+    /// The fault at the place, or that no memory is left for its path.
+    pub(crate) fn at(alloc: Global, place: &Place<'_>, why: Why) -> Stop
+        ensures { StopsAt (record { why = why; path = path_text (path_of place.now) }) result }
+    {
+        match place.to_path(alloc) {
+            Ok(path) => Stop::Fault(TextFault { why, path }),
+            Err(_) => Stop::Memory,
+        }
+    }
 }
 
 impl From<Stop> for TextFault {

@@ -1,16 +1,13 @@
 ghost use Rattle.std.specs.Prelude.{◌≡◌, IfOk, IsTrue};
-ghost use Rattle.serde_json.specs.View.{view};
 ghost use Rattle.bench_types.specs.Header.{is_header};
 ghost use Rattle.session_text.specs.Header.{accepted, config_at, header_at, named, task_at};
+ghost use Rattle.session_text.specs.Node.{data_of, place_of};
 ghost use Rattle.session_text.specs.Outcome.{Gives};
-ghost use Rattle.session_text.specs.Path.{path_of};
 
 use crate::array::{ReadItem, list_at};
 use crate::fault::Stop;
-use crate::member::{flag_at, number_at, object_at, only_at, text_at};
-use crate::path::Place;
+use crate::node::Node;
 use bench_types::{Config, Fault, Header, Items, Name, TaskArgs};
-use serde_json::Value;
 use std::alloc::{AllocError, Global};
 use std::marker::Model;
 
@@ -44,15 +41,15 @@ impl TaskShape<'_> {
 }
 
 #[tactic(auto, unfolding(crate::specs::Header::config_at))]
-fn config_at(alloc: Global, place: &Place<'_>, value: &Value) -> Result<Config, Stop>
-    ensures { Gives (λ config. config) result (config_at (path_of place.now) (view value.now)) }
+fn config_at(node: &Node<'_, '_>) -> Result<Config, Stop>
+    ensures { Gives (λ config. config) result (config_at (place_of node.now) (data_of node.now)) }
 {
     Ok(Config {
-        cores: number_at(alloc, place, "cores", value)?,
-        priorities: number_at(alloc, place, "priorities", value)?,
-        slicing: flag_at(alloc, place, "slicing", value)?,
-        tick: number_at(alloc, place, "tick", value)?,
-        mutexes: number_at(alloc, place, "mutexes", value)?,
+        cores: node.number("cores")?,
+        priorities: node.number("priorities")?,
+        slicing: node.flag("slicing")?,
+        tick: node.number("tick")?,
+        mutexes: node.number("mutexes")?,
     })
 }
 
@@ -65,17 +62,12 @@ impl<'v> ReadItem<'v> for Tasks {
     ghost reading = { λ _. task_at };
 
     #[tactic(auto, unfolding(crate::specs::Header::task_at))]
-    fn read(
-        &self,
-        alloc: Global,
-        place: &Place<'_>,
-        value: &'v Value,
-    ) -> Result<TaskShape<'v>, Stop> {
-        let members = object_at(alloc, place, value)?;
-        let name = text_at(alloc, place, "name", value)?;
-        let priority = number_at(alloc, place, "priority", value)?;
-        let mask = number_at(alloc, place, "mask", value)?;
-        only_at(alloc, place, &["name", "priority", "mask"], members)?;
+    fn read(&self, node: &Node<'_, 'v>) -> Result<TaskShape<'v>, Stop> {
+        let members = node.object()?;
+        let name = node.text("name")?;
+        let priority = node.number("priority")?;
+        let mask = node.number("mask")?;
+        node.only(&["name", "priority", "mask"], members)?;
         Ok(TaskShape {
             name,
             priority,
@@ -113,16 +105,12 @@ fn accepted(
 
 /// The header, accepted or not: its shape alone is judged.
 #[tactic(auto, unfolding(crate::specs::Header::header_at))]
-pub(crate) fn header_at(
-    alloc: Global,
-    place: &Place<'_>,
-    value: &Value,
-) -> Result<Result<Header, Fault>, Stop>
+pub(crate) fn header_at(node: &Node<'_, '_>) -> Result<Result<Header, Fault>, Stop>
     ensures reading { Gives (λ header. header) result
-        (header_at (path_of place.now) (view value.now)) }
+        (header_at (place_of node.now) (data_of node.now)) }
     ensures valid { IfOk result (λ header. IfOk header (λ valid. IsTrue (is_header valid))) }
 {
-    let config = config_at(alloc, place, value)?;
-    let shapes = list_at(alloc, &Tasks, place, "tasks", value)?;
-    Ok(accepted(alloc, config, shapes.as_slice())?)
+    let config = config_at(node)?;
+    let shapes = list_at(&Tasks, node, "tasks")?;
+    Ok(accepted(node.alloc, config, shapes.as_slice())?)
 }

@@ -4,12 +4,14 @@
 mod accepted;
 mod array;
 mod bench;
+mod call;
 mod edit;
 mod fault;
 mod header;
 pub mod laws;
 mod member;
 mod names;
+mod node;
 mod path;
 mod session;
 mod step;

@@ -1,7 +1,12 @@
 ghost use Rattle.std.specs.Prelude.{◌≡◌, IfOk, IsTrue};
 ghost use Rattle.bench_types.specs.Header.{is_header};
 ghost use Rattle.session_text.specs.Names.{names_of, no_names, number_of};
+ghost use Rattle.session_text.specs.Node.{data_of, place_of};
+ghost use Rattle.session_text.specs.Outcome.{Gives};
+ghost use Rattle.session_text.specs.Step.{task_named_at};
 
+use crate::fault::Stop;
+use crate::node::Node;
 use bench_types::Header;
 use indexmap::IndexSet;
 use std::alloc::{AllocError, Global};
@@ -57,5 +62,14 @@ impl<'a> Names<'a> {
             Some(place) => self.cores + place as u32,
             None => 0,
         }
+    }
+
+    /// The number of the task that the member names.
+    #[tactic(auto, unfolding(crate::specs::Step::task_named_at))]
+    pub(crate) fn task_named_at(&self, node: &Node<'_, '_>, name: &str) -> Result<u32, Stop>
+        ensures { Gives (λ task. task) result
+            (task_named_at self.now (place_of node.now) name.now (data_of node.now)) }
+    {
+        Ok(self.number_of(node.text(name)?))
     }
 }

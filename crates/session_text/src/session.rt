@@ -4,6 +4,7 @@ ghost use Rattle.std.specs.Result.{ForOk};
 ghost use Rattle.bench_types.specs.Header.{is_header};
 ghost use Rattle.session_text.specs.Array.{list_at};
 ghost use Rattle.session_text.specs.Names.{known_names};
+ghost use Rattle.session_text.specs.Node.{data_of, place_of};
 ghost use Rattle.session_text.specs.Outcome.{Gives};
 ghost use Rattle.session_text.specs.Path.{path_of};
 ghost use Rattle.session_text.specs.Step.{step_at};
@@ -13,8 +14,8 @@ use crate::accepted::items_accepted;
 use crate::array::list_at;
 use crate::fault::{Stop, TextFault, Why};
 use crate::header::header_at;
-use crate::member::{bad_shape, number_at, object_at, only_at};
 use crate::names::Names;
+use crate::node::Node;
 use crate::path::{Path, Place};
 use bench_types::{Fault, Header, Step};
 use serde_json::{Category, Value};
@@ -36,7 +37,11 @@ fn session(alloc: Global, text: &[u8]) -> Result<(Header, Vec<Step>), Stop>
     ensures checked { IfOk result (λ read. IsChecked read.0 read.1.items) }
 {
     let value = document(alloc, text)?;
-    let (header, steps) = session_at(alloc, &Place::Top, &value)?;
+    let (header, steps) = session_at(&Node {
+        alloc,
+        place: &Place::Top,
+        value: &value,
+    })?;
     session_accepted(alloc, &Place::Top, header, steps)
 }
 
@@ -57,13 +62,13 @@ pub(crate) fn document(alloc: Global, text: &[u8]) -> Result<Value, Stop>
 }
 
 #[tactic(auto, unfolding(crate::specs::Session::format_at))]
-fn format_at(alloc: Global, place: &Place<'_>, value: &Value) -> Result<(), Stop>
-    ensures { Gives (λ done. done) result (format_at (path_of place.now) (view value.now)) }
+fn format_at(node: &Node<'_, '_>) -> Result<(), Stop>
+    ensures { Gives (λ done. done) result (format_at (place_of node.now) (data_of node.now)) }
 {
-    if number_at(alloc, place, "format", value)? == 1 {
+    if node.number("format")? == 1 {
         Ok(())
     } else {
-        Err(bad_shape(alloc, &Place::Member(place, "format")))
+        Err(node.bad_member("format"))
     }
 }
 
@@ -82,38 +87,27 @@ pub(crate) fn known_names(
 }
 
 /// The steps, under the names of the header.
-fn steps_at(
-    alloc: Global,
-    header: &Result<Header, Fault>,
-    place: &Place<'_>,
-    value: &Value,
-) -> Result<Vec<Step>, Stop>
+fn steps_at(header: &Result<Header, Fault>, node: &Node<'_, '_>) -> Result<Vec<Step>, Stop>
     requires { ForOk header.now (λ header. IsTrue (is_header header)) }
     ensures { Gives (λ steps. steps.items) result
-        (list_at (step_at (known_names header.now)) (path_of place.now) (codes "steps") (view value.now)) }
+        (list_at (step_at (known_names header.now)) (place_of node.now) (codes "steps") (data_of node.now)) }
 {
-    let names = known_names(alloc, header)?;
-    list_at(alloc, &names, place, "steps", value)
+    let names = known_names(node.alloc, header)?;
+    list_at(&names, node, "steps")
 }
 
 /// The header, accepted or not, and the steps: shapes alone are judged.
 #[tactic(auto, unfolding(crate::specs::Session::session_at))]
-pub(crate) fn session_at(
-    alloc: Global,
-    place: &Place<'_>,
-    value: &Value,
-) -> Result<(Result<Header, Fault>, Vec<Step>), Stop>
+pub(crate) fn session_at(node: &Node<'_, '_>) -> Result<(Result<Header, Fault>, Vec<Step>), Stop>
     ensures reading { Gives (λ read. (read.0, read.1.items)) result
-        (session_at (path_of place.now) (view value.now)) }
+        (session_at (place_of node.now) (data_of node.now)) }
     ensures valid { IfOk result (λ read. IfOk read.0 (λ header. IsTrue (is_header header))) }
 {
-    let members = object_at(alloc, place, value)?;
-    format_at(alloc, place, value)?;
-    let header = header_at(alloc, place, value)?;
-    let steps = steps_at(alloc, &header, place, value)?;
-    only_at(
-        alloc,
-        place,
+    let members = node.object()?;
+    format_at(node)?;
+    let header = header_at(node)?;
+    let steps = steps_at(&header, node)?;
+    node.only(
         &[
             "format",
             "cores",

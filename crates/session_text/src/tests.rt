@@ -3,7 +3,7 @@ mod documents;
 mod rows;
 mod written;
 
-use crate::{TextFault, Why, read_session};
+use crate::{TextFault, Why, read_bench, read_session};
 use bench_types::{Call, Config, Fault, Step};
 use rows::{BYTES, JUDGED, NUMBERS, PAIRS, SESSION, SHAPES, TEXTS, TWICE};
 use std::alloc::{AllocError, Global};
@@ -21,10 +21,6 @@ fn code(why: Why) -> &'static str {
         Why::Bench(Fault::BadArgument) => "F5",
         Why::NoMemory => "no memory",
     }
-}
-
-fn outcome(alloc: Global, text: &[u8]) -> Result<String, AllocError> {
-    told(alloc, read_session(alloc, text))
 }
 
 /// `read`, or the code of the fault and its path.
@@ -48,28 +44,66 @@ fn changed(alloc: Global, text: &str, old: &str, new: &str) -> Result<String, Fa
     Ok(format!(in alloc; "{front}{new}{back}")?)
 }
 
-fn check_changes(rt: &impl Abort, alloc: Global, rows: &[(&str, &str, &str)]) -> Result<(), Fail> {
-    for (old, new, want) in rows {
-        let text = changed(alloc, SESSION, old, new)?;
-        let got = outcome(alloc, text.as_bytes())?;
-        assert_eq!(rt; got.as_str(), *want, "{old} to {new}");
+/// The text after each of the changes, which stand as `old => new & old => new`.
+fn changed_by(alloc: Global, text: &str, changes: &str) -> Result<String, Fail> {
+    let mut text = String::from_str(alloc, text)?;
+    for change in changes.split(" & ") {
+        let (old, new) = change.split_once(" => ").ok_or("a change has two parts")?;
+        text = changed(alloc, text.as_str(), old, new)?;
+    }
+    Ok(text)
+}
+
+/// What stands before the bar of a row, and the outcome after it.
+fn row(line: &str) -> Result<(&str, &str), Fail> {
+    Ok(line.split_once(" | ").ok_or("a row has an outcome")?)
+}
+
+/// What a text is read as.
+#[derive(Clone, Copy)]
+enum Document {
+    Session,
+    Bench,
+}
+
+impl Document {
+    fn outcome(self, alloc: Global, text: &[u8]) -> Result<String, AllocError> {
+        match self {
+            Document::Session => told(alloc, read_session(alloc, text)),
+            Document::Bench => told(alloc, read_bench(alloc, text)),
+        }
+    }
+
+    /// The text has this outcome.
+    fn check(self, rt: &impl Abort, alloc: Global, text: &str, want: &str) -> Result<(), Fail> {
+        let got = self.outcome(alloc, text.as_bytes())?;
+        assert_eq!(rt; got.as_str(), want, "{text}");
+        Ok(())
+    }
+
+    /// The text has the outcomes of the table, each after the changes of its row.
+    fn check_table(
+        self,
+        rt: &impl Abort,
+        alloc: Global,
+        text: &str,
+        table: &str,
+    ) -> Result<(), Fail> {
+        for line in table.trim().lines() {
+            let (changes, want) = row(line)?;
+            let text = changed_by(alloc, text, changes)?;
+            self.check(rt, alloc, text.as_str(), want)?;
+        }
+        Ok(())
+    }
+}
+
+#[test]
+fn tables(rt: HostRuntime) -> Result<(), Fail> {
+    for table in [SHAPES, JUDGED, TWICE, PAIRS] {
+        Document::Session.check_table(&rt, rt.alloc(), SESSION, table)?;
     }
     Ok(())
-}
-
-#[test]
-fn shapes(rt: HostRuntime) -> Result<(), Fail> {
-    check_changes(&rt, rt.alloc(), &SHAPES)
-}
-
-#[test]
-fn judged(rt: HostRuntime) -> Result<(), Fail> {
-    check_changes(&rt, rt.alloc(), &JUDGED)
-}
-
-#[test]
-fn members_twice(rt: HostRuntime) -> Result<(), Fail> {
-    check_changes(&rt, rt.alloc(), &TWICE)
 }
 
 #[test]
@@ -78,24 +112,7 @@ fn numbers(rt: HostRuntime) -> Result<(), Fail> {
     for (number, want) in NUMBERS {
         let tick = format!(in alloc; "\"tick\":{number}")?;
         let text = changed(alloc, SESSION, "\"tick\":0", tick.as_str())?;
-        let got = outcome(alloc, text.as_bytes())?;
-        assert_eq!(rt; got.as_str(), want, "at {number}");
-    }
-    Ok(())
-}
-
-#[test]
-fn first_of_two_faults(rt: HostRuntime) -> Result<(), Fail> {
-    let alloc = rt.alloc();
-    for (old, new, other_old, other_new, want) in &PAIRS {
-        let once = changed(alloc, SESSION, old, new)?;
-        let text = changed(alloc, once.as_str(), other_old, other_new)?;
-        let got = outcome(alloc, text.as_bytes())?;
-        assert_eq!(rt;
-            got.as_str(),
-            *want,
-            "{old} to {new}, {other_old} to {other_new}"
-        );
+        Document::Session.check(&rt, alloc, text.as_str(), want)?;
     }
     Ok(())
 }
@@ -103,11 +120,10 @@ fn first_of_two_faults(rt: HostRuntime) -> Result<(), Fail> {
 #[test]
 fn whole_texts(rt: HostRuntime) -> Result<(), Fail> {
     for (text, want) in TEXTS {
-        let got = outcome(rt.alloc(), text.as_bytes())?;
-        assert_eq!(rt; got.as_str(), want, "{text}");
+        Document::Session.check(&rt, rt.alloc(), text, want)?;
     }
     for bytes in BYTES {
-        let got = outcome(rt.alloc(), bytes)?;
+        let got = Document::Session.outcome(rt.alloc(), bytes)?;
         assert_eq!(rt; got.as_str(), "H1", "{bytes:?}");
     }
     Ok(())
@@ -117,12 +133,10 @@ fn whole_texts(rt: HostRuntime) -> Result<(), Fail> {
 fn prefixes_are_no_json(rt: HostRuntime) -> Result<(), Fail> {
     let bytes = SESSION.as_bytes();
     for end in 0..bytes.len() {
-        let got = outcome(rt.alloc(), &bytes[..end])?;
+        let got = Document::Session.outcome(rt.alloc(), &bytes[..end])?;
         assert_eq!(rt; got.as_str(), "H1", "of {end} bytes");
     }
-    let got = outcome(rt.alloc(), bytes)?;
-    assert_eq!(rt; got.as_str(), "read");
-    Ok(())
+    Document::Session.check(&rt, rt.alloc(), SESSION, "read")
 }
 
 /// So many arrays, one in another.
@@ -142,13 +156,11 @@ fn nesting(rt: HostRuntime) -> Result<(), Fail> {
     let alloc = rt.alloc();
     for (depth, want) in [(126, "H2 top"), (127, "H2 top"), (128, "H1")] {
         let text = nested(alloc, depth)?;
-        let got = outcome(alloc, text.as_bytes())?;
-        assert_eq!(rt; got.as_str(), want, "{depth} deep");
+        Document::Session.check(&rt, alloc, text.as_str(), want)?;
         let inner = nested(alloc, depth - 1)?;
         let member = format!(in alloc; "{{\"more\":{inner},")?;
         let session = changed(alloc, SESSION, "{", member.as_str())?;
-        let got = outcome(alloc, session.as_bytes())?;
-        assert_eq!(rt; got.as_str(), want, "{depth} deep in a session");
+        Document::Session.check(&rt, alloc, session.as_str(), want)?;
     }
     Ok(())
 }

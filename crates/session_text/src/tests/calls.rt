@@ -1,8 +1,8 @@
 //! Calls that set a task's priority, affinity and preemption, as texts. What reading and writing gives was worked out by
 //! hand from the format's description, and by a program of its own.
 
-use super::{changed, told};
-use crate::{read_bench, read_edit, read_session, write_session};
+use super::{Document, changed, row, told};
+use crate::{read_edit, read_session, write_session};
 use bench_types::{Call, Edit, Step};
 use std::alloc::{AllocError, Global};
 use std::process::Abort;
@@ -13,513 +13,141 @@ const FRONT: &str =
     "{\"format\":1,\"cores\":2,\"priorities\":5,\"slicing\":false,\"tick\":0,\"mutexes\":0,\"tasks\":[{\"name\":\"A\",\"priority\":2,\"mask\":3},{\"name\":\"B\",\"priority\":1,\"mask\":3}],\"steps\":[";
 
 // Steps, and what reading the session of them gives: each member is missing, ill-typed or joined by an unknown one.
-const SHAPES: [(&str, &str); 70] = [
-    (
-        "{\"do\":\"priority_set\",\"core\":0,\"by\":\"A\",\"to\":\"B\",\"priority\":4}",
-        "read",
-    ),
-    (
-        "{\"do\":\"affinity_set\",\"core\":0,\"by\":\"A\",\"to\":\"B\",\"mask\":2}",
-        "read",
-    ),
-    (
-        "{\"do\":\"preempt_off\",\"core\":0,\"by\":\"A\",\"to\":\"B\"}",
-        "read",
-    ),
-    (
-        "{\"do\":\"preempt_on\",\"core\":0,\"by\":\"A\",\"to\":\"B\"}",
-        "read",
-    ),
-    (
-        "{\"priority\":4,\"to\":\"B\",\"by\":\"A\",\"core\":0,\"do\":\"priority_set\"}",
-        "read",
-    ),
-    (
-        "{\"mask\":2,\"to\":\"B\",\"by\":\"A\",\"core\":0,\"do\":\"affinity_set\"}",
-        "read",
-    ),
-    (
-        "{\"do\":\"priority_set\",\"by\":\"A\",\"to\":\"B\",\"priority\":4}",
-        "H2 steps[0].core",
-    ),
-    (
-        "{\"do\":\"priority_set\",\"core\":0,\"to\":\"B\",\"priority\":4}",
-        "H2 steps[0].by",
-    ),
-    (
-        "{\"do\":\"priority_set\",\"core\":0,\"by\":\"A\",\"priority\":4}",
-        "H2 steps[0].to",
-    ),
-    (
-        "{\"do\":\"priority_set\",\"core\":0,\"by\":\"A\",\"to\":\"B\"}",
-        "H2 steps[0].priority",
-    ),
-    (
-        "{\"do\":\"affinity_set\",\"by\":\"A\",\"to\":\"B\",\"mask\":2}",
-        "H2 steps[0].core",
-    ),
-    (
-        "{\"do\":\"affinity_set\",\"core\":0,\"to\":\"B\",\"mask\":2}",
-        "H2 steps[0].by",
-    ),
-    (
-        "{\"do\":\"affinity_set\",\"core\":0,\"by\":\"A\",\"mask\":2}",
-        "H2 steps[0].to",
-    ),
-    (
-        "{\"do\":\"affinity_set\",\"core\":0,\"by\":\"A\",\"to\":\"B\"}",
-        "H2 steps[0].mask",
-    ),
-    (
-        "{\"do\":\"preempt_off\",\"by\":\"A\",\"to\":\"B\"}",
-        "H2 steps[0].core",
-    ),
-    (
-        "{\"do\":\"preempt_off\",\"core\":0,\"to\":\"B\"}",
-        "H2 steps[0].by",
-    ),
-    (
-        "{\"do\":\"preempt_off\",\"core\":0,\"by\":\"A\"}",
-        "H2 steps[0].to",
-    ),
-    (
-        "{\"do\":\"preempt_on\",\"by\":\"A\",\"to\":\"B\"}",
-        "H2 steps[0].core",
-    ),
-    (
-        "{\"do\":\"preempt_on\",\"core\":0,\"to\":\"B\"}",
-        "H2 steps[0].by",
-    ),
-    (
-        "{\"do\":\"preempt_on\",\"core\":0,\"by\":\"A\"}",
-        "H2 steps[0].to",
-    ),
-    (
-        "{\"do\":\"priority_set\",\"core\":\"0\",\"by\":\"A\",\"to\":\"B\",\"priority\":4}",
-        "H2 steps[0].core",
-    ),
-    (
-        "{\"do\":\"priority_set\",\"core\":0,\"by\":0,\"to\":\"B\",\"priority\":4}",
-        "H2 steps[0].by",
-    ),
-    (
-        "{\"do\":\"priority_set\",\"core\":0,\"by\":\"A\",\"to\":3,\"priority\":4}",
-        "H2 steps[0].to",
-    ),
-    (
-        "{\"do\":\"priority_set\",\"core\":0,\"by\":\"A\",\"to\":\"B\",\"priority\":\"4\"}",
-        "H2 steps[0].priority",
-    ),
-    (
-        "{\"do\":\"affinity_set\",\"core\":null,\"by\":\"A\",\"to\":\"B\",\"mask\":2}",
-        "H2 steps[0].core",
-    ),
-    (
-        "{\"do\":\"affinity_set\",\"core\":0,\"by\":null,\"to\":\"B\",\"mask\":2}",
-        "H2 steps[0].by",
-    ),
-    (
-        "{\"do\":\"affinity_set\",\"core\":0,\"by\":\"A\",\"to\":null,\"mask\":2}",
-        "H2 steps[0].to",
-    ),
-    (
-        "{\"do\":\"affinity_set\",\"core\":0,\"by\":\"A\",\"to\":\"B\",\"mask\":\"2\"}",
-        "H2 steps[0].mask",
-    ),
-    (
-        "{\"do\":\"preempt_off\",\"core\":[0],\"by\":\"A\",\"to\":\"B\"}",
-        "H2 steps[0].core",
-    ),
-    (
-        "{\"do\":\"preempt_off\",\"core\":0,\"by\":[\"A\"],\"to\":\"B\"}",
-        "H2 steps[0].by",
-    ),
-    (
-        "{\"do\":\"preempt_off\",\"core\":0,\"by\":\"A\",\"to\":[\"B\"]}",
-        "H2 steps[0].to",
-    ),
-    (
-        "{\"do\":\"preempt_on\",\"core\":false,\"by\":\"A\",\"to\":\"B\"}",
-        "H2 steps[0].core",
-    ),
-    (
-        "{\"do\":\"preempt_on\",\"core\":0,\"by\":{},\"to\":\"B\"}",
-        "H2 steps[0].by",
-    ),
-    (
-        "{\"do\":\"preempt_on\",\"core\":0,\"by\":\"A\",\"to\":{}}",
-        "H2 steps[0].to",
-    ),
-    (
-        "{\"do\":\"priority_set\",\"core\":0,\"by\":\"A\",\"to\":\"B\",\"priority\":4294967296}",
-        "H2 steps[0].priority",
-    ),
-    (
-        "{\"do\":\"affinity_set\",\"core\":0,\"by\":\"A\",\"to\":\"B\",\"mask\":4294967296}",
-        "H2 steps[0].mask",
-    ),
-    (
-        "{\"do\":\"priority_set\",\"core\":0,\"by\":\"A\",\"to\":\"B\",\"priority\":-1}",
-        "H2 steps[0].priority",
-    ),
-    (
-        "{\"do\":\"affinity_set\",\"core\":0,\"by\":\"A\",\"to\":\"B\",\"mask\":-1}",
-        "H2 steps[0].mask",
-    ),
-    (
-        "{\"do\":\"priority_set\",\"core\":0,\"by\":\"A\",\"to\":\"B\",\"priority\":1.0}",
-        "H2 steps[0].priority",
-    ),
-    (
-        "{\"do\":\"affinity_set\",\"core\":0,\"by\":\"A\",\"to\":\"B\",\"mask\":1.0}",
-        "H2 steps[0].mask",
-    ),
-    (
-        "{\"do\":\"priority_set\",\"core\":0,\"by\":\"A\",\"to\":\"B\",\"priority\":-0}",
-        "H2 steps[0].priority",
-    ),
-    (
-        "{\"do\":\"affinity_set\",\"core\":0,\"by\":\"A\",\"to\":\"B\",\"mask\":-0}",
-        "H2 steps[0].mask",
-    ),
-    (
-        "{\"do\":\"priority_set\",\"core\":0,\"by\":\"A\",\"to\":\"B\",\"priority\":4,\"mask\":3}",
-        "H2 steps[0]",
-    ),
-    (
-        "{\"do\":\"affinity_set\",\"core\":0,\"by\":\"A\",\"to\":\"B\",\"mask\":2,\"priority\":1}",
-        "H2 steps[0]",
-    ),
-    (
-        "{\"do\":\"preempt_off\",\"core\":0,\"by\":\"A\",\"to\":\"B\",\"ticks\":1}",
-        "H2 steps[0]",
-    ),
-    (
-        "{\"do\":\"preempt_on\",\"core\":0,\"by\":\"A\",\"to\":\"B\",\"mask\":3}",
-        "H2 steps[0]",
-    ),
-    (
-        "{\"do\":\"preempt_off\",\"core\":0,\"by\":\"A\",\"to\":\"B\",\"task\":\"B\"}",
-        "H2 steps[0]",
-    ),
-    (
-        "{\"do\":\"yield\",\"core\":0,\"by\":\"A\",\"to\":\"B\"}",
-        "H2 steps[0]",
-    ),
-    (
-        "{\"do\":\"delay\",\"core\":0,\"by\":\"A\",\"ticks\":1,\"to\":\"B\"}",
-        "H2 steps[0]",
-    ),
-    ("{\"do\":\"switch\",\"core\":0,\"to\":\"B\"}", "H2 steps[0]"),
-    (
-        "{\"do\":\"prioritySet\",\"core\":0,\"by\":\"A\",\"to\":\"B\",\"priority\":4}",
-        "H2 steps[0].do",
-    ),
-    (
-        "{\"do\":\"Priority_set\",\"core\":0,\"by\":\"A\",\"to\":\"B\",\"priority\":4}",
-        "H2 steps[0].do",
-    ),
-    (
-        "{\"do\":\"priority-set\",\"core\":0,\"by\":\"A\",\"to\":\"B\",\"priority\":4}",
-        "H2 steps[0].do",
-    ),
-    (
-        "{\"do\":\"priority\",\"core\":0,\"by\":\"A\",\"to\":\"B\",\"priority\":4}",
-        "H2 steps[0].do",
-    ),
-    (
-        "{\"do\":\"preempt\",\"core\":0,\"by\":\"A\",\"to\":\"B\",\"priority\":4}",
-        "H2 steps[0].do",
-    ),
-    (
-        "{\"do\":\"preempt_\",\"core\":0,\"by\":\"A\",\"to\":\"B\",\"priority\":4}",
-        "H2 steps[0].do",
-    ),
-    (
-        "{\"do\":\"affinity\",\"core\":0,\"by\":\"A\",\"to\":\"B\",\"priority\":4}",
-        "H2 steps[0].do",
-    ),
-    (
-        "{\"do\":\"set\",\"core\":0,\"by\":\"A\",\"to\":\"B\",\"priority\":4}",
-        "H2 steps[0].do",
-    ),
-    (
-        "{\"do\":\"preempt_of\",\"core\":0,\"by\":\"A\",\"to\":\"B\",\"priority\":4}",
-        "H2 steps[0].do",
-    ),
-    (
-        "{\"do\":\"priority_set\",\"core\":\"0\",\"by\":1,\"to\":2,\"priority\":\"4\"}",
-        "H2 steps[0].core",
-    ),
-    (
-        "{\"do\":\"priority_set\",\"core\":0,\"by\":1,\"to\":2,\"priority\":\"4\"}",
-        "H2 steps[0].by",
-    ),
-    (
-        "{\"do\":\"priority_set\",\"core\":0,\"by\":\"A\",\"to\":2,\"priority\":\"4\",\"mask\":1}",
-        "H2 steps[0].to",
-    ),
-    (
-        "{\"do\":\"priority_set\",\"core\":0,\"by\":\"A\",\"to\":\"B\",\"priority\":\"4\",\"mask\":1}",
-        "H2 steps[0].priority",
-    ),
-    (
-        "{\"do\":\"affinity_set\",\"core\":0,\"by\":1,\"to\":2,\"mask\":\"2\"}",
-        "H2 steps[0].by",
-    ),
-    (
-        "{\"do\":\"affinity_set\",\"core\":0,\"by\":\"A\",\"to\":2,\"mask\":\"2\",\"more\":1}",
-        "H2 steps[0].to",
-    ),
-    (
-        "{\"do\":\"affinity_set\",\"core\":0,\"by\":\"A\",\"to\":\"B\",\"mask\":\"2\",\"more\":1}",
-        "H2 steps[0].mask",
-    ),
-    (
-        "{\"do\":\"preempt_off\",\"core\":0,\"by\":1,\"to\":2,\"more\":1}",
-        "H2 steps[0].by",
-    ),
-    (
-        "{\"do\":\"preempt_on\",\"core\":0,\"by\":\"A\",\"to\":2,\"more\":1}",
-        "H2 steps[0].to",
-    ),
-    (
-        "{\"do\":\"affinity_set\",\"core\":9,\"by\":\"X\",\"to\":\"Y\",\"mask\":\"0\"}",
-        "H2 steps[0].mask",
-    ),
-    (
-        "{\"do\":\"affinity_set\",\"core\":9,\"by\":\"X\",\"to\":\"Y\",\"mask\":0,\"more\":1}",
-        "H2 steps[0]",
-    ),
-];
+const SHAPES: &str = r#"
+{"do":"priority_set","core":0,"by":"A","to":"B","priority":4} | read
+{"do":"affinity_set","core":0,"by":"A","to":"B","mask":2} | read
+{"do":"preempt_off","core":0,"by":"A","to":"B"} | read
+{"do":"preempt_on","core":0,"by":"A","to":"B"} | read
+{"priority":4,"to":"B","by":"A","core":0,"do":"priority_set"} | read
+{"mask":2,"to":"B","by":"A","core":0,"do":"affinity_set"} | read
+{"do":"priority_set","by":"A","to":"B","priority":4} | H2 steps[0].core
+{"do":"priority_set","core":0,"to":"B","priority":4} | H2 steps[0].by
+{"do":"priority_set","core":0,"by":"A","priority":4} | H2 steps[0].to
+{"do":"priority_set","core":0,"by":"A","to":"B"} | H2 steps[0].priority
+{"do":"affinity_set","by":"A","to":"B","mask":2} | H2 steps[0].core
+{"do":"affinity_set","core":0,"to":"B","mask":2} | H2 steps[0].by
+{"do":"affinity_set","core":0,"by":"A","mask":2} | H2 steps[0].to
+{"do":"affinity_set","core":0,"by":"A","to":"B"} | H2 steps[0].mask
+{"do":"preempt_off","by":"A","to":"B"} | H2 steps[0].core
+{"do":"preempt_off","core":0,"to":"B"} | H2 steps[0].by
+{"do":"preempt_off","core":0,"by":"A"} | H2 steps[0].to
+{"do":"preempt_on","by":"A","to":"B"} | H2 steps[0].core
+{"do":"preempt_on","core":0,"to":"B"} | H2 steps[0].by
+{"do":"preempt_on","core":0,"by":"A"} | H2 steps[0].to
+{"do":"priority_set","core":"0","by":"A","to":"B","priority":4} | H2 steps[0].core
+{"do":"priority_set","core":0,"by":0,"to":"B","priority":4} | H2 steps[0].by
+{"do":"priority_set","core":0,"by":"A","to":3,"priority":4} | H2 steps[0].to
+{"do":"priority_set","core":0,"by":"A","to":"B","priority":"4"} | H2 steps[0].priority
+{"do":"affinity_set","core":null,"by":"A","to":"B","mask":2} | H2 steps[0].core
+{"do":"affinity_set","core":0,"by":null,"to":"B","mask":2} | H2 steps[0].by
+{"do":"affinity_set","core":0,"by":"A","to":null,"mask":2} | H2 steps[0].to
+{"do":"affinity_set","core":0,"by":"A","to":"B","mask":"2"} | H2 steps[0].mask
+{"do":"preempt_off","core":[0],"by":"A","to":"B"} | H2 steps[0].core
+{"do":"preempt_off","core":0,"by":["A"],"to":"B"} | H2 steps[0].by
+{"do":"preempt_off","core":0,"by":"A","to":["B"]} | H2 steps[0].to
+{"do":"preempt_on","core":false,"by":"A","to":"B"} | H2 steps[0].core
+{"do":"preempt_on","core":0,"by":{},"to":"B"} | H2 steps[0].by
+{"do":"preempt_on","core":0,"by":"A","to":{}} | H2 steps[0].to
+{"do":"priority_set","core":0,"by":"A","to":"B","priority":4294967296} | H2 steps[0].priority
+{"do":"affinity_set","core":0,"by":"A","to":"B","mask":4294967296} | H2 steps[0].mask
+{"do":"priority_set","core":0,"by":"A","to":"B","priority":-1} | H2 steps[0].priority
+{"do":"affinity_set","core":0,"by":"A","to":"B","mask":-1} | H2 steps[0].mask
+{"do":"priority_set","core":0,"by":"A","to":"B","priority":1.0} | H2 steps[0].priority
+{"do":"affinity_set","core":0,"by":"A","to":"B","mask":1.0} | H2 steps[0].mask
+{"do":"priority_set","core":0,"by":"A","to":"B","priority":-0} | H2 steps[0].priority
+{"do":"affinity_set","core":0,"by":"A","to":"B","mask":-0} | H2 steps[0].mask
+{"do":"priority_set","core":0,"by":"A","to":"B","priority":4,"mask":3} | H2 steps[0]
+{"do":"affinity_set","core":0,"by":"A","to":"B","mask":2,"priority":1} | H2 steps[0]
+{"do":"preempt_off","core":0,"by":"A","to":"B","ticks":1} | H2 steps[0]
+{"do":"preempt_on","core":0,"by":"A","to":"B","mask":3} | H2 steps[0]
+{"do":"preempt_off","core":0,"by":"A","to":"B","task":"B"} | H2 steps[0]
+{"do":"yield","core":0,"by":"A","to":"B"} | H2 steps[0]
+{"do":"delay","core":0,"by":"A","ticks":1,"to":"B"} | H2 steps[0]
+{"do":"switch","core":0,"to":"B"} | H2 steps[0]
+{"do":"prioritySet","core":0,"by":"A","to":"B","priority":4} | H2 steps[0].do
+{"do":"Priority_set","core":0,"by":"A","to":"B","priority":4} | H2 steps[0].do
+{"do":"priority-set","core":0,"by":"A","to":"B","priority":4} | H2 steps[0].do
+{"do":"priority","core":0,"by":"A","to":"B","priority":4} | H2 steps[0].do
+{"do":"preempt","core":0,"by":"A","to":"B","priority":4} | H2 steps[0].do
+{"do":"preempt_","core":0,"by":"A","to":"B","priority":4} | H2 steps[0].do
+{"do":"affinity","core":0,"by":"A","to":"B","priority":4} | H2 steps[0].do
+{"do":"set","core":0,"by":"A","to":"B","priority":4} | H2 steps[0].do
+{"do":"preempt_of","core":0,"by":"A","to":"B","priority":4} | H2 steps[0].do
+{"do":"priority_set","core":"0","by":1,"to":2,"priority":"4"} | H2 steps[0].core
+{"do":"priority_set","core":0,"by":1,"to":2,"priority":"4"} | H2 steps[0].by
+{"do":"priority_set","core":0,"by":"A","to":2,"priority":"4","mask":1} | H2 steps[0].to
+{"do":"priority_set","core":0,"by":"A","to":"B","priority":"4","mask":1} | H2 steps[0].priority
+{"do":"affinity_set","core":0,"by":1,"to":2,"mask":"2"} | H2 steps[0].by
+{"do":"affinity_set","core":0,"by":"A","to":2,"mask":"2","more":1} | H2 steps[0].to
+{"do":"affinity_set","core":0,"by":"A","to":"B","mask":"2","more":1} | H2 steps[0].mask
+{"do":"preempt_off","core":0,"by":1,"to":2,"more":1} | H2 steps[0].by
+{"do":"preempt_on","core":0,"by":"A","to":2,"more":1} | H2 steps[0].to
+{"do":"affinity_set","core":9,"by":"X","to":"Y","mask":"0"} | H2 steps[0].mask
+{"do":"affinity_set","core":9,"by":"X","to":"Y","mask":0,"more":1} | H2 steps[0]
+"#;
 
 // The same, where the shape is right.
-const JUDGED: [(&str, &str); 43] = [
-    (
-        "{\"do\":\"priority_set\",\"core\":2,\"by\":\"A\",\"to\":\"B\",\"priority\":4}",
-        "F2 steps[0]",
-    ),
-    (
-        "{\"do\":\"priority_set\",\"core\":0,\"by\":\"X\",\"to\":\"B\",\"priority\":4}",
-        "F3 steps[0]",
-    ),
-    (
-        "{\"do\":\"priority_set\",\"core\":0,\"by\":\"A\",\"to\":\"X\",\"priority\":4}",
-        "F3 steps[0]",
-    ),
-    (
-        "{\"do\":\"priority_set\",\"core\":0,\"by\":\"A\",\"to\":\"IDLE0\",\"priority\":4}",
-        "F3 steps[0]",
-    ),
-    (
-        "{\"do\":\"priority_set\",\"core\":0,\"by\":\"A\",\"to\":\"A\",\"priority\":4}",
-        "read",
-    ),
-    (
-        "{\"do\":\"affinity_set\",\"core\":2,\"by\":\"A\",\"to\":\"B\",\"mask\":2}",
-        "F2 steps[0]",
-    ),
-    (
-        "{\"do\":\"affinity_set\",\"core\":0,\"by\":\"X\",\"to\":\"B\",\"mask\":2}",
-        "F3 steps[0]",
-    ),
-    (
-        "{\"do\":\"affinity_set\",\"core\":0,\"by\":\"A\",\"to\":\"X\",\"mask\":2}",
-        "F3 steps[0]",
-    ),
-    (
-        "{\"do\":\"affinity_set\",\"core\":0,\"by\":\"A\",\"to\":\"IDLE0\",\"mask\":2}",
-        "F3 steps[0]",
-    ),
-    (
-        "{\"do\":\"affinity_set\",\"core\":0,\"by\":\"A\",\"to\":\"A\",\"mask\":2}",
-        "read",
-    ),
-    (
-        "{\"do\":\"preempt_off\",\"core\":2,\"by\":\"A\",\"to\":\"B\"}",
-        "F2 steps[0]",
-    ),
-    (
-        "{\"do\":\"preempt_off\",\"core\":0,\"by\":\"X\",\"to\":\"B\"}",
-        "F3 steps[0]",
-    ),
-    (
-        "{\"do\":\"preempt_off\",\"core\":0,\"by\":\"A\",\"to\":\"X\"}",
-        "F3 steps[0]",
-    ),
-    (
-        "{\"do\":\"preempt_off\",\"core\":0,\"by\":\"A\",\"to\":\"IDLE0\"}",
-        "F3 steps[0]",
-    ),
-    (
-        "{\"do\":\"preempt_off\",\"core\":0,\"by\":\"A\",\"to\":\"A\"}",
-        "read",
-    ),
-    (
-        "{\"do\":\"preempt_on\",\"core\":2,\"by\":\"A\",\"to\":\"B\"}",
-        "F2 steps[0]",
-    ),
-    (
-        "{\"do\":\"preempt_on\",\"core\":0,\"by\":\"X\",\"to\":\"B\"}",
-        "F3 steps[0]",
-    ),
-    (
-        "{\"do\":\"preempt_on\",\"core\":0,\"by\":\"A\",\"to\":\"X\"}",
-        "F3 steps[0]",
-    ),
-    (
-        "{\"do\":\"preempt_on\",\"core\":0,\"by\":\"A\",\"to\":\"IDLE0\"}",
-        "F3 steps[0]",
-    ),
-    (
-        "{\"do\":\"preempt_on\",\"core\":0,\"by\":\"A\",\"to\":\"A\"}",
-        "read",
-    ),
-    (
-        "{\"do\":\"preempt_off\",\"core\":0,\"by\":\"A\",\"to\":\"\"}",
-        "F3 steps[0]",
-    ),
-    (
-        "{\"do\":\"preempt_on\",\"core\":0,\"by\":\"A\",\"to\":\"b\"}",
-        "F3 steps[0]",
-    ),
-    (
-        "{\"do\":\"preempt_off\",\"core\":0,\"by\":\"A\",\"to\":\"\\u0042\"}",
-        "read",
-    ),
-    (
-        "{\"do\":\"preempt_on\",\"core\":0,\"by\":\"A\",\"to\":\"X\",\"to\":\"B\"}",
-        "read",
-    ),
-    (
-        "{\"do\":\"preempt_on\",\"core\":0,\"by\":\"A\",\"to\":\"B\",\"to\":\"X\"}",
-        "F3 steps[0]",
-    ),
-    (
-        "{\"do\":\"priority_set\",\"core\":0,\"by\":\"A\",\"to\":\"B\",\"priority\":0}",
-        "read",
-    ),
-    (
-        "{\"do\":\"priority_set\",\"core\":0,\"by\":\"A\",\"to\":\"B\",\"priority\":5}",
-        "read",
-    ),
-    (
-        "{\"do\":\"priority_set\",\"core\":0,\"by\":\"A\",\"to\":\"B\",\"priority\":4294967295}",
-        "read",
-    ),
-    (
-        "{\"do\":\"affinity_set\",\"core\":0,\"by\":\"A\",\"to\":\"B\",\"mask\":0}",
-        "F5 steps[0]",
-    ),
-    (
-        "{\"do\":\"affinity_set\",\"core\":0,\"by\":\"A\",\"to\":\"B\",\"mask\":1}",
-        "read",
-    ),
-    (
-        "{\"do\":\"affinity_set\",\"core\":0,\"by\":\"A\",\"to\":\"B\",\"mask\":3}",
-        "read",
-    ),
-    (
-        "{\"do\":\"affinity_set\",\"core\":0,\"by\":\"A\",\"to\":\"B\",\"mask\":4}",
-        "F5 steps[0]",
-    ),
-    (
-        "{\"do\":\"affinity_set\",\"core\":0,\"by\":\"A\",\"to\":\"B\",\"mask\":6}",
-        "read",
-    ),
-    (
-        "{\"do\":\"affinity_set\",\"core\":0,\"by\":\"A\",\"to\":\"B\",\"mask\":4294967292}",
-        "F5 steps[0]",
-    ),
-    (
-        "{\"do\":\"affinity_set\",\"core\":0,\"by\":\"A\",\"to\":\"B\",\"mask\":4294967295}",
-        "read",
-    ),
-    (
-        "{\"do\":\"affinity_set\",\"core\":2,\"by\":\"X\",\"to\":\"Y\",\"mask\":0}",
-        "F2 steps[0]",
-    ),
-    (
-        "{\"do\":\"affinity_set\",\"core\":0,\"by\":\"X\",\"to\":\"B\",\"mask\":0}",
-        "F3 steps[0]",
-    ),
-    (
-        "{\"do\":\"affinity_set\",\"core\":0,\"by\":\"A\",\"to\":\"Y\",\"mask\":0}",
-        "F3 steps[0]",
-    ),
-    (
-        "{\"do\":\"priority_set\",\"core\":2,\"by\":\"A\",\"to\":\"Y\",\"priority\":0}",
-        "F2 steps[0]",
-    ),
-    (
-        "{\"do\":\"tick\"},{\"do\":\"affinity_set\",\"core\":0,\"by\":\"A\",\"to\":\"B\",\"mask\":4}",
-        "F5 steps[1]",
-    ),
-    (
-        "{\"do\":\"tick\"},{\"do\":\"preempt_on\",\"core\":0,\"by\":\"A\",\"to\":\"X\"}",
-        "F3 steps[1]",
-    ),
-    (
-        "{\"do\":\"affinity_set\",\"core\":0,\"by\":\"A\",\"to\":\"B\",\"mask\":4},{\"do\":\"preempt_on\",\"core\":0,\"by\":\"A\",\"to\":\"X\"}",
-        "F5 steps[0]",
-    ),
-    (
-        "{\"do\":\"affinity_set\",\"core\":0,\"by\":\"A\",\"to\":\"B\",\"mask\":4},7",
-        "H2 steps[1]",
-    ),
-];
+const JUDGED: &str = r#"
+{"do":"priority_set","core":2,"by":"A","to":"B","priority":4} | F2 steps[0]
+{"do":"priority_set","core":0,"by":"X","to":"B","priority":4} | F3 steps[0]
+{"do":"priority_set","core":0,"by":"A","to":"X","priority":4} | F3 steps[0]
+{"do":"priority_set","core":0,"by":"A","to":"IDLE0","priority":4} | F3 steps[0]
+{"do":"priority_set","core":0,"by":"A","to":"A","priority":4} | read
+{"do":"affinity_set","core":2,"by":"A","to":"B","mask":2} | F2 steps[0]
+{"do":"affinity_set","core":0,"by":"X","to":"B","mask":2} | F3 steps[0]
+{"do":"affinity_set","core":0,"by":"A","to":"X","mask":2} | F3 steps[0]
+{"do":"affinity_set","core":0,"by":"A","to":"IDLE0","mask":2} | F3 steps[0]
+{"do":"affinity_set","core":0,"by":"A","to":"A","mask":2} | read
+{"do":"preempt_off","core":2,"by":"A","to":"B"} | F2 steps[0]
+{"do":"preempt_off","core":0,"by":"X","to":"B"} | F3 steps[0]
+{"do":"preempt_off","core":0,"by":"A","to":"X"} | F3 steps[0]
+{"do":"preempt_off","core":0,"by":"A","to":"IDLE0"} | F3 steps[0]
+{"do":"preempt_off","core":0,"by":"A","to":"A"} | read
+{"do":"preempt_on","core":2,"by":"A","to":"B"} | F2 steps[0]
+{"do":"preempt_on","core":0,"by":"X","to":"B"} | F3 steps[0]
+{"do":"preempt_on","core":0,"by":"A","to":"X"} | F3 steps[0]
+{"do":"preempt_on","core":0,"by":"A","to":"IDLE0"} | F3 steps[0]
+{"do":"preempt_on","core":0,"by":"A","to":"A"} | read
+{"do":"preempt_off","core":0,"by":"A","to":""} | F3 steps[0]
+{"do":"preempt_on","core":0,"by":"A","to":"b"} | F3 steps[0]
+{"do":"preempt_off","core":0,"by":"A","to":"\u0042"} | read
+{"do":"preempt_on","core":0,"by":"A","to":"X","to":"B"} | read
+{"do":"preempt_on","core":0,"by":"A","to":"B","to":"X"} | F3 steps[0]
+{"do":"priority_set","core":0,"by":"A","to":"B","priority":0} | read
+{"do":"priority_set","core":0,"by":"A","to":"B","priority":5} | read
+{"do":"priority_set","core":0,"by":"A","to":"B","priority":4294967295} | read
+{"do":"affinity_set","core":0,"by":"A","to":"B","mask":0} | F5 steps[0]
+{"do":"affinity_set","core":0,"by":"A","to":"B","mask":1} | read
+{"do":"affinity_set","core":0,"by":"A","to":"B","mask":3} | read
+{"do":"affinity_set","core":0,"by":"A","to":"B","mask":4} | F5 steps[0]
+{"do":"affinity_set","core":0,"by":"A","to":"B","mask":6} | read
+{"do":"affinity_set","core":0,"by":"A","to":"B","mask":4294967292} | F5 steps[0]
+{"do":"affinity_set","core":0,"by":"A","to":"B","mask":4294967295} | read
+{"do":"affinity_set","core":2,"by":"X","to":"Y","mask":0} | F2 steps[0]
+{"do":"affinity_set","core":0,"by":"X","to":"B","mask":0} | F3 steps[0]
+{"do":"affinity_set","core":0,"by":"A","to":"Y","mask":0} | F3 steps[0]
+{"do":"priority_set","core":2,"by":"A","to":"Y","priority":0} | F2 steps[0]
+{"do":"tick"},{"do":"affinity_set","core":0,"by":"A","to":"B","mask":4} | F5 steps[1]
+{"do":"tick"},{"do":"preempt_on","core":0,"by":"A","to":"X"} | F3 steps[1]
+{"do":"affinity_set","core":0,"by":"A","to":"B","mask":4},{"do":"preempt_on","core":0,"by":"A","to":"X"} | F5 steps[0]
+{"do":"affinity_set","core":0,"by":"A","to":"B","mask":4},7 | H2 steps[1]
+"#;
 
 // A step that an edit inserts, and what reading the bench document of it gives.
-const EDITS: [(&str, &str); 12] = [
-    (
-        "{\"do\":\"priority_set\",\"core\":0,\"by\":\"A\",\"to\":\"B\",\"priority\":4}",
-        "read",
-    ),
-    (
-        "{\"do\":\"affinity_set\",\"core\":0,\"by\":\"A\",\"to\":\"B\",\"mask\":2}",
-        "read",
-    ),
-    (
-        "{\"do\":\"preempt_off\",\"core\":0,\"by\":\"A\",\"to\":\"B\"}",
-        "read",
-    ),
-    (
-        "{\"do\":\"preempt_on\",\"core\":0,\"by\":\"A\",\"to\":\"B\"}",
-        "read",
-    ),
-    (
-        "{\"do\":\"priority_set\",\"core\":0,\"by\":\"A\",\"priority\":4}",
-        "H2 edits[0].step.to",
-    ),
-    (
-        "{\"do\":\"priority_set\",\"core\":0,\"by\":\"A\",\"to\":\"B\"}",
-        "H2 edits[0].step.priority",
-    ),
-    (
-        "{\"do\":\"affinity_set\",\"core\":0,\"by\":\"A\",\"to\":\"B\",\"mask\":\"2\"}",
-        "H2 edits[0].step.mask",
-    ),
-    (
-        "{\"do\":\"preempt_off\",\"core\":0,\"by\":\"A\",\"to\":1}",
-        "H2 edits[0].step.to",
-    ),
-    (
-        "{\"do\":\"preempt_on\",\"core\":0,\"by\":\"A\",\"to\":\"B\",\"mask\":3}",
-        "H2 edits[0].step",
-    ),
-    (
-        "{\"do\":\"priority_set\",\"core\":2,\"by\":\"A\",\"to\":\"B\",\"priority\":4}",
-        "F2 edits[0]",
-    ),
-    (
-        "{\"do\":\"preempt_on\",\"core\":0,\"by\":\"A\",\"to\":\"X\"}",
-        "F3 edits[0]",
-    ),
-    (
-        "{\"do\":\"affinity_set\",\"core\":0,\"by\":\"A\",\"to\":\"B\",\"mask\":4}",
-        "F5 edits[0]",
-    ),
-];
+const EDITS: &str = r#"
+{"do":"priority_set","core":0,"by":"A","to":"B","priority":4} | read
+{"do":"affinity_set","core":0,"by":"A","to":"B","mask":2} | read
+{"do":"preempt_off","core":0,"by":"A","to":"B"} | read
+{"do":"preempt_on","core":0,"by":"A","to":"B"} | read
+{"do":"priority_set","core":0,"by":"A","priority":4} | H2 edits[0].step.to
+{"do":"priority_set","core":0,"by":"A","to":"B"} | H2 edits[0].step.priority
+{"do":"affinity_set","core":0,"by":"A","to":"B","mask":"2"} | H2 edits[0].step.mask
+{"do":"preempt_off","core":0,"by":"A","to":1} | H2 edits[0].step.to
+{"do":"preempt_on","core":0,"by":"A","to":"B","mask":3} | H2 edits[0].step
+{"do":"priority_set","core":2,"by":"A","to":"B","priority":4} | F2 edits[0]
+{"do":"preempt_on","core":0,"by":"A","to":"X"} | F3 edits[0]
+{"do":"affinity_set","core":0,"by":"A","to":"B","mask":4} | F5 edits[0]
+"#;
 
 // Steps, and the whole session as it is written.
 const STEPS: &str =
@@ -532,35 +160,35 @@ fn session_of(alloc: Global, steps: &str) -> Result<String, AllocError> {
     format!(in alloc; "{FRONT}{steps}]}}")
 }
 
-fn check_steps(rt: &impl Abort, alloc: Global, rows: &[(&str, &str)]) -> Result<(), Fail> {
-    for (steps, want) in rows {
+fn check_steps(rt: &impl Abort, alloc: Global, table: &str) -> Result<(), Fail> {
+    for line in table.trim().lines() {
+        let (steps, want) = row(line)?;
         let text = session_of(alloc, steps)?;
-        let got = told(alloc, read_session(alloc, text.as_bytes()))?;
-        assert_eq!(rt; got.as_str(), *want, "{steps}");
+        Document::Session.check(rt, alloc, text.as_str(), want)?;
     }
     Ok(())
 }
 
 #[test]
 fn shapes_of_setting_calls(rt: HostRuntime) -> Result<(), Fail> {
-    check_steps(&rt, rt.alloc(), &SHAPES)
+    check_steps(&rt, rt.alloc(), SHAPES)
 }
 
 #[test]
 fn judged_setting_calls(rt: HostRuntime) -> Result<(), Fail> {
-    check_steps(&rt, rt.alloc(), &JUDGED)
+    check_steps(&rt, rt.alloc(), JUDGED)
 }
 
 #[test]
 fn setting_calls_of_edits(rt: HostRuntime) -> Result<(), Fail> {
     let alloc = rt.alloc();
     let session = session_of(alloc, "")?;
-    for (step, want) in EDITS {
+    for line in EDITS.trim().lines() {
+        let (step, want) = row(line)?;
         let text = format!(in alloc;
             "{{\"session\":{session},\"edits\":[{{\"edit\":\"insert\",\"at\":0,\"step\":{step}}}]}}"
         )?;
-        let got = told(alloc, read_bench(alloc, text.as_bytes()))?;
-        assert_eq!(rt; got.as_str(), want, "{step}");
+        Document::Bench.check(&rt, alloc, text.as_str(), want)?;
     }
     Ok(())
 }

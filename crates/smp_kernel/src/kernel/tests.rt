@@ -15,6 +15,7 @@ use bench_types::{
 };
 use std::alloc::{Alloc, AllocError, Global};
 use std::process::Abort;
+use std::rt::Runtime;
 use std::test::Fail;
 
 /// Two steps in a row: the kernel stands for the table of the second step after the first.
@@ -59,7 +60,7 @@ fn config_of(cores: u32, slicing: bool, tick: u32) -> Config
     }
 }
 
-fn started(rt: &impl Abort, alloc: Global, header: &Header) -> Kernel
+fn kernel_of(rt: &impl Abort, alloc: Global, header: &Header) -> Kernel
     ensures { result.settings ≡ settings_of header.now }
 {
     match Kernel::start(alloc, header) {
@@ -83,38 +84,74 @@ fn step(
 }
 
 fn call(task: u32, call: Call) -> Step {
-    Step::Call {
-        core: 0,
-        task,
-        call,
+    let core = 0;
+    Step::Call { core, task, call }
+}
+
+const SWITCH_0: Step = Step::Switch { core: 0 };
+
+const SWITCH_1: Step = Step::Switch { core: 1 };
+
+const NOT_DUE: Reply = Reply::Refused(Refusal::NotDue);
+
+// A kernel of 2 cores that was started from a header, with the meter of its steps.
+#[derive(Drop)]
+struct Started<'a, R> {
+    rt: &'a R,
+    header: &'a Header,
+    kernel: Kernel,
+    meter: Meter,
+    ghost fits: { kernel.settings ≡ settings_of header.now },
+    ghost cores: { kernel.settings.cores ≡ 2 },
+}
+
+impl<'a, R: Runtime + AllocGlobal + Abort> Started<'a, R> {
+    fn new(rt: &'a R, header: &'a Header) -> Result<Self, Fail> {
+        assert_eq!(rt; header.config.cores, 2);
+        Ok(Started {
+            rt,
+            header,
+            kernel: Kernel::start(rt.alloc(), header)?,
+            meter: Meter::new(rt),
+        })
+    }
+
+    fn step(&mut self, step: &Step) -> Reply {
+        assert_eq!(self.rt; step.check(self.header), Ok(()));
+        self.kernel.step(&mut self.meter, step)
+    }
+
+    fn running(&self) -> (u32, u32) {
+        (self.kernel.running(0), self.kernel.running(1))
+    }
+
+    fn flags(&self) -> [(bool, bool); 2] {
+        let (first, second) = (self.kernel.core_look(0), self.kernel.core_look(1));
+        [(first.pend, first.asked), (second.pend, second.asked)]
+    }
+
+    fn look(&self, task: u32) -> TaskLook {
+        let cores = self.header.config.cores;
+        let users = self.header.tasks.as_slice().len();
+        assert!(self.rt; task < cores || ((task - cores) as usize) < users);
+        self.kernel.look(task)
     }
 }
 
-// The replies to a session and the current tasks of cores 0 and 1, at its start and behind each step.
+// The replies to a session and the current tasks of both cores, at its start and behind each step.
 fn play(
-    rt: &impl Abort,
-    alloc: Global,
-    meter: &mut Meter,
+    rt: &(impl Runtime + AllocGlobal + Abort),
     header: &Header,
     start: (u32, u32),
     places: &[(Step, Reply, (u32, u32))],
-)
-    requires { header.now.config.cores ≡ 2 }
-{
-    let mut kernel = started(rt, alloc, header);
-    assert_eq!(rt; (kernel.running(0), kernel.running(1)), start);
+) -> Result<(), Fail> {
+    let mut started = Started::new(rt, header)?;
+    assert_eq!(rt; started.running(), start);
     for (place, (next, reply, running)) in places.iter().enumerate() {
-        assert_eq!(rt;
-            step(rt, &mut kernel, meter, header, next),
-            *reply,
-            "step {place}"
-        );
-        assert_eq!(rt;
-            (kernel.running(0), kernel.running(1)),
-            *running,
-            "after step {place}"
-        );
+        assert_eq!(rt; started.step(next), *reply, "step {place}");
+        assert_eq!(rt; started.running(), *running, "after step {place}");
     }
+    Ok(())
 }
 
 // 2 cores, and tasks A (2), B (3) and C (4), of which A has the higher priority.
@@ -133,20 +170,12 @@ fn a_delay_and_a_yield(rt: HostRuntime) -> Result<(), Fail> {
     let header = three_tasks(rt.alloc(), false)?;
     let places = [
         (call(2, Call::Delay(2)), Reply::Blocked, (2, 3)),
-        (Step::Switch { core: 0 }, Reply::Done, (4, 3)),
+        (SWITCH_0, Reply::Done, (4, 3)),
         (Step::Tick, Reply::Done, (4, 3)),
         (call(4, Call::Yield), Reply::Done, (4, 3)),
-        (Step::Switch { core: 0 }, Reply::Done, (4, 3)),
+        (SWITCH_0, Reply::Done, (4, 3)),
     ];
-    play(
-        &rt,
-        rt.alloc(),
-        &mut Meter::new(&rt),
-        &header,
-        (2, 3),
-        &places,
-    );
-    Ok(())
+    play(&rt, &header, (2, 3), &places)
 }
 
 #[test]
@@ -155,7 +184,7 @@ fn unfinished_calls(rt: HostRuntime) -> Result<(), Fail> {
     let places = [
         (call(2, Call::Delay(1)), Reply::Blocked, (2, 3)),
         (Step::Tick, Reply::Done, (2, 3)),
-        (Step::Switch { core: 0 }, Reply::Done, (2, 3)),
+        (SWITCH_0, Reply::Done, (2, 3)),
         (
             call(2, Call::Yield),
             Reply::Refused(Refusal::InCall),
@@ -168,28 +197,9 @@ fn unfinished_calls(rt: HostRuntime) -> Result<(), Fail> {
             (2, 3),
         ),
     ];
-    play(
-        &rt,
-        rt.alloc(),
-        &mut Meter::new(&rt),
-        &header,
-        (2, 3),
-        &places,
-    );
-    let not_due = [(
-        Step::Switch { core: 0 },
-        Reply::Refused(Refusal::NotDue),
-        (2, 3),
-    )];
-    play(
-        &rt,
-        rt.alloc(),
-        &mut Meter::new(&rt),
-        &header,
-        (2, 3),
-        &not_due,
-    );
-    Ok(())
+    play(&rt, &header, (2, 3), &places)?;
+    let not_due = [(SWITCH_0, NOT_DUE, (2, 3))];
+    play(&rt, &header, (2, 3), &not_due)
 }
 
 #[test]
@@ -197,21 +207,9 @@ fn one_task_alone(rt: HostRuntime) -> Result<(), Fail> {
     let header = header_of(rt.alloc(), config_of(2, false, 0), &[("A", 2, 3)])?;
     let places = [
         (Step::Tick, Reply::Done, (2, 0)),
-        (
-            Step::Switch { core: 1 },
-            Reply::Refused(Refusal::NotDue),
-            (2, 0),
-        ),
+        (SWITCH_1, NOT_DUE, (2, 0)),
     ];
-    play(
-        &rt,
-        rt.alloc(),
-        &mut Meter::new(&rt),
-        &header,
-        (2, 0),
-        &places,
-    );
-    Ok(())
+    play(&rt, &header, (2, 0), &places)
 }
 
 #[test]
@@ -219,17 +217,9 @@ fn one_task_beside_two_idle_tasks(rt: HostRuntime) -> Result<(), Fail> {
     let header = header_of(rt.alloc(), config_of(2, true, 0), &[("A", 2, 3)])?;
     let places = [
         (Step::Tick, Reply::Done, (2, 0)),
-        (Step::Switch { core: 1 }, Reply::Done, (2, 1)),
+        (SWITCH_1, Reply::Done, (2, 1)),
     ];
-    play(
-        &rt,
-        rt.alloc(),
-        &mut Meter::new(&rt),
-        &header,
-        (2, 0),
-        &places,
-    );
-    Ok(())
+    play(&rt, &header, (2, 0), &places)
 }
 
 #[test]
@@ -237,94 +227,56 @@ fn two_tasks_take_turns(rt: HostRuntime) -> Result<(), Fail> {
     let header = three_tasks(rt.alloc(), true)?;
     let turns = [
         (Step::Tick, Reply::Done, (2, 3)),
-        (Step::Switch { core: 1 }, Reply::Done, (2, 4)),
+        (SWITCH_1, Reply::Done, (2, 4)),
     ];
-    play(
-        &rt,
-        rt.alloc(),
-        &mut Meter::new(&rt),
-        &header,
-        (2, 3),
-        &turns,
-    );
-    let not_due = [(
-        Step::Switch { core: 0 },
-        Reply::Refused(Refusal::NotDue),
-        (2, 3),
-    )];
-    play(
-        &rt,
-        rt.alloc(),
-        &mut Meter::new(&rt),
-        &header,
-        (2, 3),
-        &not_due,
-    );
-    Ok(())
+    play(&rt, &header, (2, 3), &turns)?;
+    let not_due = [(SWITCH_0, NOT_DUE, (2, 3))];
+    play(&rt, &header, (2, 3), &not_due)
 }
 
 #[test]
 fn a_woken_task_takes_a_core(rt: HostRuntime) -> Result<(), Fail> {
     let header = three_tasks(rt.alloc(), true)?;
-    let [first, second] = [Step::Switch { core: 0 }, Step::Switch { core: 1 }];
     let sleeps = [
         (call(2, Call::Delay(2)), Reply::Blocked, (2, 3)),
-        (first, Reply::Done, (4, 3)),
+        (SWITCH_0, Reply::Done, (4, 3)),
         (Step::Tick, Reply::Done, (4, 3)),
-        (first, Reply::Done, (4, 3)),
-        (second, Reply::Done, (4, 3)),
+        (SWITCH_0, Reply::Done, (4, 3)),
+        (SWITCH_1, Reply::Done, (4, 3)),
         (Step::Tick, Reply::Done, (4, 3)),
     ];
     for ends in [
-        [(first, Reply::Done, (2, 3)), (second, Reply::Done, (2, 4))],
-        [(second, Reply::Done, (4, 2)), (first, Reply::Done, (3, 2))],
+        [
+            (SWITCH_0, Reply::Done, (2, 3)),
+            (SWITCH_1, Reply::Done, (2, 4)),
+        ],
+        [
+            (SWITCH_1, Reply::Done, (4, 2)),
+            (SWITCH_0, Reply::Done, (3, 2)),
+        ],
     ] {
         let mut places = Vec::from_slice(rt.alloc(), &sleeps)?;
         places.extend_from_slice(&ends)?;
-        play(
-            &rt,
-            rt.alloc(),
-            &mut Meter::new(&rt),
-            &header,
-            (2, 3),
-            &places,
-        );
+        play(&rt, &header, (2, 3), &places)?;
     }
     Ok(())
-}
-
-fn flags(kernel: &Kernel) -> [(bool, bool); 2]
-    requires { kernel.now.settings.cores ≡ 2 }
-{
-    let (first, second) = (kernel.core_look(0), kernel.core_look(1));
-    [(first.pend, first.asked), (second.pend, second.asked)]
-}
-
-fn look(rt: &impl Abort, kernel: &Kernel, header: &Header, task: u32) -> TaskLook
-    requires { kernel.now.settings ≡ settings_of header.now }
-{
-    let cores = header.config.cores;
-    let users = header.tasks.as_slice().len();
-    assert!(rt; task < cores || ((task - cores) as usize) < users);
-    kernel.look(task)
 }
 
 #[test]
 fn looks_of_cores(rt: HostRuntime) -> Result<(), Fail> {
     let header = three_tasks(rt.alloc(), true)?;
-    let mut meter = Meter::new(&rt);
-    let mut kernel = started(&rt, rt.alloc(), &header);
-    assert_eq!(rt; flags(&kernel), [(false, false), (false, false)]);
-    step(&rt, &mut kernel, &mut meter, &header, &call(2, Call::Yield));
-    assert_eq!(rt; flags(&kernel), [(true, false), (false, false)]);
-    step(&rt, &mut kernel, &mut meter, &header, &Step::Tick);
-    assert_eq!(rt; flags(&kernel), [(true, false), (false, true)]);
+    let mut started = Started::new(&rt, &header)?;
+    assert_eq!(rt; started.flags(), [(false, false), (false, false)]);
+    started.step(&call(2, Call::Yield));
+    assert_eq!(rt; started.flags(), [(true, false), (false, false)]);
+    started.step(&Step::Tick);
+    assert_eq!(rt; started.flags(), [(true, false), (false, true)]);
     let look = CoreLook {
         current: 3,
         pend: false,
         asked: true,
     };
-    assert_eq!(rt; kernel.core_look(1), look);
+    assert_eq!(rt; started.kernel.core_look(1), look);
     Ok(())
 }
 
@@ -415,7 +367,7 @@ fn with_running(digest: u32, kernel: &Kernel) -> u32
 fn two_thousand_steps(rt: HostRuntime) -> Result<(), Fail> {
     let header = large_header(rt.alloc())?;
     let mut meter = Meter::new(&rt);
-    let mut kernel = started(&rt, rt.alloc(), &header);
+    let mut kernel = kernel_of(&rt, rt.alloc(), &header);
     let mut random: u32 = 1;
     let mut digest: u32 = 0;
     for _ in 0..2000 {
@@ -479,7 +431,7 @@ fn some_steps(
     requires { header.now.config.cores ≡ 8 }
 {
     let mut steps = Vec::with_capacity(alloc, 2000)?;
-    let mut kernel = started(rt, alloc, header);
+    let mut kernel = kernel_of(rt, alloc, header);
     let mut random: u32 = 1;
     for _ in 0..2000 {
         random = random.wrapping_mul(1_664_525).wrapping_add(1_013_904_223);
@@ -525,7 +477,7 @@ fn check_replay(
     assert!(rt; are_checked(header, steps));
     let outcomes = replay_slow(rt, alloc, header, steps)?;
     assert_eq!(rt; outcomes.len(), steps.len());
-    let mut kernel = started(rt, alloc, header);
+    let mut kernel = kernel_of(rt, alloc, header);
     for (next, (reply, row)) in steps.iter().zip(&outcomes) {
         assert_eq!(rt; step(rt, &mut kernel, meter, header, next), *reply);
         check_running(rt, &kernel, row);
@@ -545,7 +497,7 @@ fn as_the_definitions_replay_it(rt: HostRuntime) -> Result<(), Fail> {
 fn two_steps(rt: HostRuntime) -> Result<(), Fail> {
     let header = three_tasks(rt.alloc(), false)?;
     let mut meter = Meter::new(&rt);
-    let mut kernel = started(&rt, rt.alloc(), &header);
+    let mut kernel = kernel_of(&rt, rt.alloc(), &header);
     let tick = Step::Tick;
     assert_eq!(rt;
         make_both(&mut kernel, &mut meter, &tick, &tick),

@@ -1,9 +1,5 @@
 //! The calls that set a task's priority, core affinity mask and preemption.
-use super::{
-    SWITCH_0, SWITCH_1, Started, call, check_replay, config_of, header_of, large_header, play,
-    some_steps, three_tasks,
-};
-use crate::Meter;
+use super::{CONFIG, SWITCH_0, SWITCH_1, Started, call, header_of, play, three_tasks};
 use bench_types::{Call, Header, Reply, Step, TaskLook};
 use std::process::Abort;
 use std::rt::Runtime;
@@ -60,11 +56,7 @@ fn preemption_off_and_on(rt: HostRuntime) -> Result<(), Fail> {
 // V may go to core 1 once its mask has it, and takes it from W when U is back.
 #[test]
 fn a_mask_moves_a_task(rt: HostRuntime) -> Result<(), Fail> {
-    let header = header_of(
-        rt.alloc(),
-        config_of(2, false, 0),
-        &[("U", 3, 1), ("V", 2, 1), ("W", 1, 3)],
-    )?;
+    let header = header_of(rt.alloc(), CONFIG, &[("U", 3, 1), ("V", 2, 1), ("W", 1, 3)])?;
     let mask = Call::AffinitySet { task: 3, mask: 3 };
     let places = [
         (call(2, Call::Delay(1)), Reply::Blocked, (2, 4)),
@@ -154,7 +146,7 @@ fn priorities_that_change(rt: HostRuntime) -> Result<(), Fail> {
 fn priorities_that_change_nothing(rt: HostRuntime) -> Result<(), Fail> {
     let header = header_of(
         rt.alloc(),
-        config_of(2, false, 0),
+        CONFIG,
         &[("A", 4, 3), ("B", 4, 3), ("C", 4, 3), ("D", 4, 3)],
     )?;
     for priority in [4, 5, 4_294_967_295] {
@@ -193,12 +185,4 @@ fn numbers_that_are_cut(rt: HostRuntime) -> Result<(), Fail> {
     };
     assert_eq!(rt; started.look(3), cut);
     Ok(())
-}
-
-#[test]
-fn as_the_definitions_replay_sets(rt: HostRuntime) -> Result<(), Fail> {
-    let header = large_header(rt.alloc())?;
-    let mut meter = Meter::new(&rt);
-    let steps = some_steps(&rt, rt.alloc(), &mut meter, &header, true)?;
-    check_replay(&rt, rt.alloc(), &mut meter, &header, &steps)
 }

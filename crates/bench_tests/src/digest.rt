@@ -25,7 +25,7 @@ fn with(digest: u32, numbers: &[u32]) -> u32 {
     digest
 }
 
-// The digest and the last tick count were computed by a program that was written apart from this one, over a flat table.
+// A program that was written apart from this one, over a flat table, computed the digest and the last tick count.
 #[test]
 fn two_thousand_steps(rt: HostRuntime) -> Result<(), Fail> {
     let played = random_session(&rt, 2000, false)?;

@@ -21,7 +21,7 @@ pub struct Played {
     pub count: u64,
 }
 
-/// A session of so many steps of which most are not refused, and with calls that set something of a task where it is so.
+/// A session of so many steps of which most are not refused; with `sets`, some of them set something of a task.
 pub fn random_session(
     rt: &(impl Runtime + AllocGlobal + Abort),
     count: usize,
@@ -109,8 +109,8 @@ fn some_step(kernel: &Kernel, choice: u32) -> Step
     Step::Call { core, task, call }
 }
 
-// The step, or a call in its place that sets something of some task, chosen by a number of 16 bits: where the step is the
-// return of a call that the core's task didn't make.
+// The step, or where it is the return of a call that the core's task didn't make, a call in its place that sets something
+// of some task, chosen by a number of 16 bits.
 fn with_set(kernel: &Kernel, step: Step, choice: u32) -> Step
     requires cores { kernel.now.settings.cores ≡ 8 }
     requires choice { choice < 2 ^ 16 }

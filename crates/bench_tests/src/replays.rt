@@ -66,6 +66,7 @@ fn an_edited_store_is_as_the_definitions_replay_it(rt: HostRuntime) -> Result<()
     let alloc = rt.alloc();
     let played = random_session(&rt, 200, true)?;
     let mut steps = Vec::from_slice(alloc, &played.steps)?;
+    assert_eq!(rt; steps.len(), 200);
     let mut meter = Meter::new(&rt);
     let mut store = Store::open(alloc, played.header, played.steps, 64, &mut meter)?;
     check_store(&rt, &store, &steps)?;

@@ -31,11 +31,12 @@ fn header_of(alloc: Global, config: Config, args: &[(u32, u32)]) -> Result<Heade
 }
 
 fn group_header(alloc: Global, group: &Group) -> Result<Header, Fail> {
+    let (cores, priorities, tick) = group.config;
     let config = Config {
-        cores: group.cores,
-        priorities: group.priorities,
+        cores,
+        priorities,
         slicing: false,
-        tick: group.tick,
+        tick,
         mutexes: 0,
     };
     header_of(alloc, config, group.tasks)

@@ -1,6 +1,7 @@
 ghost use Rattle.std.specs.Prelude.{◌≡◌, ◌<◌, ◌≤◌, length, [], true, IfOk, Ok, None, replicate};
 ghost use Rattle.bench_types.specs.Header.{header_check};
 ghost use Rattle.bench_types.specs.Step.{call_check, step_check, IsOfWords, IsStepOfWords};
+ghost use Rattle.bench_types.specs.declared.step.Call.TheVariants.{Delay};
 ghost use Rattle.bench_model.specs.Search.{has};
 ghost use Rattle.bench_model.specs.Control.{core_at, current, is_due};
 ghost use Rattle.bench_model.specs.Start.{first_lists, unstarted, start_seen};
@@ -243,11 +244,8 @@ impl Scheduler {
         ensures { (result, self.new) ≡ called list_moves core task call self.old }
     {
         match call {
-            Call::Delay(ticks) if ticks != 0 => {
-                self.block(core, task, call, ticks);
-                return Reply::Blocked;
-            }
-            Call::Yield | Call::Delay(_) => self.ask_itself(core),
+            Call::Delay(ticks) => return self.delay(core, task, ticks),
+            Call::Yield => self.ask_itself(core),
             Call::Finish => self.calls[task as usize] = None,
             Call::PrioritySet { task, priority } => self.set_priority(core, task, priority),
             Call::AffinitySet { task, mask } => self.set_affinity(core, task, mask),
@@ -255,6 +253,22 @@ impl Scheduler {
             Call::PreemptOn(task) => self.preempt_on(core, task),
         }
         Reply::Done
+    }
+
+    // A delay of no ticks is a yield; any other blocks.
+    #[tactic(auto, unfolding(bench_model::specs::Steps::called))]
+    fn delay(&mut self, core: u32, task: u32, ticks: u32) -> Reply
+        requires core { core < self.old.settings.cores }
+        requires task { task < self.old.settings.tasks }
+        requires ready { has task self.old.orders.ready ≡ true }
+        ensures { (result, self.new) ≡ called list_moves core task (Delay ticks) self.old }
+    {
+        if ticks == 0 {
+            self.ask_itself(core);
+            return Reply::Done;
+        }
+        self.block(core, task, Call::Delay(ticks), ticks);
+        Reply::Blocked
     }
 
     // The core asks itself to switch.

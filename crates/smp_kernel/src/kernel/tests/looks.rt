@@ -1,13 +1,11 @@
-use super::{call, look, started, step, three_tasks};
-use crate::Meter;
+use super::{SWITCH_0, Started, call, three_tasks};
 use bench_types::{Call, Step, TaskLook};
 use std::test::Fail;
 
 #[test]
 fn looks_of_tasks(rt: HostRuntime) -> Result<(), Fail> {
     let header = three_tasks(rt.alloc(), false)?;
-    let mut meter = Meter::new(&rt);
-    let mut kernel = started(&rt, rt.alloc(), &header);
+    let mut started = Started::new(&rt, &header)?;
     let running = TaskLook {
         in_use: 2,
         base: 2,
@@ -22,22 +20,19 @@ fn looks_of_tasks(rt: HostRuntime) -> Result<(), Fail> {
         base: 0,
         ..running
     };
-    assert_eq!(rt;
-        (look(&rt, &kernel, &header, 2), kernel.look(1)),
-        (running, idle)
-    );
+    assert_eq!(rt; (started.look(2), started.look(1)), (running, idle));
     let delay = call(2, Call::Delay(3));
-    step(&rt, &mut kernel, &mut meter, &header, &delay);
+    started.step(&delay);
     let waiting = TaskLook {
         ready: false,
         left: Some(3),
         in_call: true,
         ..running
     };
-    assert_eq!(rt; look(&rt, &kernel, &header, 2), waiting);
+    assert_eq!(rt; started.look(2), waiting);
     for left in [Some(2), Some(1), None] {
-        step(&rt, &mut kernel, &mut meter, &header, &Step::Tick);
-        let seen = look(&rt, &kernel, &header, 2);
+        started.step(&Step::Tick);
+        let seen = started.look(2);
         assert_eq!(rt;
             (seen.ready, seen.left, seen.in_call),
             (left.is_none(), left, true)
@@ -49,20 +44,15 @@ fn looks_of_tasks(rt: HostRuntime) -> Result<(), Fail> {
 #[test]
 fn the_end_of_a_call_is_seen(rt: HostRuntime) -> Result<(), Fail> {
     let header = three_tasks(rt.alloc(), false)?;
-    let mut meter = Meter::new(&rt);
-    let mut kernel = started(&rt, rt.alloc(), &header);
+    let mut started = Started::new(&rt, &header)?;
     for (next, in_call) in [
         (call(2, Call::Delay(1)), true),
         (Step::Tick, true),
-        (Step::Switch { core: 0 }, true),
+        (SWITCH_0, true),
         (call(2, Call::Finish), false),
     ] {
-        step(&rt, &mut kernel, &mut meter, &header, &next);
-        assert_eq!(rt;
-            look(&rt, &kernel, &header, 2).in_call,
-            in_call,
-            "after {next:?}"
-        );
+        started.step(&next);
+        assert_eq!(rt; started.look(2).in_call, in_call, "after {next:?}");
     }
     Ok(())
 }
@@ -70,12 +60,11 @@ fn the_end_of_a_call_is_seen(rt: HostRuntime) -> Result<(), Fail> {
 #[test]
 fn the_longest_delay(rt: HostRuntime) -> Result<(), Fail> {
     let header = three_tasks(rt.alloc(), false)?;
-    let mut meter = Meter::new(&rt);
-    let mut kernel = started(&rt, rt.alloc(), &header);
+    let mut started = Started::new(&rt, &header)?;
     let delay = call(2, Call::Delay(4_294_967_295));
-    step(&rt, &mut kernel, &mut meter, &header, &delay);
-    assert_eq!(rt; look(&rt, &kernel, &header, 2).left, Some(4_294_967_295));
-    step(&rt, &mut kernel, &mut meter, &header, &Step::Tick);
-    assert_eq!(rt; look(&rt, &kernel, &header, 2).left, Some(4_294_967_294));
+    started.step(&delay);
+    assert_eq!(rt; started.look(2).left, Some(4_294_967_295));
+    started.step(&Step::Tick);
+    assert_eq!(rt; started.look(2).left, Some(4_294_967_294));
     Ok(())
 }

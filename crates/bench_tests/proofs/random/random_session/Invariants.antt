@@ -1,6 +1,6 @@
 use Rattle.std.proofs.Common.{◌≡◌}
 use Rattle.bench_types.specs.Step.{settings_of}
-use Rattle.smp_kernel.proofs.kernel.tests.two_thousand_steps.Given as goal
+use Rattle.bench_tests.proofs.random.random_session.Given as goal
 
 abbrev pub invariant-loop : goal.invariant-loop
 invariant-loop g l = record {

@@ -1,0 +1,157 @@
+//! Random sessions: 8 cores, 64 tasks, and steps that are chosen by what the kernel shows.
+ghost use Rattle.std.specs.Prelude.{◌≡◌, ◌<◌, ◌^◌, IfOk};
+
+use bench_types::{Call, Config, Header, Items, Name, Reply, Row, Step, TaskArgs};
+use smp_kernel::{Kernel, Meter};
+use std::alloc::Global;
+use std::process::Abort;
+use std::rt::Runtime;
+use std::test::Fail;
+
+/// A session, and what a kernel made of it.
+#[derive(Drop)]
+pub struct Played {
+    pub header: Header,
+    pub steps: Vec<Step>,
+    /// Each step's reply, and the current tasks behind it.
+    pub outcomes: Vec<(Reply, Row)>,
+    /// The tick count at the end.
+    pub tick: u32,
+    /// How many steps the meter counted.
+    pub count: u64,
+}
+
+/// A session of so many steps of which most are not refused; with `sets`, some of them set something of a task.
+pub fn random_session(
+    rt: &(impl Runtime + AllocGlobal + Abort),
+    count: usize,
+    sets: bool,
+) -> Result<Played, Fail> {
+    let header = large_header(rt.alloc())?;
+    let mut kernel = Kernel::start(rt.alloc(), &header)?;
+    let mut meter = Meter::new(rt);
+    let mut seed = 1;
+    let mut steps = Vec::with_capacity(rt.alloc(), count)?;
+    let mut outcomes = Vec::with_capacity(rt.alloc(), count)?;
+    for _ in 0..count {
+        let mut step = some_step(&kernel, number(&mut seed));
+        if sets {
+            step = with_set(&kernel, step, number(&mut seed));
+        }
+        assert_eq!(rt; step.check(&header), Ok(()));
+        let reply = kernel.step(&mut meter, &step);
+        steps.push(step)?;
+        outcomes.push((reply, running(&kernel)))?;
+    }
+    Ok(Played {
+        header,
+        steps,
+        outcomes,
+        tick: kernel.tick(),
+        count: meter.count(),
+    })
+}
+
+// A header of 8 cores and 64 tasks with time slicing, with the last 96 ticks before the tick count wraps.
+fn large_header(alloc: Global) -> Result<Header, Fail>
+    ensures { IfOk result (λ header. header.config.cores ≡ 8) }
+{
+    let mut tasks = Vec::with_capacity(alloc, 64)?;
+    for task in 0..64 {
+        let text = format!(in alloc; "t{task}")?;
+        tasks.push(TaskArgs {
+            name: Name::new(text.as_str())?,
+            priority: task % 5,
+            mask: 1 << (task % 8) | task * 5 % 256,
+        })?;
+    }
+    let config = Config {
+        cores: 8,
+        priorities: 5,
+        slicing: true,
+        tick: 4_294_967_200,
+        mutexes: 0,
+    };
+    let tasks = Items::new(tasks);
+    Ok(Header { config, tasks })
+}
+
+// A number of 16 bits, from a seed that moves on.
+fn number(seed: &mut u32) -> u32
+    ensures { result < 2 ^ 16 }
+{
+    *seed = seed.wrapping_mul(1_664_525).wrapping_add(1_013_904_223);
+    *seed >> 16
+}
+
+// Some step, chosen by a number of 16 bits: mostly a switch of a core that is due, or a call of its current task.
+fn some_step(kernel: &Kernel, choice: u32) -> Step
+    requires cores { kernel.now.settings.cores ≡ 8 }
+    requires choice { choice < 2 ^ 16 }
+{
+    let core = choice % 8;
+    let chooser = choice / 128 % 8;
+    let running = kernel.running(core);
+    let task = if chooser == 7 || running < 8 {
+        8 + choice % 64
+    } else {
+        running
+    };
+    let look = kernel.core_look(core);
+    let call = match choice / 8 % 16 {
+        0 => return Step::Tick,
+        15 => return Step::Switch { core },
+        _ if look.pend || look.asked => return Step::Switch { core },
+        1..=2 => Call::Yield,
+        3..=7 => Call::Delay(chooser),
+        _ => Call::Finish,
+    };
+    Step::Call { core, task, call }
+}
+
+// The step, or where it is the return of a call that the core's task didn't make, a call in its place that sets something
+// of some task, chosen by a number of 16 bits.
+fn with_set(kernel: &Kernel, step: Step, choice: u32) -> Step
+    requires cores { kernel.now.settings.cores ≡ 8 }
+    requires choice { choice < 2 ^ 16 }
+{
+    let Step::Call {
+        core,
+        task: caller,
+        call: Call::Finish,
+    } = step
+    else {
+        return step;
+    };
+    if core >= 8 || kernel.look(kernel.running(core)).in_call {
+        return step;
+    }
+    let task = 8 + choice / 4 % 64;
+    let call = match choice % 4 {
+        0 => Call::PrioritySet {
+            task,
+            priority: choice / 256 % 6,
+        },
+        1 => Call::AffinitySet {
+            task,
+            mask: choice / 256 | 1 << (choice / 1024 % 8) | 256,
+        },
+        2 => Call::PreemptOff(task),
+        _ => Call::PreemptOn(task),
+    };
+    Step::Call {
+        core,
+        task: caller,
+        call,
+    }
+}
+
+fn running(kernel: &Kernel) -> Row
+    requires { kernel.now.settings.cores ≡ 8 }
+{
+    let mut tasks = [0; 8];
+    for core in 0..8 {
+        tasks[core as usize] = kernel.running(core);
+    }
+    Row::from(tasks)
+}

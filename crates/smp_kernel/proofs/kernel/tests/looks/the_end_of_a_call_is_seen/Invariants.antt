@@ -1,6 +1,0 @@
-use Rattle.std.proofs.Common.{◌≡◌}
-use Rattle.bench_types.specs.Step.{settings_of}
-use Rattle.smp_kernel.proofs.kernel.tests.looks.the_end_of_a_call_is_seen.Given as goal
-
-abbrev pub invariant-loop-next : goal.invariant-loop-next
-invariant-loop-next g l = l.kernel.settings ≡ settings_of l.header

@@ -26,7 +26,8 @@ list_any-map p f (x ∷ xs) = ap (λ b. p (f x) || b) (list_any-map p f xs)
 
 left_at : (tick task : ℕ) (standing : Standing) → option_map (λ (entry : Delayed). entry.left) (cond (waits standing) (Some (record { task = task; left = unwrap_or (wake_in standing) 0 - tick })) None) ≡ option_map (λ wake. wake - tick) (wake_in standing)
 left_at tick task Ready = refl
-left_at tick task (Blocked wake) = refl
+left_at tick task (Blocked None) = refl
+left_at tick task (Blocked (Some wake)) = refl
 
 -- the ticks left
 left_seen : (control : Control) (stamps : Stamps) (task : ℕ) → IsGiven stamps → task < length stamps.rows → left_in task (lists_of control stamps).delayed ≡ ticks_left task stamps

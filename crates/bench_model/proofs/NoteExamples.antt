@@ -11,25 +11,46 @@ of_notes = 0
 pub notes : WorkedNotes
 unfolding of_notes
 notes = record {
-  nothing = refl; bits = refl; one_more = refl; wraps = refl; over = refl; new = refl;
-  not_over = refl; not_passed = refl; passed = refl; passed_over = refl;
+  nothing = refl;
+  bits = refl;
+  one_more = refl;
+  wraps = refl;
+  over = refl;
+  new = refl;
+  not_over = refl;
+  not_passed = refl;
+  passed = refl;
+  passed_over = refl;
 }
 
 pub waits : WorkedWaits
 unfolding of_notes
 waits = record {
-  entry_cleared = refl; waits_again = refl; come_before = refl;
-  exit_cleared = refl; all_cleared = refl; none_come = refl;
+  entry_cleared = refl;
+  waits_again = refl;
+  come_before = refl;
+  exit_cleared = refl;
+  all_cleared = refl;
+  none_come = refl;
 }
 
 pub takes : WorkedTakes
 unfolding of_notes
 takes = record {
-  empty = refl; empty_but_received = refl; full = refl; counts_down = refl; cleared = refl; still_empty = refl;
+  empty = refl;
+  empty_but_received = refl;
+  full = refl;
+  counts_down = refl;
+  cleared = refl;
+  still_empty = refl;
 }
 
 pub clears : WorkedClears
 unfolding of_notes
 clears = record {
-  forgotten = refl; waits_on = refl; nothing_there = refl; bits_cleared = refl; no_bits = refl;
+  forgotten = refl;
+  waits_on = refl;
+  nothing_there = refl;
+  bits_cleared = refl;
+  no_bits = refl;
 }

@@ -102,7 +102,7 @@ pub yielded_seen : (core : ℕ) (table : Table) → image (yielded table_moves c
 unfolding yielded
 yielded_seen core table = same_state table.settings _ _ table.calls _ _ refl (lists_of_cores table.control _ table.orders)
 
-pub blocked_seen : (core task : ℕ) (call : Call) (ticks : ℕ) (table : Table) → IsGiven table.orders → task < length table.orders.rows → is_ready task table.orders ≡ true → image (blocked table_moves core task call ticks table) ≡ blocked list_moves core task call ticks (image table)
+pub blocked_seen : (core task : ℕ) (call : Call) (ticks : Option ℕ) (table : Table) → IsGiven table.orders → task < length table.orders.rows → is_ready task table.orders ≡ true → image (blocked table_moves core task call ticks table) ≡ blocked list_moves core task call ticks (image table)
 unfolding blocked
 blocked_seen core task call ticks table given below ready =
     same_state table.settings _ _ (slice_set table.calls task (Some call)) _ _ refl (lists_of_cores table.control _ (delay task ticks table.orders) ∙ delay_seen table.control table.orders task ticks given below ready)

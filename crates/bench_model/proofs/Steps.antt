@@ -54,9 +54,9 @@ unfolding called
 called_seen core task Yield table sound checked below ready = same_outcome Done _ _ (yielded_seen core table)
 called_seen core task (Delay ticks) table sound checked below ready = either (eqb ticks 0)
   where
-    either : (b : Bool) → seen_of (cond b (Done, yielded table_moves core table) (Blocked, blocked table_moves core task (Delay ticks) ticks table)) ≡ cond b (Done, yielded list_moves core (image table)) (Blocked, blocked list_moves core task (Delay ticks) ticks (image table))
+    either : (b : Bool) → seen_of (cond b (Done, yielded table_moves core table) (Blocked, blocked table_moves core task (Delay ticks) (Some ticks) table)) ≡ cond b (Done, yielded list_moves core (image table)) (Blocked, blocked list_moves core task (Delay ticks) (Some ticks) (image table))
     either true = same_outcome Done _ _ (yielded_seen core table)
-    either false = same_outcome Blocked _ _ (blocked_seen core task (Delay ticks) ticks table sound.stamped.given below ready)
+    either false = same_outcome Blocked _ _ (blocked_seen core task (Delay ticks) (Some ticks) table sound.stamped.given below ready)
 called_seen core task Finish table sound checked below ready = refl
 called_seen core task (PrioritySet other priority) table sound checked below ready = same_outcome Done _ _ (priority_seen table core other priority sound (set_task table.settings other checked.passes))
 called_seen core task (AffinitySet other mask) table sound checked below ready = same_outcome Done _ _ (affinity_seen table core other mask sound (masked_task table.settings other mask checked.passes))
@@ -108,9 +108,9 @@ unfolding called
 called_sound core task Yield table sound place checked user = yielded_sound core table sound place.0
 called_sound core task (Delay ticks) table sound place checked user = either (eqb ticks 0) refl
   where
-    either : (b : Bool) → eqb ticks 0 ≡ b → IsSound (cond {A = Reply × Table} b (Done, yielded table_moves core table) (Blocked, blocked table_moves core task (Delay ticks) ticks table)).1
+    either : (b : Bool) → eqb ticks 0 ≡ b → IsSound (cond {A = Reply × Table} b (Done, yielded table_moves core table) (Blocked, blocked table_moves core task (Delay ticks) (Some ticks) table)).1
     either true none = yielded_sound core table sound place.0
-    either false some = blocked_sound core task (Delay ticks) ticks table sound place checked user (grind (arith, nat_tests, some)) checked.words
+    either false some = blocked_sound core task (Delay ticks) (Some ticks) table sound place checked user (grind (arith, nat_tests, some), checked.words)
 called_sound core task Finish table sound place checked user = finished_sound table sound core task Finish place checked user
 called_sound core task (PrioritySet other priority) table sound place checked user = priority_sound table core other priority sound (set_task table.settings other checked.passes)
 called_sound core task (AffinitySet other mask) table sound place checked user = affinity_sound table core other mask sound (masked_task table.settings other mask checked.passes)

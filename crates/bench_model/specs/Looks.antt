@@ -8,7 +8,8 @@ use Rattle.bench_model.specs.Search.{has}
 use Rattle.bench_model.specs.Table.{Stamps, Table, row_at, wake_in, is_ready}
 use Rattle.bench_model.specs.Lists.{View}
 
--- the ticks to the wake of a blocked task, none for a ready task (FreeRTOS Reference Manual, vTaskDelay)
+-- the ticks to the wake of a blocked task, none for a ready task and for one that waits without end (FreeRTOS Reference Manual,
+-- vTaskDelay)
 abbrev pub ticks_left : ℕ → Stamps → Option ℕ
 ticks_left task stamps = option_map (λ wake. wake - stamps.tick) (wake_in (row_at stamps task).standing)
 

@@ -1,5 +1,5 @@
 -- What the table of every kernel keeps.
-use Rattle.std.specs.Prelude.{◌≡◌, ℕ, ◌+◌, ◌<◌, ◌≤◌, ◌^◌, length, true, false, Some}
+use Rattle.std.specs.Prelude.{◌≡◌, ℕ, ◌+◌, ◌<◌, ◌≤◌, ◌^◌, length, true, false, Option, Some, IfSome}
 use Rattle.bench_types.specs.declared.kernel_data.TaskControl.{TaskControl}
 use Rattle.bench_types.specs.declared.step.Step.{Step}
 use Rattle.bench_types.specs.declared.step.Step.TheVariants.{Tick, Switch}
@@ -32,9 +32,13 @@ pub record IsPlaced (control : Control) (stamps : Stamps) : Type 0 where
   pub blocked_is_due : (c : ℕ) → c < length control.cores → is_ready (current control c) stamps ≡ false → is_due control c ≡ true
   pub idle_is_ready : (i : ℕ) → i < length control.cores → is_ready i stamps ≡ true
 
--- a blocked task is woken after 1 to 4294967295 ticks
+-- a wait is for 1 to 4294967295 ticks, or without end
+abbrev pub IsWait : Option ℕ → Type 0
+IsWait ticks = IfSome ticks (λ ticks. (0 < ticks) × (ticks < 2 ^ 32))
+
+-- a blocked task is woken after 1 to 4294967295 ticks, or waits without end
 abbrev pub WakesInTime : Stamps → Type 0
-WakesInTime stamps = (i wake : ℕ) → i < length stamps.rows → (row_at stamps i).standing ≡ Blocked wake → (stamps.tick < wake) × (wake < stamps.tick + 2 ^ 32)
+WakesInTime stamps = (i wake : ℕ) → i < length stamps.rows → (row_at stamps i).standing ≡ Blocked (Some wake) → (stamps.tick < wake) × (wake < stamps.tick + 2 ^ 32)
 
 -- the priority in use and the base priority are below the number of priorities
 abbrev pub IsBelow : ℕ → TaskControl → Type 0

@@ -1,4 +1,4 @@
-ghost use Rattle.std.specs.Prelude.{◌≡◌, ℕ, ◌<◌, ◌≤◌, ◌^◌, ◌+◌, ◌==◌, ◌&&◌, length, ◌++◌, map, replicate, option_map, slice_get, All, None, IfOk, IfSome, nat_le, Ok};
+ghost use Rattle.std.specs.Prelude.{◌≡◌, ℕ, ◌<◌, ◌≤◌, ◌^◌, ◌+◌, ◌==◌, ◌&&◌, length, ◌++◌, map, replicate, option_map, slice_get, All, Some, None, IfOk, IfSome, nat_le, Ok};
 ghost use Rattle.bench_types.specs.Step.{call_check, step_check, settings_of, IsStepOfWords};
 ghost use Rattle.bench_types.specs.Header.{header_check};
 ghost use Rattle.bench_model.specs.Control.{is_elsewhere, is_allowed, may_select, is_due, current, run_on, running};
@@ -158,8 +158,8 @@ impl SlowTable {
         ensures { result ≡ wakes_at self.now.orders.tick (row_at self.now.orders task).standing }
     {
         match self.rows[task as usize].standing {
-            Standing::Ready => false,
-            Standing::Blocked { wake } => wake == self.tick,
+            Standing::Ready | Standing::Blocked { wake: None } => false,
+            Standing::Blocked { wake: Some(wake) } => wake == self.tick,
         }
     }
 
@@ -291,12 +291,12 @@ impl SlowTable {
         requires task { task < length self.old.orders.rows }
         requires room { self.old.orders.next + 1 < 2 ^ 128 }
         requires time { self.old.orders.tick + ticks < 2 ^ 128 }
-        ensures { self.new ≡ blocked table_moves core task call ticks self.old }
+        ensures { self.new ≡ blocked table_moves core task call (Some ticks) self.old }
     {
         self.rows[task as usize] = TaskRow {
             stamp: self.next,
             standing: Standing::Blocked {
-                wake: self.tick + u128::from(ticks),
+                wake: Some(self.tick + u128::from(ticks)),
             },
         };
         self.next += 1;

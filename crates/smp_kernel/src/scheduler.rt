@@ -1,4 +1,4 @@
-ghost use Rattle.std.specs.Prelude.{◌≡◌, ◌<◌, ◌≤◌, length, [], true, IfOk, Ok, None, replicate};
+ghost use Rattle.std.specs.Prelude.{◌≡◌, ◌<◌, ◌≤◌, length, [], true, IfOk, Ok, Some, None, replicate};
 ghost use Rattle.bench_types.specs.Header.{header_check};
 ghost use Rattle.bench_types.specs.Step.{call_check, step_check, IsOfWords, IsStepOfWords};
 ghost use Rattle.bench_model.specs.Search.{has};
@@ -272,7 +272,7 @@ impl Scheduler {
         requires core { core < self.old.settings.cores }
         requires task { task < self.old.settings.tasks }
         requires ready { has task self.old.orders.ready ≡ true }
-        ensures { self.new ≡ blocked list_moves core task call ticks self.old }
+        ensures { self.new ≡ blocked list_moves core task call (Some ticks) self.old }
     {
         self.cores.ask(core, core);
         self.calls[task as usize] = Some(call);

@@ -1,7 +1,9 @@
 -- The worked notifications, computed on the definitions.
 use Rattle.std.proofs.Common.{ℕ, refl}
 use Rattle.bench_model.specs.Notes.{notified, wait_begun, wait_ended, take_begun, take_ended, state_cleared, value_cleared}
-use Rattle.bench_model.specs.NoteExamples.{WorkedNotes, WorkedWaits, WorkedTakes, WorkedClears}
+use Rattle.bench_model.specs.NoteExamples.{WorkedNotes, WorkedWaits, WorkedTakes, WorkedClears, WorkedNotifies}
+use Rattle.bench_model.specs.Notifying.{notify}
+use Rattle.bench_model.proofs.Examples.{computed}
 
 -- whoever names this computes with notifications
 unfoldable of_notes : ℕ
@@ -53,4 +55,16 @@ clears = record {
   nothing_there = refl;
   bits_cleared = refl;
   no_bits = refl;
+}
+
+pub notifies : WorkedNotifies
+unfolding of_notes notify computed
+notifies = record {
+  waits = refl;
+  woken = refl;
+  woken_by_core_1 = refl;
+  woken_before_its_ticks = refl;
+  other_notified = refl;
+  delay_waits_on = refl;
+  ready_keeps_its_place = refl;
 }

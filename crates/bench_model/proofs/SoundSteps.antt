@@ -147,12 +147,14 @@ ready_sound table task sound low =
         rows = make_ready_length table.orders task below ∙ sound.sized.rows;
         some_core = sound.sized.some_core;
         idle_tasks = sound.sized.idle_tasks;
+        notes = sound.sized.notes;
       };
       stamped = make_ready_once table.orders task sound.stamped below;
       in_place = make_ready_placed table.control table.orders task below sound.in_place;
       in_time = make_ready_in_time table.orders task below sound.in_time;
       priorities = sound.priorities;
       calls = sound.calls;
+      notes = sound.notes;
     }
 
 queued_placed : (control : Control) (stamps : Stamps) (task : ℕ) → task < length stamps.rows → IsPlaced control stamps → IsPlaced control (queued stamps task)
@@ -195,12 +197,14 @@ switched_sound core table sound below =
         rows = same ∙ sound.sized.rows;
         some_core = sound.sized.some_core;
         idle_tasks = sound.sized.idle_tasks;
+        notes = sound.sized.notes;
       };
       stamped = queued_once table.orders left sound.stamped low;
       in_place = subst (λ task. IsPlaced (run_on core task control) orders) (sym now) (run_placed control core found.0 orders place below found.2 found.3 found.4);
       in_time = queued_in_time table.orders left low sound.in_time;
       priorities = sound.priorities;
       calls = sound.calls;
+      notes = sound.notes;
     }
 
 -- the tasks that are made ready in turn
@@ -286,12 +290,14 @@ readied_sound table sound =
         rows = readied_length (due later) later low ∙ advanced_length table.orders ∙ sound.sized.rows;
         some_core = sound.sized.some_core;
         idle_tasks = sound.sized.idle_tasks;
+        notes = sound.sized.notes;
       };
       stamped = readied_stamped (due later) later low (advanced_stamped table.orders sound.stamped);
       in_place = readied_placed table.control (due later) later low (advanced_placed table.control table.orders sound.in_place);
       in_time = still_in_time table.orders sound.stamped sound.in_time;
       priorities = sound.priorities;
       calls = sound.calls;
+      notes = sound.notes;
     }
 
 -- Cores of which some were asked: the others are as they were, and none has another current task.
@@ -322,12 +328,14 @@ more_sound table other more sound = record {
     rows = sound.sized.rows;
     some_core = sound.sized.some_core;
     idle_tasks = sound.sized.idle_tasks;
+    notes = sound.sized.notes;
   };
   stamped = sound.stamped;
   in_place = more_placed table.control other table.orders more sound.in_place;
   in_time = sound.in_time;
   priorities = λ i low. subst (λ (tasks : List TaskControl). IsBelow table.settings.priorities (task_at (record { cores = other.cores; tasks = tasks }) i)) (sym more.tasks) (sound.priorities i low);
   calls = sound.calls;
+  notes = sound.notes;
 }
 
 pub asked_runs : (acting core : ℕ) (look : CoreLook) → (asked_by acting core look).current ≡ look.current
@@ -436,12 +444,14 @@ blocked_sound core task call ticks table sound place checked user fits = record 
     rows = delayed_length table.orders task ticks place.2 ∙ sound.sized.rows;
     some_core = sound.sized.some_core;
     idle_tasks = sound.sized.idle_tasks;
+    notes = sound.sized.notes;
   };
   stamped = delayed_stamped table.orders task ticks place.2 sound.stamped;
   in_place = delayed_placed table.control core place.0 table.orders task ticks place.2 place.1 user sound.in_place;
   in_time = delayed_in_time table.orders task ticks place.2 fits sound.in_time;
   priorities = sound.priorities;
   calls = call_set table.settings table.calls task (Some call) (omega (arith, sound.sized.calls, sound.sized.rows, place.2)) (λ other same. subst (IsCheckedCall table.settings) (call_of call other same) checked) sound.calls;
+  notes = sound.notes;
 }
   where
     call_of : (one other : Call) → Some one ≡ Some other → one ≡ other

@@ -95,12 +95,14 @@ module _ (table : Table) (sound : IsSound table) (core task : ℕ) (call : Call)
       rows = sound.sized.rows;
       some_core = sound.sized.some_core;
       idle_tasks = sound.sized.idle_tasks;
+      notes = sound.sized.notes;
     };
     stamped = sound.stamped;
     in_place = sound.in_place;
     in_time = sound.in_time;
     priorities = sound.priorities;
     calls = call_set table.settings table.calls task None (omega (arith, sound.sized.calls, sound.sized.rows, place.2)) (λ other same. absurd (cc (same))) sound.calls;
+    notes = sound.notes;
   }
 
 pub called_sound : (core task : ℕ) (call : Call) (table : Table) → IsSound table → IsInPlace table (steps.Call core task call) → IsCheckedCall table.settings call → length table.control.cores ≤ task → IsSound (called table_moves core task call table).1

@@ -80,4 +80,4 @@ lists_of control stamps = let in_order = λ (test : ℕ → Bool). by_stamp (sta
 
 -- What can be seen of a table.
 abbrev pub image : Table → View
-image table = record { settings = table.settings; control = table.control; calls = table.calls; orders = lists_of table.control table.orders }
+image table = record { settings = table.settings; control = table.control; calls = table.calls; notes = table.notes; orders = lists_of table.control table.orders }

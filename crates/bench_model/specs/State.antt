@@ -2,6 +2,7 @@
 -- another: as stamps and wakes (Table), or as lists (Lists).
 use Rattle.std.specs.Prelude.{ℕ, List, Bool, not, ◌==◌, Option, Some, None, unwrap_or, if◌then◌else◌, slice_index_or, slice_set}
 use Rattle.bench_types.specs.declared.kernel_data.Settings.{Settings}
+use Rattle.bench_types.specs.declared.note.Notification.{Notification}
 use Rattle.bench_types.specs.declared.reply.Refusal.{Refusal}
 use Rattle.bench_types.specs.declared.reply.Refusal.TheVariants.{Displaced, SwitchDue, InCall, NotInCall, NotDue}
 use Rattle.bench_types.specs.declared.step.Step.{Step}
@@ -16,6 +17,8 @@ pub record State (Orders : Type 0) : Type 0 where
   pub control : Control
   -- per task its unfinished call
   pub calls : List (Option Call)
+  -- per task its notification
+  pub notes : List Notification
   -- which tasks are ready and which wait, how long, and in which order
   pub orders : Orders
 

@@ -2,6 +2,7 @@ ghost use Rattle.std.specs.Prelude.{◌≡◌, ℕ, ◌<◌, ◌≤◌, ◌^◌,
 ghost use Rattle.bench_types.specs.Step.{call_check, step_check, settings_of, IsStepOfWords};
 ghost use Rattle.bench_types.specs.Header.{header_check};
 ghost use Rattle.bench_model.specs.Control.{is_elsewhere, is_allowed, may_select, is_due, current, run_on, running};
+ghost use Rattle.bench_model.specs.Notes.{no_note};
 ghost use Rattle.bench_model.specs.State.{call_refusal, refusal, queued, switched, yielded, blocked};
 ghost use Rattle.bench_model.specs.Seek.{wake, switched_and_sought};
 ghost use Rattle.bench_model.specs.Steps.{ticked, called, performed};
@@ -17,7 +18,8 @@ mod sets;
 
 use crate::{Standing, TaskRow};
 use bench_types::{
-    Call, CoreLook, Header, Refusal, Reply, Row, Settings, Step, TaskArgs, TaskControl,
+    Call, CoreLook, Header, NoteState, Notification, Refusal, Reply, Row, Settings, Step, TaskArgs,
+    TaskControl,
 };
 use std::alloc::{AllocError, Global};
 use std::marker::Model;
@@ -30,6 +32,7 @@ struct SlowTable {
     cores: Vec<CoreLook>,
     tasks: Vec<TaskControl>,
     calls: Vec<Option<Call>>,
+    notes: Vec<Notification>,
     rows: Vec<TaskRow>,
     tick: u128,
     next: u128,
@@ -46,6 +49,7 @@ impl Model for SlowTable {
       settings = t.settings;
       control = record { cores = t.cores.items; tasks = t.tasks.items };
       calls = t.calls.items;
+      notes = t.notes.items;
       orders = record { rows = t.rows.items; tick = t.tick; next = t.next };
     } };
 
@@ -442,6 +446,16 @@ fn no_calls(alloc: Global, tasks: u32) -> Result<Vec<Option<Call>>, AllocError>
     Ok(calls)
 }
 
+fn no_notes(alloc: Global, tasks: u32) -> Result<Vec<Notification>, AllocError>
+    ensures { IfOk result (λ notes. notes.items ≡ replicate tasks no_note) }
+{
+    let note = Notification {
+        value: 0,
+        state: NoteState::NotWaiting,
+    };
+    vec![in alloc; note; tasks as usize]
+}
+
 fn idle_control(cores: u32) -> TaskControl
     requires { cores ≤ 8 }
     ensures { result ≡ idle_control cores }
@@ -514,12 +528,14 @@ fn unstarted(alloc: Global, header: &Header) -> Result<SlowTable, AllocError>
     let cores = first_cores(alloc, settings.cores)?;
     let tasks = first_controls(alloc, header)?;
     let calls = no_calls(alloc, settings.tasks)?;
+    let notes = no_notes(alloc, settings.tasks)?;
     let rows = first_rows(alloc, settings.cores, users)?;
     Ok(SlowTable {
         settings,
         cores,
         tasks,
         calls,
+        notes,
         rows,
         tick: u128::from(header.config.tick),
         next: u128::from(settings.tasks),

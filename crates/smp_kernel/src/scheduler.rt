@@ -16,6 +16,7 @@ mod sets;
 
 use crate::delays::Delays;
 use bench_types::{Call, CoreLook, Header, Refusal, Reply, Settings, Step, TaskLook};
+use notify_core::Notes;
 use ready_core::Cores;
 use std::alloc::{AllocError, Global};
 use std::marker::Model;
@@ -28,6 +29,7 @@ pub struct Scheduler {
     cores: Cores,
     /// Per task its unfinished call.
     calls: Vec<Option<Call>>,
+    notes: Notes,
     delays: Delays,
 }
 
@@ -37,9 +39,9 @@ impl Model for Scheduler {
 
     ghost Value = { View };
 
-    ghost view = { λ kernel. kernel_view kernel.settings kernel.cores kernel.calls.items kernel.delays };
+    ghost view = { λ kernel. kernel_view kernel.settings kernel.cores kernel.calls.items kernel.notes kernel.delays };
 
-    ghost invariant = { λ kernel. IsKernelShape kernel.settings kernel.cores kernel.calls.items kernel.delays };
+    ghost invariant = { λ kernel. IsKernelShape kernel.settings kernel.cores kernel.calls.items kernel.notes kernel.delays };
 }
 
 impl Scheduler {
@@ -74,6 +76,7 @@ impl Scheduler {
             settings,
             cores: Cores::new(alloc, header)?,
             calls: no_calls(alloc, tasks)?,
+            notes: Notes::new(alloc, tasks)?,
             delays: Delays::new(alloc, tasks, config.tick)?,
         })
     }
@@ -109,6 +112,8 @@ impl Scheduler {
             ready: self.cores.ready(task),
             left: self.delays.left(task),
             in_call: self.calls[task as usize].is_some(),
+            value: self.notes.value(task),
+            state: self.notes.state(task),
         }
     }
 

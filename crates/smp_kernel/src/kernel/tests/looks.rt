@@ -1,6 +1,6 @@
 use super::{call, look, started, step, three_tasks};
 use crate::Meter;
-use bench_types::{Call, Step, TaskLook};
+use bench_types::{Call, NoteState, Step, TaskLook};
 use std::test::Fail;
 
 #[test]
@@ -16,6 +16,8 @@ fn looks_of_tasks(rt: HostRuntime) -> Result<(), Fail> {
         ready: true,
         left: None,
         in_call: false,
+        value: 0,
+        state: NoteState::NotWaiting,
     };
     let idle = TaskLook {
         in_use: 0,

@@ -7,7 +7,7 @@ use super::{
     step, three_tasks,
 };
 use crate::{Kernel, Meter};
-use bench_types::{Call, Header, Reply, Step, TaskLook};
+use bench_types::{Call, Header, NoteState, Reply, Step, TaskLook};
 use std::alloc::Global;
 use std::process::Abort;
 use std::test::Fail;
@@ -133,6 +133,8 @@ fn a_blocked_task_that_is_current(rt: HostRuntime) -> Result<(), Fail> {
         ready: false,
         left: Some(5),
         in_call: true,
+        value: 0,
+        state: NoteState::NotWaiting,
     };
     let of_1 = TaskLook { mask: 2, ..blocked };
     let lowered = TaskLook {
@@ -241,6 +243,8 @@ fn numbers_that_are_cut(rt: HostRuntime) -> Result<(), Fail> {
         ready: true,
         left: None,
         in_call: false,
+        value: 0,
+        state: NoteState::NotWaiting,
     };
     assert_eq!(rt; look(&rt, &kernel, &header, 3), cut);
     Ok(())

@@ -80,6 +80,7 @@ change_sound table task block sound low = record {
     rows = sound.sized.rows;
     some_core = sound.sized.some_core;
     idle_tasks = sound.sized.idle_tasks;
+    notes = sound.sized.notes;
   };
   stamped = sound.stamped;
   in_place = record {
@@ -94,6 +95,7 @@ change_sound table task block sound low = record {
     | inr away ↦ subst (IsBelow table.settings.priorities) (sym (block_other table.control task block i away)) (sound.priorities i within)
   ];
   calls = sound.calls;
+  notes = sound.notes;
 }
 
 -- of the changed task the old place is read no more
@@ -134,8 +136,8 @@ in_use_seen table task priority sound low = at (is_ready task table.orders) refl
     below = omega (arith, sound.sized.rows)
 
     at : (b : Bool) → is_ready task table.orders ≡ b → (d : Bool) → d ≡ is_ready task table.orders → image (record table { control = changed; orders = cond b (make_ready task table.orders) table.orders }) ≡ record (image table) { control = changed; orders = cond d (seen.make_ready changed task (lists_of table.control table.orders)) (lists_of table.control table.orders) }
-    at true is true same = same_state table.settings changed changed table.calls _ _ refl (make_ready_seen changed table.orders task sound.stamped.given below ∙ moved_last table.control changed task table.orders (others_stay table.control task _ (standing_so stands_ready table.orders)))
-    at false is false same = same_state table.settings changed changed table.calls _ _ refl (blocked_apart table task priority sound low is)
+    at true is true same = same_state table.settings changed changed table.calls table.notes _ _ refl (make_ready_seen changed table.orders task sound.stamped.given below ∙ moved_last table.control changed task table.orders (others_stay table.control task _ (standing_so stands_ready table.orders)))
+    at false is false same = same_state table.settings changed changed table.calls table.notes _ _ refl (blocked_apart table task priority sound low is)
     at true is false same = absurd (cc (is, same))
     at false is true same = absurd (cc (is, same))
 

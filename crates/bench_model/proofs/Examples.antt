@@ -8,7 +8,7 @@ use Rattle.bench_model.specs.Table.{pick, make_ready, delay, advance, due}
 use Rattle.bench_model.specs.Lists.{View, lists_of}
 use Rattle.bench_model.specs.Start.{first_stamps, unstarted, started}
 use Rattle.bench_model.specs.Session.{state_at, reply_at}
-use Rattle.bench_model.specs.Examples.{WorkedSessions, TimedSessions, EqualTables}
+use Rattle.bench_model.specs.Examples.{WorkedSessions, TimedSessions, EndlessWaits, EqualTables}
 
 -- whoever names this computes with all of the definitions
 unfoldable pub computed : ℕ
@@ -31,6 +31,10 @@ timed_sessions = record {
   sleeps = refl;
   wakes_on_other = refl;
 }
+
+pub endless_waits : EndlessWaits
+unfolding computed
+endless_waits = record { begins = refl; passed_over = (refl, refl); waits_on = refl; other_is_woken = refl }
 
 pub tables : EqualTables
 unfolding computed

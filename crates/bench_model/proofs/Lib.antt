@@ -7,6 +7,7 @@ pub mod Examples
 pub mod Filters
 pub mod Looks
 pub mod NoteExamples
+pub mod Notifying
 pub mod Ranks
 pub mod Restamps
 pub mod SeekExamples

@@ -1,7 +1,9 @@
 -- The worked notifications, computed on the definitions.
 use Rattle.std.proofs.Common.{ℕ}
 use Rattle.bench_model.specs.Notes.{notified, wait_begun, wait_ended, take_begun, take_ended, state_cleared, value_cleared}
-use Rattle.bench_model.specs.NoteExamples.{WorkedNotes, WorkedWaits, WorkedTakes, WorkedClears}
+use Rattle.bench_model.specs.NoteExamples.{WorkedNotes, WorkedWaits, WorkedTakes, WorkedClears, WorkedNotifies}
+use Rattle.bench_model.specs.Notifying.{notify}
+use Rattle.bench_model.proofs.Examples.{computed}
 
 -- whoever names this computes with notifications
 unfoldable of_notes : ℕ
@@ -23,3 +25,7 @@ takes = assumption
 pub clears : WorkedClears
 unfolding of_notes
 clears = assumption
+
+pub notifies : WorkedNotifies
+unfolding of_notes notify computed
+notifies = assumption

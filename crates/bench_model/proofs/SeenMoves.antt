@@ -1,5 +1,5 @@
 -- Each move of a table, seen as lists, is the move of what was seen of the table before.
-use Rattle.std.proofs.Common.{◌≡◌, ℕ, suc, ◌+◌, ◌-◌, ◌<◌, ◌≤◌, ◌%◌, ◌^◌, true, false, not, eqb, ◌&&◌, List, [], ◌∷◌, ◌++◌, length, map, refl, sym, ap, ◌∙◌, arith}
+use Rattle.std.proofs.Common.{◌≡◌, ℕ, suc, ◌+◌, ◌-◌, ◌<◌, ◌≤◌, ◌%◌, ◌^◌, true, false, not, eqb, ◌&&◌, List, [], ◌∷◌, ◌++◌, length, map, Option, Some, None, refl, sym, ap, ◌∙◌, arith}
 use Rattle.std.proofs.Common.{add-one}
 use Rattle.std.proofs.Math.Nat.{mod-add-mod}
 use Rattle.std.specs.Prelude.{unwrap_or}
@@ -107,20 +107,29 @@ left_now tick ticks = omega arith
 not_waiting : (stamps : Stamps) (task : ℕ) → IsGiven stamps → task < length stamps.rows → is_ready task stamps ≡ true → without task (standing_so waits stamps) ≡ standing_so waits stamps
 not_waiting stamps task given below ready_now = without_absent task (standing_so waits stamps) (has-standing_so waits stamps task given below ∙ ready_waits_not (row_at stamps task).standing ready_now)
 
-entry_of_delayed : (stamps : Stamps) (task ticks : ℕ) → task < length stamps.rows → delayed_of (restamped task (Blocked (stamps.tick + ticks)) stamps) task ≡ record { task = task; left = ticks }
+entry_of_delayed : (stamps : Stamps) (task ticks : ℕ) → task < length stamps.rows → delayed_of (restamped task (Blocked (Some (stamps.tick + ticks))) stamps) task ≡ record { task = task; left = ticks }
 entry_of_delayed stamps task ticks below =
-    ap (λ (r : TaskRow). entry_from task stamps.tick r.standing) (row_same stamps task (Blocked (stamps.tick + ticks)) below) ∙ ap (λ left. entry task left) (left_now stamps.tick ticks)
+    ap (λ (r : TaskRow). entry_from task stamps.tick r.standing) (row_same stamps task (Blocked (Some (stamps.tick + ticks))) below) ∙ ap (λ left. entry task left) (left_now stamps.tick ticks)
 
 same_waiting : (stamps : Stamps) (task : ℕ) (standing : Standing) → task < length stamps.rows → (waiting : List ℕ) → without task waiting ≡ waiting → map (delayed_of (restamped task standing stamps)) waiting ≡ map (delayed_of stamps) waiting
 same_waiting stamps task standing below waiting absent =
     ap (map (delayed_of (restamped task standing stamps))) (sym absent) ∙ delayed_of_others stamps task standing below waiting ∙ ap (map (delayed_of stamps)) absent
 
--- a ready task that waits from now on
-pub delay_seen : (control : Control) (stamps : Stamps) (task ticks : ℕ) → IsGiven stamps → task < length stamps.rows → is_ready task stamps ≡ true → lists_of control (delay task ticks stamps) ≡ seen.delay task ticks (lists_of control stamps)
+-- a ready task that waits from now on: without end it leaves the ready lists and no more
+pub delay_seen : (control : Control) (stamps : Stamps) (task : ℕ) (ticks : Option ℕ) → IsGiven stamps → task < length stamps.rows → is_ready task stamps ≡ true → lists_of control (delay task ticks stamps) ≡ seen.delay task ticks (lists_of control stamps)
 unfolding lists_of delay seen.delay
-delay_seen control stamps task ticks given below ready_now =
-    let wake = Blocked (stamps.tick + ticks) in
-    let moved = delay task ticks stamps in
+delay_seen control stamps task None given below ready_now =
+    let wake : Standing = Blocked None in
+    let ready = standing_so stands_ready stamps in
+    let waiting = standing_so waits stamps in
+    let absent = not_waiting stamps task given below ready_now in
+    seen_from control (delay task None stamps) (without task ready) waiting
+    (standing_so_moved stamps task wake below stands_ready given ∙ append-nil (without task ready))
+    (standing_so_moved stamps task wake below waits given ∙ append-nil (without task waiting) ∙ absent)
+    ∙ same_seen _ _ _ _ _ _ (ready_without control task ready) refl (ap (ranked wakes_first) (same_waiting stamps task wake below waiting absent))
+delay_seen control stamps task (Some ticks) given below ready_now =
+    let wake : Standing = Blocked (Some (stamps.tick + ticks)) in
+    let moved = delay task (Some ticks) stamps in
     let ready = standing_so stands_ready stamps in
     let waiting = standing_so waits stamps in
     let absent = not_waiting stamps task given below ready_now in
@@ -135,18 +144,19 @@ delay_seen control stamps task ticks given below ready_now =
 
 -- each waiting task still waits
 abbrev pub IsAhead : Stamps → Type 0
-IsAhead stamps = (i wake : ℕ) → i < length stamps.rows → (row_at stamps i).standing ≡ Blocked wake → stamps.tick < wake
+IsAhead stamps = (i wake : ℕ) → i < length stamps.rows → (row_at stamps i).standing ≡ Blocked (Some wake) → stamps.tick < wake
 
 -- no wake has gone by
 abbrev pub IsNotPast : Stamps → Type 0
-IsNotPast stamps = (i wake : ℕ) → i < length stamps.rows → (row_at stamps i).standing ≡ Blocked wake → stamps.tick ≤ wake
+IsNotPast stamps = (i wake : ℕ) → i < length stamps.rows → (row_at stamps i).standing ≡ Blocked (Some wake) → stamps.tick ≤ wake
 
 abbrev aged : Delayed → Delayed
 aged e = record e { left = e.left - 1 }
 
-some_left : (tick : ℕ) (standing : Standing) → waits standing ≡ true → ((wake : ℕ) → standing ≡ Blocked wake → tick < wake) → 0 < unwrap_or (wake_in standing) 0 - tick
+some_left : (tick : ℕ) (standing : Standing) → waits standing ≡ true → ((wake : ℕ) → standing ≡ Blocked (Some wake) → tick < wake) → 0 < unwrap_or (wake_in standing) 0 - tick
 some_left tick Ready waiting ahead = absurd (cc)
-some_left tick (Blocked wake) waiting ahead = omega (arith, ahead wake refl)
+some_left tick (Blocked None) waiting ahead = absurd (cc)
+some_left tick (Blocked (Some wake)) waiting ahead = omega (arith, ahead wake refl)
 
 all_left : (stamps : Stamps) → IsAhead stamps → AllByRecursion (λ (e : Delayed). 0 < e.left) (map (delayed_of stamps) (standing_so waits stamps))
 all_left stamps ahead =
@@ -179,9 +189,10 @@ map_tasks : (stamps : Stamps) (ids : List ℕ) → map (λ (e : Delayed). e.task
 map_tasks stamps [] = refl
 map_tasks stamps (i ∷ ids) = ap (λ rest. i ∷ rest) (map_tasks stamps ids)
 
-due_at : (tick : ℕ) (standing : Standing) → ((wake : ℕ) → standing ≡ Blocked wake → tick ≤ wake) → (waits standing && eqb (unwrap_or (wake_in standing) 0 - tick) 0) ≡ wakes_at tick standing
+due_at : (tick : ℕ) (standing : Standing) → ((wake : ℕ) → standing ≡ Blocked (Some wake) → tick ≤ wake) → (waits standing && eqb (unwrap_or (wake_in standing) 0 - tick) 0) ≡ wakes_at tick standing
 due_at tick Ready near = refl
-due_at tick (Blocked wake) near = grind (arith, nat_tests, near wake refl)
+due_at tick (Blocked None) near = refl
+due_at tick (Blocked (Some wake)) near = grind (arith, nat_tests, near wake refl)
 
 -- the tasks whose wake is now
 pub due_seen : (control : Control) (stamps : Stamps) → IsNotPast stamps → seen.due (lists_of control stamps) ≡ due stamps

@@ -86,7 +86,7 @@ more_apart control other stamps more =
     ap (λ (tasks : List TaskControl). lists_of (record { cores = other.cores; tasks = tasks }) stamps) more.tasks ∙ lists_of_cores control other.cores stamps
 
 more_seen : (table : Table) (other : Control) → IsAskedMore table.control other → image (with_control table other) ≡ record (image table) { control = other }
-more_seen table other more = same_state table.settings other other table.calls _ _ refl (more_apart table.control other table.orders more)
+more_seen table other more = same_state table.settings other other table.calls table.notes _ _ refl (more_apart table.control other table.orders more)
 
 pub its_core_seen : (table : Table) (acting task : ℕ) → image (on_control (ask_its_core acting task) table) ≡ on_control (ask_its_core acting task) (image table)
 its_core_seen table acting task = more_seen table (ask_its_core acting task table.control) (its_core_more acting task table.control)
@@ -108,7 +108,7 @@ masked_sound table acting task ready sound = more_sound table (masked_anew actin
 
 -- a control block that keeps its priority in use
 change_seen : (table : Table) (task : ℕ) (block : TaskControl) → block.in_use ≡ (task_at table.control task).in_use → image (with_control table (with_task task block table.control)) ≡ record (image table) { control = with_task task block table.control }
-change_seen table task block kept = same_state table.settings _ _ table.calls _ _ refl (change_apart table.control table.orders task block kept)
+change_seen table task block kept = same_state table.settings _ _ table.calls table.notes _ _ refl (change_apart table.control table.orders task block kept)
 
 pub off_seen : (table : Table) (task : ℕ) → image (preemption_off table_moves task table) ≡ preemption_off list_moves task (image table)
 unfolding preemption_off

@@ -196,7 +196,7 @@ unfolding called yielded blocked delay affinity_set preemption_off preemption_on
 called_near core task Yield table some = (omega arith, omega arith)
 called_near core task (Delay ticks) table some = at (eqb ticks 0)
   where
-    at : (b : Bool) → IsNear table (cond {A = Reply × Table} b (Done, yielded table_moves core table) (reply.Blocked, blocked table_moves core task (Delay ticks) ticks table)).1
+    at : (b : Bool) → IsNear table (cond {A = Reply × Table} b (Done, yielded table_moves core table) (reply.Blocked, blocked table_moves core task (Delay ticks) (Some ticks) table)).1
     at true = (omega arith, omega arith)
     at false = (omega arith, omega arith)
 called_near core task Finish table some = (omega arith, omega arith)
@@ -278,7 +278,7 @@ unfolding called yielded blocked affinity_set preemption_off preemption_on
 called_settings core task Yield table = refl
 called_settings core task (Delay ticks) table = at (eqb ticks 0)
   where
-    at : (b : Bool) → (cond {A = Reply × Table} b (Done, yielded table_moves core table) (reply.Blocked, blocked table_moves core task (Delay ticks) ticks table)).1.settings ≡ table.settings
+    at : (b : Bool) → (cond {A = Reply × Table} b (Done, yielded table_moves core table) (reply.Blocked, blocked table_moves core task (Delay ticks) (Some ticks) table)).1.settings ≡ table.settings
     at true = refl
     at false = refl
 called_settings core task Finish table = refl

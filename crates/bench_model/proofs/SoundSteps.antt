@@ -1,6 +1,6 @@
 -- The rules that seek no core keep a sound table sound.
 use Rattle.std.proofs.Common.{◌≡◌, ◌≢◌, ℕ, suc, ◌+◌, ◌<◌, ◌≤◌, ◌^◌, Bool, true, false, cond, not, eqb, ◌&&◌, ◌||◌, List, [], ◌∷◌, length, Option, Some, None, refl, sym, ap, subst, ◌∙◌, arith, inl, inr}
-use Rattle.std.specs.Prelude.{unwrap_or, slice_set, IsSome}
+use Rattle.std.specs.Prelude.{unwrap_or, slice_set, option_map, IsSome}
 use Rattle.std.specs.List.{fold, AllByRecursion}
 use Rattle.std.proofs.lemmas.Bool.Decides.{nat_tests}
 use Rattle.std.proofs.lemmas.Bool.{cases_eq}
@@ -19,7 +19,7 @@ use Rattle.bench_model.specs.Search.{numbers, has}
 use Rattle.bench_model.specs.Control.{Control, core_at, task_at, with_core, current, is_due, may_select, asked_by, ask, run_on}
 use Rattle.bench_model.specs.State.{selected, call_at, switched, yielded, blocked}
 use Rattle.bench_model.specs.Table.{Stamps, Table, table_moves, row_at, stamp_of, is_ready, stands_ready, wakes_at, tasks_of, restamped, pick, make_ready, delay, advance, due}
-use Rattle.bench_model.specs.Sound.{IsInPlace, IsStamped, IsPlaced, WakesInTime, IsBelow, IsSound}
+use Rattle.bench_model.specs.Sound.{IsInPlace, IsStamped, IsPlaced, IsWait, WakesInTime, IsBelow, IsSound}
 use Rattle.bench_model.proofs.Filters.{All-weaker}
 use Rattle.bench_model.proofs.Stamped.{numbers_have, has-by_stamp}
 use Rattle.bench_model.proofs.Restamps.{row_same, row_other, moved_length, moved_once}
@@ -62,7 +62,7 @@ make_ready_keeps stamps task i below ready = elim (cases_eq i task) [
 ]
 
 -- what is blocked after some task was made ready was so before, and is another
-make_ready_blocked : (stamps : Stamps) (task i wake : ℕ) → task < length stamps.rows → (row_at (make_ready task stamps) i).standing ≡ Blocked wake → ((row_at stamps i).standing ≡ Blocked wake) × (i ≢ task)
+make_ready_blocked : (stamps : Stamps) (task i wake : ℕ) → task < length stamps.rows → (row_at (make_ready task stamps) i).standing ≡ Blocked (Some wake) → ((row_at stamps i).standing ≡ Blocked (Some wake)) × (i ≢ task)
 unfolding make_ready
 make_ready_blocked stamps task i wake below waits = elim (cases_eq i task) [
   | inl here ↦ absurd (cc (sym (standing_same stamps task Ready below) ∙ ap (λ j. (row_at (restamped task Ready stamps) j).standing) (sym here) ∙ waits))
@@ -147,12 +147,14 @@ ready_sound table task sound low =
         rows = make_ready_length table.orders task below ∙ sound.sized.rows;
         some_core = sound.sized.some_core;
         idle_tasks = sound.sized.idle_tasks;
+        notes = sound.sized.notes;
       };
       stamped = make_ready_once table.orders task sound.stamped below;
       in_place = make_ready_placed table.control table.orders task below sound.in_place;
       in_time = make_ready_in_time table.orders task below sound.in_time;
       priorities = sound.priorities;
       calls = sound.calls;
+      notes = sound.notes;
     }
 
 queued_placed : (control : Control) (stamps : Stamps) (task : ℕ) → task < length stamps.rows → IsPlaced control stamps → IsPlaced control (queued stamps task)
@@ -195,12 +197,14 @@ switched_sound core table sound below =
         rows = same ∙ sound.sized.rows;
         some_core = sound.sized.some_core;
         idle_tasks = sound.sized.idle_tasks;
+        notes = sound.sized.notes;
       };
       stamped = queued_once table.orders left sound.stamped low;
       in_place = subst (λ task. IsPlaced (run_on core task control) orders) (sym now) (run_placed control core found.0 orders place below found.2 found.3 found.4);
       in_time = queued_in_time table.orders left low sound.in_time;
       priorities = sound.priorities;
       calls = sound.calls;
+      notes = sound.notes;
     }
 
 -- the tasks that are made ready in turn
@@ -227,7 +231,7 @@ readied_placed control [] stamps all place = place
 readied_placed control (task ∷ tasks) stamps all place = readied_placed control tasks (make_ready task stamps) (readied_low stamps task tasks all.0 all.1) (make_ready_placed control stamps task all.0 place)
 
 -- what still waits waited before, and is none of them
-readied_blocked : (tasks : List ℕ) (stamps : Stamps) → AllByRecursion (λ i. i < length stamps.rows) tasks → (i wake : ℕ) → (row_at (readied stamps tasks) i).standing ≡ Blocked wake → ((row_at stamps i).standing ≡ Blocked wake) × (has i tasks ≡ false)
+readied_blocked : (tasks : List ℕ) (stamps : Stamps) → AllByRecursion (λ i. i < length stamps.rows) tasks → (i wake : ℕ) → (row_at (readied stamps tasks) i).standing ≡ Blocked (Some wake) → ((row_at stamps i).standing ≡ Blocked (Some wake)) × (has i tasks ≡ false)
 readied_blocked [] stamps all i wake waits = (waits, refl)
 readied_blocked (task ∷ tasks) stamps all i wake waits =
     let rest = readied_blocked tasks (make_ready task stamps) (readied_low stamps task tasks all.0 all.1) i wake waits in
@@ -235,7 +239,7 @@ readied_blocked (task ∷ tasks) stamps all i wake waits =
     (first.0, grind (arith, nat_tests, first.1, rest.1))
 
 -- a task that waits until the tick count is due then
-waits_due : (stamps : Stamps) (i : ℕ) → IsStamped stamps → i < length stamps.rows → (row_at stamps i).standing ≡ Blocked stamps.tick → has i (due stamps) ≡ true
+waits_due : (stamps : Stamps) (i : ℕ) → IsStamped stamps → i < length stamps.rows → (row_at stamps i).standing ≡ Blocked (Some stamps.tick) → has i (due stamps) ≡ true
 unfolding due
 waits_due stamps i stamped low waits =
     let passes : wakes_at stamps.tick (row_at stamps i).standing ≡ true = ap (wakes_at stamps.tick) waits ∙ grind (arith, nat_tests) in
@@ -269,7 +273,7 @@ still_in_time stamps stamped in_time i wake low waits =
     let before = readied_blocked (due later) later (due_below later) i wake waits in
     let within : i < length later.rows = omega (arith, readied_length (due later) later (due_below later)) in
     let bounds = in_time i wake (omega (arith, advanced_length stamps)) before.0 in
-    let not_now : wake ≡ later.tick → ⊥ = λ now. cc (waits_due later i (advanced_stamped stamps stamped) within (before.0 ∙ ap (λ w. Blocked w) now), before.1) in
+    let not_now : wake ≡ later.tick → ⊥ = λ now. cc (waits_due later i (advanced_stamped stamps stamped) within (before.0 ∙ ap (λ w. Blocked (Some w)) now), before.1) in
     let same = readied_tick (due later) later in
     (omega (arith, same, advanced_tick stamps, bounds.0, not_now), omega (arith, same, advanced_tick stamps, bounds.1))
 
@@ -286,12 +290,14 @@ readied_sound table sound =
         rows = readied_length (due later) later low ∙ advanced_length table.orders ∙ sound.sized.rows;
         some_core = sound.sized.some_core;
         idle_tasks = sound.sized.idle_tasks;
+        notes = sound.sized.notes;
       };
       stamped = readied_stamped (due later) later low (advanced_stamped table.orders sound.stamped);
       in_place = readied_placed table.control (due later) later low (advanced_placed table.control table.orders sound.in_place);
       in_time = still_in_time table.orders sound.stamped sound.in_time;
       priorities = sound.priorities;
       calls = sound.calls;
+      notes = sound.notes;
     }
 
 -- Cores of which some were asked: the others are as they were, and none has another current task.
@@ -322,12 +328,14 @@ more_sound table other more sound = record {
     rows = sound.sized.rows;
     some_core = sound.sized.some_core;
     idle_tasks = sound.sized.idle_tasks;
+    notes = sound.sized.notes;
   };
   stamped = sound.stamped;
   in_place = more_placed table.control other table.orders more sound.in_place;
   in_time = sound.in_time;
   priorities = λ i low. subst (λ (tasks : List TaskControl). IsBelow table.settings.priorities (task_at (record { cores = other.cores; tasks = tasks }) i)) (sym more.tasks) (sound.priorities i low);
   calls = sound.calls;
+  notes = sound.notes;
 }
 
 pub asked_runs : (acting core : ℕ) (look : CoreLook) → (asked_by acting core look).current ≡ look.current
@@ -394,31 +402,41 @@ call_set settings calls task given below one all i call found = elim (cases_eq i
   | inr away ↦ all i call (sym (get_or-set_other calls task i given None away) ∙ found)
 ]
 
-delayed_in_time : (stamps : Stamps) (task ticks : ℕ) → task < length stamps.rows → 0 < ticks → ticks < 2 ^ 32 → WakesInTime stamps → WakesInTime (delay task ticks stamps)
-unfolding delay
-delayed_in_time stamps task ticks below some fits in_time i wake low waits = elim (cases_eq i task) [
-  | inl here ↦
-      let at : Blocked (stamps.tick + ticks) ≡ Blocked wake = sym (standing_same stamps task (Blocked (stamps.tick + ticks)) below) ∙ ap (λ j. (row_at (restamped task (Blocked (stamps.tick + ticks)) stamps) j).standing) (sym here) ∙ waits in
-      let same : stamps.tick + ticks ≡ wake = cc in
-      (omega arith, omega arith)
-  | inr away ↦ in_time i wake (omega (arith, moved_length stamps task (Blocked (stamps.tick + ticks)) below)) (sym (standing_other stamps task (Blocked (stamps.tick + ticks)) below i away) ∙ waits)
-]
+-- where a blocked task stands, from its ticks
+abbrev waiting_for : Stamps → Option ℕ → Standing
+waiting_for stamps ticks = Blocked (option_map (λ ticks. stamps.tick + ticks) ticks)
 
-delayed_length : (stamps : Stamps) (task ticks : ℕ) → task < length stamps.rows → length (delay task ticks stamps).rows ≡ length stamps.rows
-unfolding delay
-delayed_length stamps task ticks below = moved_length stamps task (Blocked (stamps.tick + ticks)) below
+-- a wake that is there is in time
+wake_in_time : (tick wake : ℕ) (ticks : Option ℕ) → IsWait ticks → Blocked (option_map (λ ticks. tick + ticks) ticks) ≡ Blocked (Some wake) → (tick < wake) × (wake < tick + 2 ^ 32)
+wake_in_time tick wake None fits same = absurd (cc (same))
+wake_in_time tick wake (Some ticks) fits same =
+    let at : tick + ticks ≡ wake = cc (same) in
+    (omega (arith, at, fits.0), omega (arith, at, fits.1))
 
-delayed_stamped : (stamps : Stamps) (task ticks : ℕ) → task < length stamps.rows → IsStamped stamps → IsStamped (delay task ticks stamps)
+delayed_in_time : (stamps : Stamps) (task : ℕ) (ticks : Option ℕ) → task < length stamps.rows → IsWait ticks → WakesInTime stamps → WakesInTime (delay task ticks stamps)
 unfolding delay
-delayed_stamped stamps task ticks below stamped = moved_once stamps task (Blocked (stamps.tick + ticks)) below stamped
+delayed_in_time stamps task ticks below fits in_time i wake low waits =
+    let standing = waiting_for stamps ticks in
+    elim (cases_eq i task) [
+      | inl here ↦ wake_in_time stamps.tick wake ticks fits (sym (standing_same stamps task standing below) ∙ ap (λ j. (row_at (restamped task standing stamps) j).standing) (sym here) ∙ waits)
+      | inr away ↦ in_time i wake (omega (arith, moved_length stamps task standing below)) (sym (standing_other stamps task standing below i away) ∙ waits)
+    ]
 
-delayed_placed : (control : Control) (core : ℕ) → core < length control.cores → (stamps : Stamps) (task ticks : ℕ) → task < length stamps.rows → current control core ≡ task → length control.cores ≤ task → IsPlaced control stamps → IsPlaced (ask core core control) (delay task ticks stamps)
+delayed_length : (stamps : Stamps) (task : ℕ) (ticks : Option ℕ) → task < length stamps.rows → length (delay task ticks stamps).rows ≡ length stamps.rows
 unfolding delay
-delayed_placed control core below stamps task ticks low here user place = waiting_placed control core core below stamps task (Blocked (stamps.tick + ticks)) low here user place
+delayed_length stamps task ticks below = moved_length stamps task (waiting_for stamps ticks) below
 
-pub blocked_sound : (core task : ℕ) (call : Call) (ticks : ℕ) (table : Table) → IsSound table → IsInPlace table (steps.Call core task call) → IsCheckedCall table.settings call → length table.control.cores ≤ task → 0 < ticks → ticks < 2 ^ 32 → IsSound (blocked table_moves core task call ticks table)
+delayed_stamped : (stamps : Stamps) (task : ℕ) (ticks : Option ℕ) → task < length stamps.rows → IsStamped stamps → IsStamped (delay task ticks stamps)
+unfolding delay
+delayed_stamped stamps task ticks below stamped = moved_once stamps task (waiting_for stamps ticks) below stamped
+
+delayed_placed : (control : Control) (core : ℕ) → core < length control.cores → (stamps : Stamps) (task : ℕ) (ticks : Option ℕ) → task < length stamps.rows → current control core ≡ task → length control.cores ≤ task → IsPlaced control stamps → IsPlaced (ask core core control) (delay task ticks stamps)
+unfolding delay
+delayed_placed control core below stamps task ticks low here user place = waiting_placed control core core below stamps task (waiting_for stamps ticks) low here user place
+
+pub blocked_sound : (core task : ℕ) (call : Call) (ticks : Option ℕ) (table : Table) → IsSound table → IsInPlace table (steps.Call core task call) → IsCheckedCall table.settings call → length table.control.cores ≤ task → IsWait ticks → IsSound (blocked table_moves core task call ticks table)
 unfolding blocked
-blocked_sound core task call ticks table sound place checked user some fits = record {
+blocked_sound core task call ticks table sound place checked user fits = record {
   sized = record {
     cores = asked_length table.control core core place.0 ∙ sound.sized.cores;
     controls = sound.sized.controls;
@@ -426,12 +444,14 @@ blocked_sound core task call ticks table sound place checked user some fits = re
     rows = delayed_length table.orders task ticks place.2 ∙ sound.sized.rows;
     some_core = sound.sized.some_core;
     idle_tasks = sound.sized.idle_tasks;
+    notes = sound.sized.notes;
   };
   stamped = delayed_stamped table.orders task ticks place.2 sound.stamped;
   in_place = delayed_placed table.control core place.0 table.orders task ticks place.2 place.1 user sound.in_place;
-  in_time = delayed_in_time table.orders task ticks place.2 some fits sound.in_time;
+  in_time = delayed_in_time table.orders task ticks place.2 fits sound.in_time;
   priorities = sound.priorities;
   calls = call_set table.settings table.calls task (Some call) (omega (arith, sound.sized.calls, sound.sized.rows, place.2)) (λ other same. subst (IsCheckedCall table.settings) (call_of call other same) checked) sound.calls;
+  notes = sound.notes;
 }
   where
     call_of : (one other : Call) → Some one ≡ Some other → one ≡ other

@@ -10,6 +10,8 @@ use Rattle.bench_types.specs.declared.header.Header.{Header}
 use Rattle.bench_types.specs.declared.header.TaskArgs.{TaskArgs}
 use Rattle.bench_types.specs.declared.kernel_data.CoreLook.{CoreLook}
 use Rattle.bench_types.specs.declared.kernel_data.TaskControl.{TaskControl}
+use Rattle.bench_types.specs.declared.note.Notification.{Notification}
+use Rattle.bench_model.specs.Notes.{no_note}
 use Rattle.bench_types.specs.declared.step.Call.{Call}
 use Rattle.bench_types.proofs.Passes.{IsCheckedHeader, checked_header}
 use Rattle.bench_types.specs.Step.{settings_of, IsCheckedCall}
@@ -22,7 +24,7 @@ use Rattle.bench_model.specs.State.{call_at}
 use Rattle.bench_model.specs.Seek.{switched_and_sought}
 use Rattle.bench_model.specs.Table.{Stamps, Table, table_moves, row_at, stamp_of, is_ready, stands_ready}
 use Rattle.bench_model.specs.Lists.{list_moves, lists_of, image}
-use Rattle.bench_model.specs.Sound.{IsStamped, IsPlaced, WakesInTime, IsBelow, IsSound}
+use Rattle.bench_model.specs.Sound.{IsStamped, IsPlaced, WakesInTime, IsBelow, HasWords, IsSound}
 use Rattle.bench_model.specs.Start.{idle_control, user_control, first_look, first_control, ready_row, first_stamps, first_lists, unstarted, started, start, start_seen}
 use Rattle.bench_model.proofs.Filters.{All-weaker}
 use Rattle.bench_model.proofs.Stamped.{numbers_below, by_stamp_listed, by_stamp_none, range_parts}
@@ -192,6 +194,11 @@ module _ (header : Header) where
   first_calls : (i : ℕ) (call : Call) → call_at (replicate (cores + users) None) i ≡ Some call → IsCheckedCall (settings_of header) call
   first_calls i call found = absurd (cc (none_called (cores + users) i, found))
 
+  first_words : HasWords (replicate (cores + users) no_note)
+  first_words i low =
+      let at = get_or-replicate (cores + users) i no_note no_note (omega (arith, length-replicate (cores + users) no_note)) in
+      omega (arith, ap (λ (n : Notification). n.value) at)
+
   pub first_sound : IsCheckedHeader header → IsSound (unstarted first header)
   unfolding unstarted
   first_sound valid = record {
@@ -199,6 +206,7 @@ module _ (header : Header) where
       cores = first_cores;
       controls = first_tasks;
       calls = length-replicate (cores + users) None;
+      notes = length-replicate (cores + users) no_note;
       rows = first_length;
       some_core = valid.some_core;
       idle_tasks = omega arith;
@@ -208,6 +216,7 @@ module _ (header : Header) where
     in_time = first_in_time;
     priorities = first_priorities valid;
     calls = first_calls;
+    notes = first_words;
   }
 
 -- cores that switch in turn, from a sound table
@@ -240,7 +249,7 @@ start_sound header passes = in_turn_sound (numbers header.config.cores) (unstart
 
 unstarted_seen : (header : Header) → image (unstarted (first_stamps header) header) ≡ unstarted (first_lists header) header
 unfolding unstarted
-unstarted_seen header = same_state (settings_of header) (first_control header) (first_control header) (replicate (header.config.cores + length header.tasks) None) _ _ refl (first_seen header)
+unstarted_seen header = same_state (settings_of header) (first_control header) (first_control header) (replicate (header.config.cores + length header.tasks) None) (replicate (header.config.cores + length header.tasks) no_note) _ _ refl (first_seen header)
 
 pub start_seen_lem : (header : Header) → header_check header ≡ Ok tt → image (start header) ≡ start_seen header
 unfolding started

@@ -54,9 +54,9 @@ unfolding called
 called_seen core task Yield table sound checked below ready = same_outcome Done _ _ (yielded_seen core table)
 called_seen core task (Delay ticks) table sound checked below ready = either (eqb ticks 0)
   where
-    either : (b : Bool) → seen_of (cond b (Done, yielded table_moves core table) (Blocked, blocked table_moves core task (Delay ticks) ticks table)) ≡ cond b (Done, yielded list_moves core (image table)) (Blocked, blocked list_moves core task (Delay ticks) ticks (image table))
+    either : (b : Bool) → seen_of (cond b (Done, yielded table_moves core table) (Blocked, blocked table_moves core task (Delay ticks) (Some ticks) table)) ≡ cond b (Done, yielded list_moves core (image table)) (Blocked, blocked list_moves core task (Delay ticks) (Some ticks) (image table))
     either true = same_outcome Done _ _ (yielded_seen core table)
-    either false = same_outcome Blocked _ _ (blocked_seen core task (Delay ticks) ticks table sound.stamped.given below ready)
+    either false = same_outcome Blocked _ _ (blocked_seen core task (Delay ticks) (Some ticks) table sound.stamped.given below ready)
 called_seen core task Finish table sound checked below ready = refl
 called_seen core task (PrioritySet other priority) table sound checked below ready = same_outcome Done _ _ (priority_seen table core other priority sound (set_task table.settings other checked.passes))
 called_seen core task (AffinitySet other mask) table sound checked below ready = same_outcome Done _ _ (affinity_seen table core other mask sound (masked_task table.settings other mask checked.passes))
@@ -95,12 +95,14 @@ module _ (table : Table) (sound : IsSound table) (core task : ℕ) (call : Call)
       rows = sound.sized.rows;
       some_core = sound.sized.some_core;
       idle_tasks = sound.sized.idle_tasks;
+      notes = sound.sized.notes;
     };
     stamped = sound.stamped;
     in_place = sound.in_place;
     in_time = sound.in_time;
     priorities = sound.priorities;
     calls = call_set table.settings table.calls task None (omega (arith, sound.sized.calls, sound.sized.rows, place.2)) (λ other same. absurd (cc (same))) sound.calls;
+    notes = sound.notes;
   }
 
 pub called_sound : (core task : ℕ) (call : Call) (table : Table) → IsSound table → IsInPlace table (steps.Call core task call) → IsCheckedCall table.settings call → length table.control.cores ≤ task → IsSound (called table_moves core task call table).1
@@ -108,9 +110,9 @@ unfolding called
 called_sound core task Yield table sound place checked user = yielded_sound core table sound place.0
 called_sound core task (Delay ticks) table sound place checked user = either (eqb ticks 0) refl
   where
-    either : (b : Bool) → eqb ticks 0 ≡ b → IsSound (cond {A = Reply × Table} b (Done, yielded table_moves core table) (Blocked, blocked table_moves core task (Delay ticks) ticks table)).1
+    either : (b : Bool) → eqb ticks 0 ≡ b → IsSound (cond {A = Reply × Table} b (Done, yielded table_moves core table) (Blocked, blocked table_moves core task (Delay ticks) (Some ticks) table)).1
     either true none = yielded_sound core table sound place.0
-    either false some = blocked_sound core task (Delay ticks) ticks table sound place checked user (grind (arith, nat_tests, some)) checked.words
+    either false some = blocked_sound core task (Delay ticks) (Some ticks) table sound place checked user (grind (arith, nat_tests, some), checked.words)
 called_sound core task Finish table sound place checked user = finished_sound table sound core task Finish place checked user
 called_sound core task (PrioritySet other priority) table sound place checked user = priority_sound table core other priority sound (set_task table.settings other checked.passes)
 called_sound core task (AffinitySet other mask) table sound place checked user = affinity_sound table core other mask sound (masked_task table.settings other mask checked.passes)

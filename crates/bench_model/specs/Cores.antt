@@ -16,7 +16,7 @@ pub record CoresView : Type 0 where
 abbrev pub cores_of : View → CoresView
 cores_of view = record { priorities = view.settings.priorities; slicing = view.settings.slicing; control = view.control; ready = view.orders.ready }
 
--- a kernel of which this is the part, where no task waits or is in a call
+-- a kernel of which this is the part, where no task waits, is in a call or has a notification
 abbrev pub alone : CoresView → View
 alone cores = record {
   settings = record {
@@ -28,6 +28,7 @@ alone cores = record {
   };
   control = cores.control;
   calls = [];
+  notes = [];
   orders = record { ready = cores.ready; tick = 0; delayed = [] };
 }
 

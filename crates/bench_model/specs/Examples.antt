@@ -1,7 +1,8 @@
 -- Worked sessions, without time slicing and with it, and tables that are equal or not.
-use Rattle.std.specs.Prelude.{◌≡◌, ℕ, ◌+◌, ◌*◌, ◌^◌, List, [], ◌∷◌, length, map, Option, Some, true, false, codes, slice_set}
+use Rattle.std.specs.Prelude.{◌≡◌, ℕ, ◌+◌, ◌*◌, ◌^◌, List, Bool, [], ◌∷◌, length, map, Option, Some, None, option_map, true, false, codes, slice_set}
 use Rattle.bench_types.specs.declared.header.Header.{Header}
 use Rattle.bench_types.specs.declared.header.TaskArgs.{TaskArgs}
+use Rattle.bench_types.specs.declared.kernel_data.Delayed.{Delayed}
 use Rattle.bench_types.specs.declared.reply.Reply.{Reply}
 use Rattle.bench_types.specs.declared.reply.Reply.TheVariants.{Done, Refused}
 use Rattle.bench_types.specs.declared.reply.Reply.TheVariants as reply
@@ -14,7 +15,10 @@ use Rattle.bench_model.specs.declared.row.Standing.{Standing}
 use Rattle.bench_model.specs.declared.row.Standing.TheVariants.{Ready, Blocked}
 use Rattle.bench_model.specs.Search.{numbers}
 use Rattle.bench_model.specs.Control.{running}
-use Rattle.bench_model.specs.Table.{Table, row_at}
+use Rattle.bench_model.specs.Steps.{ticked}
+use Rattle.bench_model.specs.Table.{Table, table_moves, row_at, is_ready, delay, advance, due}
+use Rattle.bench_model.specs.Lists.{image}
+use Rattle.bench_model.specs.Looks.{ticks_left}
 use Rattle.bench_model.specs.Start.{start}
 use Rattle.bench_model.specs.Session.{state_at, outcome_at}
 use Rattle.bench_model.specs.Equal.{Same}
@@ -70,6 +74,20 @@ pub record TimedSessions : Type 0 where
   pub sleeps : outcomes (timed three_tasks) (slept (Switch 0) (Switch 1)) ≡ Some (reply.Blocked, 2 ∷ 3 ∷ []) ∷ Some (Done, 4 ∷ 3 ∷ []) ∷ Some (Done, 4 ∷ 3 ∷ []) ∷ Some (Done, 4 ∷ 3 ∷ []) ∷ Some (Done, 4 ∷ 3 ∷ []) ∷ Some (Done, 4 ∷ 3 ∷ []) ∷ Some (Done, 2 ∷ 3 ∷ []) ∷ Some (Done, 2 ∷ 4 ∷ []) ∷ []
   pub wakes_on_other : outcomes (timed three_tasks) (slept (Switch 1) (Switch 0)) ≡ Some (reply.Blocked, 2 ∷ 3 ∷ []) ∷ Some (Done, 4 ∷ 3 ∷ []) ∷ Some (Done, 4 ∷ 3 ∷ []) ∷ Some (Done, 4 ∷ 3 ∷ []) ∷ Some (Done, 4 ∷ 3 ∷ []) ∷ Some (Done, 4 ∷ 3 ∷ []) ∷ Some (Done, 4 ∷ 2 ∷ []) ∷ Some (Done, 3 ∷ 2 ∷ []) ∷ []
 
+-- task 2 waits without end, and task 3 beside it for one tick
+abbrev pub endless : Table
+endless = let table = start three_tasks in record table { orders = delay 3 (Some 1) (delay 2 None table.orders) }
+
+-- whether a task is ready, the ticks to its wake, and the tasks that wait for some ticks
+abbrev pub stands : ℕ → Table → Bool × Option ℕ × List Delayed
+stands task table = (is_ready task table.orders, ticks_left task table.orders, (image table).orders.delayed)
+
+pub record EndlessWaits : Type 0 where
+  pub begins : stands 2 endless ≡ (false, None, (record { task = 3; left = 1 }) ∷ [])
+  pub passed_over : (due (advance endless.orders) ≡ 3 ∷ []) × (is_ready 2 (advance endless.orders) ≡ false)
+  pub waits_on : stands 2 (ticked table_moves endless) ≡ (false, None, [])
+  pub other_is_woken : stands 3 (ticked table_moves endless) ≡ (true, None, [])
+
 -- a table with a task that waits
 abbrev pub waiting : Table
 waiting = state_at three_tasks (Call 0 2 (Delay 2) ∷ []) 1
@@ -77,7 +95,7 @@ waiting = state_at three_tasks (Call 0 2 (Delay 2) ∷ []) 1
 -- one turn of the tick count later, every stamp twice what it was
 abbrev pub wake_later : Standing → Standing
 wake_later Ready = Ready
-wake_later (Blocked wake) = Blocked (wake + 2 ^ 32)
+wake_later (Blocked wake) = Blocked (option_map (λ wake. wake + 2 ^ 32) wake)
 
 abbrev pub row_later : TaskRow → TaskRow
 row_later row = record { stamp = 2 * row.stamp; standing = wake_later row.standing }

@@ -9,7 +9,9 @@ pub mod Laws
 pub mod Lists
 pub mod Looks
 pub mod NoteExamples
+pub mod NoteLaws
 pub mod Notes
+pub mod Notifying
 pub mod Search
 pub mod Seek
 pub mod SeekExamples

@@ -1,5 +1,6 @@
 -- What can be seen of a kernel: its orders as lists, the tick count as 32 bits, and how long each task still waits.
 use Rattle.std.specs.Prelude.{ℕ, ◌+◌, ◌-◌, ◌%◌, ◌^◌, List, map, filter, find, Bool, not, ◌==◌, nat_le, Option, unwrap_or, is_some}
+use Rattle.std.specs.Option.{option_map_or}
 use Rattle.bench_types.specs.declared.kernel_data.Delayed.{Delayed}
 use Rattle.bench_model.specs.Control.{Control, task_at, may_select}
 use Rattle.bench_model.specs.State.{State, Moves}
@@ -38,10 +39,11 @@ make_ready control task lists = record lists {
   delayed = filter (λ entry. not (entry.task == task)) lists.delayed;
 }
 
-unfoldable pub delay : ℕ → ℕ → Lists → Lists
+-- a task that waits without end stands in no list
+unfoldable pub delay : ℕ → Option ℕ → Lists → Lists
 delay task ticks lists = record lists {
   ready = without task lists.ready;
-  delayed = placed wakes_first (record { task = task; left = ticks }) lists.delayed;
+  delayed = option_map_or (λ left. placed wakes_first (record { task = task; left = left }) lists.delayed) ticks lists.delayed;
 }
 
 -- the tick count wraps, and each waiting task has one tick less left
@@ -78,4 +80,4 @@ lists_of control stamps = let in_order = λ (test : ℕ → Bool). by_stamp (sta
 
 -- What can be seen of a table.
 abbrev pub image : Table → View
-image table = record { settings = table.settings; control = table.control; calls = table.calls; orders = lists_of table.control table.orders }
+image table = record { settings = table.settings; control = table.control; calls = table.calls; notes = table.notes; orders = lists_of table.control table.orders }

@@ -3,16 +3,18 @@ use Rattle.std.specs.Prelude.{ℕ, ◌-◌, ◌==◌, List, find, Option, option
 use Rattle.bench_types.specs.declared.kernel_data.Delayed.{Delayed}
 use Rattle.bench_types.specs.declared.kernel_data.TaskLook.{TaskLook}
 use Rattle.bench_model.specs.Control.{task_at}
+use Rattle.bench_model.specs.Notes.{note_at}
 use Rattle.bench_model.specs.State.{call_at}
 use Rattle.bench_model.specs.Search.{has}
 use Rattle.bench_model.specs.Table.{Stamps, Table, row_at, wake_in, is_ready}
 use Rattle.bench_model.specs.Lists.{View}
 
--- the ticks to the wake of a blocked task, none for a ready task (FreeRTOS Reference Manual, vTaskDelay)
+-- the ticks to the wake of a blocked task, none for a ready task and for one that waits without end (FreeRTOS Reference Manual,
+-- vTaskDelay)
 abbrev pub ticks_left : ℕ → Stamps → Option ℕ
 ticks_left task stamps = option_map (λ wake. wake - stamps.tick) (wake_in (row_at stamps task).standing)
 
--- What a table shows of a task (FreeRTOS Reference Manual, vTaskGetInfo).
+-- What a table shows of a task (FreeRTOS Reference Manual, vTaskGetInfo and "Task Notifications").
 unfoldable pub task_look : Table → ℕ → TaskLook
 task_look table task = let block = task_at table.control task in record {
   in_use = block.in_use;
@@ -22,6 +24,8 @@ task_look table task = let block = task_at table.control task in record {
   ready = is_ready task table.orders;
   left = ticks_left task table.orders;
   in_call = is_some (call_at table.calls task);
+  value = (note_at table.notes task).value;
+  state = (note_at table.notes task).state;
 }
 
 -- the ticks that are left in the entry of the task, if there is one
@@ -38,4 +42,6 @@ look_in view task = let block = task_at view.control task in record {
   ready = has task view.orders.ready;
   left = left_in task view.orders.delayed;
   in_call = is_some (call_at view.calls task);
+  value = (note_at view.notes task).value;
+  state = (note_at view.notes task).state;
 }

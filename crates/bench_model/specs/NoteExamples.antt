@@ -1,9 +1,16 @@
--- Worked notifications of one task: what each action, wait and take makes of a value and a state.
-use Rattle.std.specs.Prelude.{◌≡◌, ℕ, ◌-◌, ◌^◌, true, false}
+-- Worked notifications: what each action, wait and take makes of a value and a state, and who is woken.
+use Rattle.std.specs.Prelude.{◌≡◌, ℕ, ◌-◌, ◌^◌, List, [], ◌∷◌, Bool, true, false, Option, Some, None, slice_set}
 use Rattle.bench_types.specs.declared.note.Action.TheVariants.{Nothing, SetBits, Increment, Set, SetNew}
 use Rattle.bench_types.specs.declared.note.NoteState.TheVariants.{NotWaiting, Waiting, Received}
 use Rattle.bench_types.specs.declared.note.Notification.{Notification}
-use Rattle.bench_model.specs.Notes.{no_note, passes, notified, wait_begun, wait_ended, take_begun, take_ended, state_cleared, value_cleared}
+use Rattle.bench_model.specs.Examples.{three_tasks}
+use Rattle.bench_model.specs.Lists.{image}
+use Rattle.bench_model.specs.Notes.{no_note, note_at, passes, notified, wait_begun, wait_ended, take_begun, take_ended, state_cleared, value_cleared}
+use Rattle.bench_model.specs.Notifying.{notify}
+use Rattle.bench_model.specs.Seek.{switched_and_sought}
+use Rattle.bench_model.specs.SeekExamples.{flags, delayed_once}
+use Rattle.bench_model.specs.Start.{start}
+use Rattle.bench_model.specs.Table.{Table, table_moves, is_ready, delay}
 
 abbrev pub resting : ℕ → Notification
 resting value = record { value = value; state = NotWaiting }
@@ -48,3 +55,22 @@ pub record WorkedClears : Type 0 where
   pub nothing_there : state_cleared no_note ≡ (false, no_note)
   pub bits_cleared : value_cleared 5 (received 7) ≡ (7, received 2)
   pub no_bits : value_cleared 0 (waiting 7) ≡ (7, waiting 7)
+
+-- task 2 waits for a notification, for so many ticks or without end, and core 0 runs another
+abbrev pub awaiting : Option ℕ → Table
+awaiting ticks = let table = start three_tasks in
+    switched_and_sought table_moves 0 (record table { orders = delay 2 ticks table.orders; notes = slice_set table.notes 2 (waiting 0) })
+
+-- the notification of task 2, whether it is ready, and the flags of the cores
+abbrev pub shows : Table → Notification × Bool × List (Bool × Bool)
+shows table = (note_at table.notes 2, is_ready 2 table.orders, flags table.control)
+
+-- who is woken by a notification, and who is not
+pub record WorkedNotifies : Type 0 where
+  pub waits : shows (awaiting None) ≡ (waiting 0, false, (false, false) ∷ (false, false) ∷ [])
+  pub woken : shows (notify table_moves 0 2 Increment (awaiting None)) ≡ (received 1, true, (false, false) ∷ (false, true) ∷ [])
+  pub woken_by_core_1 : shows (notify table_moves 1 2 Nothing (awaiting None)) ≡ (received 0, true, (false, false) ∷ (true, false) ∷ [])
+  pub woken_before_its_ticks : (image (notify table_moves 0 2 Increment (awaiting (Some 5)))).orders.delayed ≡ []
+  pub other_notified : shows (notify table_moves 0 3 Increment (awaiting None)) ≡ shows (awaiting None)
+  pub delay_waits_on : shows (notify table_moves 0 2 (Set 5) (delayed_once three_tasks)) ≡ (received 5, false, (false, false) ∷ (false, false) ∷ [])
+  pub ready_keeps_its_place : (notify table_moves 0 3 Increment (start three_tasks)).orders ≡ (start three_tasks).orders

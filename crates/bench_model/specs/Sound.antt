@@ -1,6 +1,7 @@
 -- What the table of every kernel keeps.
-use Rattle.std.specs.Prelude.{◌≡◌, ℕ, ◌+◌, ◌<◌, ◌≤◌, ◌^◌, length, true, false, Some}
+use Rattle.std.specs.Prelude.{◌≡◌, ℕ, ◌+◌, ◌<◌, ◌≤◌, ◌^◌, List, length, true, false, Option, Some, IfSome}
 use Rattle.bench_types.specs.declared.kernel_data.TaskControl.{TaskControl}
+use Rattle.bench_types.specs.declared.note.Notification.{Notification}
 use Rattle.bench_types.specs.declared.step.Step.{Step}
 use Rattle.bench_types.specs.declared.step.Step.TheVariants.{Tick, Switch}
 use Rattle.bench_types.specs.declared.step.Step.TheVariants as steps
@@ -8,14 +9,16 @@ use Rattle.bench_types.specs.declared.step.Call.{Call}
 use Rattle.bench_types.specs.Step.{IsCheckedCall}
 use Rattle.bench_model.specs.declared.row.Standing.TheVariants.{Blocked}
 use Rattle.bench_model.specs.Control.{Control, current, is_due, task_at}
+use Rattle.bench_model.specs.Notes.{note_at}
 use Rattle.bench_model.specs.State.{call_at}
 use Rattle.bench_model.specs.Table.{Stamps, Table, row_at, stamp_of, is_ready}
 
--- there is a row, a control block and an unfinished call or none for each task, and an idle task for each core
+-- there is a row, a control block, a notification and an unfinished call or none for each task, and an idle task for each core
 pub record IsSized (table : Table) : Type 0 where
   pub cores : length table.control.cores ≡ table.settings.cores
   pub controls : length table.control.tasks ≡ table.settings.tasks
   pub calls : length table.calls ≡ table.settings.tasks
+  pub notes : length table.notes ≡ table.settings.tasks
   pub rows : length table.orders.rows ≡ table.settings.tasks
   pub some_core : 0 < table.settings.cores
   pub idle_tasks : table.settings.cores ≤ table.settings.tasks
@@ -32,13 +35,21 @@ pub record IsPlaced (control : Control) (stamps : Stamps) : Type 0 where
   pub blocked_is_due : (c : ℕ) → c < length control.cores → is_ready (current control c) stamps ≡ false → is_due control c ≡ true
   pub idle_is_ready : (i : ℕ) → i < length control.cores → is_ready i stamps ≡ true
 
--- a blocked task is woken after 1 to 4294967295 ticks
+-- a wait is for 1 to 4294967295 ticks, or without end
+abbrev pub IsWait : Option ℕ → Type 0
+IsWait ticks = IfSome ticks (λ ticks. (0 < ticks) × (ticks < 2 ^ 32))
+
+-- a blocked task is woken after 1 to 4294967295 ticks, or waits without end
 abbrev pub WakesInTime : Stamps → Type 0
-WakesInTime stamps = (i wake : ℕ) → i < length stamps.rows → (row_at stamps i).standing ≡ Blocked wake → (stamps.tick < wake) × (wake < stamps.tick + 2 ^ 32)
+WakesInTime stamps = (i wake : ℕ) → i < length stamps.rows → (row_at stamps i).standing ≡ Blocked (Some wake) → (stamps.tick < wake) × (wake < stamps.tick + 2 ^ 32)
 
 -- the priority in use and the base priority are below the number of priorities
 abbrev pub IsBelow : ℕ → TaskControl → Type 0
 IsBelow priorities task = (task.in_use < priorities) × (task.base < priorities)
+
+-- each notification value is a number of 32 bits
+abbrev pub HasWords : List Notification → Type 0
+HasWords notes = (i : ℕ) → i < length notes → (note_at notes i).value < 2 ^ 32
 
 pub record IsSound (table : Table) : Type 0 where
   pub sized : IsSized table
@@ -47,6 +58,7 @@ pub record IsSound (table : Table) : Type 0 where
   pub in_time : WakesInTime table.orders
   pub priorities : (i : ℕ) → i < table.settings.tasks → IsBelow table.settings.priorities (task_at table.control i)
   pub calls : (i : ℕ) (call : Call) → call_at table.calls i ≡ Some call → IsCheckedCall table.settings call
+  pub notes : HasWords table.notes
 
 -- what a checked step that is not refused finds: its core, and for a call its ready task there
 abbrev pub IsInPlace : Table → Step → Type 0

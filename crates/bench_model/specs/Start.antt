@@ -11,6 +11,7 @@ use Rattle.bench_model.specs.declared.row.TaskRow.{TaskRow}
 use Rattle.bench_model.specs.declared.row.Standing.TheVariants.{Ready}
 use Rattle.bench_model.specs.Search.{numbers, ranked}
 use Rattle.bench_model.specs.Control.{Control}
+use Rattle.bench_model.specs.Notes.{no_note}
 use Rattle.bench_model.specs.State.{State, Moves}
 use Rattle.bench_model.specs.Seek.{switched_and_sought}
 use Rattle.bench_model.specs.Table.{Stamps, Table, table_moves}
@@ -59,6 +60,7 @@ module _ {Orders : Type 0} where
     settings = settings_of header;
     control = first_control header;
     calls = replicate (header.config.cores + length header.tasks) None;
+    notes = replicate (header.config.cores + length header.tasks) no_note;
     orders = orders;
   }
 

@@ -2,6 +2,7 @@
 -- another: as stamps and wakes (Table), or as lists (Lists).
 use Rattle.std.specs.Prelude.{ℕ, List, Bool, not, ◌==◌, Option, Some, None, unwrap_or, if◌then◌else◌, slice_index_or, slice_set}
 use Rattle.bench_types.specs.declared.kernel_data.Settings.{Settings}
+use Rattle.bench_types.specs.declared.note.Notification.{Notification}
 use Rattle.bench_types.specs.declared.reply.Refusal.{Refusal}
 use Rattle.bench_types.specs.declared.reply.Refusal.TheVariants.{Displaced, SwitchDue, InCall, NotInCall, NotDue}
 use Rattle.bench_types.specs.declared.step.Step.{Step}
@@ -16,6 +17,8 @@ pub record State (Orders : Type 0) : Type 0 where
   pub control : Control
   -- per task its unfinished call
   pub calls : List (Option Call)
+  -- per task its notification
+  pub notes : List Notification
   -- which tasks are ready and which wait, how long, and in which order
   pub orders : Orders
 
@@ -26,8 +29,8 @@ pub record Moves (Orders : Type 0) : Type 0 where
   pub pick : Control → ℕ → Orders → Option ℕ
   -- the task waits no more and goes to the end of the ready list of its priority
   pub make_ready : Control → ℕ → Orders → Orders
-  -- the task leaves the ready lists and waits for so many ticks
-  pub delay : ℕ → ℕ → Orders → Orders
+  -- the task leaves the ready lists and waits, for so many ticks or without end
+  pub delay : ℕ → Option ℕ → Orders → Orders
   -- one tick more, and the tasks that have waited long enough then, in the order in which they began to wait
   pub advance : Orders → Orders
   pub due : Orders → List ℕ
@@ -72,9 +75,9 @@ module _ {Orders : Type 0} (moves : Moves Orders) where
   unfoldable pub yielded : ℕ → State Orders → State Orders
   yielded core state = record state { control = ask core core state.control }
 
-  -- The task waits in its call for so many ticks, and its core asks itself to switch
+  -- The task waits in its call, for so many ticks or without end, and its core asks itself to switch
   -- (V11 tasks.c, prvAddCurrentTaskToDelayedList).
-  unfoldable pub blocked : ℕ → ℕ → Call → ℕ → State Orders → State Orders
+  unfoldable pub blocked : ℕ → ℕ → Call → Option ℕ → State Orders → State Orders
   blocked core task call ticks state = record state {
     control = ask core core state.control;
     calls = slice_set state.calls task (Some call);

@@ -1,5 +1,5 @@
 -- The rules of the steps, over orders of tasks that are kept in one way or another.
-use Rattle.std.specs.Prelude.{ℕ, List, fold, ◌==◌, None, if◌then◌else◌, slice_set}
+use Rattle.std.specs.Prelude.{ℕ, List, fold, ◌==◌, Some, None, if◌then◌else◌, slice_set}
 use Rattle.std.specs.Option.{option_map_or}
 use Rattle.bench_types.specs.declared.reply.Reply.{Reply}
 use Rattle.bench_types.specs.declared.reply.Reply.TheVariants.{Done, Blocked, Refused}
@@ -25,7 +25,7 @@ module _ {Orders : Type 0} (moves : Moves Orders) where
   unfoldable pub called : ℕ → ℕ → Call → State Orders → Reply × State Orders
   called core task Yield state = (Done, yielded moves core state)
   called core task (Delay ticks) state =
-      if ticks == 0 then (Done, yielded moves core state) else (Blocked, blocked moves core task (Delay ticks) ticks state)
+      if ticks == 0 then (Done, yielded moves core state) else (Blocked, blocked moves core task (Delay ticks) (Some ticks) state)
   called core task Finish state = (Done, record state { calls = slice_set state.calls task None })
   called core task (PrioritySet other priority) state = (Done, priority_set moves core other priority state)
   called core task (AffinitySet other mask) state = (Done, affinity_set moves core other mask state)

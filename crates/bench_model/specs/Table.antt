@@ -1,5 +1,6 @@
 -- The kernel as a flat table: one row a task, whose stamps and absolute wakes give every order.
-use Rattle.std.specs.Prelude.{ℕ, suc, ◌+◌, List, length, Bool, true, false, ◌&&◌, ◌||◌, ◌==◌, nat_lt, nat_le, Option, Some, None, slice_index_or, slice_set}
+use Rattle.std.specs.Prelude.{ℕ, suc, ◌+◌, List, length, Bool, true, false, ◌&&◌, ◌||◌, ◌==◌, nat_lt, nat_le, Option, None, option_map, slice_index_or, slice_set}
+use Rattle.std.specs.Option.{option_map_or}
 use Rattle.bench_model.specs.declared.row.TaskRow.{TaskRow}
 use Rattle.bench_model.specs.declared.row.Standing.{Standing}
 use Rattle.bench_model.specs.declared.row.Standing.TheVariants.{Ready, Blocked}
@@ -8,7 +9,7 @@ use Rattle.bench_model.specs.State.{State, Moves}
 use Rattle.bench_model.specs.Search.{numbers, best, by_stamp}
 
 pub record Stamps : Type 0 where
-  -- per task its stamp and, where it waits, its wake
+  -- per task its stamp and, where it waits for some ticks, its wake
   pub rows : List TaskRow
   -- the tick count, never wrapped
   pub tick : ℕ
@@ -27,10 +28,10 @@ stamp_of stamps task = (row_at stamps task).stamp
 abbrev pub tasks_of : Stamps → List ℕ
 tasks_of stamps = numbers (length stamps.rows)
 
--- the tick count at which the task is to be woken, none for a ready task
+-- the tick count at which the task is to be woken, none for a ready task and for one that waits without end
 abbrev pub wake_in : Standing → Option ℕ
 wake_in Ready = None
-wake_in (Blocked wake) = Some wake
+wake_in (Blocked wake) = wake
 
 abbrev pub stands_ready : Standing → Bool
 stands_ready Ready = true
@@ -62,16 +63,16 @@ pick control core stamps = best (λ task. is_ready task stamps && may_select con
 unfoldable pub make_ready : ℕ → Stamps → Stamps
 make_ready task stamps = restamped task Ready stamps
 
--- Waiting for so many ticks from now (V11 tasks.c, prvAddCurrentTaskToDelayedList).
-unfoldable pub delay : ℕ → ℕ → Stamps → Stamps
-delay task ticks stamps = restamped task (Blocked (stamps.tick + ticks)) stamps
+-- Waiting for so many ticks from now, or without end (V11 tasks.c, prvAddCurrentTaskToDelayedList).
+unfoldable pub delay : ℕ → Option ℕ → Stamps → Stamps
+delay task ticks stamps = restamped task (Blocked (option_map (λ ticks. stamps.tick + ticks) ticks)) stamps
 
 unfoldable pub advance : Stamps → Stamps
 advance stamps = record stamps { tick = suc stamps.tick }
 
+-- the task is to be woken at that tick count; one that waits without end is so at none
 abbrev pub wakes_at : ℕ → Standing → Bool
-wakes_at tick Ready = false
-wakes_at tick (Blocked wake) = wake == tick
+wakes_at tick standing = option_map_or (λ wake. wake == tick) (wake_in standing) false
 
 -- the tasks whose wake is now, in the order in which they began to wait
 unfoldable pub due : Stamps → List ℕ

@@ -1,6 +1,6 @@
 //! The laws between the definitions, each on a function that does nothing: its contract is the law, for every table.
-ghost use Rattle.bench_model.specs.Laws.{StartIsSound, StartAsksNone, StepKeepsSound, SwitchFindsTask, StartIsSeen, StepIsSeen, EqualStaysEqual, EditKeepsSession, ReadyIsSeen, LookIsSeen, ReadyAtEndIsSeen, PickIsSeen, SwitchIsSeen, DelayIsSeen, BlockIsSeen, TickIsSeen, WokenIsSeen, CoresAreApart};
-ghost use Rattle.bench_model.specs.Examples.{WorkedSessions, TimedSessions, EqualTables};
+ghost use Rattle.bench_model.specs.Laws.{StartIsSound, StartAsksNone, StepKeepsSound, SwitchFindsTask, StartIsSeen, StepIsSeen, EqualStaysEqual, EditKeepsSession, ReadyIsSeen, LookIsSeen, ReadyAtEndIsSeen, PickIsSeen, SwitchIsSeen, DelayIsSeen, BlockIsSeen, BlockKeepsSound, TickIsSeen, WokenIsSeen, CoresAreApart};
+ghost use Rattle.bench_model.specs.Examples.{WorkedSessions, TimedSessions, EndlessWaits, EqualTables};
 
 /// Every kernel that starts from a checked header has a sound table.
 pub fn start_is_sound()
@@ -47,7 +47,8 @@ pub fn ready_is_seen()
     ensures { ReadyIsSeen }
 {}
 
-/// What the lists of a table show of a task, its ticks left among it, is what its row and its wake say.
+/// What the lists of a table show of a task, its ticks left among it, is what its row and its wake say: none for a wait without
+/// end.
 pub fn look_is_seen()
     ensures { LookIsSeen }
 {}
@@ -67,7 +68,7 @@ pub fn switch_is_seen()
     ensures { SwitchIsSeen }
 {}
 
-/// A wake so many ticks ahead is an entry with so many ticks left, behind those of as many or fewer.
+/// A wake so many ticks ahead is an entry with so many ticks left, behind those of as many or fewer; a wait without end is none.
 pub fn delay_is_seen()
     ensures { DelayIsSeen }
 {}
@@ -82,9 +83,14 @@ pub fn woken_is_seen()
     ensures { WokenIsSeen }
 {}
 
-/// A call that blocks its task does so over lists.
+/// A call that blocks its task, for some ticks or without end, does so over lists.
 pub fn block_is_seen()
     ensures { BlockIsSeen }
+{}
+
+/// A sound table is sound when a call blocked its user task.
+pub fn block_keeps_sound()
+    ensures { BlockKeepsSound }
 {}
 
 /// Asking a core changes no order of tasks.
@@ -100,6 +106,11 @@ pub fn worked_sessions()
 /// The definitions give the worked sessions with time slicing, where woken tasks seek a core.
 pub fn timed_sessions()
     ensures { TimedSessions }
+{}
+
+/// A task that waits without end is woken by no tick, and one that waits beside it is woken by its tick.
+pub fn endless_waits()
+    ensures { EndlessWaits }
 {}
 
 /// Tables that differ in stamps and absolute times alone are equal; with another order in a ready list they are not.

@@ -2,8 +2,8 @@
 #[derive(Clone, Copy, Debug, PartialEq, Eq)]
 pub enum Standing {
     Ready,
-    /// Blocked until the tick count of the table is `wake`, in ticks.
-    Blocked { wake: u128 },
+    /// Blocked until the tick count of the table is `wake`, in ticks; without end where there is none.
+    Blocked { wake: Option<u128> },
 }
 
 /// What the table keeps of a task's places in the kernel's lists.

@@ -1,7 +1,8 @@
-ghost use Rattle.std.specs.Prelude.{◌≡◌, ℕ, ◌<◌, ◌≤◌, ◌^◌, ◌+◌, ◌==◌, ◌&&◌, length, ◌++◌, map, replicate, option_map, slice_get, All, None, IfOk, IfSome, nat_le, Ok};
+ghost use Rattle.std.specs.Prelude.{◌≡◌, ℕ, ◌<◌, ◌≤◌, ◌^◌, ◌+◌, ◌==◌, ◌&&◌, length, ◌++◌, map, replicate, option_map, slice_get, All, Some, None, IfOk, IfSome, nat_le, Ok};
 ghost use Rattle.bench_types.specs.Step.{call_check, step_check, settings_of, IsStepOfWords};
 ghost use Rattle.bench_types.specs.Header.{header_check};
 ghost use Rattle.bench_model.specs.Control.{is_elsewhere, is_allowed, may_select, is_due, current, run_on, running};
+ghost use Rattle.bench_model.specs.Notes.{no_note};
 ghost use Rattle.bench_model.specs.State.{call_refusal, refusal, queued, switched, yielded, blocked};
 ghost use Rattle.bench_model.specs.Seek.{wake, switched_and_sought};
 ghost use Rattle.bench_model.specs.Steps.{ticked, called, performed};
@@ -17,7 +18,8 @@ mod sets;
 
 use crate::{Standing, TaskRow};
 use bench_types::{
-    Call, CoreLook, Header, Refusal, Reply, Row, Settings, Step, TaskArgs, TaskControl,
+    Call, CoreLook, Header, NoteState, Notification, Refusal, Reply, Row, Settings, Step, TaskArgs,
+    TaskControl,
 };
 use std::alloc::{AllocError, Global};
 use std::marker::Model;
@@ -30,6 +32,7 @@ struct SlowTable {
     cores: Vec<CoreLook>,
     tasks: Vec<TaskControl>,
     calls: Vec<Option<Call>>,
+    notes: Vec<Notification>,
     rows: Vec<TaskRow>,
     tick: u128,
     next: u128,
@@ -46,6 +49,7 @@ impl Model for SlowTable {
       settings = t.settings;
       control = record { cores = t.cores.items; tasks = t.tasks.items };
       calls = t.calls.items;
+      notes = t.notes.items;
       orders = record { rows = t.rows.items; tick = t.tick; next = t.next };
     } };
 
@@ -158,8 +162,8 @@ impl SlowTable {
         ensures { result ≡ wakes_at self.now.orders.tick (row_at self.now.orders task).standing }
     {
         match self.rows[task as usize].standing {
-            Standing::Ready => false,
-            Standing::Blocked { wake } => wake == self.tick,
+            Standing::Ready | Standing::Blocked { wake: None } => false,
+            Standing::Blocked { wake: Some(wake) } => wake == self.tick,
         }
     }
 
@@ -291,12 +295,12 @@ impl SlowTable {
         requires task { task < length self.old.orders.rows }
         requires room { self.old.orders.next + 1 < 2 ^ 128 }
         requires time { self.old.orders.tick + ticks < 2 ^ 128 }
-        ensures { self.new ≡ blocked table_moves core task call ticks self.old }
+        ensures { self.new ≡ blocked table_moves core task call (Some ticks) self.old }
     {
         self.rows[task as usize] = TaskRow {
             stamp: self.next,
             standing: Standing::Blocked {
-                wake: self.tick + u128::from(ticks),
+                wake: Some(self.tick + u128::from(ticks)),
             },
         };
         self.next += 1;
@@ -442,6 +446,16 @@ fn no_calls(alloc: Global, tasks: u32) -> Result<Vec<Option<Call>>, AllocError>
     Ok(calls)
 }
 
+fn no_notes(alloc: Global, tasks: u32) -> Result<Vec<Notification>, AllocError>
+    ensures { IfOk result (λ notes. notes.items ≡ replicate tasks no_note) }
+{
+    let note = Notification {
+        value: 0,
+        state: NoteState::NotWaiting,
+    };
+    vec![in alloc; note; tasks as usize]
+}
+
 fn idle_control(cores: u32) -> TaskControl
     requires { cores ≤ 8 }
     ensures { result ≡ idle_control cores }
@@ -514,12 +528,14 @@ fn unstarted(alloc: Global, header: &Header) -> Result<SlowTable, AllocError>
     let cores = first_cores(alloc, settings.cores)?;
     let tasks = first_controls(alloc, header)?;
     let calls = no_calls(alloc, settings.tasks)?;
+    let notes = no_notes(alloc, settings.tasks)?;
     let rows = first_rows(alloc, settings.cores, users)?;
     Ok(SlowTable {
         settings,
         cores,
         tasks,
         calls,
+        notes,
         rows,
         tick: u128::from(header.config.tick),
         next: u128::from(settings.tasks),

@@ -1,3 +1,5 @@
+use crate::NoteState;
+
 /// What a kernel keeps of the settings that it started with.
 #[derive(Clone, Copy, Debug, PartialEq, Eq, Hash)]
 pub struct Settings {
@@ -54,8 +56,13 @@ pub struct TaskLook {
     pub preempt: bool,
     /// Whether it is in a ready list (`eReady`, or `eRunning` on a core).
     pub ready: bool,
-    /// The ticks to the wake of a blocked task (`xStateListItem` holds the tick count of it); none for a ready task.
+    /// The ticks to the wake of a blocked task (`xStateListItem` holds the tick count of it); none for a ready task and for one
+    /// that waits without end.
     pub left: Option<u32>,
     /// Whether it made a call that has not returned.
     pub in_call: bool,
+    /// The notification value (`ulNotifiedValue`).
+    pub value: u32,
+    /// The state of its notification (`ucNotifyState`).
+    pub state: NoteState,
 }

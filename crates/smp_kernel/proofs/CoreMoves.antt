@@ -4,6 +4,7 @@ use Rattle.std.specs.Prelude.{unwrap_or}
 use Rattle.std.specs.List.{find}
 use Rattle.std.proofs.lemmas.List.{length-set}
 use Rattle.bench_types.specs.declared.kernel_data.Settings.{Settings}
+use Rattle.bench_types.specs.declared.note.Notification.{Notification}
 use Rattle.bench_types.specs.declared.step.Call.{Call}
 use Rattle.bench_model.specs.Search.{placed, without, has}
 use Rattle.bench_model.specs.Control.{Control, current, may_select, in_mask, run_on, ask_each}
@@ -77,9 +78,9 @@ pub turned_cores : (core : ℕ) (cores : CoresView) → on_cores (switched_and_s
 turned_cores core cores = ap cores_of (turn_part core (alone cores) (λ task ready. refl))
 
 -- a switch of the core part is the switch of the kernel
-pub turn_seen : (settings : Settings) (cores : CoresView) (calls : List (Option Call)) (delays : DelayView) (core : ℕ) → IsApart cores.ready delays.delayed → kernel_view settings (on_cores (switched_and_sought list_moves core) cores) calls delays ≡ switched_and_sought list_moves core (kernel_view settings cores calls delays)
-turn_seen settings cores calls delays core apart =
-    ap (λ part. kernel_view settings part calls delays) (turned_cores core cores) ∙ sym (turn_part core (kernel_view settings cores calls delays) apart)
+pub turn_seen : (settings : Settings) (cores : CoresView) (calls : List (Option Call)) (notes : List Notification) (delays : DelayView) (core : ℕ) → IsApart cores.ready delays.delayed → kernel_view settings (on_cores (switched_and_sought list_moves core) cores) calls notes delays ≡ switched_and_sought list_moves core (kernel_view settings cores calls notes delays)
+turn_seen settings cores calls notes delays core apart =
+    ap (λ part. kernel_view settings part calls notes delays) (turned_cores core cores) ∙ sym (turn_part core (kernel_view settings cores calls notes delays) apart)
 
 -- a rule asks cores, and changes no control block and no setting of them
 pub record IsKept (before after : CoresView) : Type 0 where
@@ -114,9 +115,9 @@ pub turned_ready : (core : ℕ) (cores : CoresView) → (on_cores (switched_and_
 turned_ready core cores = ap (λ (part : CoresView). part.ready) (turned_cores core cores)
 
 -- waking a task
-pub wake_seen : (settings : Settings) (cores : CoresView) (calls : List (Option Call)) (delays : DelayView) (task : ℕ) → kernel_view settings (on_cores (wake list_moves 0 task) cores) calls (record delays { delayed = cancelled task delays.delayed }) ≡ wake list_moves 0 task (kernel_view settings cores calls delays)
+pub wake_seen : (settings : Settings) (cores : CoresView) (calls : List (Option Call)) (notes : List Notification) (delays : DelayView) (task : ℕ) → kernel_view settings (on_cores (wake list_moves 0 task) cores) calls notes (record delays { delayed = cancelled task delays.delayed }) ≡ wake list_moves 0 task (kernel_view settings cores calls notes delays)
 unfolding wake make_ready
-wake_seen settings cores calls delays task = refl
+wake_seen settings cores calls notes delays task = refl
 
 pub wake_kept : (task : ℕ) (cores : CoresView) → IsKept cores (on_cores (wake list_moves 0 task) cores)
 unfolding wake
@@ -149,19 +150,19 @@ in_use_part task priority view apart = at (has task view.orders.ready) refl
 pub in_use_cores : (task priority : ℕ) (cores : CoresView) → on_cores (in_use_set list_moves task priority) cores ≡ record cores { control = with_in_use task priority cores.control; ready = queue_of task (with_in_use task priority cores.control) cores.ready }
 in_use_cores task priority cores = ap cores_of (in_use_part task priority (alone cores) (λ task ready. refl))
 
-pub in_use_seen : (settings : Settings) (cores : CoresView) (calls : List (Option Call)) (delays : DelayView) (task priority : ℕ) → IsApart cores.ready delays.delayed → kernel_view settings (on_cores (in_use_set list_moves task priority) cores) calls delays ≡ in_use_set list_moves task priority (kernel_view settings cores calls delays)
-in_use_seen settings cores calls delays task priority apart =
-    ap (λ part. kernel_view settings part calls delays) (in_use_cores task priority cores) ∙ sym (in_use_part task priority (kernel_view settings cores calls delays) apart)
+pub in_use_seen : (settings : Settings) (cores : CoresView) (calls : List (Option Call)) (notes : List Notification) (delays : DelayView) (task priority : ℕ) → IsApart cores.ready delays.delayed → kernel_view settings (on_cores (in_use_set list_moves task priority) cores) calls notes delays ≡ in_use_set list_moves task priority (kernel_view settings cores calls notes delays)
+in_use_seen settings cores calls notes delays task priority apart =
+    ap (λ part. kernel_view settings part calls notes delays) (in_use_cores task priority cores) ∙ sym (in_use_part task priority (kernel_view settings cores calls notes delays) apart)
 
 -- the end of time slices
-pub slice_seen : (settings : Settings) (cores : CoresView) (calls : List (Option Call)) (delays : DelayView) → cores.slicing ≡ settings.slicing → kernel_view settings (on_cores (sliced list_moves) cores) calls delays ≡ sliced list_moves (kernel_view settings cores calls delays)
+pub slice_seen : (settings : Settings) (cores : CoresView) (calls : List (Option Call)) (notes : List Notification) (delays : DelayView) → cores.slicing ≡ settings.slicing → kernel_view settings (on_cores (sliced list_moves) cores) calls notes delays ≡ sliced list_moves (kernel_view settings cores calls notes delays)
 unfolding sliced
-slice_seen settings cores calls delays same = at cores.slicing settings.slicing same
+slice_seen settings cores calls notes delays same = at cores.slicing settings.slicing same
   where
     whole : View
-    whole = kernel_view settings cores calls delays
+    whole = kernel_view settings cores calls notes delays
 
-    at : (b d : Bool) → b ≡ d → kernel_view settings (cores_of (cond b (record (alone cores) { control = ask_each 0 (shares_its_time list_moves (alone cores)) cores.control }) (alone cores))) calls delays ≡ cond d (record whole { control = ask_each 0 (shares_its_time list_moves whole) cores.control }) whole
+    at : (b d : Bool) → b ≡ d → kernel_view settings (cores_of (cond b (record (alone cores) { control = ask_each 0 (shares_its_time list_moves (alone cores)) cores.control }) (alone cores))) calls notes delays ≡ cond d (record whole { control = ask_each 0 (shares_its_time list_moves whole) cores.control }) whole
     at true true is = refl
     at false false is = refl
     at true false is = absurd (cc (is))

@@ -11,6 +11,7 @@ use Rattle.bench_types.proofs.Passes.{checked_header}
 use Rattle.bench_model.specs.Search.{numbers, ranked}
 use Rattle.bench_model.specs.Cores.{cores_of}
 use Rattle.bench_model.specs.Lists.{View, list_moves}
+use Rattle.bench_model.specs.Notes.{no_note}
 use Rattle.bench_model.specs.Seek.{switched_and_sought}
 use Rattle.bench_model.specs.Start.{first_look, first_lists, unstarted, started, start_seen}
 use Rattle.bench_model.proofs.Filters.{fold-append}
@@ -54,13 +55,13 @@ unfolding in_turn unstarted
 in_turn_settings header core = in_turn_settings_at (numbers core) (unstarted (first_lists header) header)
 
 -- the parts of a start show the start over lists, before any core has selected
-pub seen_unstarted : (header : Header) → header.config.tick < 2 ^ 32 → kernel_view (settings_of header) (cores_of (unstarted (first_lists header) header)) (replicate (header.config.cores + length header.tasks) None) (no_delays (header.config.cores + length header.tasks) header.config.tick) ≡ unstarted (first_lists header) header
+pub seen_unstarted : (header : Header) → header.config.tick < 2 ^ 32 → kernel_view (settings_of header) (cores_of (unstarted (first_lists header) header)) (replicate (header.config.cores + length header.tasks) None) (replicate (header.config.cores + length header.tasks) no_note) (no_delays (header.config.cores + length header.tasks) header.config.tick) ≡ unstarted (first_lists header) header
 unfolding unstarted first_lists
 seen_unstarted header low =
     let cut : header.config.tick ≡ header.config.tick % 2 ^ 32 = omega (arith, low) in
-    ap (λ tick. kernel_view (settings_of header) (cores_of (unstarted (first_lists header) header)) (replicate (header.config.cores + length header.tasks) None) (no_delays (header.config.cores + length header.tasks) tick)) cut
+    ap (λ tick. kernel_view (settings_of header) (cores_of (unstarted (first_lists header) header)) (replicate (header.config.cores + length header.tasks) None) (replicate (header.config.cores + length header.tasks) no_note) (no_delays (header.config.cores + length header.tasks) tick)) cut
 
-pub first_kernel_shape : (header : Header) → header_check header ≡ Ok tt → IsKernelShape (settings_of header) (cores_of (unstarted (first_lists header) header)) (replicate (header.config.cores + length header.tasks) None) (no_delays (header.config.cores + length header.tasks) header.config.tick)
+pub first_kernel_shape : (header : Header) → header_check header ≡ Ok tt → IsKernelShape (settings_of header) (cores_of (unstarted (first_lists header) header)) (replicate (header.config.cores + length header.tasks) None) (replicate (header.config.cores + length header.tasks) no_note) (no_delays (header.config.cores + length header.tasks) header.config.tick)
 unfolding unstarted
 first_kernel_shape header passes = record {
   priorities = refl;
@@ -70,6 +71,7 @@ first_kernel_shape header passes = record {
   cores = length-map (numbers header.config.cores) first_look ∙ length-range_with_len 0 header.config.cores;
   controls = first_tasks header;
   calls = length-replicate (header.config.cores + length header.tasks) None;
+  notes = length-replicate (header.config.cores + length header.tasks) no_note;
   delays = refl;
   apart = λ task found. refl;
 }

@@ -41,7 +41,8 @@ not_yet stamps in_time i low = at (row_at stamps i).standing refl
   where
     at : (s : Standing) → (row_at stamps i).standing ≡ s → wakes_at stamps.tick s ≡ false
     at standing.Ready ready = refl
-    at (standing.Blocked wake) waits = grind (arith, nat_tests, (in_time i wake low waits).0)
+    at (standing.Blocked None) waits = refl
+    at (standing.Blocked (Some wake)) waits = grind (arith, nat_tests, (in_time i wake low waits).0)
 
 none_due : (stamps : Stamps) → WakesInTime stamps → due stamps ≡ []
 unfolding due
@@ -99,7 +100,7 @@ priority_settings core task priority view =
 called_settings : (core task : ℕ) (call : Call) (view : View) → (called list_moves core task call view).1.settings ≡ view.settings
 unfolding called yielded blocked affinity_set preemption_off preemption_on
 called_settings core task Yield view = refl
-called_settings core task (Delay ticks) view = elim (eqb ticks 0) as (λ b. (cond b (outcome Done (yielded list_moves core view)) (outcome Blocked (blocked list_moves core task (Delay ticks) ticks view))).1.settings ≡ view.settings) [ true ↦ refl | false ↦ refl ]
+called_settings core task (Delay ticks) view = elim (eqb ticks 0) as (λ b. (cond b (outcome Done (yielded list_moves core view)) (outcome Blocked (blocked list_moves core task (Delay ticks) (Some ticks) view))).1.settings ≡ view.settings) [ true ↦ refl | false ↦ refl ]
 called_settings core task Finish view = refl
 called_settings core task (PrioritySet other priority) view = priority_settings core other priority view
 called_settings core task (AffinitySet other mask) view = refl

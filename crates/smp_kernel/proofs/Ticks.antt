@@ -1,6 +1,7 @@
 -- The tasks that are due are woken one after another, and then time slices end.
 use Rattle.std.proofs.Common.{◌≡◌, ℕ, ◌<◌, List, [], ◌∷◌, length, Option, sym, ap, arith}
 use Rattle.bench_types.specs.declared.kernel_data.Settings.{Settings}
+use Rattle.bench_types.specs.declared.note.Notification.{Notification}
 use Rattle.bench_types.specs.declared.step.Call.{Call}
 use Rattle.bench_model.specs.Steps.{ticked, woken}
 use Rattle.bench_model.specs.Seek.{wake, sliced}
@@ -13,9 +14,9 @@ use Rattle.smp_kernel.specs.Kernel.{kernel_view}
 abbrev pub settled_from : View → View
 settled_from view = sliced list_moves (woken list_moves (due_tasks view.orders.delayed) view)
 
-pub ticked_first : (settings : Settings) (cores : CoresView) (calls : List (Option Call)) (delays : DelayView) (view : View) → kernel_view settings cores calls delays ≡ view → settled_from (kernel_view settings cores calls (advanced delays)) ≡ ticked list_moves view
+pub ticked_first : (settings : Settings) (cores : CoresView) (calls : List (Option Call)) (notes : List Notification) (delays : DelayView) (view : View) → kernel_view settings cores calls notes delays ≡ view → settled_from (kernel_view settings cores calls notes (advanced delays)) ≡ ticked list_moves view
 unfolding ticked due due_tasks advance advanced
-ticked_first settings cores calls delays view shows = ap (ticked list_moves) shows
+ticked_first settings cores calls notes delays view shows = ap (ticked list_moves) shows
 
 pub ticked_more : (view : View) (task : ℕ) → due_tasks view.orders.delayed ≡ task ∷ due_tasks (cancelled task view.orders.delayed) → settled_from (wake list_moves 0 task view) ≡ settled_from view
 unfolding wake make_ready

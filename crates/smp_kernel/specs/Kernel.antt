@@ -2,6 +2,7 @@
 use Rattle.std.specs.Prelude.{◌≡◌, ℕ, ◌<◌, ◌≤◌, List, [], length, true, false, Option, Ok}
 use Rattle.bench_types.specs.declared.kernel_data.Delayed.{Delayed}
 use Rattle.bench_types.specs.declared.kernel_data.Settings.{Settings}
+use Rattle.bench_types.specs.declared.note.Notification.{Notification}
 use Rattle.bench_types.specs.declared.step.Call.{Call}
 use Rattle.bench_types.specs.declared.step.Step.{Step}
 use Rattle.bench_types.specs.declared.step.Step.TheVariants as step
@@ -15,11 +16,12 @@ use Rattle.bench_model.specs.Cores.{CoresView}
 use Rattle.smp_kernel.specs.Parts.{DelayView, is_waiting, due_tasks}
 
 -- what a kernel of these parts shows
-abbrev pub kernel_view : Settings → CoresView → List (Option Call) → DelayView → View
-kernel_view settings cores calls delays = record {
+abbrev pub kernel_view : Settings → CoresView → List (Option Call) → List Notification → DelayView → View
+kernel_view settings cores calls notes delays = record {
   settings = settings;
   control = cores.control;
   calls = calls;
+  notes = notes;
   orders = record { ready = cores.ready; tick = delays.tick; delayed = delays.delayed };
 }
 
@@ -28,7 +30,7 @@ abbrev pub IsApart : List ℕ → List Delayed → Type 0
 IsApart ready delayed = (task : ℕ) → has task ready ≡ true → is_waiting task delayed ≡ false
 
 -- the parts are of the settings, and no task is ready and waits
-pub record IsKernelShape (settings : Settings) (core_part : CoresView) (call_part : List (Option Call)) (delay_part : DelayView) : Type 0 where
+pub record IsKernelShape (settings : Settings) (core_part : CoresView) (call_part : List (Option Call)) (note_part : List Notification) (delay_part : DelayView) : Type 0 where
   pub priorities : core_part.priorities ≡ settings.priorities
   pub slicing : core_part.slicing ≡ settings.slicing
   pub few_cores : settings.cores ≤ 8
@@ -36,6 +38,7 @@ pub record IsKernelShape (settings : Settings) (core_part : CoresView) (call_par
   pub cores : length core_part.control.cores ≡ settings.cores
   pub controls : length core_part.control.tasks ≡ settings.tasks
   pub calls : length call_part ≡ settings.tasks
+  pub notes : length note_part ≡ settings.tasks
   pub delays : delay_part.tasks ≡ settings.tasks
   pub apart : IsApart core_part.ready delay_part.delayed
 

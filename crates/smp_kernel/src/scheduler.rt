@@ -1,4 +1,4 @@
-ghost use Rattle.std.specs.Prelude.{◌≡◌, ◌<◌, ◌≤◌, length, [], true, IfOk, Ok, None, replicate};
+ghost use Rattle.std.specs.Prelude.{◌≡◌, ◌<◌, ◌≤◌, length, [], true, IfOk, Ok, Some, None, replicate};
 ghost use Rattle.bench_types.specs.Header.{header_check};
 ghost use Rattle.bench_types.specs.Step.{call_check, step_check, IsOfWords, IsStepOfWords};
 ghost use Rattle.bench_types.specs.declared.step.Call.TheVariants.{Delay};
@@ -17,6 +17,7 @@ mod sets;
 
 use crate::delays::Delays;
 use bench_types::{Call, CoreLook, Header, Refusal, Reply, Settings, Step, TaskLook};
+use notify_core::Notes;
 use ready_core::Cores;
 use std::alloc::{AllocError, Global};
 use std::marker::Model;
@@ -29,6 +30,7 @@ pub struct Scheduler {
     cores: Cores,
     /// Per task its unfinished call.
     calls: Vec<Option<Call>>,
+    notes: Notes,
     delays: Delays,
 }
 
@@ -38,9 +40,9 @@ impl Model for Scheduler {
 
     ghost Value = { View };
 
-    ghost view = { λ kernel. kernel_view kernel.settings kernel.cores kernel.calls.items kernel.delays };
+    ghost view = { λ kernel. kernel_view kernel.settings kernel.cores kernel.calls.items kernel.notes kernel.delays };
 
-    ghost invariant = { λ kernel. IsKernelShape kernel.settings kernel.cores kernel.calls.items kernel.delays };
+    ghost invariant = { λ kernel. IsKernelShape kernel.settings kernel.cores kernel.calls.items kernel.notes kernel.delays };
 }
 
 impl Scheduler {
@@ -75,6 +77,7 @@ impl Scheduler {
             settings,
             cores: Cores::new(alloc, header)?,
             calls: no_calls(alloc, tasks)?,
+            notes: Notes::new(alloc, tasks)?,
             delays: Delays::new(alloc, tasks, config.tick)?,
         })
     }
@@ -110,6 +113,8 @@ impl Scheduler {
             ready: self.cores.ready(task),
             left: self.delays.left(task),
             in_call: self.calls[task as usize].is_some(),
+            value: self.notes.value(task),
+            state: self.notes.state(task),
         }
     }
 
@@ -286,7 +291,7 @@ impl Scheduler {
         requires core { core < self.old.settings.cores }
         requires task { task < self.old.settings.tasks }
         requires ready { has task self.old.orders.ready ≡ true }
-        ensures { self.new ≡ blocked list_moves core task call ticks self.old }
+        ensures { self.new ≡ blocked list_moves core task call (Some ticks) self.old }
     {
         self.cores.ask(core, core);
         self.calls[task as usize] = Some(call);

@@ -1,10 +1,17 @@
-use Rattle.std.proofs.Common.{◌≡◌, ◌+◌, ◌-◌, false, length, ap, ◌∙◌, arith}
+use Rattle.std.proofs.Common.{◌≡◌, ℕ, ◌+◌, ◌-◌, false, List, ◌++◌, length, map, replicate, Option, None, ap, ◌∙◌, arith}
 use Rattle.std.specs.Prelude.{slice_index_or}
 use Rattle.std.proofs.lemmas.List.{length-replicate}
 use Rattle.std.proofs.lemmas.List.FromFn.{length-map-range_with_len, get_or-map-range_with_len}
 use Rattle.bench_types.specs.declared.kernel_data.CoreLook.{CoreLook}
 use Rattle.bench_types.specs.declared.kernel_data.Settings.{Settings}
-use Rattle.bench_model.specs.Start.{first_look}
+use Rattle.bench_types.specs.declared.kernel_data.TaskControl.{TaskControl}
+use Rattle.bench_types.specs.declared.note.Notification.{Notification}
+use Rattle.bench_types.specs.declared.step.Call.{Call}
+use Rattle.bench_model.specs.declared.row.TaskRow.{TaskRow}
+use Rattle.bench_model.specs.Notes.{no_note}
+use Rattle.bench_model.specs.Search.{numbers}
+use Rattle.bench_model.specs.Start.{first_look, ready_row, first_stamps, unstarted}
+use Rattle.bench_model.specs.Table.{Table}
 use Rattle.bench_model.proofs.Starts.{first_tasks, length_ranges}
 use Rattle.bench_model.proofs.slow.unstarted.Goals as goal
 
@@ -27,3 +34,33 @@ invariant_of-result c =
           let look = ap (λ looks. slice_index_or looks core no_look) c.in_ok-cores.ensures ∙ get_or-map-range_with_len first_look 0 settings.cores core core no_look low (omega arith) in
           omega (arith, ap (λ (l : CoreLook). l.current) look, cores, tasks);
     }
+
+abbrev table_of : Settings → List CoreLook → List TaskControl → List (Option Call) → List Notification → List TaskRow → ℕ → ℕ → Table
+table_of settings cores tasks calls notes rows tick next = record {
+  settings = settings;
+  control = record { cores = cores; tasks = tasks };
+  calls = calls;
+  notes = notes;
+  orders = record { rows = rows; tick = tick; next = next };
+}
+
+same_table : {s t : Settings} {cs ds : List CoreLook} {bs es : List TaskControl} {us vs : List (Option Call)} {ns ms : List Notification} {rs qs : List TaskRow} {i j k l : ℕ} → s ≡ t → cs ≡ ds → bs ≡ es → us ≡ vs → ns ≡ ms → rs ≡ qs → i ≡ j → k ≡ l → table_of s cs bs us ns rs i k ≡ table_of t ds es vs ms qs j l
+same_table a b c d e f g h = cc
+
+abbrev rows_for : ℕ → ℕ → List TaskRow
+rows_for cores users = map (λ core. ready_row (users + core)) (numbers cores) ++ map ready_row (numbers users)
+
+pub returns : goal.returns
+unfolding unstarted first_stamps
+returns c =
+    let header = c.args.header.now in
+    let settings = c.settings_of-settings.result in
+    let same = c.settings_of-settings.ensures in
+    let cores : settings.cores ≡ header.config.cores = ap (λ (s : Settings). s.cores) same in
+    let tasks : settings.tasks ≡ header.config.cores + length header.tasks = ap (λ (s : Settings). s.tasks) same in
+    let users : settings.tasks - settings.cores ≡ length header.tasks = omega (arith, cores, tasks) in
+    same_table same (c.in_ok-cores.ensures ∙ ap (λ n. map first_look (numbers n)) cores) c.in_ok-tasks.ensures
+    (c.in_ok-calls.ensures ∙ ap (λ n. replicate n None) tasks)
+    (c.in_ok-notes.ensures ∙ ap (λ n. replicate n no_note) tasks)
+    (c.in_ok-rows.ensures ∙ ap (λ n. rows_for n (settings.tasks - settings.cores)) cores ∙ ap (rows_for header.config.cores) users)
+    c.from.ensures (c.from-2.ensures ∙ tasks)

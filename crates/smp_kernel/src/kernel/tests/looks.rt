@@ -1,5 +1,5 @@
 use super::{SWITCH_0, Started, call, three_tasks};
-use bench_types::{Call, Step, TaskLook};
+use bench_types::{Call, NoteState, Step, TaskLook};
 use std::test::Fail;
 
 #[test]
@@ -14,6 +14,8 @@ fn looks_of_tasks(rt: HostRuntime) -> Result<(), Fail> {
         ready: true,
         left: None,
         in_call: false,
+        value: 0,
+        state: NoteState::NotWaiting,
     };
     let idle = TaskLook {
         in_use: 0,

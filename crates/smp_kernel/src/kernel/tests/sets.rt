@@ -1,6 +1,6 @@
 //! The calls that set a task's priority, core affinity mask and preemption.
 use super::{CONFIG, SWITCH_0, SWITCH_1, Started, call, header_of, play, three_tasks};
-use bench_types::{Call, Header, Reply, Step, TaskLook};
+use bench_types::{Call, Header, NoteState, Reply, Step, TaskLook};
 use std::process::Abort;
 use std::rt::Runtime;
 use std::test::Fail;
@@ -94,6 +94,8 @@ fn a_blocked_task_that_is_current(rt: HostRuntime) -> Result<(), Fail> {
         ready: false,
         left: Some(5),
         in_call: true,
+        value: 0,
+        state: NoteState::NotWaiting,
     };
     let of_1 = TaskLook { mask: 2, ..blocked };
     let lowered = TaskLook {
@@ -182,6 +184,8 @@ fn numbers_that_are_cut(rt: HostRuntime) -> Result<(), Fail> {
         ready: true,
         left: None,
         in_call: false,
+        value: 0,
+        state: NoteState::NotWaiting,
     };
     assert_eq!(rt; started.look(3), cut);
     Ok(())

@@ -12,6 +12,7 @@ invariant_of-self c = rw (c.delay.ensures, c.unready.ensures, c.ask.ensures) (re
   cores = length-set _ c.args.core _ ∙ c.self.invariant.cores;
   controls = c.self.invariant.controls;
   calls = length-set _ c.args.task _ ∙ c.self.invariant.calls;
+  notes = c.self.invariant.notes;
   delays = c.self.invariant.delays;
   apart = apart_waiting (record { task = c.args.task; left = c.args.ticks }) _ _ c.self.invariant.apart;
 })

@@ -14,6 +14,7 @@ invariant_of-self c =
       cores = more.cores ∙ c.self.invariant.cores;
       controls = ap length more.tasks ∙ c.self.invariant.controls;
       calls = c.self.invariant.calls;
+      notes = c.self.invariant.notes;
       delays = c.self.invariant.delays;
       apart = c.self.invariant.apart;
     })

@@ -18,13 +18,14 @@ invariant_of-self c =
       cores = c.self.invariant.cores;
       controls = length-set cores.control.tasks c.args.task _ ∙ c.self.invariant.controls;
       calls = c.self.invariant.calls;
+      notes = c.self.invariant.notes;
       delays = c.self.invariant.delays;
       apart = apart_queued c.args.task (with_in_use c.args.task c.args.priority cores.control) _ _ c.self.invariant.apart;
     })
 
 pub returns-clause-set : goal.returns-clause-set
 returns-clause-set c =
-    rw c.set_in_use.ensures (in_use_seen c.self.inside.settings c.self.inside.cores c.self.inside.calls.items c.self.inside.delays c.args.task c.args.priority c.self.invariant.apart ∙ ap (in_use_set list_moves c.args.task c.args.priority) c.self.view_is)
+    rw c.set_in_use.ensures (in_use_seen c.self.inside.settings c.self.inside.cores c.self.inside.calls.items c.self.inside.notes c.self.inside.delays c.args.task c.args.priority c.self.invariant.apart ∙ ap (in_use_set list_moves c.args.task c.args.priority) c.self.view_is)
 
 pub returns-clause-ready : goal.returns-clause-ready
 returns-clause-ready c =

@@ -15,9 +15,10 @@ invariant_of-self c =
       cores = kept.cores ∙ c.self.invariant.cores;
       controls = kept.controls ∙ c.self.invariant.controls;
       calls = c.self.invariant.calls;
+      notes = c.self.invariant.notes;
       delays = c.self.invariant.delays;
       apart = rw (slice_ready c.self.inside.cores) c.self.invariant.apart;
     })
 
 pub returns : goal.returns
-returns c = rw c.slice.ensures (slice_seen c.self.inside.settings c.self.inside.cores c.self.inside.calls.items c.self.inside.delays c.self.invariant.slicing ∙ ap (sliced list_moves) c.self.view_is)
+returns c = rw c.slice.ensures (slice_seen c.self.inside.settings c.self.inside.cores c.self.inside.calls.items c.self.inside.notes c.self.inside.delays c.self.invariant.slicing ∙ ap (sliced list_moves) c.self.view_is)

@@ -17,9 +17,10 @@ invariant_of-self c =
       cores = kept.cores ∙ c.self.invariant.cores;
       controls = kept.controls ∙ c.self.invariant.controls;
       calls = c.self.invariant.calls;
+      notes = c.self.invariant.notes;
       delays = c.self.invariant.delays;
       apart = rw (turned_ready c.args.core c.self.inside.cores) (apart_queued (current c.self.inside.cores.control c.args.core) c.self.inside.cores.control _ _ c.self.invariant.apart);
     })
 
 pub returns : goal.returns
-returns c = rw c.select.ensures (turn_seen c.self.inside.settings c.self.inside.cores c.self.inside.calls.items c.self.inside.delays c.args.core c.self.invariant.apart ∙ ap (switched_and_sought list_moves c.args.core) c.self.view_is)
+returns c = rw c.select.ensures (turn_seen c.self.inside.settings c.self.inside.cores c.self.inside.calls.items c.self.inside.notes c.self.inside.delays c.args.core c.self.invariant.apart ∙ ap (switched_and_sought list_moves c.args.core) c.self.view_is)

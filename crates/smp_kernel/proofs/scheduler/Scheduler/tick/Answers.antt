@@ -15,12 +15,13 @@ invariant_of-self c = rw c.advance.ensures (record {
   cores = c.self.invariant.cores;
   controls = c.self.invariant.controls;
   calls = c.self.invariant.calls;
+  notes = c.self.invariant.notes;
   delays = c.self.invariant.delays;
   apart = apart_advanced c.self.inside.cores.ready c.self.inside.delays c.self.invariant.apart;
 })
 
 pub loop-task-init : goal.loop-task-init
-loop-task-init c = rw c.advance.ensures (ticked_first c.self.inside.settings c.self.inside.cores c.self.inside.calls.items c.self.inside.delays _ c.self.view_is)
+loop-task-init c = rw c.advance.ensures (ticked_first c.self.inside.settings c.self.inside.cores c.self.inside.calls.items c.self.inside.notes c.self.inside.delays _ c.self.view_is)
 
 pub loop-task-smaller : goal.loop-task-smaller
 loop-task-smaller c =

@@ -17,9 +17,10 @@ invariant_of-self c =
       cores = kept.cores ∙ c.self.invariant.cores;
       controls = kept.controls ∙ c.self.invariant.controls;
       calls = c.self.invariant.calls;
+      notes = c.self.invariant.notes;
       delays = c.self.invariant.delays;
       apart = rw (wake_ready c.args.task c.self.inside.cores) (apart_ready c.self.inside.cores.control c.args.task _ _ c.self.invariant.apart);
     })
 
 pub returns : goal.returns
-returns c = rw (c.make_ready.ensures, c.cancel.ensures) (wake_seen c.self.inside.settings c.self.inside.cores c.self.inside.calls.items c.self.inside.delays c.args.task ∙ ap (wake list_moves 0 c.args.task) c.self.view_is)
+returns c = rw (c.make_ready.ensures, c.cancel.ensures) (wake_seen c.self.inside.settings c.self.inside.cores c.self.inside.calls.items c.self.inside.notes c.self.inside.delays c.args.task ∙ ap (wake list_moves 0 c.args.task) c.self.view_is)

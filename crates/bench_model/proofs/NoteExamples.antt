@@ -66,5 +66,6 @@ notifies = record {
   woken_before_its_ticks = refl;
   other_notified = refl;
   delay_waits_on = refl;
+  ticks_have_run_out = refl;
   ready_keeps_its_place = refl;
 }

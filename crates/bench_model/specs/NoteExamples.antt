@@ -65,6 +65,10 @@ awaiting ticks = let table = start three_tasks in
 abbrev pub shows : Table → Notification × Bool × List (Bool × Bool)
 shows table = (note_at table.notes 2, is_ready 2 table.orders, flags table.control)
 
+-- the ticks of task 3 have run out, and its call that waited for a notification has not completed yet
+abbrev pub late : Table → Table
+late table = record table { notes = slice_set table.notes 3 (waiting 0) }
+
 -- who is woken by a notification, and who is not
 pub record WorkedNotifies : Type 0 where
   pub waits : shows (awaiting None) ≡ (waiting 0, false, (false, false) ∷ (false, false) ∷ [])
@@ -73,4 +77,5 @@ pub record WorkedNotifies : Type 0 where
   pub woken_before_its_ticks : (image (notify table_moves 0 2 Increment (awaiting (Some 5)))).orders.delayed ≡ []
   pub other_notified : shows (notify table_moves 0 3 Increment (awaiting None)) ≡ shows (awaiting None)
   pub delay_waits_on : shows (notify table_moves 0 2 (Set 5) (delayed_once three_tasks)) ≡ (received 5, false, (false, false) ∷ (false, false) ∷ [])
+  pub ticks_have_run_out : (image (notify table_moves 0 3 Increment (late (start three_tasks)))).orders.ready ≡ 2 ∷ 4 ∷ 3 ∷ 0 ∷ 1 ∷ []
   pub ready_keeps_its_place : (notify table_moves 0 3 Increment (start three_tasks)).orders ≡ (start three_tasks).orders

@@ -2,7 +2,7 @@
 use Rattle.std.specs.Prelude.{◌≡◌, ℕ, ◌<◌, List, length}
 use Rattle.bench_types.specs.declared.note.Action.{Action}
 use Rattle.bench_types.specs.declared.note.Notification.{Notification}
-use Rattle.bench_model.specs.Notes.{IsOfWord}
+use Rattle.bench_types.specs.Step.{IsActionOfWord}
 use Rattle.bench_model.specs.Notifying.{notify}
 use Rattle.bench_model.specs.Table.{Table, table_moves}
 use Rattle.bench_model.specs.Lists.{list_moves, image}
@@ -14,7 +14,7 @@ NotifyIsSeen = (table : Table) (acting task : ℕ) (action : Action) → IsSound
     image (notify table_moves acting task action table) ≡ notify list_moves acting task action (image table)
 
 abbrev pub NotifyKeepsSound : Type 0
-NotifyKeepsSound = (table : Table) (acting task : ℕ) (action : Action) → IsSound table → task < table.settings.tasks → IsOfWord action →
+NotifyKeepsSound = (table : Table) (acting task : ℕ) (action : Action) → IsSound table → task < table.settings.tasks → IsActionOfWord action →
     IsSound (notify table_moves acting task action table)
 
 -- other notifications are seen as they are, and change nothing else that is seen

@@ -1,6 +1,6 @@
 -- Task notifications: what comes to a task, and what the calls that wait for it take (FreeRTOS Reference Manual, "Task
 -- Notifications").
-use Rattle.std.specs.Prelude.{ℕ, ◌+◌, ◌-◌, ◌<◌, ◌^◌, ◌%◌, ◌==◌, List, Bool, true, false, if◌then◌else◌, slice_index_or, slice_set}
+use Rattle.std.specs.Prelude.{ℕ, ◌+◌, ◌-◌, ◌^◌, ◌%◌, ◌==◌, List, Bool, true, false, if◌then◌else◌, slice_index_or, slice_set}
 use Rattle.std.specs.Int.{w32, bit_not}
 use Rattle.std.specs.Int.Bits.{bit_and, bit_or}
 use Rattle.bench_types.specs.declared.note.Action.{Action}
@@ -40,13 +40,6 @@ acted (SetBits bits) value = bit_or value bits
 acted Increment value = (value + 1) % 2 ^ 32
 acted (Set new) value = new
 acted (SetNew new) value = new
-
--- the number of an action is one of 32 bits
-abbrev pub IsOfWord : Action → Type 0
-IsOfWord (SetBits bits) = bits < 2 ^ 32
-IsOfWord (Set new) = new < 2 ^ 32
-IsOfWord (SetNew new) = new < 2 ^ 32
-IsOfWord action = Unit {0}
 
 -- What a notification makes of a task's (V11 tasks.c, xTaskGenericNotify).
 unfoldable pub notified : Action → Notification → Notification

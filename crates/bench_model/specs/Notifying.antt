@@ -1,9 +1,48 @@
--- Notifying a task, over orders of tasks that are kept in one way or another.
-use Rattle.std.specs.Prelude.{ℕ, if◌then◌else◌, slice_set}
+-- Notifying a task and waiting for that, over orders of tasks that are kept in one way or another.
+use Rattle.std.specs.Prelude.{ℕ, ◌-◌, ◌^◌, List, Bool, ◌&&◌, ◌==◌, nat_lt, Option, Some, None, if◌then◌else◌, slice_set}
+use Rattle.std.specs.Option.{option_map_or}
 use Rattle.bench_types.specs.declared.note.Action.{Action}
-use Rattle.bench_model.specs.Notes.{note_at, is_waiting, notified}
-use Rattle.bench_model.specs.State.{State, Moves}
+use Rattle.bench_types.specs.declared.note.Note.{Note}
+use Rattle.bench_types.specs.declared.note.Notification.{Notification}
+use Rattle.bench_types.specs.declared.reply.Reply.{Reply}
+use Rattle.bench_types.specs.declared.reply.Reply.TheVariants.{Done, Blocked, Flag, Value, Waited, Isr}
+use Rattle.bench_types.specs.declared.step.Call.{Call}
+use Rattle.bench_types.specs.declared.step.Call.TheVariants.{NotifyWait, NotifyTake}
+use Rattle.bench_model.specs.Control.{core_at}
+use Rattle.bench_model.specs.Notes.{note_at, is_waiting, passes, notified, wait_ended, take_ended, state_cleared, value_cleared, of_task}
+use Rattle.bench_model.specs.State.{State, Moves, call_at, blocked}
 use Rattle.bench_model.specs.Seek.{wake}
+
+-- a notification is awaited for so many ticks; 4294967295 are without end (FreeRTOS Reference Manual, portMAX_DELAY)
+abbrev pub awaited_for : ℕ → Option ℕ
+awaited_for ticks = if ticks == 2 ^ 32 - 1 then None else Some ticks
+
+module _ {Orders : Type 0} where
+  abbrev pub is_passed : Note → State Orders → Bool
+  is_passed note state = passes note.action (note_at state.notes note.task).state
+
+  -- Whether a notification had come to the task (FreeRTOS Reference Manual, xTaskNotifyStateClear).
+  unfoldable pub state_forgotten : ℕ → State Orders → Reply × State Orders
+  state_forgotten task state = let made = of_task task state_cleared state.notes in (Flag made.0, record state { notes = made.1 })
+
+  -- The task's value before its bits are cleared (FreeRTOS Reference Manual, ulTaskNotifyValueClear).
+  unfoldable pub bits_cleared : ℕ → ℕ → State Orders → Reply × State Orders
+  bits_cleared task bits state = let made = of_task task (value_cleared bits) state.notes in (Value made.0, record state { notes = made.1 })
+
+  -- A call completes: one that waited for a notification answers with that, every other is done (V11 tasks.c,
+  -- xTaskGenericNotifyWait and ulTaskGenericNotifyTake).
+  unfoldable pub completed : ℕ → Call → State Orders → Reply × State Orders
+  completed task (NotifyWait entry exit ticks) state =
+      let made = of_task task (wait_ended exit) state.notes in
+      (Waited made.0.0 made.0.1, record state { notes = made.1 })
+  completed task (NotifyTake clear ticks) state =
+      let made = of_task task (take_ended clear) state.notes in
+      (Value made.0, record state { notes = made.1 })
+  completed task call state = (Done, state)
+
+  -- The unfinished call of a task ends.
+  unfoldable pub finished : ℕ → State Orders → Reply × State Orders
+  finished task state = option_map_or (λ call. completed task call (record state { calls = slice_set state.calls task None })) (call_at state.calls task) (Done, state)
 
 module _ {Orders : Type 0} (moves : Moves Orders) where
   -- Notifying a task; one that waits for it is woken (V11 tasks.c, xTaskGenericNotify). The core acts.
@@ -12,3 +51,17 @@ module _ {Orders : Type 0} (moves : Moves Orders) where
       let note = note_at state.notes task in
       let told = record state { notes = slice_set state.notes task (notified action note) } in
       if is_waiting note.state then wake moves acting task told else told
+
+  -- An interrupt of the core notifies a task. It answers whether that passed, and whether the core is to switch by its own
+  -- request then (FreeRTOS Reference Manual, xTaskNotifyFromISR and pxHigherPriorityTaskWoken).
+  unfoldable pub interrupted : ℕ → Note → State Orders → Reply × State Orders
+  interrupted core note state =
+      let told = notify core note.task note.action state in
+      (Isr (is_passed note state) (core_at told.control core).pend, told)
+
+  -- A call that has begun to wait for a notification: where it has nothing to complete with, and some ticks to wait, its task
+  -- is blocked, else it completes at once (V11 tasks.c, xTaskGenericNotifyWait and ulTaskGenericNotifyTake).
+  unfoldable pub awaited : ℕ → ℕ → Call → ℕ → Bool × List Notification → State Orders → Reply × State Orders
+  awaited core task call ticks begun state =
+      let waiting = record state { notes = begun.1 } in
+      if begun.0 && nat_lt 0 ticks then (Blocked, blocked moves core task call (awaited_for ticks) waiting) else completed task call waiting

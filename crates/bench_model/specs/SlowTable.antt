@@ -7,5 +7,6 @@ pub record IsFit (table : Inside) : Type 0 where
   pub cores : length table.cores.items ≡ table.settings.cores
   pub controls : length table.tasks.items ≡ table.settings.tasks
   pub calls : length table.calls.items ≡ table.settings.tasks
+  pub notes : length table.notes.items ≡ table.settings.tasks
   pub rows : length table.rows.items ≡ table.settings.tasks
   pub runs_tasks : (core : ℕ) → core < table.settings.cores → (slice_index_or table.cores.items core (record { current = 0; pend = false; asked = false })).current < table.settings.tasks

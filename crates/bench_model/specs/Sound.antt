@@ -3,7 +3,7 @@ use Rattle.std.specs.Prelude.{◌≡◌, ℕ, ◌+◌, ◌<◌, ◌≤◌, ◌^�
 use Rattle.bench_types.specs.declared.kernel_data.TaskControl.{TaskControl}
 use Rattle.bench_types.specs.declared.note.Notification.{Notification}
 use Rattle.bench_types.specs.declared.step.Step.{Step}
-use Rattle.bench_types.specs.declared.step.Step.TheVariants.{Tick, Switch}
+use Rattle.bench_types.specs.declared.step.Step.TheVariants.{Tick, Switch, Interrupt}
 use Rattle.bench_types.specs.declared.step.Step.TheVariants as steps
 use Rattle.bench_types.specs.declared.step.Call.{Call}
 use Rattle.bench_types.specs.Step.{IsCheckedCall}
@@ -64,4 +64,5 @@ pub record IsSound (table : Table) : Type 0 where
 abbrev pub IsInPlace : Table → Step → Type 0
 IsInPlace table Tick = Unit {0}
 IsInPlace table (Switch core) = core < length table.control.cores
+IsInPlace table (Interrupt core note) = (core < length table.control.cores) × (note.task < table.settings.tasks)
 IsInPlace table (steps.Call core task call) = (core < length table.control.cores) × (current table.control core ≡ task) × (task < length table.orders.rows) × (is_ready task table.orders ≡ true)

@@ -6,7 +6,7 @@ use Rattle.bench_types.specs.declared.note.Notification.{Notification}
 use Rattle.bench_types.specs.declared.reply.Refusal.{Refusal}
 use Rattle.bench_types.specs.declared.reply.Refusal.TheVariants.{Displaced, SwitchDue, InCall, NotInCall, NotDue}
 use Rattle.bench_types.specs.declared.step.Step.{Step}
-use Rattle.bench_types.specs.declared.step.Step.TheVariants.{Tick, Switch}
+use Rattle.bench_types.specs.declared.step.Step.TheVariants.{Tick, Switch, Interrupt}
 use Rattle.bench_types.specs.declared.step.Step.TheVariants as steps
 use Rattle.bench_types.specs.declared.step.Call.{Call}
 use Rattle.bench_types.specs.declared.step.Call.TheVariants.{Finish}
@@ -48,6 +48,7 @@ call_refusal (Some unfinished) _ = Some InCall
 -- Why a step is refused, the first reason that applies.
 unfoldable pub refusal : Control → List (Option Call) → Step → Option Refusal
 refusal control calls Tick = None
+refusal control calls (Interrupt core note) = None
 refusal control calls (Switch core) = if is_due control core then None else Some NotDue
 refusal control calls (steps.Call core task call) =
     if not (current control core == task) then Some Displaced

@@ -1,16 +1,18 @@
 -- The rules of the steps, over orders of tasks that are kept in one way or another.
-use Rattle.std.specs.Prelude.{ℕ, List, fold, ◌==◌, Some, None, if◌then◌else◌, slice_set}
+use Rattle.std.specs.Prelude.{ℕ, List, fold, ◌==◌, Some, None, if◌then◌else◌}
 use Rattle.std.specs.Option.{option_map_or}
 use Rattle.bench_types.specs.declared.reply.Reply.{Reply}
-use Rattle.bench_types.specs.declared.reply.Reply.TheVariants.{Done, Blocked, Refused}
+use Rattle.bench_types.specs.declared.reply.Reply.TheVariants.{Done, Blocked, Flag, Refused}
 use Rattle.bench_types.specs.declared.step.Step.{Step}
-use Rattle.bench_types.specs.declared.step.Step.TheVariants.{Tick, Switch}
+use Rattle.bench_types.specs.declared.step.Step.TheVariants.{Tick, Switch, Interrupt}
 use Rattle.bench_types.specs.declared.step.Step.TheVariants as steps
 use Rattle.bench_types.specs.declared.step.Call.{Call}
-use Rattle.bench_types.specs.declared.step.Call.TheVariants.{Yield, Delay, Finish, PrioritySet, AffinitySet, PreemptOff, PreemptOn}
+use Rattle.bench_types.specs.declared.step.Call.TheVariants.{Yield, Delay, Finish, PrioritySet, AffinitySet, PreemptOff, PreemptOn, Notify, NotifyWait, NotifyTake, StateClear, ValueClear}
 use Rattle.bench_model.specs.State.{State, Moves, refusal, yielded, blocked}
 use Rattle.bench_model.specs.Seek.{wake, switched_and_sought, sliced}
 use Rattle.bench_model.specs.Sets.{priority_set, affinity_set, preemption_off, preemption_on}
+use Rattle.bench_model.specs.Notes.{wait_begun, take_begun, of_task}
+use Rattle.bench_model.specs.Notifying.{notify, is_passed, interrupted, state_forgotten, bits_cleared, finished, awaited}
 
 module _ {Orders : Type 0} (moves : Moves Orders) where
   -- the tasks are woken in turn, by core 0
@@ -26,17 +28,24 @@ module _ {Orders : Type 0} (moves : Moves Orders) where
   called core task Yield state = (Done, yielded moves core state)
   called core task (Delay ticks) state =
       if ticks == 0 then (Done, yielded moves core state) else (Blocked, blocked moves core task (Delay ticks) (Some ticks) state)
-  called core task Finish state = (Done, record state { calls = slice_set state.calls task None })
+  called core task Finish state = finished task state
   called core task (PrioritySet other priority) state = (Done, priority_set moves core other priority state)
   called core task (AffinitySet other mask) state = (Done, affinity_set moves core other mask state)
   called core task (PreemptOff other) state = (Done, preemption_off moves other state)
   called core task (PreemptOn other) state = (Done, preemption_on moves core other state)
+  called core task (Notify note) state = (Flag (is_passed note state), notify moves core note.task note.action state)
+  called core task (NotifyWait entry exit ticks) state =
+      awaited moves core task (NotifyWait entry exit ticks) ticks (of_task task (wait_begun entry) state.notes) state
+  called core task (NotifyTake clear ticks) state = awaited moves core task (NotifyTake clear ticks) ticks (of_task task take_begun state.notes) state
+  called core task (StateClear other) state = state_forgotten other state
+  called core task (ValueClear other bits) state = bits_cleared other bits state
 
   -- what a step that is not refused answers and does
   unfoldable pub performed : Step → State Orders → Reply × State Orders
   performed Tick state = (Done, ticked state)
   performed (Switch core) state = (Done, switched_and_sought moves core state)
   performed (steps.Call core task call) state = called core task call state
+  performed (Interrupt core note) state = interrupted moves core note state
 
   -- The step: its reply and the state afterwards. A refused step changes nothing.
   unfoldable pub after : Step → State Orders → Reply × State Orders

@@ -5,6 +5,9 @@ use Rattle.bench_types.specs.declared.fault.Fault.TheVariants.{BadCore, BadTask,
 use Rattle.bench_types.specs.Header.{cores_of_mask}
 use Rattle.bench_types.specs.declared.header.Header.{Header}
 use Rattle.bench_types.specs.declared.kernel_data.Settings.{Settings}
+use Rattle.bench_types.specs.declared.note.Action.{Action}
+use Rattle.bench_types.specs.declared.note.Action.TheVariants.{Nothing, SetBits, Increment, Set, SetNew}
+use Rattle.bench_types.specs.declared.note.Note.{Note}
 use Rattle.bench_types.specs.declared.step.Step.{Step}
 use Rattle.bench_types.specs.declared.step.Step.TheVariants as step
 use Rattle.bench_types.specs.declared.step.Call.{Call}
@@ -47,12 +50,26 @@ call_check settings (call.PrioritySet task priority) = task_check settings task
 call_check settings (call.AffinitySet task mask) = task_check settings task >> mask_check settings mask
 call_check settings (call.PreemptOff task) = task_check settings task
 call_check settings (call.PreemptOn task) = task_check settings task
+call_check settings (call.Notify note) = task_check settings note.task
+call_check settings (call.NotifyWait entry exit ticks) = Ok tt
+call_check settings (call.NotifyTake clear ticks) = Ok tt
+call_check settings (call.StateClear task) = task_check settings task
+call_check settings (call.ValueClear task bits) = task_check settings task
 
 -- the faults of a step, in the order in which they are tried
 abbrev pub step_check : Settings → Step → Result ⊤ Fault
 step_check settings step.Tick = Ok tt
 step_check settings (step.Switch core) = core_check settings core
 step_check settings (step.Call core task call) = core_check settings core >> task_check settings task >> call_check settings call
+step_check settings (step.Interrupt core note) = core_check settings core >> task_check settings note.task
+
+-- the number of an action is one of 32 bits
+abbrev pub IsActionOfWord : Action → Type 0
+IsActionOfWord Nothing = ⊤
+IsActionOfWord (SetBits bits) = bits < 2 ^ 32
+IsActionOfWord Increment = ⊤
+IsActionOfWord (Set value) = value < 2 ^ 32
+IsActionOfWord (SetNew value) = value < 2 ^ 32
 
 -- every number of a call is one of 32 bits
 abbrev pub IsOfWords : Call → Type 0
@@ -63,11 +80,17 @@ IsOfWords (call.PrioritySet task priority) = priority < 2 ^ 32
 IsOfWords (call.AffinitySet task mask) = mask < 2 ^ 32
 IsOfWords (call.PreemptOff task) = ⊤
 IsOfWords (call.PreemptOn task) = ⊤
+IsOfWords (call.Notify note) = IsActionOfWord note.action
+IsOfWords (call.NotifyWait entry exit ticks) = (entry < 2 ^ 32) × (exit < 2 ^ 32) × (ticks < 2 ^ 32)
+IsOfWords (call.NotifyTake clear ticks) = ticks < 2 ^ 32
+IsOfWords (call.StateClear task) = ⊤
+IsOfWords (call.ValueClear task bits) = bits < 2 ^ 32
 
 abbrev pub IsStepOfWords : Step → Type 0
 IsStepOfWords step.Tick = ⊤
 IsStepOfWords (step.Switch core) = core < 2 ^ 32
 IsStepOfWords (step.Call core task call) = IsOfWords call
+IsStepOfWords (step.Interrupt core note) = IsActionOfWord note.action
 
 -- a call and a step that were checked against the settings
 pub record IsCheckedCall (settings : Settings) (call : Call) : Type 0 where

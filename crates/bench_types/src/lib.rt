@@ -19,6 +19,6 @@ pub use header::{Config, Header, TaskArgs};
 pub use items::Items;
 pub use kernel_data::{CoreLook, Delayed, Settings, TaskControl, TaskLook};
 pub use name::Name;
-pub use note::{Action, NoteState, Notification};
+pub use note::{Action, Note, NoteState, Notification};
 pub use reply::{Refusal, Reply, Row};
 pub use step::{Call, Step};

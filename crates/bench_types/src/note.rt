@@ -31,3 +31,10 @@ pub enum Action {
     /// The value becomes this one where no notification has come that was not taken (`eSetValueWithoutOverwrite`).
     SetNew(u32),
 }
+
+/// A notification of a task.
+#[derive(Clone, Copy, Debug, PartialEq, Eq, Hash)]
+pub struct Note {
+    pub task: u32,
+    pub action: Action,
+}

@@ -10,6 +10,14 @@ pub enum Reply {
     Done,
     /// The call was made, and its task waits.
     Blocked,
+    /// Of a notification whether it passed, of a cleared state whether a notification had come.
+    Flag(bool),
+    /// The notification value before the call changed it.
+    Value(u32),
+    /// Whether a notification had come, and the notification value before its exit bits were cleared.
+    Waited { ok: bool, value: u32 },
+    /// Whether the notification passed, and whether the interrupted core has asked itself to switch by now.
+    Isr { pass: bool, pend: bool },
     /// The step was not made, and nothing changed.
     Refused(Refusal),
 }

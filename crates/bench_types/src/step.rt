@@ -2,7 +2,7 @@ ghost use Rattle.std.specs.Prelude.{◌≡◌};
 ghost use Rattle.bench_types.specs.Step.{settings_of, call_check, core_check, mask_check, step_check, task_check};
 
 use crate::header::allows_core;
-use crate::{Fault, Header};
+use crate::{Fault, Header, Note};
 
 /// One event of a session.
 #[derive(Clone, Copy, Debug, PartialEq, Eq, Hash)]
@@ -13,6 +13,8 @@ pub enum Step {
     Switch { core: u32 },
     /// A call of the kernel that the task makes on the core.
     Call { core: u32, task: u32, call: Call },
+    /// An interrupt of the core, whose handler notifies a task (`xTaskNotifyFromISR`).
+    Interrupt { core: u32, note: Note },
 }
 
 /// A call of the kernel.
@@ -30,12 +32,24 @@ pub enum Call {
     PreemptOff(u32),
     /// `vTaskPreemptionEnable` of the task.
     PreemptOn(u32),
+    /// `xTaskNotify`.
+    Notify(Note),
+    /// `xTaskNotifyWait`, for so many ticks; 4294967295 is without end (`portMAX_DELAY`). The bits of `entry` are cleared before
+    /// the task waits, those of `exit` once a notification has come.
+    NotifyWait { entry: u32, exit: u32, ticks: u32 },
+    /// `ulTaskNotifyTake`, for so many ticks; 4294967295 is without end. It clears the value, or counts it down.
+    NotifyTake { clear: bool, ticks: u32 },
+    /// `xTaskNotifyStateClear` of the task.
+    StateClear(u32),
+    /// `ulTaskNotifyValueClear` of these bits of the task's value.
+    ValueClear { task: u32, bits: u32 },
     /// The return of the task's unfinished call, once the task runs again.
     Finish,
 }
 
 impl Step {
-    /// F2 where the core is none, else F3 where the caller is no user task, else the fault of the call.
+    /// F2 where the core is none, else F3 where the caller is no user task, else the fault of the call. For an interrupt F3 where
+    /// the notified task is no user task.
     pub fn check(&self, header: &Header) -> Result<(), Fault>
         ensures { result ≡ step_check (settings_of header.now) self.now }
     {
@@ -46,6 +60,10 @@ impl Step {
                 check_core(*core, header)?;
                 check_task(*task, header)?;
                 call.check(header)
+            }
+            Step::Interrupt { core, note } => {
+                check_core(*core, header)?;
+                check_task(note.task, header)
             }
         }
     }
@@ -58,13 +76,21 @@ impl Call {
         ensures { result ≡ call_check (settings_of header.now) self.now }
     {
         match self {
-            Call::Yield | Call::Delay(_) | Call::Finish => Ok(()),
-            Call::PrioritySet { task, priority: _ } => check_task(*task, header),
+            Call::Yield
+            | Call::Delay(_)
+            | Call::NotifyWait { .. }
+            | Call::NotifyTake { .. }
+            | Call::Finish => Ok(()),
             Call::AffinitySet { task, mask } => {
                 check_task(*task, header)?;
                 check_mask(*mask, header)
             }
-            Call::PreemptOff(task) | Call::PreemptOn(task) => check_task(*task, header),
+            Call::PrioritySet { task, .. }
+            | Call::PreemptOff(task)
+            | Call::PreemptOn(task)
+            | Call::Notify(Note { task, .. })
+            | Call::StateClear(task)
+            | Call::ValueClear { task, .. } => check_task(*task, header),
         }
     }
 }
@@ -101,7 +127,7 @@ fn check_mask(mask: u32, header: &Header) -> Result<(), Fault>
 #[cfg(test)]
 mod tests {
     use super::*;
-    use crate::samples;
+    use crate::{Action, samples};
     use std::test::Fail;
 
     #[test]
@@ -148,6 +174,15 @@ mod tests {
             Call::Yield,
             Call::Delay(0),
             Call::Delay(4_294_967_295),
+            Call::NotifyWait {
+                entry: 4_294_967_295,
+                exit: 0,
+                ticks: 4_294_967_295,
+            },
+            Call::NotifyTake {
+                clear: true,
+                ticks: 0,
+            },
             Call::Finish,
         ] {
             assert_eq!(rt; call.check(&header), Ok(()), "at {call:?}");
@@ -169,9 +204,38 @@ mod tests {
                 Call::AffinitySet { task, mask: 3 },
                 Call::PreemptOff(task),
                 Call::PreemptOn(task),
+                Call::Notify(note(task)),
+                Call::StateClear(task),
+                Call::ValueClear { task, bits: 0 },
             ] {
                 assert_eq!(rt; call.check(&header), answer, "at {call:?}");
             }
+        }
+        Ok(())
+    }
+
+    /// A notification of the task.
+    fn note(task: u32) -> Note {
+        Note {
+            task,
+            action: Action::Set(4_294_967_295),
+        }
+    }
+
+    #[test]
+    fn limits_interrupts(rt: HostRuntime) -> Result<(), Fail> {
+        let header = samples::crowd(rt.alloc(), 3)?;
+        for (core, task, answer) in [
+            (0, 1, Err(Fault::BadTask)),
+            (0, 2, Ok(())),
+            (1, 4, Ok(())),
+            (1, 5, Err(Fault::BadTask)),
+            (2, 4, Err(Fault::BadCore)),
+            (2, 5, Err(Fault::BadCore)),
+        ] {
+            let note = note(task);
+            let step = Step::Interrupt { core, note };
+            assert_eq!(rt; step.check(&header), answer, "at {core} and {task}");
         }
         Ok(())
     }

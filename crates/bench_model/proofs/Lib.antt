@@ -1,3 +1,4 @@
+pub mod Awaiting
 pub mod Bests
 pub mod Changes
 pub mod Choices

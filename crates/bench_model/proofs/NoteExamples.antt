@@ -1,8 +1,8 @@
 -- The worked notifications, computed on the definitions.
 use Rattle.std.proofs.Common.{ℕ}
 use Rattle.bench_model.specs.Notes.{notified, wait_begun, wait_ended, take_begun, take_ended, state_cleared, value_cleared}
-use Rattle.bench_model.specs.NoteExamples.{WorkedNotes, WorkedWaits, WorkedTakes, WorkedClears, WorkedNotifies}
-use Rattle.bench_model.specs.Notifying.{notify}
+use Rattle.bench_model.specs.NoteExamples.{WorkedNotes, WorkedWaits, WorkedTakes, WorkedClears, WorkedNotifies, WorkedCalls}
+use Rattle.bench_model.specs.Notifying.{notify, interrupted, state_forgotten, bits_cleared, awaited}
 use Rattle.bench_model.proofs.Examples.{computed}
 
 -- whoever names this computes with notifications
@@ -29,3 +29,7 @@ clears = assumption
 pub notifies : WorkedNotifies
 unfolding of_notes notify computed
 notifies = assumption
+
+pub called : WorkedCalls
+unfolding of_notes notify interrupted state_forgotten bits_cleared awaited computed
+called = assumption

@@ -7,7 +7,8 @@ use Rattle.std.proofs.lemmas.Nat.{or_lt}
 use Rattle.bench_types.specs.declared.note.Action.{Action}
 use Rattle.bench_types.specs.declared.note.Action.TheVariants.{Nothing, SetBits, Increment, Set, SetNew}
 use Rattle.bench_types.specs.declared.note.Notification.{Notification}
-use Rattle.bench_model.specs.Notes.{no_note, note_at, is_waiting, passes, acted, IsOfWord, notified}
+use Rattle.bench_types.specs.Step.{IsActionOfWord}
+use Rattle.bench_model.specs.Notes.{no_note, note_at, is_waiting, passes, acted, notified, of_task}
 use Rattle.bench_model.specs.Notifying.{notify}
 use Rattle.bench_model.specs.Seek.{wake}
 use Rattle.bench_model.specs.Table.{Table, table_moves}
@@ -37,14 +38,14 @@ notes_sound table notes sound each words = record {
   notes = words;
 }
 
-acted_word : (action : Action) (value : ℕ) → IsOfWord action → value < 2 ^ 32 → acted action value < 2 ^ 32
+acted_word : (action : Action) (value : ℕ) → IsActionOfWord action → value < 2 ^ 32 → acted action value < 2 ^ 32
 acted_word Nothing value word low = low
 acted_word (SetBits bits) value word low = or_lt 32 value bits low word
 acted_word Increment value word low = omega arith
 acted_word (Set new) value word low = word
 acted_word (SetNew new) value word low = word
 
-notified_word : (action : Action) (note : Notification) → IsOfWord action → note.value < 2 ^ 32 → (notified action note).value < 2 ^ 32
+notified_word : (action : Action) (note : Notification) → IsActionOfWord action → note.value < 2 ^ 32 → (notified action note).value < 2 ^ 32
 unfolding notified
 notified_word action note word low = at (passes action note.state)
   where
@@ -52,24 +53,29 @@ notified_word action note word low = at (passes action note.state)
     at true = acted_word action note.value word low
     at false = low
 
--- the notifications behind one
-abbrev told_by : ℕ → Action → List Notification → List Notification
-told_by task action notes = slice_set notes task (notified action (note_at notes task))
+-- all notifications behind a rule of one task's
+module _ {A : Type 0} (task : ℕ) (rule : Notification → A × Notification) where
+  abbrev ruled : List Notification → List Notification
+  ruled notes = (of_task task rule notes).1
 
-told_words : (task : ℕ) (action : Action) (notes : List Notification) → task < length notes → IsOfWord action → HasWords notes → HasWords (told_by task action notes)
-told_words task action notes below word words i low =
-    let new = notified action (note_at notes task) in
-    elim (cases_eq i task) [
-      | inl here ↦ subst (λ (n : Notification). n.value < 2 ^ 32) (sym (ap (note_at (told_by task action notes)) here ∙ get_or-set_same notes task new no_note below)) (notified_word action (note_at notes task) word (words task below))
-      | inr away ↦ subst (λ (n : Notification). n.value < 2 ^ 32) (sym (get_or-set_other notes task i new no_note away)) (words i (omega (arith, length-set notes task new)))
-    ]
+  ruled_words : (notes : List Notification) → task < length notes → ((note : Notification) → note.value < 2 ^ 32 → (rule note).1.value < 2 ^ 32) → HasWords notes → HasWords (ruled notes)
+  ruled_words notes below keeps words i low =
+      let new = (rule (note_at notes task)).1 in
+      elim (cases_eq i task) [
+        | inl here ↦ subst (λ (n : Notification). n.value < 2 ^ 32) (sym (ap (note_at (ruled notes)) here ∙ get_or-set_same notes task new no_note below)) (keeps (note_at notes task) (words task below))
+        | inr away ↦ subst (λ (n : Notification). n.value < 2 ^ 32) (sym (get_or-set_other notes task i new no_note away)) (words i (omega (arith, length-set notes task new)))
+      ]
+
+  pub ruled_sound : (table : Table) → IsSound table → task < table.settings.tasks → ((note : Notification) → note.value < 2 ^ 32 → (rule note).1.value < 2 ^ 32) → IsSound (record table { notes = ruled table.notes })
+  ruled_sound table sound low keeps =
+      notes_sound table (ruled table.notes) sound (length-set table.notes task _ ∙ sound.sized.notes) (ruled_words table.notes (omega (arith, sound.sized.notes)) keeps sound.notes)
 
 module _ (table : Table) (acting task : ℕ) (action : Action) (sound : IsSound table) (low : task < table.settings.tasks) where
   abbrev told : Table
-  told = record table { notes = told_by task action table.notes }
+  told = record table { notes = slice_set table.notes task (notified action (note_at table.notes task)) }
 
-  told_sound : IsOfWord action → IsSound told
-  told_sound word = notes_sound table (told_by task action table.notes) sound (length-set table.notes task _ ∙ sound.sized.notes) (told_words task action table.notes (omega (arith, sound.sized.notes)) word sound.notes)
+  told_sound : IsActionOfWord action → IsSound told
+  told_sound word = ruled_sound task (λ note. (note, notified action note)) table sound low (λ note. notified_word action note word)
 
   pub notify_seen : image (notify table_moves acting task action table) ≡ notify list_moves acting task action (image table)
   unfolding notify
@@ -79,7 +85,7 @@ module _ (table : Table) (acting task : ℕ) (action : Action) (sound : IsSound 
       at true = wake_seen told acting task sound.stamped.given (omega (arith, sound.sized.rows))
       at false = refl
 
-  pub notify_sound : IsOfWord action → IsSound (notify table_moves acting task action table)
+  pub notify_sound : IsActionOfWord action → IsSound (notify table_moves acting task action table)
   unfolding notify
   notify_sound word = at (is_waiting (note_at table.notes task).state)
     where

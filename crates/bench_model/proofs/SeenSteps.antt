@@ -11,7 +11,7 @@ use Rattle.bench_types.specs.declared.step.Call.{Call}
 use Rattle.bench_types.specs.declared.kernel_data.Settings.{Settings}
 use Rattle.bench_types.specs.declared.kernel_data.CoreLook.{CoreLook}
 use Rattle.bench_types.specs.declared.note.Notification.{Notification}
-use Rattle.bench_types.proofs.Passes.{both_pass, checked_core}
+use Rattle.bench_types.proofs.Passes.{both_pass, checked_core, checked_task}
 use Rattle.bench_types.specs.Step.{step_check, core_check, task_check, call_check, ◌>>◌}
 use Rattle.bench_model.specs.declared.row.Standing.TheVariants.{Ready}
 use Rattle.bench_model.specs.Search.{numbers}
@@ -121,6 +121,9 @@ not_displaced control calls core task call accepted = at (eqb (current control c
 pub in_place : (step : Step) (table : Table) → IsSound table → step_check table.settings step ≡ Ok tt → refusal table.control table.calls step ≡ None → IsInPlace table step
 in_place Tick table sound checked accepted = tt
 in_place (Switch core) table sound checked accepted = omega (arith, sound.sized.cores, checked_core table.settings core checked)
+in_place (steps.Interrupt core note) table sound checked accepted =
+    let both = both_pass (core_check table.settings core) (task_check table.settings note.task) checked in
+    (omega (arith, sound.sized.cores, checked_core table.settings core both.0), (checked_task table.settings note.task both.1).1)
 in_place (steps.Call core task call) table sound checked accepted =
     let low : core < length table.control.cores = omega (arith, sound.sized.cores, checked_core table.settings core (both_pass (core_check table.settings core) (task_check table.settings task) (both_pass (core_check table.settings core >> task_check table.settings task) (call_check table.settings call) checked).0).0) in
     let found = not_displaced table.control table.calls core task call accepted in

@@ -1,20 +1,20 @@
 -- Each step: over lists it is the step of what was seen of the table before, and it keeps a sound table sound.
 use Rattle.std.proofs.Common.{◌≡◌, ℕ, ◌<◌, ◌≤◌, Bool, true, false, cond, eqb, length, Option, Some, None, Ok, refl, sym, ap, subst, ◌∙◌, arith}
-use Rattle.std.specs.Prelude.{slice_set}
 use Rattle.std.specs.Option.{option_map_or}
 use Rattle.std.proofs.lemmas.Bool.Decides.{nat_tests}
-use Rattle.std.proofs.lemmas.List.{length-set}
 use Rattle.bench_types.specs.declared.kernel_data.Settings.{Settings}
 use Rattle.bench_types.specs.declared.reply.Reply.{Reply}
-use Rattle.bench_types.specs.declared.reply.Reply.TheVariants.{Done, Blocked, Refused}
+use Rattle.bench_types.specs.declared.reply.Reply.TheVariants.{Done, Blocked, Flag, Refused}
 use Rattle.bench_types.specs.declared.reply.Refusal.{Refusal}
 use Rattle.bench_types.specs.declared.step.Step.{Step}
-use Rattle.bench_types.specs.declared.step.Step.TheVariants.{Tick, Switch}
+use Rattle.bench_types.specs.declared.step.Step.TheVariants.{Tick, Switch, Interrupt}
 use Rattle.bench_types.specs.declared.step.Step.TheVariants as steps
 use Rattle.bench_types.specs.declared.step.Call.{Call}
-use Rattle.bench_types.specs.declared.step.Call.TheVariants.{Yield, Delay, Finish, PrioritySet, AffinitySet, PreemptOff, PreemptOn}
+use Rattle.bench_types.specs.declared.step.Call.TheVariants.{Yield, Delay, Finish, PrioritySet, AffinitySet, PreemptOff, PreemptOn, Notify, NotifyWait, NotifyTake, StateClear, ValueClear}
 use Rattle.bench_types.proofs.Passes.{both_pass, checked_task}
 use Rattle.bench_types.specs.Step.{IsCheckedStep, IsCheckedCall, core_check, task_check, mask_check, call_check, ◌>>◌}
+use Rattle.bench_model.specs.Notes.{wait_begun, take_begun, of_task}
+use Rattle.bench_model.specs.Notifying.{is_passed}
 use Rattle.bench_model.specs.State.{refusal, yielded, blocked}
 use Rattle.bench_model.specs.Steps.{called, performed, after}
 use Rattle.bench_model.specs.Table.{Table, table_moves, is_ready}
@@ -23,8 +23,10 @@ use Rattle.bench_model.specs.Laws.{seen_of}
 use Rattle.bench_model.specs.Equal.{Same}
 use Rattle.bench_model.specs.Session.{step_of}
 use Rattle.bench_model.specs.Sound.{IsInPlace, IsSound}
+use Rattle.bench_model.proofs.Awaiting.{wait_begun_word, take_begun_word, interrupted_seen, interrupted_sound, forgotten_seen, forgotten_sound, bits_seen, bits_sound, finished_seen, finished_sound, awaited_seen, awaited_sound}
+use Rattle.bench_model.proofs.Notifying.{notify_seen, notify_sound, ruled_sound}
 use Rattle.bench_model.proofs.SeenSteps.{yielded_seen, blocked_seen, in_place}
-use Rattle.bench_model.proofs.SoundSteps.{call_set, yielded_sound, blocked_sound}
+use Rattle.bench_model.proofs.SoundSteps.{yielded_sound, blocked_sound}
 use Rattle.bench_model.proofs.Seeks.{sought_switch_seen, sought_switch_sound}
 use Rattle.bench_model.proofs.Sets.{priority_seen, priority_sound, affinity_seen, affinity_sound, off_seen, off_sound, on_seen, on_sound}
 use Rattle.bench_model.proofs.Ticks.{ticked_seen, ticked_sound}
@@ -57,16 +59,22 @@ called_seen core task (Delay ticks) table sound checked below ready = either (eq
     either : (b : Bool) → seen_of (cond b (Done, yielded table_moves core table) (Blocked, blocked table_moves core task (Delay ticks) (Some ticks) table)) ≡ cond b (Done, yielded list_moves core (image table)) (Blocked, blocked list_moves core task (Delay ticks) (Some ticks) (image table))
     either true = same_outcome Done _ _ (yielded_seen core table)
     either false = same_outcome Blocked _ _ (blocked_seen core task (Delay ticks) (Some ticks) table sound.stamped.given below ready)
-called_seen core task Finish table sound checked below ready = refl
+called_seen core task Finish table sound checked below ready = finished_seen table task
 called_seen core task (PrioritySet other priority) table sound checked below ready = same_outcome Done _ _ (priority_seen table core other priority sound (set_task table.settings other checked.passes))
 called_seen core task (AffinitySet other mask) table sound checked below ready = same_outcome Done _ _ (affinity_seen table core other mask sound (masked_task table.settings other mask checked.passes))
 called_seen core task (PreemptOff other) table sound checked below ready = same_outcome Done _ _ (off_seen table other)
 called_seen core task (PreemptOn other) table sound checked below ready = same_outcome Done _ _ (on_seen table core other)
+called_seen core task (Notify note) table sound checked below ready = same_outcome (Flag (is_passed note table)) _ _ (notify_seen table core note.task note.action sound (set_task table.settings note.task checked.passes))
+called_seen core task (NotifyWait entry exit ticks) table sound checked below ready = awaited_seen table core task (NotifyWait entry exit ticks) ticks (of_task task (wait_begun entry) table.notes) sound below ready
+called_seen core task (NotifyTake clear ticks) table sound checked below ready = awaited_seen table core task (NotifyTake clear ticks) ticks (of_task task take_begun table.notes) sound below ready
+called_seen core task (StateClear other) table sound checked below ready = forgotten_seen table other
+called_seen core task (ValueClear other bits) table sound checked below ready = bits_seen table other bits
 
 pub performed_seen : (step : Step) (table : Table) → IsSound table → IsCheckedStep table.settings step → IsInPlace table step → seen_of (performed table_moves step table) ≡ performed list_moves step (image table)
 unfolding performed
 performed_seen Tick table sound checked place = same_outcome Done _ _ (ticked_seen table sound)
 performed_seen (Switch core) table sound checked place = same_outcome Done _ _ (sought_switch_seen table core sound (omega (arith, sound.sized.cores, place)))
+performed_seen (Interrupt core note) table sound checked place = interrupted_seen table core note sound place.1
 performed_seen (steps.Call core task call) table sound checked place = called_seen core task call table sound (checked_call table.settings core task call checked).0 place.2 place.3
 
 after_from : (step : Step) (table : Table) (why : Option Refusal) → (why ≡ None → seen_of (performed table_moves step table) ≡ performed list_moves step (image table)) → seen_of (option_map_or (λ why. (Refused why, table)) why (performed table_moves step table)) ≡ option_map_or (λ why. (Refused why, image table)) why (performed list_moves step (image table))
@@ -84,26 +92,9 @@ equal_after a b step sound other same checked =
     let both : seen_of (step_of step a) ≡ seen_of (step_of step b) = after_seen step a sound checked ∙ ap (after list_moves step) same ∙ sym (after_seen step b other (subst (λ s. IsCheckedStep s step) settings checked)) in
     (ap (λ (r : Reply × View). r.0) both, ap (λ (r : Reply × View). r.1) both)
 
--- a call of a checked step on its core
-module _ (table : Table) (sound : IsSound table) (core task : ℕ) (call : Call) (place : IsInPlace table (steps.Call core task call)) (checked : IsCheckedCall table.settings call) (user : length table.control.cores ≤ task) where
-  finished_sound : IsSound (record table { calls = slice_set table.calls task None })
-  finished_sound = record {
-    sized = record {
-      cores = sound.sized.cores;
-      controls = sound.sized.controls;
-      calls = length-set table.calls task None ∙ sound.sized.calls;
-      rows = sound.sized.rows;
-      some_core = sound.sized.some_core;
-      idle_tasks = sound.sized.idle_tasks;
-      notes = sound.sized.notes;
-    };
-    stamped = sound.stamped;
-    in_place = sound.in_place;
-    in_time = sound.in_time;
-    priorities = sound.priorities;
-    calls = call_set table.settings table.calls task None (omega (arith, sound.sized.calls, sound.sized.rows, place.2)) (λ other same. absurd (cc (same))) sound.calls;
-    notes = sound.notes;
-  }
+-- the caller of a step in place is a task
+caller_below : (core task : ℕ) (call : Call) (table : Table) → IsSound table → IsInPlace table (steps.Call core task call) → task < table.settings.tasks
+caller_below core task call table sound place = omega (arith, sound.sized.rows, place.2)
 
 pub called_sound : (core task : ℕ) (call : Call) (table : Table) → IsSound table → IsInPlace table (steps.Call core task call) → IsCheckedCall table.settings call → length table.control.cores ≤ task → IsSound (called table_moves core task call table).1
 unfolding called
@@ -113,16 +104,28 @@ called_sound core task (Delay ticks) table sound place checked user = either (eq
     either : (b : Bool) → eqb ticks 0 ≡ b → IsSound (cond {A = Reply × Table} b (Done, yielded table_moves core table) (Blocked, blocked table_moves core task (Delay ticks) (Some ticks) table)).1
     either true none = yielded_sound core table sound place.0
     either false some = blocked_sound core task (Delay ticks) (Some ticks) table sound place checked user (grind (arith, nat_tests, some), checked.words)
-called_sound core task Finish table sound place checked user = finished_sound table sound core task Finish place checked user
+called_sound core task Finish table sound place checked user = finished_sound table task sound (caller_below core task Finish table sound place)
 called_sound core task (PrioritySet other priority) table sound place checked user = priority_sound table core other priority sound (set_task table.settings other checked.passes)
 called_sound core task (AffinitySet other mask) table sound place checked user = affinity_sound table core other mask sound (masked_task table.settings other mask checked.passes)
 called_sound core task (PreemptOff other) table sound place checked user = off_sound table other sound (set_task table.settings other checked.passes)
 called_sound core task (PreemptOn other) table sound place checked user = on_sound table core other sound (set_task table.settings other checked.passes)
+called_sound core task (Notify note) table sound place checked user = notify_sound table core note.task note.action sound (set_task table.settings note.task checked.passes) checked.words
+called_sound core task (NotifyWait entry exit ticks) table sound place checked user =
+    let call = NotifyWait entry exit ticks in
+    let begun = ruled_sound task (wait_begun entry) table sound (caller_below core task call table sound place) (wait_begun_word entry) in
+    awaited_sound table core task call ticks (of_task task (wait_begun entry) table.notes) begun place checked user checked.words.2
+called_sound core task (NotifyTake clear ticks) table sound place checked user =
+    let call = NotifyTake clear ticks in
+    let begun = ruled_sound task take_begun table sound (caller_below core task call table sound place) take_begun_word in
+    awaited_sound table core task call ticks (of_task task take_begun table.notes) begun place checked user checked.words
+called_sound core task (StateClear other) table sound place checked user = forgotten_sound table other sound (set_task table.settings other checked.passes)
+called_sound core task (ValueClear other bits) table sound place checked user = bits_sound table other bits sound (set_task table.settings other checked.passes)
 
 pub performed_sound : (step : Step) (table : Table) → IsSound table → IsCheckedStep table.settings step → IsInPlace table step → IsSound (performed table_moves step table).1
 unfolding performed
 performed_sound Tick table sound checked place = ticked_sound table sound
 performed_sound (Switch core) table sound checked place = sought_switch_sound table core sound (omega (arith, sound.sized.cores, place))
+performed_sound (Interrupt core note) table sound checked place = interrupted_sound table core note sound place.1 checked.words
 performed_sound (steps.Call core task call) table sound checked place =
     let call_checked = checked_call table.settings core task call checked in
     called_sound core task call table sound place call_checked.0 (omega (arith, sound.sized.cores, call_checked.1))

@@ -1,5 +1,5 @@
 -- The rules of the steps, over orders of tasks that are kept in one way or another.
-use Rattle.std.specs.Prelude.{ℕ, List, fold, ◌==◌, Some, None, if◌then◌else◌}
+use Rattle.std.specs.Prelude.{ℕ, List, fold, ◌==◌, Some, if◌then◌else◌}
 use Rattle.std.specs.Option.{option_map_or}
 use Rattle.bench_types.specs.declared.reply.Reply.{Reply}
 use Rattle.bench_types.specs.declared.reply.Reply.TheVariants.{Done, Blocked, Flag, Refused}

@@ -1,6 +1,6 @@
 //! The laws of task notifications, and worked ones, each on a function that does nothing.
 ghost use Rattle.bench_model.specs.NoteLaws.{NotifyIsSeen, NotifyKeepsSound, NotesAreApart, NotesKeepSound};
-ghost use Rattle.bench_model.specs.NoteExamples.{WorkedNotes, WorkedWaits, WorkedTakes, WorkedClears, WorkedNotifies};
+ghost use Rattle.bench_model.specs.NoteExamples.{WorkedNotes, WorkedWaits, WorkedTakes, WorkedClears, WorkedNotifies, WorkedCalls};
 
 /// Notifying a task, and waking it where it waits for that, is so over lists.
 pub fn notify_is_seen()
@@ -45,4 +45,9 @@ pub fn worked_clears()
 /// Who is woken by a notification and who waits on, as it was worked out by hand.
 pub fn worked_notifies()
     ensures { WorkedNotifies }
+{}
+
+/// The definitions give the worked sessions of tasks that notify, wait and take.
+pub fn worked_calls()
+    ensures { WorkedCalls }
 {}

@@ -1,31 +1,28 @@
 -- Interrupts that notify, and the calls that clear, await and take notifications: as lists, and that soundness stays.
-use Rattle.std.proofs.Common.{◌≡◌, ℕ, ◌-◌, ◌<◌, ◌≤◌, ◌^◌, Bool, true, false, cond, eqb, ltb, ◌&&◌, List, length, Option, Some, None, refl, ap, ◌∙◌, arith}
-use Rattle.std.specs.Prelude.{slice_set}
-use Rattle.std.specs.Option.{option_map_or}
+use Rattle.std.proofs.Common.{◌≡◌, ℕ, ◌-◌, ◌<◌, ◌≤◌, ◌^◌, Bool, true, false, cond, eqb, ltb, ◌&&◌, List, length, Some, None, refl, ap, arith}
 use Rattle.std.specs.Int.{w32, bit_not}
 use Rattle.std.proofs.lemmas.Bool.Decides.{nat_tests}
-use Rattle.std.proofs.lemmas.List.{length-set}
 use Rattle.std.proofs.lemmas.Nat.{and_le_l}
 use Rattle.bench_types.specs.declared.note.Note.{Note}
 use Rattle.bench_types.specs.declared.note.Notification.{Notification}
 use Rattle.bench_types.specs.declared.note.NoteState.TheVariants.{NotWaiting, Waiting}
 use Rattle.bench_types.specs.declared.reply.Reply.{Reply}
-use Rattle.bench_types.specs.declared.reply.Reply.TheVariants.{Done, Blocked, Isr}
-use Rattle.bench_types.specs.declared.step.Step.TheVariants as steps
+use Rattle.bench_types.specs.declared.reply.Reply.TheVariants.{Blocked, Isr}
+use Rattle.bench_types.specs.declared.step.Unfinished.TheVariants.{Made}
 use Rattle.bench_types.specs.declared.step.Call.{Call}
 use Rattle.bench_types.specs.declared.step.Call.TheVariants as calls
 use Rattle.bench_types.specs.Step.{IsActionOfWord, IsCheckedCall}
 use Rattle.bench_model.specs.Control.{core_at}
 use Rattle.bench_model.specs.Notes.{is_received, without_bits, wait_begun, wait_ended, take_begun, take_ended, state_cleared, value_cleared}
-use Rattle.bench_model.specs.Notifying.{awaited_for, is_passed, interrupted, state_forgotten, bits_cleared, completed, finished, awaited}
-use Rattle.bench_model.specs.State.{State, call_at, blocked}
+use Rattle.bench_model.specs.Notifying.{awaited_for, is_passed, interrupted, state_forgotten, bits_cleared, completed, awaited}
+use Rattle.bench_model.specs.State.{blocked}
 use Rattle.bench_model.specs.Table.{Table, table_moves, is_ready}
 use Rattle.bench_model.specs.Lists.{View, list_moves, image}
 use Rattle.bench_model.specs.Laws.{seen_of}
-use Rattle.bench_model.specs.Sound.{IsInPlace, IsSound, IsWait}
+use Rattle.bench_model.specs.Sound.{IsCaller, IsSound, IsWait}
 use Rattle.bench_model.proofs.Notifying.{notify_seen, notify_sound, ruled_sound}
 use Rattle.bench_model.proofs.SeenSteps.{blocked_seen}
-use Rattle.bench_model.proofs.SoundSteps.{call_set, blocked_sound}
+use Rattle.bench_model.proofs.SoundSteps.{blocked_sound}
 
 -- ---- values stay numbers of 32 bits
 
@@ -108,18 +105,6 @@ completed_seen table task (calls.StateClear other) = refl
 completed_seen table task (calls.ValueClear other bits) = refl
 completed_seen table task calls.Finish = refl
 
--- the task has no unfinished call
-abbrev pub freed : {Orders : Type 0} → ℕ → State Orders → State Orders
-freed task state = record state { calls = slice_set state.calls task None }
-
-pub finished_seen : (table : Table) (task : ℕ) → seen_of (finished task table) ≡ finished task (image table)
-unfolding finished
-finished_seen table task = from (call_at table.calls task)
-  where
-    from : (unfinished : Option Call) → seen_of (option_map_or (λ call. completed task call (freed task table)) unfinished (Done, table)) ≡ option_map_or (λ call. completed task call (freed task (image table))) unfinished (Done, image table)
-    from None = refl
-    from (Some call) = completed_seen (freed task table) task call
-
 pub awaited_seen : (table : Table) (core task : ℕ) (call : Call) (ticks : ℕ) (begun : Bool × List Notification) → IsSound table → task < length table.orders.rows → is_ready task table.orders ≡ true →
     seen_of (awaited table_moves core task call ticks begun table) ≡ awaited list_moves core task call ticks begun (image table)
 unfolding awaited
@@ -128,8 +113,8 @@ awaited_seen table core task call ticks begun sound below ready = either (begun.
     waiting : Table
     waiting = record table { notes = begun.1 }
 
-    either : (b : Bool) → seen_of (cond b (Blocked, blocked table_moves core task call (awaited_for ticks) waiting) (completed task call waiting)) ≡ cond b (Blocked, blocked list_moves core task call (awaited_for ticks) (image waiting)) (completed task call (image waiting))
-    either true = same_seen Blocked _ _ (blocked_seen core task call (awaited_for ticks) waiting sound.stamped.given below ready)
+    either : (b : Bool) → seen_of (cond b (Blocked, blocked table_moves core task (Made call) (awaited_for ticks) None waiting) (completed task call waiting)) ≡ cond b (Blocked, blocked list_moves core task (Made call) (awaited_for ticks) None (image waiting)) (completed task call (image waiting))
+    either true = same_seen Blocked _ _ (blocked_seen core task (Made call) (awaited_for ticks) None waiting sound.stamped.given below ready)
     either false = completed_seen waiting task call
 
 -- ---- soundness stays
@@ -146,7 +131,7 @@ pub bits_sound : (table : Table) (task bits : ℕ) → IsSound table → task < 
 unfolding bits_cleared
 bits_sound table task bits sound low = ruled_sound task (value_cleared bits) table sound low (value_cleared_word bits)
 
-completed_sound : (table : Table) (task : ℕ) (call : Call) → IsSound table → task < table.settings.tasks → IsSound (completed task call table).1
+pub completed_sound : (table : Table) (task : ℕ) (call : Call) → IsSound table → task < table.settings.tasks → IsSound (completed task call table).1
 unfolding completed
 completed_sound table task calls.Yield sound low = sound
 completed_sound table task (calls.Delay ticks) sound low = sound
@@ -161,42 +146,15 @@ completed_sound table task (calls.StateClear other) sound low = sound
 completed_sound table task (calls.ValueClear other bits) sound low = sound
 completed_sound table task calls.Finish sound low = sound
 
-freed_sound : (table : Table) (task : ℕ) → IsSound table → task < table.settings.tasks → IsSound (freed task table)
-freed_sound table task sound low = record {
-  sized = record {
-    cores = sound.sized.cores;
-    controls = sound.sized.controls;
-    calls = length-set table.calls task None ∙ sound.sized.calls;
-    rows = sound.sized.rows;
-    some_core = sound.sized.some_core;
-    idle_tasks = sound.sized.idle_tasks;
-    notes = sound.sized.notes;
-  };
-  stamped = sound.stamped;
-  in_place = sound.in_place;
-  in_time = sound.in_time;
-  priorities = sound.priorities;
-  calls = call_set table.settings table.calls task None (omega (arith, sound.sized.calls)) (λ other same. absurd (cc (same))) sound.calls;
-  notes = sound.notes;
-}
-
-pub finished_sound : (table : Table) (task : ℕ) → IsSound table → task < table.settings.tasks → IsSound (finished task table).1
-unfolding finished
-finished_sound table task sound low = from (call_at table.calls task)
-  where
-    from : (unfinished : Option Call) → IsSound (option_map_or {U = Reply × Table} (λ call. completed task call (freed task table)) unfinished (Done, table)).1
-    from None = sound
-    from (Some call) = completed_sound (freed task table) task call (freed_sound table task sound low) low
-
 -- the ticks of a wait that does not end at once
-waits_on : (ticks : ℕ) → 0 < ticks → ticks < 2 ^ 32 → IsWait (awaited_for ticks)
+pub waits_on : (ticks : ℕ) → 0 < ticks → ticks < 2 ^ 32 → IsWait (awaited_for ticks)
 waits_on ticks some low = either (eqb ticks (2 ^ 32 - 1))
   where
     either : (b : Bool) → IsWait (cond b None (Some ticks))
     either true = tt
     either false = (some, low)
 
-pub awaited_sound : (table : Table) (core task : ℕ) (call : Call) (ticks : ℕ) (begun : Bool × List Notification) → IsSound (record table { notes = begun.1 }) → IsInPlace table (steps.Call core task call) → IsCheckedCall table.settings call → length table.control.cores ≤ task → ticks < 2 ^ 32 →
+pub awaited_sound : (table : Table) (core task : ℕ) (call : Call) (ticks : ℕ) (begun : Bool × List Notification) → IsSound (record table { notes = begun.1 }) → IsCaller table core task → IsCheckedCall table.settings call → length table.control.cores ≤ task → ticks < 2 ^ 32 →
     IsSound (awaited table_moves core task call ticks begun table).1
 unfolding awaited
 awaited_sound table core task call ticks begun sound place checked user low = either (begun.0 && ltb 0 ticks) refl
@@ -204,6 +162,6 @@ awaited_sound table core task call ticks begun sound place checked user low = ei
     waiting : Table
     waiting = record table { notes = begun.1 }
 
-    either : (b : Bool) → (begun.0 && ltb 0 ticks) ≡ b → IsSound (cond {A = Reply × Table} b (Blocked, blocked table_moves core task call (awaited_for ticks) waiting) (completed task call waiting)).1
-    either true waits = blocked_sound core task call (awaited_for ticks) waiting sound place checked user (waits_on ticks (grind (arith, nat_tests, waits)) low)
+    either : (b : Bool) → (begun.0 && ltb 0 ticks) ≡ b → IsSound (cond {A = Reply × Table} b (Blocked, blocked table_moves core task (Made call) (awaited_for ticks) None waiting) (completed task call waiting)).1
+    either true waits = blocked_sound core task (Made call) (awaited_for ticks) None waiting sound place checked user (waits_on ticks (grind (arith, nat_tests, waits)) low) tt (λ none. absurd (cc (none)))
     either false done = completed_sound waiting task call sound (omega (arith, sound.sized.rows, place.2))

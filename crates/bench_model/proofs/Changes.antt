@@ -15,10 +15,11 @@ use Rattle.bench_model.specs.Table.{Stamps, Table, table_moves, stands_ready, is
 use Rattle.bench_model.specs.Lists as seen
 use Rattle.bench_model.specs.Lists.{Lists, list_moves, lists_of, outranks, image}
 use Rattle.bench_model.specs.Sound.{IsBelow, IsSound}
+use Rattle.bench_model.proofs.Entries.{without_absent}
 use Rattle.bench_model.proofs.Filters.{All-filter_passes}
 use Rattle.bench_model.proofs.Ranks.{map-ranked, filter-ranked}
 use Rattle.bench_model.proofs.Restamps.{standing_so}
-use Rattle.bench_model.proofs.SeenMoves.{outranks-IsRank, is_ready_seen, make_ready_seen, without_absent}
+use Rattle.bench_model.proofs.SeenMoves.{outranks-IsRank, is_ready_seen, make_ready_seen}
 use Rattle.bench_model.proofs.SeenSteps.{same_state}
 use Rattle.bench_model.proofs.SoundSteps.{ready_sound}
 
@@ -77,7 +78,9 @@ change_sound table task block sound low = record {
     cores = sound.sized.cores;
     controls = length-set table.control.tasks task block ∙ sound.sized.controls;
     calls = sound.sized.calls;
+    holders = sound.sized.holders;
     rows = sound.sized.rows;
+    deadlines = sound.sized.deadlines;
     some_core = sound.sized.some_core;
     idle_tasks = sound.sized.idle_tasks;
     notes = sound.sized.notes;
@@ -96,6 +99,7 @@ change_sound table task block sound low = record {
   ];
   calls = sound.calls;
   notes = sound.notes;
+  mutexes = sound.mutexes;
 }
 
 -- of the changed task the old place is read no more
@@ -136,8 +140,8 @@ in_use_seen table task priority sound low = at (is_ready task table.orders) refl
     below = omega (arith, sound.sized.rows)
 
     at : (b : Bool) → is_ready task table.orders ≡ b → (d : Bool) → d ≡ is_ready task table.orders → image (record table { control = changed; orders = cond b (make_ready task table.orders) table.orders }) ≡ record (image table) { control = changed; orders = cond d (seen.make_ready changed task (lists_of table.control table.orders)) (lists_of table.control table.orders) }
-    at true is true same = same_state table.settings changed changed table.calls table.notes _ _ refl (make_ready_seen changed table.orders task sound.stamped.given below ∙ moved_last table.control changed task table.orders (others_stay table.control task _ (standing_so stands_ready table.orders)))
-    at false is false same = same_state table.settings changed changed table.calls table.notes _ _ refl (blocked_apart table task priority sound low is)
+    at true is true same = same_state table.settings changed changed table.calls table.notes table.holders _ _ refl (make_ready_seen changed table.orders task sound.stamped.given below ∙ moved_last table.control changed task table.orders (others_stay table.control task _ (standing_so stands_ready table.orders)))
+    at false is false same = same_state table.settings changed changed table.calls table.notes table.holders _ _ refl (blocked_apart table task priority sound low is)
     at true is false same = absurd (cc (is, same))
     at false is true same = absurd (cc (is, same))
 

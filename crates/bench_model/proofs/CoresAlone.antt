@@ -1,6 +1,7 @@
 -- What each rule does to cores and ready lists depends on them alone.
 use Rattle.std.proofs.Common.{◌≡◌, ℕ, ◌<◌, Bool, true, false, cond, not, eqb, ◌&&◌, length, Option, refl, sym, ap, ◌∙◌, arith}
 use Rattle.std.specs.Prelude.{unwrap_or}
+use Rattle.bench_types.specs.declared.kernel_data.MutexWait.{MutexWait}
 use Rattle.bench_model.specs.Search.{without, has}
 use Rattle.bench_model.specs.Control.{Control, current, ask, ask_each, run_on}
 use Rattle.bench_model.specs.State.{switched}
@@ -94,12 +95,12 @@ pub ask_on : (table : Table) (acting core : ℕ) → cores_seen (record table { 
 unfolding lists_of
 ask_on table acting core = refl
 
-delay_ready : (task : ℕ) (ticks : Option ℕ) (lists : Lists) → (seen.delay task ticks lists).ready ≡ without task lists.ready
+delay_ready : (task : ℕ) (ticks : Option ℕ) (wait : Option MutexWait) (lists : Lists) → (seen.delay task ticks wait lists).ready ≡ without task lists.ready
 unfolding seen.delay
-delay_ready task ticks lists = refl
+delay_ready task ticks wait lists = refl
 
-pub wait_on : (table : Table) (task : ℕ) (ticks : Option ℕ) → IsSound table → task < table.settings.tasks → is_ready task table.orders ≡ true → cores_seen (record table { orders = delay task ticks table.orders }) ≡ record (cores_seen table) { ready = without task (cores_seen table).ready }
-wait_on table task ticks sound low ready =
+pub wait_on : (table : Table) (task : ℕ) (ticks : Option ℕ) (wait : Option MutexWait) → IsSound table → task < table.settings.tasks → is_ready task table.orders ≡ true → cores_seen (record table { orders = delay task ticks wait table.orders }) ≡ record (cores_seen table) { ready = without task (cores_seen table).ready }
+wait_on table task ticks wait sound low ready =
     let below : task < length table.orders.rows = omega (arith, sound.sized.rows) in
-    ap (λ (lists : Lists). record (cores_seen table) { ready = lists.ready }) (delay_seen table.control table.orders task ticks sound.stamped.given below ready)
-    ∙ ap (λ ready. record (cores_seen table) { ready = ready }) (delay_ready task ticks (lists_of table.control table.orders))
+    ap (λ (lists : Lists). record (cores_seen table) { ready = lists.ready }) (delay_seen table.control table.orders task ticks wait sound.stamped.given below ready)
+    ∙ ap (λ ready. record (cores_seen table) { ready = ready }) (delay_ready task ticks wait (lists_of table.control table.orders))

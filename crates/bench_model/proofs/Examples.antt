@@ -2,10 +2,11 @@
 use Rattle.std.proofs.Common.{ℕ, refl, ap}
 use Rattle.bench_model.specs.Search.{best, by_stamp, placed, ranked}
 use Rattle.bench_model.specs.State.{refusal, switched, yielded, blocked}
-use Rattle.bench_model.specs.Notifying.{completed, finished}
+use Rattle.bench_model.specs.Mutexes.{finished}
+use Rattle.bench_model.specs.Notifying.{completed}
 use Rattle.bench_model.specs.Steps.{ticked, called, performed, after}
 use Rattle.bench_model.specs.Seek.{asked_for, seek, wake, resettled, switched_and_sought, sliced}
-use Rattle.bench_model.specs.Table.{pick, make_ready, delay, advance, due}
+use Rattle.bench_model.specs.Table.{pick, make_ready, delay, advance, due, forget_deadline}
 use Rattle.bench_model.specs.Lists.{View, lists_of}
 use Rattle.bench_model.specs.Start.{first_stamps, unstarted, started}
 use Rattle.bench_model.specs.Session.{state_at, reply_at}
@@ -13,7 +14,7 @@ use Rattle.bench_model.specs.Examples.{WorkedSessions, TimedSessions, EndlessWai
 
 -- whoever names this computes with all of the definitions
 unfoldable pub computed : ℕ
-unfolding best by_stamp placed ranked completed finished asked_for seek wake resettled switched_and_sought sliced refusal switched ticked yielded blocked called performed after pick make_ready delay advance due lists_of first_stamps unstarted started state_at reply_at
+unfolding best by_stamp placed ranked completed finished asked_for seek wake resettled switched_and_sought sliced forget_deadline refusal switched ticked yielded blocked called performed after pick make_ready delay advance due lists_of first_stamps unstarted started state_at reply_at
 computed = 0
 
 pub sessions : WorkedSessions

@@ -4,9 +4,12 @@ pub mod Changes
 pub mod Choices
 pub mod CoresAlone
 pub mod EditedSessions
+pub mod Entries
 pub mod Examples
 pub mod Filters
+pub mod FirstWaiters
 pub mod Looks
+pub mod Mutexes
 pub mod NoteExamples
 pub mod Notifying
 pub mod Ranks
@@ -21,6 +24,7 @@ pub mod Sets
 pub mod SlowRuns
 pub mod SlowSlices
 pub mod SlowTicks
+pub mod SoundMutexes
 pub mod SoundSteps
 pub mod Stamped
 pub mod StartFlags

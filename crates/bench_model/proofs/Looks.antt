@@ -10,6 +10,7 @@ use Rattle.bench_types.specs.declared.note.Notification.{Notification}
 use Rattle.bench_model.specs.declared.row.Standing.{Standing}
 use Rattle.bench_model.specs.declared.row.Standing.TheVariants.{Ready, Blocked}
 use Rattle.bench_model.specs.Control.{Control, task_at}
+use Rattle.bench_model.specs.Mutexes.{held_by}
 use Rattle.bench_model.specs.Notes.{note_at}
 use Rattle.bench_model.specs.State.{call_at}
 use Rattle.bench_model.specs.Search.{ranked}
@@ -28,8 +29,8 @@ list_any-map p f (x ∷ xs) = ap (λ b. p (f x) || b) (list_any-map p f xs)
 
 left_at : (tick task : ℕ) (standing : Standing) → option_map (λ (entry : Delayed). entry.left) (cond (waits standing) (Some (record { task = task; left = unwrap_or (wake_in standing) 0 - tick })) None) ≡ option_map (λ wake. wake - tick) (wake_in standing)
 left_at tick task Ready = refl
-left_at tick task (Blocked None) = refl
-left_at tick task (Blocked (Some wake)) = refl
+left_at tick task (Blocked None wait) = refl
+left_at tick task (Blocked (Some wake) wait) = refl
 
 -- the ticks left
 left_seen : (control : Control) (stamps : Stamps) (task : ℕ) → IsGiven stamps → task < length stamps.rows → left_in task (lists_of control stamps).delayed ≡ ticks_left task stamps
@@ -46,16 +47,16 @@ left_seen control stamps task given below =
     (list_any-ranked wakes_first is_its (map (delayed_of stamps) waiting) ∙ list_any-map is_its (delayed_of stamps) waiting ∙ has-standing_so waits stamps task given below))
     ∙ left_at stamps.tick task (row_at stamps task).standing
 
-abbrev look_from : TaskControl → Bool → Notification → Bool → Option ℕ → TaskLook
-look_from block in_call note ready left = record { in_use = block.in_use; base = block.base; mask = block.mask; preempt = block.preempt; ready = ready; left = left; in_call = in_call; value = note.value; state = note.state }
+abbrev look_from : TaskControl → Bool → Notification → ℕ → Bool → Option ℕ → TaskLook
+look_from block in_call note held ready left = record { in_use = block.in_use; base = block.base; mask = block.mask; preempt = block.preempt; ready = ready; left = left; held = held; in_call = in_call; value = note.value; state = note.state }
 
-same_look : (block : TaskControl) (in_call : Bool) (note : Notification) (ready other : Bool) (left ticks : Option ℕ) → ready ≡ other → left ≡ ticks → look_from block in_call note ready left ≡ look_from block in_call note other ticks
-same_look block in_call note ready other left ticks a b = cc
+same_look : (block : TaskControl) (in_call : Bool) (note : Notification) (held : ℕ) (ready other : Bool) (left ticks : Option ℕ) → ready ≡ other → left ≡ ticks → look_from block in_call note held ready left ≡ look_from block in_call note held other ticks
+same_look block in_call note held ready other left ticks a b = cc
 
 pub look_seen : (table : Table) (task : ℕ) → IsSound table → task < table.settings.tasks → look_in (image table) task ≡ task_look table task
 unfolding look_in task_look
 look_seen table task sound low =
     let below : task < length table.orders.rows = omega (arith, sound.sized.rows, low) in
-    same_look (task_at table.control task) (is_some (call_at table.calls task)) (note_at table.notes task) _ _ _ _
+    same_look (task_at table.control task) (is_some (call_at table.calls task)) (note_at table.notes task) (held_by table.holders task) _ _ _ _
     (is_ready_seen table.control table.orders task sound.stamped.given below)
     (left_seen table.control table.orders task sound.stamped.given below)

@@ -26,7 +26,9 @@ notes_sound table notes sound each words = record {
     controls = sound.sized.controls;
     calls = sound.sized.calls;
     notes = each;
+    holders = sound.sized.holders;
     rows = sound.sized.rows;
+    deadlines = sound.sized.deadlines;
     some_core = sound.sized.some_core;
     idle_tasks = sound.sized.idle_tasks;
   };
@@ -36,6 +38,7 @@ notes_sound table notes sound each words = record {
   priorities = sound.priorities;
   calls = sound.calls;
   notes = words;
+  mutexes = sound.mutexes;
 }
 
 acted_word : (action : Action) (value : ℕ) → IsActionOfWord action → value < 2 ^ 32 → acted action value < 2 ^ 32

@@ -1,19 +1,16 @@
 -- A task that gets the next stamp: what it does to the orders of a table.
-use Rattle.std.proofs.Common.{◌≡◌, ◌≢◌, ℕ, suc, ◌-◌, ◌<◌, Bool, true, cond, not, eqb, List, [], ◌∷◌, ◌++◌, length, map, sym, ap, subst, ◌∙◌, arith}
-use Rattle.std.specs.Prelude.{is_some, unwrap_or}
+use Rattle.std.proofs.Common.{◌≡◌, ◌≢◌, ℕ, suc, ◌<◌, Bool, cond, List, [], ◌∷◌, ◌++◌, length, sym, ap, subst, ◌∙◌, arith}
+use Rattle.std.specs.Prelude.{is_some}
 use Rattle.std.proofs.lemmas.List.{length-set, get_or-set_same, get_or-set_other}
 use Rattle.std.proofs.Common.{inl, inr}
 use Rattle.std.proofs.lemmas.Bool.{cases_eq}
 use Rattle.std.proofs.lemmas.Bool.Decides.{nat_tests}
-use Rattle.bench_types.specs.declared.kernel_data.Delayed.{Delayed}
 use Rattle.bench_model.specs.declared.row.Standing.{Standing}
 use Rattle.bench_model.specs.declared.row.Standing.TheVariants.{Ready}
 use Rattle.bench_model.specs.declared.row.TaskRow.{TaskRow}
 use Rattle.bench_model.specs.Search.{numbers, by_stamp, without, has}
 use Rattle.bench_model.specs.Table.{Stamps, row_at, stamp_of, tasks_of, wake_in, restamped}
-use Rattle.bench_model.specs.Lists.{delayed_of}
 use Rattle.bench_model.specs.Sound.{IsStamped}
-use Rattle.bench_model.proofs.Filters.{map_agrees, All-filter_passes, All-weaker}
 use Rattle.bench_model.proofs.Stamped.{numbers_have, by_stamp_moved, has-by_stamp}
 
 -- every stamp was given
@@ -78,12 +75,3 @@ module _ (stamps : Stamps) (task : ℕ) (standing : Standing) (below : task < le
       let sized = ap (λ n. by_stamp (stamp_of moved) (λ i. test (row_at moved i).standing) (numbers n) moved.next) moved_length in
       let last = ap (λ (r : TaskRow). cond (test r.standing) (task ∷ []) []) row_same in
       sized ∙ by_moved ∙ ap (λ tail. without task (standing_so test stamps) ++ tail) last
-
-  -- the ticks left of the others stay
-  pub delayed_of_others : (ids : List ℕ) → map (delayed_of moved) (without task ids) ≡ map (delayed_of stamps) (without task ids)
-  delayed_of_others ids = map_agrees (delayed_of moved) (delayed_of stamps) (without task ids)
-      (All-weaker (λ i. not (eqb i task) ≡ true) (λ i. delayed_of moved i ≡ delayed_of stamps i)
-      (λ i h. ap (λ (r : TaskRow). delayed_at i r.standing) (row_other i (λ e. grind (arith, nat_tests, h, e)))) (without task ids) (All-filter_passes (λ i. not (eqb i task)) ids))
-    where
-      delayed_at : ℕ → Standing → Delayed
-      delayed_at i s = record { task = i; left = unwrap_or (wake_in s) 0 - stamps.tick }

@@ -56,12 +56,12 @@ seek_apart acting task among control stamps = at (is_running control task) (aske
     at false (Some core) = lists_of_cores control _ stamps
 
 pub seek_seen : (table : Table) (acting task : ℕ) (among : ℕ → Bool) → image (sought acting task among table) ≡ sought acting task among (image table)
-seek_seen table acting task among = same_state table.settings _ _ table.calls table.notes _ _ refl (seek_apart acting task among table.control table.orders)
+seek_seen table acting task among = same_state table.settings _ _ table.calls table.notes table.holders _ _ refl (seek_apart acting task among table.control table.orders)
 
 pub wake_seen : (table : Table) (acting task : ℕ) → IsGiven table.orders → task < length table.orders.rows → image (wake table_moves acting task table) ≡ wake list_moves acting task (image table)
 unfolding wake
 wake_seen table acting task given below =
-    same_state table.settings _ _ table.calls table.notes _ _ refl
+    same_state table.settings _ _ table.calls table.notes table.holders _ _ refl
     (seek_apart acting task (in_mask table.control task) table.control (make_ready task table.orders) ∙ make_ready_seen table.control table.orders task given below)
 
 resettled_seen : (table : Table) (core loser : ℕ) → IsGiven table.orders → loser < length table.orders.rows → image (resettled table_moves core loser table) ≡ resettled list_moves core loser (image table)
@@ -118,7 +118,7 @@ unfolding sliced
 sliced_seen table sound = at table.settings.slicing
   where
     at : (b : Bool) → image (cond b (record table { control = ask_each 0 (shares_its_time table_moves table) table.control }) table) ≡ cond b (record (image table) { control = ask_each 0 (shares_its_time list_moves (image table)) table.control }) (image table)
-    at true = same_state table.settings _ _ table.calls table.notes _ _ (sliced_control table sound) (lists_of_cores table.control _ table.orders)
+    at true = same_state table.settings _ _ table.calls table.notes table.holders _ _ (sliced_control table sound) (lists_of_cores table.control _ table.orders)
     at false = refl
 
 -- seeking asks one core, or none

@@ -8,6 +8,8 @@ use Rattle.bench_types.specs.declared.step.Step.{Step}
 use Rattle.bench_types.specs.declared.step.Step.TheVariants.{Tick, Switch}
 use Rattle.bench_types.specs.declared.step.Step.TheVariants as steps
 use Rattle.bench_types.specs.declared.step.Call.{Call}
+use Rattle.bench_types.specs.declared.step.Unfinished.{Unfinished}
+use Rattle.bench_types.specs.declared.kernel_data.MutexWait.{MutexWait}
 use Rattle.bench_types.specs.declared.kernel_data.Settings.{Settings}
 use Rattle.bench_types.specs.declared.kernel_data.CoreLook.{CoreLook}
 use Rattle.bench_types.specs.declared.note.Notification.{Notification}
@@ -25,11 +27,11 @@ use Rattle.bench_model.proofs.Stamped.{numbers_below, All-by_stamp}
 use Rattle.bench_model.proofs.Restamps.{IsGiven, moved_length, moved_given, moved_once}
 use Rattle.bench_model.proofs.SeenMoves.{is_ready_seen, pick_seen, make_ready_seen, delay_seen, advance_seen, due_seen, IsAhead, IsNotPast}
 
-abbrev pub state_from : {Orders : Type 0} → Settings → Control → List (Option Call) → List Notification → Orders → State Orders
-state_from settings control calls notes orders = record { settings = settings; control = control; calls = calls; notes = notes; orders = orders }
+abbrev pub state_from : {Orders : Type 0} → Settings → Control → List (Option Unfinished) → List Notification → List (Option ℕ) → Orders → State Orders
+state_from settings control calls notes holders orders = record { settings = settings; control = control; calls = calls; notes = notes; holders = holders; orders = orders }
 
-pub same_state : (settings : Settings) (control other : Control) (calls : List (Option Call)) (notes : List Notification) (orders others : Lists) → control ≡ other → orders ≡ others → state_from settings control calls notes orders ≡ state_from settings other calls notes others
-same_state settings control other calls notes orders others a b = cc
+pub same_state : (settings : Settings) (control other : Control) (calls : List (Option Unfinished)) (notes : List Notification) (holders : List (Option ℕ)) (orders others : Lists) → control ≡ other → orders ≡ others → state_from settings control calls notes holders orders ≡ state_from settings other calls notes holders others
+same_state settings control other calls notes holders orders others a b = cc
 
 -- the orders do not read the cores
 pub lists_of_cores : (control : Control) (cores : List CoreLook) (stamps : Stamps) → lists_of (record control { cores = cores }) stamps ≡ lists_of control stamps
@@ -72,7 +74,7 @@ switched_seen core table stamped below =
     let lists = queued_seen table.control table.orders left stamped.given below in
     let picked = pick_seen table.control core orders (queued_once table.orders left stamped below) in
     let chosen = ap (λ l. seen.pick table.control core l) lists in
-    same_state table.settings (run_on core (unwrap_or (pick table.control core orders) left) table.control) (run_on core (unwrap_or (seen.pick table.control core (seen_queue table.control table.orders left)) left) table.control) table.calls table.notes _ _
+    same_state table.settings (run_on core (unwrap_or (pick table.control core orders) left) table.control) (run_on core (unwrap_or (seen.pick table.control core (seen_queue table.control table.orders left)) left) table.control) table.calls table.notes table.holders _ _
     (ap (λ o. run_on core (unwrap_or o left) table.control) (sym picked ∙ chosen))
     (lists_of_cores table.control _ orders ∙ lists)
 
@@ -101,14 +103,14 @@ due_below stamps = All-by_stamp (stamp_of stamps) (λ task. wakes_at stamps.tick
 
 pub yielded_seen : (core : ℕ) (table : Table) → image (yielded table_moves core table) ≡ yielded list_moves core (image table)
 unfolding yielded
-yielded_seen core table = same_state table.settings _ _ table.calls table.notes _ _ refl (lists_of_cores table.control _ table.orders)
+yielded_seen core table = same_state table.settings _ _ table.calls table.notes table.holders _ _ refl (lists_of_cores table.control _ table.orders)
 
-pub blocked_seen : (core task : ℕ) (call : Call) (ticks : Option ℕ) (table : Table) → IsGiven table.orders → task < length table.orders.rows → is_ready task table.orders ≡ true → image (blocked table_moves core task call ticks table) ≡ blocked list_moves core task call ticks (image table)
+pub blocked_seen : (core task : ℕ) (call : Unfinished) (ticks : Option ℕ) (wait : Option MutexWait) (table : Table) → IsGiven table.orders → task < length table.orders.rows → is_ready task table.orders ≡ true → image (blocked table_moves core task call ticks wait table) ≡ blocked list_moves core task call ticks wait (image table)
 unfolding blocked
-blocked_seen core task call ticks table given below ready =
-    same_state table.settings _ _ (slice_set table.calls task (Some call)) table.notes _ _ refl (lists_of_cores table.control _ (delay task ticks table.orders) ∙ delay_seen table.control table.orders task ticks given below ready)
+blocked_seen core task call ticks wait table given below ready =
+    same_state table.settings _ _ (slice_set table.calls task (Some call)) table.notes table.holders _ _ refl (lists_of_cores table.control _ (delay task ticks wait table.orders) ∙ delay_seen table.control table.orders task ticks wait given below ready)
 
-pub not_displaced : (control : Control) (calls : List (Option Call)) (core task : ℕ) (call : Call) → refusal control calls (steps.Call core task call) ≡ None → (current control core ≡ task) × (is_due control core ≡ false)
+pub not_displaced : (control : Control) (calls : List (Option Unfinished)) (core task : ℕ) (call : Call) → refusal control calls (steps.Call core task call) ≡ None → (current control core ≡ task) × (is_due control core ≡ false)
 unfolding refusal
 not_displaced control calls core task call accepted = at (eqb (current control core) task) refl (is_due control core) refl
   where

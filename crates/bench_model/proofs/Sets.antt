@@ -86,7 +86,7 @@ more_apart control other stamps more =
     ap (λ (tasks : List TaskControl). lists_of (record { cores = other.cores; tasks = tasks }) stamps) more.tasks ∙ lists_of_cores control other.cores stamps
 
 more_seen : (table : Table) (other : Control) → IsAskedMore table.control other → image (with_control table other) ≡ record (image table) { control = other }
-more_seen table other more = same_state table.settings other other table.calls table.notes _ _ refl (more_apart table.control other table.orders more)
+more_seen table other more = same_state table.settings other other table.calls table.notes table.holders _ _ refl (more_apart table.control other table.orders more)
 
 pub its_core_seen : (table : Table) (acting task : ℕ) → image (on_control (ask_its_core acting task) table) ≡ on_control (ask_its_core acting task) (image table)
 its_core_seen table acting task = more_seen table (ask_its_core acting task table.control) (its_core_more acting task table.control)
@@ -108,7 +108,7 @@ masked_sound table acting task ready sound = more_sound table (masked_anew actin
 
 -- a control block that keeps its priority in use
 change_seen : (table : Table) (task : ℕ) (block : TaskControl) → block.in_use ≡ (task_at table.control task).in_use → image (with_control table (with_task task block table.control)) ≡ record (image table) { control = with_task task block table.control }
-change_seen table task block kept = same_state table.settings _ _ table.calls table.notes _ _ refl (change_apart table.control table.orders task block kept)
+change_seen table task block kept = same_state table.settings _ _ table.calls table.notes table.holders _ _ refl (change_apart table.control table.orders task block kept)
 
 pub off_seen : (table : Table) (task : ℕ) → image (preemption_off table_moves task table) ≡ preemption_off list_moves task (image table)
 unfolding preemption_off
@@ -129,7 +129,7 @@ unfolding preemption_on
 on_sound table acting task sound low =
     its_core_sound (with_control table (with_preemption task true table.control)) acting task (change_sound table task (record (task_at table.control task) { preempt = true }) sound (sound.priorities task low))
 
-ready_seen : (table : Table) (task : ℕ) → IsSound table → task < table.settings.tasks → is_ready task table.orders ≡ seen.is_ready task (lists_of table.control table.orders)
+pub ready_seen : (table : Table) (task : ℕ) → IsSound table → task < table.settings.tasks → is_ready task table.orders ≡ seen.is_ready task (lists_of table.control table.orders)
 ready_seen table task sound low = sym (is_ready_seen table.control table.orders task sound.stamped.given (omega (arith, sound.sized.rows)))
 
 pub affinity_seen : (table : Table) (acting task mask : ℕ) → IsSound table → task < table.settings.tasks → image (affinity_set table_moves acting task mask table) ≡ affinity_set list_moves acting task mask (image table)
@@ -156,11 +156,11 @@ capped_below priorities priority some = at (ltb priority priorities) refl
     at true below = grind (arith, nat_tests, below)
     at false above = omega arith
 
-either_seen : (b : Bool) (x y : Table) (v w : View) → image x ≡ v → image y ≡ w → image (cond b x y) ≡ cond b v w
+pub either_seen : (b : Bool) (x y : Table) (v w : View) → image x ≡ v → image y ≡ w → image (cond b x y) ≡ cond b v w
 either_seen true x y v w here there = here
 either_seen false x y v w here there = there
 
-either_sound : (b : Bool) (x y : Table) → IsSound x → IsSound y → IsSound (cond b x y)
+pub either_sound : (b : Bool) (x y : Table) → IsSound x → IsSound y → IsSound (cond b x y)
 either_sound true x y here there = here
 either_sound false x y here there = there
 

@@ -1,28 +1,28 @@
 -- The rules that seek no core keep a sound table sound.
 use Rattle.std.proofs.Common.{◌≡◌, ◌≢◌, ℕ, suc, ◌+◌, ◌<◌, ◌≤◌, ◌^◌, Bool, true, false, cond, not, eqb, ◌&&◌, ◌||◌, List, [], ◌∷◌, length, Option, Some, None, refl, sym, ap, subst, ◌∙◌, arith, inl, inr}
-use Rattle.std.specs.Prelude.{unwrap_or, slice_set, option_map, IsSome}
+use Rattle.std.specs.Prelude.{unwrap_or, slice_set, option_map, is_some, IsSome, IfSome}
+use Rattle.std.specs.Option.{option_map_or}
 use Rattle.std.specs.List.{fold, AllByRecursion}
 use Rattle.std.proofs.lemmas.Bool.Decides.{nat_tests}
 use Rattle.std.proofs.lemmas.Bool.{cases_eq}
 use Rattle.std.proofs.lemmas.List.{length-set, get_or-set_same, get_or-set_other}
-use Rattle.bench_types.specs.declared.step.Step.TheVariants.{Tick, Switch}
-use Rattle.bench_types.specs.declared.step.Step.TheVariants as steps
-use Rattle.bench_types.specs.declared.step.Call.{Call}
+use Rattle.bench_types.specs.declared.step.Unfinished.{Unfinished}
+use Rattle.bench_types.specs.declared.kernel_data.MutexWait.{MutexWait}
 use Rattle.bench_types.specs.declared.kernel_data.CoreLook.{CoreLook}
 use Rattle.bench_types.specs.declared.kernel_data.Settings.{Settings}
 use Rattle.bench_types.specs.declared.kernel_data.TaskControl.{TaskControl}
-use Rattle.bench_types.specs.Step.{IsCheckedCall}
+use Rattle.bench_types.specs.Step.{IsCheckedUnfinished}
 use Rattle.bench_model.specs.declared.row.Standing.{Standing}
 use Rattle.bench_model.specs.declared.row.Standing.TheVariants.{Ready, Blocked}
-use Rattle.bench_model.specs.declared.row.TaskRow.{TaskRow}
 use Rattle.bench_model.specs.Search.{numbers, has}
 use Rattle.bench_model.specs.Control.{Control, core_at, task_at, with_core, current, is_due, may_select, asked_by, ask, run_on}
 use Rattle.bench_model.specs.State.{selected, call_at, switched, yielded, blocked}
-use Rattle.bench_model.specs.Table.{Stamps, Table, table_moves, row_at, stamp_of, is_ready, stands_ready, wakes_at, tasks_of, restamped, pick, make_ready, delay, advance, due}
-use Rattle.bench_model.specs.Sound.{IsInPlace, IsStamped, IsPlaced, IsWait, WakesInTime, IsBelow, IsSound}
+use Rattle.bench_model.specs.Table.{Stamps, Table, table_moves, row_at, stamp_of, is_ready, stands_ready, wake_in, ahead, wakes_at, tasks_of, restamped, pick, make_ready, delay, advance, due}
+use Rattle.bench_model.specs.Sound.{IsCaller, IsStamped, IsPlaced, IsWait, IsMutexWait, WakesInTime, IsBelow, HasMutexes, IsSound, takes_mutex}
 use Rattle.bench_model.proofs.Filters.{All-weaker}
 use Rattle.bench_model.proofs.Stamped.{numbers_have, has-by_stamp}
-use Rattle.bench_model.proofs.Restamps.{row_same, row_other, moved_length, moved_once}
+use Rattle.bench_model.proofs.Restamps.{moved_length, moved_once}
+use Rattle.bench_model.proofs.SoundMutexes.{standing_same, standing_other, readied_field, readied_mutexes, advanced_mutexes, waiting_mutexes}
 use Rattle.bench_model.proofs.Selects.{selects, list_any_at}
 use Rattle.bench_model.proofs.SeenSteps.{queued, queued_once, make_ready_once, due_below}
 
@@ -44,34 +44,24 @@ module _ (stamps : Stamps) (task : ℕ) (standing : Standing) (below : task < le
   abbrev moved : Stamps
   moved = restamped task standing stamps
 
-  standing_same : (row_at moved task).standing ≡ standing
-  standing_same = ap (λ (r : TaskRow). r.standing) (row_same stamps task standing below)
-
-  standing_other : (i : ℕ) → i ≢ task → (row_at moved i).standing ≡ (row_at stamps i).standing
-  standing_other i away = ap (λ (r : TaskRow). r.standing) (row_other stamps task standing below i away)
-
   ready_other : (i : ℕ) → i ≢ task → is_ready i moved ≡ is_ready i stamps
-  ready_other i away = ap stands_ready (standing_other i away)
+  ready_other i away = ap stands_ready (standing_other stamps task standing below i away)
 
 -- a ready task stays ready when some task is made ready
-make_ready_keeps : (stamps : Stamps) (task i : ℕ) → task < length stamps.rows → is_ready i stamps ≡ true → is_ready i (make_ready task stamps) ≡ true
+pub make_ready_keeps : (stamps : Stamps) (task i : ℕ) → task < length stamps.rows → is_ready i stamps ≡ true → is_ready i (make_ready task stamps) ≡ true
 unfolding make_ready
 make_ready_keeps stamps task i below ready = elim (cases_eq i task) [
   | inl here ↦ ap (λ j. is_ready j (restamped task Ready stamps)) here ∙ ap stands_ready (standing_same stamps task Ready below)
   | inr away ↦ ready_other stamps task Ready below i away ∙ ready
 ]
 
--- what is blocked after some task was made ready was so before, and is another
-make_ready_blocked : (stamps : Stamps) (task i wake : ℕ) → task < length stamps.rows → (row_at (make_ready task stamps) i).standing ≡ Blocked (Some wake) → ((row_at stamps i).standing ≡ Blocked (Some wake)) × (i ≢ task)
-unfolding make_ready
-make_ready_blocked stamps task i wake below waits = elim (cases_eq i task) [
-  | inl here ↦ absurd (cc (sym (standing_same stamps task Ready below) ∙ ap (λ j. (row_at (restamped task Ready stamps) j).standing) (sym here) ∙ waits))
-  | inr away ↦ (sym (standing_other stamps task Ready below i away) ∙ waits, away)
-]
-
 make_ready_length : (stamps : Stamps) (task : ℕ) → task < length stamps.rows → length (make_ready task stamps).rows ≡ length stamps.rows
 unfolding make_ready
 make_ready_length stamps task below = moved_length stamps task Ready below
+
+make_ready_deadlines : (stamps : Stamps) (task : ℕ) → length (make_ready task stamps).deadlines ≡ length stamps.deadlines
+unfolding make_ready
+make_ready_deadlines stamps task = refl
 
 pub make_ready_tick : (stamps : Stamps) (task : ℕ) → (make_ready task stamps).tick ≡ stamps.tick
 unfolding make_ready
@@ -95,7 +85,7 @@ make_ready_placed control stamps task below place = record {
 
 make_ready_in_time : (stamps : Stamps) (task : ℕ) → task < length stamps.rows → WakesInTime stamps → WakesInTime (make_ready task stamps)
 make_ready_in_time stamps task below in_time i wake low waits =
-    let before = make_ready_blocked stamps task i wake below waits in
+    let before = readied_field wake_in refl stamps task i wake below waits in
     let bounds = in_time i wake (omega (arith, make_ready_length stamps task below)) before.0 in
     let same = make_ready_tick stamps task in
     (omega (arith, same, bounds.0), omega (arith, same, bounds.1))
@@ -144,7 +134,9 @@ ready_sound table task sound low =
         cores = sound.sized.cores;
         controls = sound.sized.controls;
         calls = sound.sized.calls;
+        holders = sound.sized.holders;
         rows = make_ready_length table.orders task below ∙ sound.sized.rows;
+        deadlines = make_ready_deadlines table.orders task ∙ sound.sized.deadlines;
         some_core = sound.sized.some_core;
         idle_tasks = sound.sized.idle_tasks;
         notes = sound.sized.notes;
@@ -155,6 +147,7 @@ ready_sound table task sound low =
       priorities = sound.priorities;
       calls = sound.calls;
       notes = sound.notes;
+      mutexes = readied_mutexes table.settings table.calls table.holders table.orders sound.mutexes task below;
     }
 
 queued_placed : (control : Control) (stamps : Stamps) (task : ℕ) → task < length stamps.rows → IsPlaced control stamps → IsPlaced control (queued stamps task)
@@ -178,6 +171,20 @@ queued_length stamps task below = either (is_ready task stamps)
     either true = make_ready_length stamps task below
     either false = refl
 
+queued_deadlines : (stamps : Stamps) (task : ℕ) → length (queued stamps task).deadlines ≡ length stamps.deadlines
+queued_deadlines stamps task = either (is_ready task stamps)
+  where
+    either : (b : Bool) → length (cond b (make_ready task stamps) stamps).deadlines ≡ length stamps.deadlines
+    either true = make_ready_deadlines stamps task
+    either false = refl
+
+queued_mutexes : (table : Table) (task : ℕ) → task < length table.orders.rows → HasMutexes table.settings table.calls table.holders table.orders → HasMutexes table.settings table.calls table.holders (queued table.orders task)
+queued_mutexes table task below kept = either (is_ready task table.orders)
+  where
+    either : (b : Bool) → HasMutexes table.settings table.calls table.holders (cond b (make_ready task table.orders) table.orders)
+    either true = readied_mutexes table.settings table.calls table.holders table.orders kept task below
+    either false = kept
+
 pub switched_sound : (core : ℕ) (table : Table) → IsSound table → core < length table.control.cores → IsSound (switched table_moves core table)
 unfolding switched
 switched_sound core table sound below =
@@ -194,7 +201,9 @@ switched_sound core table sound below =
         cores = cores_length control core _ ∙ sound.sized.cores;
         controls = sound.sized.controls;
         calls = sound.sized.calls;
+        holders = sound.sized.holders;
         rows = same ∙ sound.sized.rows;
+        deadlines = queued_deadlines table.orders left ∙ sound.sized.deadlines;
         some_core = sound.sized.some_core;
         idle_tasks = sound.sized.idle_tasks;
         notes = sound.sized.notes;
@@ -205,6 +214,7 @@ switched_sound core table sound below =
       priorities = sound.priorities;
       calls = sound.calls;
       notes = sound.notes;
+      mutexes = queued_mutexes table left low sound.mutexes;
     }
 
 -- the tasks that are made ready in turn
@@ -231,18 +241,18 @@ readied_placed control [] stamps all place = place
 readied_placed control (task ∷ tasks) stamps all place = readied_placed control tasks (make_ready task stamps) (readied_low stamps task tasks all.0 all.1) (make_ready_placed control stamps task all.0 place)
 
 -- what still waits waited before, and is none of them
-readied_blocked : (tasks : List ℕ) (stamps : Stamps) → AllByRecursion (λ i. i < length stamps.rows) tasks → (i wake : ℕ) → (row_at (readied stamps tasks) i).standing ≡ Blocked (Some wake) → ((row_at stamps i).standing ≡ Blocked (Some wake)) × (has i tasks ≡ false)
+readied_blocked : (tasks : List ℕ) (stamps : Stamps) → AllByRecursion (λ i. i < length stamps.rows) tasks → (i wake : ℕ) → wake_in (row_at (readied stamps tasks) i).standing ≡ Some wake → (wake_in (row_at stamps i).standing ≡ Some wake) × (has i tasks ≡ false)
 readied_blocked [] stamps all i wake waits = (waits, refl)
 readied_blocked (task ∷ tasks) stamps all i wake waits =
     let rest = readied_blocked tasks (make_ready task stamps) (readied_low stamps task tasks all.0 all.1) i wake waits in
-    let first = make_ready_blocked stamps task i wake all.0 rest.0 in
+    let first = readied_field wake_in refl stamps task i wake all.0 rest.0 in
     (first.0, grind (arith, nat_tests, first.1, rest.1))
 
 -- a task that waits until the tick count is due then
-waits_due : (stamps : Stamps) (i : ℕ) → IsStamped stamps → i < length stamps.rows → (row_at stamps i).standing ≡ Blocked (Some stamps.tick) → has i (due stamps) ≡ true
+waits_due : (stamps : Stamps) (i : ℕ) → IsStamped stamps → i < length stamps.rows → wake_in (row_at stamps i).standing ≡ Some stamps.tick → has i (due stamps) ≡ true
 unfolding due
 waits_due stamps i stamped low waits =
-    let passes : wakes_at stamps.tick (row_at stamps i).standing ≡ true = ap (wakes_at stamps.tick) waits ∙ grind (arith, nat_tests) in
+    let passes : wakes_at stamps.tick (row_at stamps i).standing ≡ true = ap (λ wake. option_map_or (λ at. eqb at stamps.tick) wake false) waits ∙ grind (arith, nat_tests) in
     has-by_stamp (stamp_of stamps) (λ task. wakes_at stamps.tick (row_at stamps task).standing) (tasks_of stamps) i stamps.next ∙ grind (arith, nat_tests, passes, stamped.given i low, numbers_have (length stamps.rows) i low)
 
 pub advanced_stamped : (stamps : Stamps) → IsStamped stamps → IsStamped (advance stamps)
@@ -273,9 +283,22 @@ still_in_time stamps stamped in_time i wake low waits =
     let before = readied_blocked (due later) later (due_below later) i wake waits in
     let within : i < length later.rows = omega (arith, readied_length (due later) later (due_below later)) in
     let bounds = in_time i wake (omega (arith, advanced_length stamps)) before.0 in
-    let not_now : wake ≡ later.tick → ⊥ = λ now. cc (waits_due later i (advanced_stamped stamps stamped) within (before.0 ∙ ap (λ w. Blocked (Some w)) now), before.1) in
+    let not_now : wake ≡ later.tick → ⊥ = λ now. cc (waits_due later i (advanced_stamped stamps stamped) within (before.0 ∙ ap Some now), before.1) in
     let same = readied_tick (due later) later in
     (omega (arith, same, advanced_tick stamps, bounds.0, not_now), omega (arith, same, advanced_tick stamps, bounds.1))
+
+readied_deadlines : (tasks : List ℕ) (stamps : Stamps) → length (readied stamps tasks).deadlines ≡ length stamps.deadlines
+readied_deadlines [] stamps = refl
+readied_deadlines (task ∷ tasks) stamps = readied_deadlines tasks (make_ready task stamps) ∙ make_ready_deadlines stamps task
+
+advanced_deadlines : (stamps : Stamps) → length (advance stamps).deadlines ≡ length stamps.deadlines
+unfolding advance
+advanced_deadlines stamps = refl
+
+all_readied_mutexes : (table : Table) (tasks : List ℕ) (stamps : Stamps) → AllByRecursion (λ i. i < length stamps.rows) tasks → HasMutexes table.settings table.calls table.holders stamps → HasMutexes table.settings table.calls table.holders (readied stamps tasks)
+all_readied_mutexes table [] stamps all kept = kept
+all_readied_mutexes table (task ∷ tasks) stamps all kept =
+    all_readied_mutexes table tasks (make_ready task stamps) (readied_low stamps task tasks all.0 all.1) (readied_mutexes table.settings table.calls table.holders stamps kept task all.0)
 
 -- when a tick has passed, and the tasks that are due are ready
 pub readied_sound : (table : Table) → IsSound table → IsSound (record table { orders = readied (advance table.orders) (due (advance table.orders)) })
@@ -287,7 +310,9 @@ readied_sound table sound =
         cores = sound.sized.cores;
         controls = sound.sized.controls;
         calls = sound.sized.calls;
+        holders = sound.sized.holders;
         rows = readied_length (due later) later low ∙ advanced_length table.orders ∙ sound.sized.rows;
+        deadlines = readied_deadlines (due later) later ∙ advanced_deadlines table.orders ∙ sound.sized.deadlines;
         some_core = sound.sized.some_core;
         idle_tasks = sound.sized.idle_tasks;
         notes = sound.sized.notes;
@@ -298,6 +323,7 @@ readied_sound table sound =
       priorities = sound.priorities;
       calls = sound.calls;
       notes = sound.notes;
+      mutexes = all_readied_mutexes table (due later) later low (advanced_mutexes table.settings table.calls table.holders table.orders sound.mutexes);
     }
 
 -- Cores of which some were asked: the others are as they were, and none has another current task.
@@ -325,7 +351,9 @@ more_sound table other more sound = record {
     cores = more.cores ∙ sound.sized.cores;
     controls = ap (λ (tasks : List TaskControl). length tasks) more.tasks ∙ sound.sized.controls;
     calls = sound.sized.calls;
+    holders = sound.sized.holders;
     rows = sound.sized.rows;
+    deadlines = sound.sized.deadlines;
     some_core = sound.sized.some_core;
     idle_tasks = sound.sized.idle_tasks;
     notes = sound.sized.notes;
@@ -336,6 +364,7 @@ more_sound table other more sound = record {
   priorities = λ i low. subst (λ (tasks : List TaskControl). IsBelow table.settings.priorities (task_at (record { cores = other.cores; tasks = tasks }) i)) (sym more.tasks) (sound.priorities i low);
   calls = sound.calls;
   notes = sound.notes;
+  mutexes = sound.mutexes;
 }
 
 pub asked_runs : (acting core : ℕ) (look : CoreLook) → (asked_by acting core look).current ≡ look.current
@@ -396,65 +425,80 @@ unfolding yielded
 yielded_sound core table sound below = more_sound table (ask core core table.control) (asked_more table.control core core below) sound
 
 -- the unfinished calls stay checked where one begins or ends
-pub call_set : (settings : Settings) (calls : List (Option Call)) (task : ℕ) (given : Option Call) → task < length calls → ((call : Call) → given ≡ Some call → IsCheckedCall settings call) → ((i : ℕ) (call : Call) → call_at calls i ≡ Some call → IsCheckedCall settings call) → (i : ℕ) (call : Call) → call_at (slice_set calls task given) i ≡ Some call → IsCheckedCall settings call
+pub call_set : (settings : Settings) (calls : List (Option Unfinished)) (task : ℕ) (given : Option Unfinished) → task < length calls → ((call : Unfinished) → given ≡ Some call → IsCheckedUnfinished settings call) → ((i : ℕ) (call : Unfinished) → call_at calls i ≡ Some call → IsCheckedUnfinished settings call) → (i : ℕ) (call : Unfinished) → call_at (slice_set calls task given) i ≡ Some call → IsCheckedUnfinished settings call
 call_set settings calls task given below one all i call found = elim (cases_eq i task) [
   | inl here ↦ one call (sym (get_or-set_same calls task given None below) ∙ ap (call_at (slice_set calls task given)) (sym here) ∙ found)
   | inr away ↦ all i call (sym (get_or-set_other calls task i given None away) ∙ found)
 ]
 
--- where a blocked task stands, from its ticks
-abbrev waiting_for : Stamps → Option ℕ → Standing
-waiting_for stamps ticks = Blocked (option_map (λ ticks. stamps.tick + ticks) ticks)
+-- where a task stands that waits from now on
+abbrev waiting_for : Stamps → Option ℕ → Option MutexWait → Standing
+waiting_for stamps ticks wait = Blocked (ahead stamps ticks) wait
 
 -- a wake that is there is in time
-wake_in_time : (tick wake : ℕ) (ticks : Option ℕ) → IsWait ticks → Blocked (option_map (λ ticks. tick + ticks) ticks) ≡ Blocked (Some wake) → (tick < wake) × (wake < tick + 2 ^ 32)
+wake_in_time : (tick wake : ℕ) (ticks : Option ℕ) → IsWait ticks → option_map (λ ticks. tick + ticks) ticks ≡ Some wake → (tick < wake) × (wake < tick + 2 ^ 32)
 wake_in_time tick wake None fits same = absurd (cc (same))
 wake_in_time tick wake (Some ticks) fits same =
     let at : tick + ticks ≡ wake = cc (same) in
     (omega (arith, at, fits.0), omega (arith, at, fits.1))
 
-delayed_in_time : (stamps : Stamps) (task : ℕ) (ticks : Option ℕ) → task < length stamps.rows → IsWait ticks → WakesInTime stamps → WakesInTime (delay task ticks stamps)
-unfolding delay
-delayed_in_time stamps task ticks below fits in_time i wake low waits =
-    let standing = waiting_for stamps ticks in
-    elim (cases_eq i task) [
-      | inl here ↦ wake_in_time stamps.tick wake ticks fits (sym (standing_same stamps task standing below) ∙ ap (λ j. (row_at (restamped task standing stamps) j).standing) (sym here) ∙ waits)
-      | inr away ↦ in_time i wake (omega (arith, moved_length stamps task standing below)) (sym (standing_other stamps task standing below i away) ∙ waits)
-    ]
+module _ (stamps : Stamps) (task : ℕ) (ticks : Option ℕ) (wait : Option MutexWait) (below : task < length stamps.rows) where
+  delayed_in_time : IsWait ticks → WakesInTime stamps → WakesInTime (delay task ticks wait stamps)
+  unfolding delay
+  delayed_in_time fits in_time i wake low waits =
+      let standing = waiting_for stamps ticks wait in
+      elim (cases_eq i task) [
+        | inl here ↦ wake_in_time stamps.tick wake ticks fits (ap wake_in (sym (standing_same stamps task standing below)) ∙ ap (λ j. wake_in (row_at (restamped task standing stamps) j).standing) (sym here) ∙ waits)
+        | inr away ↦ in_time i wake (omega (arith, moved_length stamps task standing below)) (ap wake_in (sym (standing_other stamps task standing below i away)) ∙ waits)
+      ]
 
-delayed_length : (stamps : Stamps) (task : ℕ) (ticks : Option ℕ) → task < length stamps.rows → length (delay task ticks stamps).rows ≡ length stamps.rows
-unfolding delay
-delayed_length stamps task ticks below = moved_length stamps task (waiting_for stamps ticks) below
+  delayed_length : length (delay task ticks wait stamps).rows ≡ length stamps.rows
+  unfolding delay
+  delayed_length = moved_length stamps task (waiting_for stamps ticks wait) below
 
-delayed_stamped : (stamps : Stamps) (task : ℕ) (ticks : Option ℕ) → task < length stamps.rows → IsStamped stamps → IsStamped (delay task ticks stamps)
-unfolding delay
-delayed_stamped stamps task ticks below stamped = moved_once stamps task (waiting_for stamps ticks) below stamped
+  delayed_deadlines : length (delay task ticks wait stamps).deadlines ≡ length stamps.deadlines
+  unfolding delay
+  delayed_deadlines = length-set stamps.deadlines task _
 
-delayed_placed : (control : Control) (core : ℕ) → core < length control.cores → (stamps : Stamps) (task : ℕ) (ticks : Option ℕ) → task < length stamps.rows → current control core ≡ task → length control.cores ≤ task → IsPlaced control stamps → IsPlaced (ask core core control) (delay task ticks stamps)
-unfolding delay
-delayed_placed control core below stamps task ticks low here user place = waiting_placed control core core below stamps task (waiting_for stamps ticks) low here user place
+  delayed_stamped : IsStamped stamps → IsStamped (delay task ticks wait stamps)
+  unfolding delay
+  delayed_stamped stamped =
+      let moved = moved_once stamps task (waiting_for stamps ticks wait) below stamped in
+      record { given = moved.given; once = moved.once }
 
-pub blocked_sound : (core task : ℕ) (call : Call) (ticks : Option ℕ) (table : Table) → IsSound table → IsInPlace table (steps.Call core task call) → IsCheckedCall table.settings call → length table.control.cores ≤ task → IsWait ticks → IsSound (blocked table_moves core task call ticks table)
+  delayed_placed : (control : Control) (core : ℕ) → core < length control.cores → current control core ≡ task → length control.cores ≤ task → IsPlaced control stamps → IsPlaced (ask core core control) (delay task ticks wait stamps)
+  unfolding delay
+  delayed_placed control core low here user place =
+      let moved = waiting_placed control core core low stamps task (waiting_for stamps ticks wait) below here user place in
+      record { is_task = moved.is_task; on_one_core = moved.on_one_core; blocked_is_due = moved.blocked_is_due; idle_is_ready = moved.idle_is_ready }
+
+pub blocked_sound : (core task : ℕ) (call : Unfinished) (ticks : Option ℕ) (wait : Option MutexWait) (table : Table) → IsSound table → IsCaller table core task → IsCheckedUnfinished table.settings call → length table.control.cores ≤ task → IsWait ticks → IfSome wait (IsMutexWait table.settings) → (is_some wait ≡ true → takes_mutex (Some call) ≡ true) → IsSound (blocked table_moves core task call ticks wait table)
 unfolding blocked
-blocked_sound core task call ticks table sound place checked user fits = record {
-  sized = record {
-    cores = asked_length table.control core core place.0 ∙ sound.sized.cores;
-    controls = sound.sized.controls;
-    calls = length-set table.calls task (Some call) ∙ sound.sized.calls;
-    rows = delayed_length table.orders task ticks place.2 ∙ sound.sized.rows;
-    some_core = sound.sized.some_core;
-    idle_tasks = sound.sized.idle_tasks;
-    notes = sound.sized.notes;
-  };
-  stamped = delayed_stamped table.orders task ticks place.2 sound.stamped;
-  in_place = delayed_placed table.control core place.0 table.orders task ticks place.2 place.1 user sound.in_place;
-  in_time = delayed_in_time table.orders task ticks place.2 fits sound.in_time;
-  priorities = sound.priorities;
-  calls = call_set table.settings table.calls task (Some call) (omega (arith, sound.sized.calls, sound.sized.rows, place.2)) (λ other same. subst (IsCheckedCall table.settings) (call_of call other same) checked) sound.calls;
-  notes = sound.notes;
-}
+blocked_sound core task call ticks wait table sound place checked user fits there takes =
+    let low : task < table.settings.tasks = omega (arith, sound.sized.rows, place.2) in
+    let in_calls : task < length table.calls = omega (arith, sound.sized.calls, low) in
+    record {
+      sized = record {
+        cores = asked_length table.control core core place.0 ∙ sound.sized.cores;
+        controls = sound.sized.controls;
+        calls = length-set table.calls task (Some call) ∙ sound.sized.calls;
+        holders = sound.sized.holders;
+        rows = delayed_length table.orders task ticks wait place.2 ∙ sound.sized.rows;
+        deadlines = delayed_deadlines table.orders task ticks wait place.2 ∙ sound.sized.deadlines;
+        some_core = sound.sized.some_core;
+        idle_tasks = sound.sized.idle_tasks;
+        notes = sound.sized.notes;
+      };
+      stamped = delayed_stamped table.orders task ticks wait place.2 sound.stamped;
+      in_place = delayed_placed table.orders task ticks wait place.2 table.control core place.0 place.1 user sound.in_place;
+      in_time = delayed_in_time table.orders task ticks wait place.2 fits sound.in_time;
+      priorities = sound.priorities;
+      calls = call_set table.settings table.calls task (Some call) in_calls (λ other same. subst (IsCheckedUnfinished table.settings) (call_of call other same) checked) sound.calls;
+      notes = sound.notes;
+      mutexes = waiting_mutexes table.settings table.calls table.holders table.orders sound.mutexes task call ticks wait place.2 in_calls (omega (arith, sound.sized.deadlines, low)) fits there takes;
+    }
   where
-    call_of : (one other : Call) → Some one ≡ Some other → one ≡ other
+    call_of : (one other : Unfinished) → Some one ≡ Some other → one ≡ other
     call_of one other same = cc
 
 -- a switch of a sound table selects a task

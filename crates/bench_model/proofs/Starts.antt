@@ -1,5 +1,6 @@
 -- The start of a checked header is sound, and seen as lists it is the start over lists.
-use Rattle.std.proofs.Common.{◌≡◌, ℕ, zero, suc, ◌+◌, ◌-◌, ◌<◌, ◌≤◌, true, false, cond, ltb, List, [], ◌∷◌, ◌++◌, length, map, replicate, get_or, Some, None, Ok, refl, ap, ◌∙◌, add-zero, arith, inl, inr}
+use Rattle.std.proofs.Common.{◌≡◌, ℕ, zero, suc, ◌+◌, ◌-◌, ◌<◌, ◌≤◌, true, false, cond, ltb, List, [], ◌∷◌, ◌++◌, length, map, replicate, get_or, Bool, Option, Some, None, Ok, refl, ap, ◌∙◌, add-zero, arith, inl, inr}
+use Rattle.std.specs.Prelude.{slice_index_or}
 use Rattle.std.specs.List.{fold, list_all, range_with_len, AllByRecursion}
 use Rattle.std.proofs.lemmas.Bool.Decides.{nat_tests}
 use Rattle.std.proofs.lemmas.Bool.{cases_lt}
@@ -12,32 +13,37 @@ use Rattle.bench_types.specs.declared.kernel_data.CoreLook.{CoreLook}
 use Rattle.bench_types.specs.declared.kernel_data.TaskControl.{TaskControl}
 use Rattle.bench_types.specs.declared.note.Notification.{Notification}
 use Rattle.bench_model.specs.Notes.{no_note}
-use Rattle.bench_types.specs.declared.step.Call.{Call}
+use Rattle.bench_types.specs.declared.step.Unfinished.{Unfinished}
 use Rattle.bench_types.proofs.Passes.{IsCheckedHeader, checked_header}
-use Rattle.bench_types.specs.Step.{settings_of, IsCheckedCall}
+use Rattle.bench_types.specs.Step.{settings_of, IsCheckedUnfinished}
 use Rattle.bench_types.specs.Header.{header_check, has_valid_args}
+use Rattle.bench_model.specs.declared.row.Standing.{Standing}
 use Rattle.bench_model.specs.declared.row.Standing.TheVariants.{Ready}
 use Rattle.bench_model.specs.declared.row.TaskRow.{TaskRow}
 use Rattle.bench_model.specs.Search.{numbers, by_stamp, ranked}
 use Rattle.bench_model.specs.Control.{core_at, current, task_at}
 use Rattle.bench_model.specs.State.{call_at}
 use Rattle.bench_model.specs.Seek.{switched_and_sought}
-use Rattle.bench_model.specs.Table.{Stamps, Table, table_moves, row_at, stamp_of, is_ready, stands_ready}
-use Rattle.bench_model.specs.Lists.{list_moves, lists_of, image}
-use Rattle.bench_model.specs.Sound.{IsStamped, IsPlaced, WakesInTime, IsBelow, HasWords, IsSound}
+use Rattle.bench_model.specs.Table.{Stamps, Table, table_moves, row_at, stamp_of, is_ready, stands_ready, wake_in, wait_in, deadline_at, waiter_of}
+use Rattle.bench_model.specs.Lists.{list_moves, lists_of, delayed_of, outranks, wakes_first, waits_first, image}
+use Rattle.bench_model.specs.Sound.{IsStamped, IsPlaced, WakesInTime, IsBelow, HasWords, HasMutexes, IsSound}
 use Rattle.bench_model.specs.Start.{idle_control, user_control, first_look, first_control, ready_row, first_stamps, first_lists, unstarted, started, start, start_seen}
 use Rattle.bench_model.proofs.Filters.{All-weaker}
 use Rattle.bench_model.proofs.Stamped.{numbers_below, by_stamp_listed, by_stamp_none, range_parts}
 use Rattle.bench_model.proofs.Restamps.{standing_so, waits}
-use Rattle.bench_model.proofs.SeenMoves.{seen_from}
+use Rattle.bench_model.proofs.SeenMoves.{same_seen, deadline_from, queues}
 use Rattle.bench_model.proofs.SeenSteps.{same_state}
 use Rattle.bench_model.proofs.Seeks.{sought_switch_seen, sought_switch_sound, sought_switch_length}
 
--- no task has an unfinished call
-none_called : (n i : ℕ) → call_at (replicate n None) i ≡ None
-none_called zero i = refl
-none_called (suc n) zero = refl
-none_called (suc n) (suc i) = none_called n i
+-- where each is none, each is none
+none_at : {A : Type 0} (n i : ℕ) → slice_index_or {A = Option A} (replicate n None) i None ≡ None
+none_at zero i = refl
+none_at (suc n) zero = refl
+none_at (suc n) (suc i) = none_at n i
+
+no_deadlines : (tick n : ℕ) → map (deadline_from tick) (replicate n None) ≡ replicate n None
+no_deadlines tick zero = refl
+no_deadlines tick (suc n) = ap (λ rest. None ∷ rest) (no_deadlines tick n)
 
 no_args : TaskArgs
 no_args = record { name = []; priority = 0; mask = 0 }
@@ -145,14 +151,19 @@ module _ (header : Header) where
       ∙ by_stamp_listed (stamp_of first) holder (λ i. stands_ready (row_at first i).standing) (cores + users) (cores + users) (λ i low. ap stands_ready (standing_first i low)) holders first_once
       ∙ holders_all
 
-  waiting_first : standing_so waits first ≡ []
-  waiting_first = by_stamp_none (stamp_of first) (λ i. waits (row_at first i).standing) (numbers (length first.rows)) first.next
-      (All-weaker (λ i. i < length first.rows) (λ i. waits (row_at first i).standing ≡ false) (λ i low. ap waits (standing_first i (omega (arith, first_length)))) (numbers (length first.rows)) (numbers_below (length first.rows)))
+  none_first : (test : Standing → Bool) → test Ready ≡ false → standing_so test first ≡ []
+  none_first test fails = by_stamp_none (stamp_of first) (λ i. test (row_at first i).standing) (numbers (length first.rows)) first.next
+      (All-weaker (λ i. i < length first.rows) (λ i. test (row_at first i).standing ≡ false) (λ i low. ap test (standing_first i (omega (arith, first_length))) ∙ fails) (numbers (length first.rows)) (numbers_below (length first.rows)))
 
   -- seen as lists, before any core has selected
   first_seen : lists_of (first_control header) first ≡ first_lists header
-  unfolding first_lists first_stamps ranked
-  first_seen = seen_from (first_control header) first (range_with_len cores users ++ numbers cores) [] ready_first waiting_first
+  unfolding lists_of first_lists first_stamps ranked
+  first_seen = same_seen _ _ _ _ _ _ _ _ _ _
+      (ap (ranked (outranks (first_control header))) ready_first)
+      refl
+      (ap (λ ids. ranked wakes_first (map (delayed_of first) ids)) (none_first waits refl))
+      (ap (λ ids. ranked waits_first (map (waiter_of first) ids)) (none_first queues refl))
+      (no_deadlines first.tick (cores + users))
 
   pub first_cores : length (first_control header).cores ≡ cores
   first_cores = length-map-range_with_len first_look 0 cores
@@ -175,7 +186,22 @@ module _ (header : Header) where
   }
 
   first_in_time : WakesInTime first
-  first_in_time i wake low waits = absurd (cc (standing_first i (omega (arith, first_length)), waits))
+  first_in_time i wake low waits = absurd (cc (ap wake_in (standing_first i (omega (arith, first_length))), waits))
+
+  first_deadline : (i : ℕ) → deadline_at first i ≡ None
+  unfolding first_stamps
+  first_deadline i = none_at (cores + users) i
+
+  pub first_deadlines : length first.deadlines ≡ cores + users
+  unfolding first_stamps
+  first_deadlines = length-replicate (cores + users) None
+
+  first_mutexes : HasMutexes (settings_of header) (replicate (cores + users) None) (replicate header.config.mutexes None) first
+  first_mutexes = record {
+    held_by_tasks = λ mutex task held. absurd (cc (none_at {A = ℕ} header.config.mutexes mutex, held));
+    waits = λ i wait low waits. absurd (cc (ap wait_in (standing_first i (omega (arith, first_length))), waits));
+    deadlines = λ i deadline has. absurd (cc (first_deadline i, has));
+  }
 
   pub first_tasks : length (first_control header).tasks ≡ cores + users
   first_tasks = omega (arith, length-append (replicate cores (idle_control cores)) (map (user_control cores) header.tasks), length-replicate cores (idle_control cores), length-map header.tasks (user_control cores))
@@ -191,8 +217,8 @@ module _ (header : Header) where
         (omega (arith, ap (λ (t : TaskControl). t.in_use) at, limit), omega (arith, ap (λ (t : TaskControl). t.base) at, limit))
   ]
 
-  first_calls : (i : ℕ) (call : Call) → call_at (replicate (cores + users) None) i ≡ Some call → IsCheckedCall (settings_of header) call
-  first_calls i call found = absurd (cc (none_called (cores + users) i, found))
+  first_calls : (i : ℕ) (call : Unfinished) → call_at (replicate (cores + users) None) i ≡ Some call → IsCheckedUnfinished (settings_of header) call
+  first_calls i call found = absurd (cc (none_at {A = Unfinished} (cores + users) i, found))
 
   first_words : HasWords (replicate (cores + users) no_note)
   first_words i low =
@@ -207,7 +233,9 @@ module _ (header : Header) where
       controls = first_tasks;
       calls = length-replicate (cores + users) None;
       notes = length-replicate (cores + users) no_note;
+      holders = length-replicate header.config.mutexes None;
       rows = first_length;
+      deadlines = first_deadlines;
       some_core = valid.some_core;
       idle_tasks = omega arith;
     };
@@ -217,6 +245,7 @@ module _ (header : Header) where
     priorities = first_priorities valid;
     calls = first_calls;
     notes = first_words;
+    mutexes = first_mutexes;
   }
 
 -- cores that switch in turn, from a sound table
@@ -249,7 +278,7 @@ start_sound header passes = in_turn_sound (numbers header.config.cores) (unstart
 
 unstarted_seen : (header : Header) → image (unstarted (first_stamps header) header) ≡ unstarted (first_lists header) header
 unfolding unstarted
-unstarted_seen header = same_state (settings_of header) (first_control header) (first_control header) (replicate (header.config.cores + length header.tasks) None) (replicate (header.config.cores + length header.tasks) no_note) _ _ refl (first_seen header)
+unstarted_seen header = same_state (settings_of header) (first_control header) (first_control header) (replicate (header.config.cores + length header.tasks) None) (replicate (header.config.cores + length header.tasks) no_note) (replicate header.config.mutexes None) _ _ refl (first_seen header)
 
 pub start_seen_lem : (header : Header) → header_check header ≡ Ok tt → image (start header) ≡ start_seen header
 unfolding started

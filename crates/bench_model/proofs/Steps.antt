@@ -9,21 +9,25 @@ use Rattle.bench_types.specs.declared.reply.Refusal.{Refusal}
 use Rattle.bench_types.specs.declared.step.Step.{Step}
 use Rattle.bench_types.specs.declared.step.Step.TheVariants.{Tick, Switch, Interrupt}
 use Rattle.bench_types.specs.declared.step.Step.TheVariants as steps
+use Rattle.bench_types.specs.declared.step.Unfinished.{Unfinished}
+use Rattle.bench_types.specs.declared.step.Unfinished.TheVariants.{Made}
 use Rattle.bench_types.specs.declared.step.Call.{Call}
 use Rattle.bench_types.specs.declared.step.Call.TheVariants.{Yield, Delay, Finish, PrioritySet, AffinitySet, PreemptOff, PreemptOn, Notify, NotifyWait, NotifyTake, StateClear, ValueClear}
 use Rattle.bench_types.proofs.Passes.{both_pass, checked_task}
 use Rattle.bench_types.specs.Step.{IsCheckedStep, IsCheckedCall, core_check, task_check, mask_check, call_check, ◌>>◌}
 use Rattle.bench_model.specs.Notes.{wait_begun, take_begun, of_task}
 use Rattle.bench_model.specs.Notifying.{is_passed}
-use Rattle.bench_model.specs.State.{refusal, yielded, blocked}
+use Rattle.bench_model.specs.Mutexes.{finished}
+use Rattle.bench_model.specs.State.{call_at, refusal, yielded, blocked}
 use Rattle.bench_model.specs.Steps.{called, performed, after}
-use Rattle.bench_model.specs.Table.{Table, table_moves, is_ready}
+use Rattle.bench_model.specs.Table.{Table, table_moves}
 use Rattle.bench_model.specs.Lists.{View, list_moves, image}
 use Rattle.bench_model.specs.Laws.{seen_of}
 use Rattle.bench_model.specs.Equal.{Same}
 use Rattle.bench_model.specs.Session.{step_of}
-use Rattle.bench_model.specs.Sound.{IsInPlace, IsSound}
-use Rattle.bench_model.proofs.Awaiting.{wait_begun_word, take_begun_word, interrupted_seen, interrupted_sound, forgotten_seen, forgotten_sound, bits_seen, bits_sound, finished_seen, finished_sound, awaited_seen, awaited_sound}
+use Rattle.bench_model.specs.Sound.{IsCaller, IsInPlace, IsSound}
+use Rattle.bench_model.proofs.Awaiting.{wait_begun_word, take_begun_word, interrupted_seen, interrupted_sound, forgotten_seen, forgotten_sound, bits_seen, bits_sound, awaited_seen, awaited_sound}
+use Rattle.bench_model.proofs.Mutexes.{finished_seen, finished_sound}
 use Rattle.bench_model.proofs.Notifying.{notify_seen, notify_sound, ruled_sound}
 use Rattle.bench_model.proofs.SeenSteps.{yielded_seen, blocked_seen, in_place}
 use Rattle.bench_model.proofs.SoundSteps.{yielded_sound, blocked_sound}
@@ -51,31 +55,35 @@ checked_call settings core task call checked =
     let first = both_pass (core_check settings core) (task_check settings task) last.0 in
     (record { passes = last.1; words = checked.words }, (checked_task settings task first.1).0)
 
-pub called_seen : (core task : ℕ) (call : Call) (table : Table) → IsSound table → IsCheckedCall table.settings call → task < length table.orders.rows → is_ready task table.orders ≡ true → seen_of (called table_moves core task call table) ≡ called list_moves core task call (image table)
+pub called_seen : (core task : ℕ) (call : Call) (table : Table) → IsSound table → IsCheckedCall table.settings call → IsCaller table core task → seen_of (called table_moves core task call table) ≡ called list_moves core task call (image table)
 unfolding called
-called_seen core task Yield table sound checked below ready = same_outcome Done _ _ (yielded_seen core table)
-called_seen core task (Delay ticks) table sound checked below ready = either (eqb ticks 0)
+called_seen core task Yield table sound checked place = same_outcome Done _ _ (yielded_seen core table)
+called_seen core task (Delay ticks) table sound checked place = either (eqb ticks 0)
   where
-    either : (b : Bool) → seen_of (cond b (Done, yielded table_moves core table) (Blocked, blocked table_moves core task (Delay ticks) (Some ticks) table)) ≡ cond b (Done, yielded list_moves core (image table)) (Blocked, blocked list_moves core task (Delay ticks) (Some ticks) (image table))
+    either : (b : Bool) → seen_of (cond b (Done, yielded table_moves core table) (Blocked, blocked table_moves core task (Made (Delay ticks)) (Some ticks) None table)) ≡ cond b (Done, yielded list_moves core (image table)) (Blocked, blocked list_moves core task (Made (Delay ticks)) (Some ticks) None (image table))
     either true = same_outcome Done _ _ (yielded_seen core table)
-    either false = same_outcome Blocked _ _ (blocked_seen core task (Delay ticks) (Some ticks) table sound.stamped.given below ready)
-called_seen core task Finish table sound checked below ready = finished_seen table task
-called_seen core task (PrioritySet other priority) table sound checked below ready = same_outcome Done _ _ (priority_seen table core other priority sound (set_task table.settings other checked.passes))
-called_seen core task (AffinitySet other mask) table sound checked below ready = same_outcome Done _ _ (affinity_seen table core other mask sound (masked_task table.settings other mask checked.passes))
-called_seen core task (PreemptOff other) table sound checked below ready = same_outcome Done _ _ (off_seen table other)
-called_seen core task (PreemptOn other) table sound checked below ready = same_outcome Done _ _ (on_seen table core other)
-called_seen core task (Notify note) table sound checked below ready = same_outcome (Flag (is_passed note table)) _ _ (notify_seen table core note.task note.action sound (set_task table.settings note.task checked.passes))
-called_seen core task (NotifyWait entry exit ticks) table sound checked below ready = awaited_seen table core task (NotifyWait entry exit ticks) ticks (of_task task (wait_begun entry) table.notes) sound below ready
-called_seen core task (NotifyTake clear ticks) table sound checked below ready = awaited_seen table core task (NotifyTake clear ticks) ticks (of_task task take_begun table.notes) sound below ready
-called_seen core task (StateClear other) table sound checked below ready = forgotten_seen table other
-called_seen core task (ValueClear other bits) table sound checked below ready = bits_seen table other bits
+    either false = same_outcome Blocked _ _ (blocked_seen core task (Made (Delay ticks)) (Some ticks) None table sound.stamped.given place.2 place.3)
+called_seen core task Finish table sound checked place = from (call_at table.calls task)
+  where
+    from : (unfinished : Option Unfinished) → seen_of (option_map_or (λ call. finished table_moves core task call table) unfinished (Done, table)) ≡ option_map_or (λ call. finished list_moves core task call (image table)) unfinished (Done, image table)
+    from None = refl
+    from (Some call) = finished_seen table core task call sound place
+called_seen core task (PrioritySet other priority) table sound checked place = same_outcome Done _ _ (priority_seen table core other priority sound (set_task table.settings other checked.passes))
+called_seen core task (AffinitySet other mask) table sound checked place = same_outcome Done _ _ (affinity_seen table core other mask sound (masked_task table.settings other mask checked.passes))
+called_seen core task (PreemptOff other) table sound checked place = same_outcome Done _ _ (off_seen table other)
+called_seen core task (PreemptOn other) table sound checked place = same_outcome Done _ _ (on_seen table core other)
+called_seen core task (Notify note) table sound checked place = same_outcome (Flag (is_passed note table)) _ _ (notify_seen table core note.task note.action sound (set_task table.settings note.task checked.passes))
+called_seen core task (NotifyWait entry exit ticks) table sound checked place = awaited_seen table core task (NotifyWait entry exit ticks) ticks (of_task task (wait_begun entry) table.notes) sound place.2 place.3
+called_seen core task (NotifyTake clear ticks) table sound checked place = awaited_seen table core task (NotifyTake clear ticks) ticks (of_task task take_begun table.notes) sound place.2 place.3
+called_seen core task (StateClear other) table sound checked place = forgotten_seen table other
+called_seen core task (ValueClear other bits) table sound checked place = bits_seen table other bits
 
 pub performed_seen : (step : Step) (table : Table) → IsSound table → IsCheckedStep table.settings step → IsInPlace table step → seen_of (performed table_moves step table) ≡ performed list_moves step (image table)
 unfolding performed
 performed_seen Tick table sound checked place = same_outcome Done _ _ (ticked_seen table sound)
 performed_seen (Switch core) table sound checked place = same_outcome Done _ _ (sought_switch_seen table core sound (omega (arith, sound.sized.cores, place)))
 performed_seen (Interrupt core note) table sound checked place = interrupted_seen table core note sound place.1
-performed_seen (steps.Call core task call) table sound checked place = called_seen core task call table sound (checked_call table.settings core task call checked).0 place.2 place.3
+performed_seen (steps.Call core task call) table sound checked place = called_seen core task call table sound (checked_call table.settings core task call checked).0 place
 
 after_from : (step : Step) (table : Table) (why : Option Refusal) → (why ≡ None → seen_of (performed table_moves step table) ≡ performed list_moves step (image table)) → seen_of (option_map_or (λ why. (Refused why, table)) why (performed table_moves step table)) ≡ option_map_or (λ why. (Refused why, image table)) why (performed list_moves step (image table))
 after_from step table None performs = performs refl
@@ -93,18 +101,22 @@ equal_after a b step sound other same checked =
     (ap (λ (r : Reply × View). r.0) both, ap (λ (r : Reply × View). r.1) both)
 
 -- the caller of a step in place is a task
-caller_below : (core task : ℕ) (call : Call) (table : Table) → IsSound table → IsInPlace table (steps.Call core task call) → task < table.settings.tasks
-caller_below core task call table sound place = omega (arith, sound.sized.rows, place.2)
+caller_below : (core task : ℕ) (table : Table) → IsSound table → IsCaller table core task → task < table.settings.tasks
+caller_below core task table sound place = omega (arith, sound.sized.rows, place.2)
 
-pub called_sound : (core task : ℕ) (call : Call) (table : Table) → IsSound table → IsInPlace table (steps.Call core task call) → IsCheckedCall table.settings call → length table.control.cores ≤ task → IsSound (called table_moves core task call table).1
+pub called_sound : (core task : ℕ) (call : Call) (table : Table) → IsSound table → IsCaller table core task → IsCheckedCall table.settings call → length table.control.cores ≤ task → IsSound (called table_moves core task call table).1
 unfolding called
 called_sound core task Yield table sound place checked user = yielded_sound core table sound place.0
 called_sound core task (Delay ticks) table sound place checked user = either (eqb ticks 0) refl
   where
-    either : (b : Bool) → eqb ticks 0 ≡ b → IsSound (cond {A = Reply × Table} b (Done, yielded table_moves core table) (Blocked, blocked table_moves core task (Delay ticks) (Some ticks) table)).1
+    either : (b : Bool) → eqb ticks 0 ≡ b → IsSound (cond {A = Reply × Table} b (Done, yielded table_moves core table) (Blocked, blocked table_moves core task (Made (Delay ticks)) (Some ticks) None table)).1
     either true none = yielded_sound core table sound place.0
-    either false some = blocked_sound core task (Delay ticks) (Some ticks) table sound place checked user (grind (arith, nat_tests, some), checked.words)
-called_sound core task Finish table sound place checked user = finished_sound table task sound (caller_below core task Finish table sound place)
+    either false some = blocked_sound core task (Made (Delay ticks)) (Some ticks) None table sound place checked user (grind (arith, nat_tests, some), checked.words) tt (λ none. absurd (cc (none)))
+called_sound core task Finish table sound place checked user = from (call_at table.calls task) refl
+  where
+    from : (unfinished : Option Unfinished) → call_at table.calls task ≡ unfinished → IsSound (option_map_or {U = Reply × Table} (λ call. finished table_moves core task call table) unfinished (Done, table)).1
+    from None none = sound
+    from (Some call) some = finished_sound table core task call sound place (sound.calls task call some) user
 called_sound core task (PrioritySet other priority) table sound place checked user = priority_sound table core other priority sound (set_task table.settings other checked.passes)
 called_sound core task (AffinitySet other mask) table sound place checked user = affinity_sound table core other mask sound (masked_task table.settings other mask checked.passes)
 called_sound core task (PreemptOff other) table sound place checked user = off_sound table other sound (set_task table.settings other checked.passes)
@@ -112,11 +124,11 @@ called_sound core task (PreemptOn other) table sound place checked user = on_sou
 called_sound core task (Notify note) table sound place checked user = notify_sound table core note.task note.action sound (set_task table.settings note.task checked.passes) checked.words
 called_sound core task (NotifyWait entry exit ticks) table sound place checked user =
     let call = NotifyWait entry exit ticks in
-    let begun = ruled_sound task (wait_begun entry) table sound (caller_below core task call table sound place) (wait_begun_word entry) in
+    let begun = ruled_sound task (wait_begun entry) table sound (caller_below core task table sound place) (wait_begun_word entry) in
     awaited_sound table core task call ticks (of_task task (wait_begun entry) table.notes) begun place checked user checked.words.2
 called_sound core task (NotifyTake clear ticks) table sound place checked user =
     let call = NotifyTake clear ticks in
-    let begun = ruled_sound task take_begun table sound (caller_below core task call table sound place) take_begun_word in
+    let begun = ruled_sound task take_begun table sound (caller_below core task table sound place) take_begun_word in
     awaited_sound table core task call ticks (of_task task take_begun table.notes) begun place checked user checked.words
 called_sound core task (StateClear other) table sound place checked user = forgotten_sound table other sound (set_task table.settings other checked.passes)
 called_sound core task (ValueClear other bits) table sound place checked user = bits_sound table other bits sound (set_task table.settings other checked.passes)

@@ -75,7 +75,7 @@ unfolding ticked
 ticked_sound table sound = sliced_sound (behind_wakes table) (wakes_sound table sound)
 
 advanced_image : (table : Table) → WakesInTime table.orders → image (with_orders table (advance table.orders)) ≡ with_orders (image table) (seen.advance (image table).orders)
-advanced_image table in_time = same_state table.settings table.control table.control table.calls table.notes _ _ refl (advance_seen table.control table.orders (in_time_ahead table.orders in_time))
+advanced_image table in_time = same_state table.settings table.control table.control table.calls table.notes table.holders _ _ refl (advance_seen table.control table.orders (in_time_ahead table.orders in_time))
 
 due_seen_later : (table : Table) → WakesInTime table.orders → due (advance table.orders) ≡ seen.due (seen.advance (image table).orders)
 due_seen_later table in_time =

@@ -16,7 +16,7 @@ pub record CoresView : Type 0 where
 abbrev pub cores_of : View → CoresView
 cores_of view = record { priorities = view.settings.priorities; slicing = view.settings.slicing; control = view.control; ready = view.orders.ready }
 
--- a kernel of which this is the part, where no task waits, is in a call or has a notification
+-- a kernel of which this is the part, where no task waits, is in a call or has a notification, and no mutex is there
 abbrev pub alone : CoresView → View
 alone cores = record {
   settings = record {
@@ -29,7 +29,8 @@ alone cores = record {
   control = cores.control;
   calls = [];
   notes = [];
-  orders = record { ready = cores.ready; tick = 0; delayed = [] };
+  holders = [];
+  orders = record { ready = cores.ready; tick = 0; delayed = []; waiters = []; deadlines = [] };
 }
 
 -- what a rule of whole kernels does to this part

@@ -1,5 +1,6 @@
 -- The laws of cores and ready lists, and of changes of a control block. Each is the contract of a public function.
 use Rattle.std.specs.Prelude.{◌≡◌, ℕ, ◌<◌, List, [], ◌∷◌, length, Bool, true, Option}
+use Rattle.bench_types.specs.declared.kernel_data.MutexWait.{MutexWait}
 use Rattle.bench_types.specs.declared.kernel_data.TaskControl.{TaskControl}
 use Rattle.bench_model.specs.Control.{Control, task_at, ask}
 use Rattle.bench_model.specs.Search.{without}
@@ -51,8 +52,8 @@ WakeOnCores = (table : Table) (acting task : ℕ) → IsStamped table.orders →
     cores_seen (wake table_moves acting task table) ≡ on_cores (wake list_moves acting task) (cores_seen table)
 
 abbrev pub WaitOnCores : Type 0
-WaitOnCores = (table : Table) (task : ℕ) (ticks : Option ℕ) → IsSound table → task < table.settings.tasks → is_ready task table.orders ≡ true →
-    cores_seen (record table { orders = delay task ticks table.orders }) ≡ record (cores_seen table) { ready = without task (cores_seen table).ready }
+WaitOnCores = (table : Table) (task : ℕ) (ticks : Option ℕ) (wait : Option MutexWait) → IsSound table → task < table.settings.tasks → is_ready task table.orders ≡ true →
+    cores_seen (record table { orders = delay task ticks wait table.orders }) ≡ record (cores_seen table) { ready = without task (cores_seen table).ready }
 
 abbrev pub SwitchOnCores : Type 0
 SwitchOnCores = (table : Table) (core : ℕ) → IsSound table → core < table.settings.cores →

@@ -76,7 +76,7 @@ pub record TimedSessions : Type 0 where
 
 -- task 2 waits without end, and task 3 beside it for one tick
 abbrev pub endless : Table
-endless = let table = start three_tasks in record table { orders = delay 3 (Some 1) (delay 2 None table.orders) }
+endless = let table = start three_tasks in record table { orders = delay 3 (Some 1) None (delay 2 None None table.orders) }
 
 -- whether a task is ready, the ticks to its wake, and the tasks that wait for some ticks
 abbrev pub stands : ℕ → Table → Bool × Option ℕ × List Delayed
@@ -95,13 +95,13 @@ waiting = state_at three_tasks (Call 0 2 (Delay 2) ∷ []) 1
 -- one turn of the tick count later, every stamp twice what it was
 abbrev pub wake_later : Standing → Standing
 wake_later Ready = Ready
-wake_later (Blocked wake) = Blocked (option_map (λ wake. wake + 2 ^ 32) wake)
+wake_later (Blocked wake wait) = Blocked (option_map (λ wake. wake + 2 ^ 32) wake) wait
 
 abbrev pub row_later : TaskRow → TaskRow
 row_later row = record { stamp = 2 * row.stamp; standing = wake_later row.standing }
 
 abbrev pub later : Table → Table
-later table = let stamps = table.orders in record table { orders = record { rows = map row_later stamps.rows; tick = stamps.tick + 2 ^ 32; next = 2 * stamps.next } }
+later table = let stamps = table.orders in record table { orders = record { rows = map row_later stamps.rows; deadlines = map (option_map (λ deadline. deadline + 2 ^ 32)) stamps.deadlines; tick = stamps.tick + 2 ^ 32; next = 2 * stamps.next } }
 
 -- two tasks with each other's rows
 abbrev pub exchanged : ℕ → ℕ → Table → Table

@@ -1,14 +1,14 @@
 -- The laws between the definitions. Each is the contract of a public function.
-use Rattle.std.specs.Prelude.{◌≡◌, ℕ, ◌<◌, ◌≤◌, List, length, true, false, Option, IsSome, Ok}
+use Rattle.std.specs.Prelude.{◌≡◌, ℕ, ◌<◌, ◌≤◌, List, length, true, false, Option, Some, is_some, IsSome, IfSome, Ok}
 use Rattle.std.specs.List.{AllByRecursion}
 use Rattle.bench_types.specs.declared.edit.Edit.{Edit}
 use Rattle.bench_types.specs.declared.header.Header.{Header}
 use Rattle.bench_types.specs.declared.reply.Reply.{Reply}
-use Rattle.bench_types.specs.declared.step.Call.{Call}
+use Rattle.bench_types.specs.declared.kernel_data.MutexWait.{MutexWait}
+use Rattle.bench_types.specs.declared.step.Unfinished.{Unfinished}
 use Rattle.bench_types.specs.declared.step.Step.{Step}
-use Rattle.bench_types.specs.declared.step.Step.TheVariants as steps
 use Rattle.bench_types.specs.Header.{header_check}
-use Rattle.bench_types.specs.Step.{IsCheckedCall, IsCheckedStep}
+use Rattle.bench_types.specs.Step.{IsCheckedUnfinished, IsCheckedStep}
 use Rattle.bench_model.specs.Control.{Control, is_due, ask}
 use Rattle.bench_model.specs.State.{blocked, selected, switched}
 use Rattle.bench_model.specs.Steps.{woken, after}
@@ -16,7 +16,7 @@ use Rattle.bench_model.specs.Table.{Stamps, Table, table_moves, is_ready, pick, 
 use Rattle.bench_model.specs.Lists as seen
 use Rattle.bench_model.specs.Lists.{Lists, View, list_moves, lists_of, image}
 use Rattle.bench_model.specs.Looks.{task_look, look_in}
-use Rattle.bench_model.specs.Sound.{IsStamped, IsWait, WakesInTime, IsInPlace, IsSound}
+use Rattle.bench_model.specs.Sound.{IsStamped, IsWait, IsMutexWait, WakesInTime, IsCaller, IsSound, takes_mutex}
 use Rattle.bench_model.specs.Start.{start, start_seen}
 use Rattle.bench_model.specs.Session.{step_of}
 use Rattle.bench_model.specs.Edits.{Session, IsSession, accepted, edited}
@@ -77,8 +77,8 @@ abbrev pub PickIsSeen : Type 0
 PickIsSeen = (control : Control) (core : ℕ) (stamps : Stamps) → IsStamped stamps → seen.pick control core (lists_of control stamps) ≡ pick control core stamps
 
 abbrev pub DelayIsSeen : Type 0
-DelayIsSeen = (control : Control) (stamps : Stamps) (task : ℕ) (ticks : Option ℕ) → IsStamped stamps → task < length stamps.rows → is_ready task stamps ≡ true →
-    lists_of control (delay task ticks stamps) ≡ seen.delay task ticks (lists_of control stamps)
+DelayIsSeen = (control : Control) (stamps : Stamps) (task : ℕ) (ticks : Option ℕ) (wait : Option MutexWait) → IsStamped stamps → task < length stamps.rows → is_ready task stamps ≡ true →
+    lists_of control (delay task ticks wait stamps) ≡ seen.delay task ticks wait (lists_of control stamps)
 
 abbrev pub TickIsSeen : Type 0
 TickIsSeen = (control : Control) (stamps : Stamps) → WakesInTime stamps →
@@ -96,10 +96,11 @@ abbrev pub SwitchIsSeen : Type 0
 SwitchIsSeen = (table : Table) (core : ℕ) → IsSound table → core < table.settings.cores → image (switched table_moves core table) ≡ switched list_moves core (image table)
 
 abbrev pub BlockIsSeen : Type 0
-BlockIsSeen = (table : Table) (core task : ℕ) (call : Call) (ticks : Option ℕ) → IsSound table → IsInPlace table (steps.Call core task call) →
-    image (blocked table_moves core task call ticks table) ≡ blocked list_moves core task call ticks (image table)
+BlockIsSeen = (table : Table) (core task : ℕ) (call : Unfinished) (ticks : Option ℕ) (wait : Option MutexWait) → IsSound table → IsCaller table core task →
+    image (blocked table_moves core task call ticks wait table) ≡ blocked list_moves core task call ticks wait (image table)
 
 -- a user task that a call blocks leaves a sound table sound
 abbrev pub BlockKeepsSound : Type 0
-BlockKeepsSound = (table : Table) (core task : ℕ) (call : Call) (ticks : Option ℕ) → IsSound table → IsInPlace table (steps.Call core task call) →
-    IsCheckedCall table.settings call → table.settings.cores ≤ task → IsWait ticks → IsSound (blocked table_moves core task call ticks table)
+BlockKeepsSound = (table : Table) (core task : ℕ) (call : Unfinished) (ticks : Option ℕ) (wait : Option MutexWait) → IsSound table → IsCaller table core task →
+    IsCheckedUnfinished table.settings call → table.settings.cores ≤ task → IsWait ticks → IfSome wait (IsMutexWait table.settings) →
+    (is_some wait ≡ true → takes_mutex (Some call) ≡ true) → IsSound (blocked table_moves core task call ticks wait table)

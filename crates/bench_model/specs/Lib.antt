@@ -8,6 +8,8 @@ pub mod Examples
 pub mod Laws
 pub mod Lists
 pub mod Looks
+pub mod MutexLaws
+pub mod Mutexes
 pub mod NoteExamples
 pub mod NoteLaws
 pub mod Notes
@@ -22,8 +24,8 @@ pub mod SetLaws
 pub mod Sets
 pub mod Sound
 pub mod Start
-pub mod SlowDue
 pub mod SlowSeek
+pub mod SlowDue
 pub mod SlowTable
 pub mod State
 pub mod Steps

@@ -1,11 +1,13 @@
 -- What can be seen of a kernel: its orders as lists, the tick count as 32 bits, and how long each task still waits.
-use Rattle.std.specs.Prelude.{ℕ, ◌+◌, ◌-◌, ◌%◌, ◌^◌, List, map, filter, find, Bool, not, ◌==◌, nat_le, Option, unwrap_or, is_some}
+use Rattle.std.specs.Prelude.{ℕ, ◌+◌, ◌-◌, ◌%◌, ◌^◌, List, map, filter, find, Bool, not, ◌==◌, nat_le, Option, None, option_map, unwrap_or, is_some, ◌&&◌, ◌||◌, nat_lt, if◌then◌else◌, slice_index_or, slice_set}
 use Rattle.std.specs.Option.{option_map_or}
 use Rattle.bench_types.specs.declared.kernel_data.Delayed.{Delayed}
+use Rattle.bench_types.specs.declared.kernel_data.MutexWait.{MutexWait}
+use Rattle.bench_types.specs.declared.kernel_data.Waiter.{Waiter}
 use Rattle.bench_model.specs.Control.{Control, task_at, may_select}
 use Rattle.bench_model.specs.State.{State, Moves}
 use Rattle.bench_model.specs.Search.{by_stamp, placed, ranked, without, has}
-use Rattle.bench_model.specs.Table.{Stamps, Table, row_at, stamp_of, tasks_of, stands_ready, wake_in}
+use Rattle.bench_model.specs.Table.{Stamps, Table, row_at, stamp_of, tasks_of, stands_ready, wake_in, wait_in, waiter_of}
 
 pub record Lists : Type 0 where
   -- the ready tasks, running ones too: the greatest priority in use first, each priority in the order of its ready list
@@ -14,6 +16,11 @@ pub record Lists : Type 0 where
   pub tick : ℕ
   -- the blocked tasks with ticks left: the fewest first, those of one number in the order in which they began to wait
   pub delayed : List Delayed
+  -- the tasks that wait for mutexes: mutex 0 first, of one mutex the greatest waiting priority first, those of one priority in
+  -- the order in which they began to wait
+  pub waiters : List Waiter
+  -- per task the ticks left to the end of its unfinished wait for a mutex, none where there is none or it has no end
+  pub deadlines : List (Option ℕ)
 
 abbrev pub View : Type 0
 View = State Lists
@@ -26,6 +33,10 @@ outranks control i j = nat_le (task_at control j).in_use (task_at control i).in_
 abbrev pub wakes_first : Delayed → Delayed → Bool
 wakes_first a b = nat_le a.left b.left
 
+-- a waiter stays in front of another of a greater mutex, or of its own mutex and no greater waiting priority
+abbrev pub waits_first : Waiter → Waiter → Bool
+waits_first a b = nat_lt a.wait.mutex b.wait.mutex || (a.wait.mutex == b.wait.mutex && nat_le b.wait.priority a.wait.priority)
+
 abbrev pub is_ready : ℕ → Lists → Bool
 is_ready task lists = has task lists.ready
 
@@ -37,24 +48,37 @@ unfoldable pub make_ready : Control → ℕ → Lists → Lists
 make_ready control task lists = record lists {
   ready = placed (outranks control) task (without task lists.ready);
   delayed = filter (λ entry. not (entry.task == task)) lists.delayed;
+  waiters = filter (λ waiter. not (waiter.task == task)) lists.waiters;
 }
 
--- a task that waits without end stands in no list
-unfoldable pub delay : ℕ → Option ℕ → Lists → Lists
-delay task ticks lists = record lists {
+-- a task that waits without end stands in no list of delays
+unfoldable pub delay : ℕ → Option ℕ → Option MutexWait → Lists → Lists
+delay task ticks wait lists = record lists {
   ready = without task lists.ready;
   delayed = option_map_or (λ left. placed wakes_first (record { task = task; left = left }) lists.delayed) ticks lists.delayed;
+  waiters = option_map_or (λ wait. placed waits_first (record { task = task; wait = wait }) lists.waiters) wait lists.waiters;
+  deadlines = slice_set lists.deadlines task (if is_some wait then ticks else None);
 }
 
--- the tick count wraps, and each waiting task has one tick less left
+-- the tick count wraps, and each waiting task has one tick less left; a deadline that is reached stays so
 unfoldable pub advance : Lists → Lists
 advance lists = record lists {
   tick = (lists.tick + 1) % 2 ^ 32;
   delayed = map (λ (entry : Delayed). record entry { left = entry.left - 1 }) lists.delayed;
+  deadlines = map (option_map (λ left. left - 1)) lists.deadlines;
 }
 
 unfoldable pub due : Lists → List ℕ
 due lists = map (λ entry. entry.task) (filter (λ entry. entry.left == 0) lists.delayed)
+
+unfoldable pub first_waiter : ℕ → Lists → Option Waiter
+first_waiter mutex lists = find (λ waiter. waiter.wait.mutex == mutex) lists.waiters
+
+abbrev pub deadline_left : ℕ → Lists → Option ℕ
+deadline_left task lists = slice_index_or lists.deadlines task None
+
+unfoldable pub forget_deadline : ℕ → Lists → Lists
+forget_deadline task lists = record lists { deadlines = slice_set lists.deadlines task None }
 
 abbrev pub list_moves : Moves Lists
 list_moves = record {
@@ -64,6 +88,9 @@ list_moves = record {
   delay = delay;
   advance = advance;
   due = due;
+  first_waiter = first_waiter;
+  deadline_left = deadline_left;
+  forget_deadline = forget_deadline;
 }
 
 -- the task with the ticks left to its wake
@@ -76,8 +103,17 @@ lists_of control stamps = let in_order = λ (test : ℕ → Bool). by_stamp (sta
   ready = ranked (outranks control) (in_order (λ task. stands_ready (row_at stamps task).standing));
   tick = stamps.tick % 2 ^ 32;
   delayed = ranked wakes_first (map (delayed_of stamps) (in_order (λ task. is_some (wake_in (row_at stamps task).standing))));
+  waiters = ranked waits_first (map (waiter_of stamps) (in_order (λ task. is_some (wait_in (row_at stamps task).standing))));
+  deadlines = map (option_map (λ deadline. deadline - stamps.tick)) stamps.deadlines;
 }
 
 -- What can be seen of a table.
 abbrev pub image : Table → View
-image table = record { settings = table.settings; control = table.control; calls = table.calls; notes = table.notes; orders = lists_of table.control table.orders }
+image table = record {
+  settings = table.settings;
+  control = table.control;
+  calls = table.calls;
+  notes = table.notes;
+  holders = table.holders;
+  orders = lists_of table.control table.orders;
+}

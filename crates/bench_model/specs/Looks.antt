@@ -3,6 +3,7 @@ use Rattle.std.specs.Prelude.{ℕ, ◌-◌, ◌==◌, List, find, Option, option
 use Rattle.bench_types.specs.declared.kernel_data.Delayed.{Delayed}
 use Rattle.bench_types.specs.declared.kernel_data.TaskLook.{TaskLook}
 use Rattle.bench_model.specs.Control.{task_at}
+use Rattle.bench_model.specs.Mutexes.{held_by}
 use Rattle.bench_model.specs.Notes.{note_at}
 use Rattle.bench_model.specs.State.{call_at}
 use Rattle.bench_model.specs.Search.{has}
@@ -23,6 +24,7 @@ task_look table task = let block = task_at table.control task in record {
   preempt = block.preempt;
   ready = is_ready task table.orders;
   left = ticks_left task table.orders;
+  held = held_by table.holders task;
   in_call = is_some (call_at table.calls task);
   value = (note_at table.notes task).value;
   state = (note_at table.notes task).state;
@@ -41,6 +43,7 @@ look_in view task = let block = task_at view.control task in record {
   preempt = block.preempt;
   ready = has task view.orders.ready;
   left = left_in task view.orders.delayed;
+  held = held_by view.holders task;
   in_call = is_some (call_at view.calls task);
   value = (note_at view.notes task).value;
   state = (note_at view.notes task).state;

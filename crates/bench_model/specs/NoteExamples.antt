@@ -69,7 +69,7 @@ pub record WorkedClears : Type 0 where
 -- task 2 waits for a notification, for so many ticks or without end, and core 0 runs another
 abbrev pub awaiting : Option ℕ → Table
 awaiting ticks = let table = start three_tasks in
-    switched_and_sought table_moves 0 (record table { orders = delay 2 ticks table.orders; notes = slice_set table.notes 2 (waiting 0) })
+    switched_and_sought table_moves 0 (record table { orders = delay 2 ticks None table.orders; notes = slice_set table.notes 2 (waiting 0) })
 
 -- the notification of task 2, whether it is ready, and the flags of the cores
 abbrev pub shows : Table → Notification × Bool × List (Bool × Bool)

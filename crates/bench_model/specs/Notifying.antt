@@ -1,6 +1,5 @@
 -- Notifying a task and waiting for that, over orders of tasks that are kept in one way or another.
 use Rattle.std.specs.Prelude.{ℕ, ◌-◌, ◌^◌, List, Bool, ◌&&◌, ◌==◌, nat_lt, Option, Some, None, if◌then◌else◌, slice_set}
-use Rattle.std.specs.Option.{option_map_or}
 use Rattle.bench_types.specs.declared.note.Action.{Action}
 use Rattle.bench_types.specs.declared.note.Note.{Note}
 use Rattle.bench_types.specs.declared.note.Notification.{Notification}
@@ -8,9 +7,10 @@ use Rattle.bench_types.specs.declared.reply.Reply.{Reply}
 use Rattle.bench_types.specs.declared.reply.Reply.TheVariants.{Done, Blocked, Flag, Value, Waited, Isr}
 use Rattle.bench_types.specs.declared.step.Call.{Call}
 use Rattle.bench_types.specs.declared.step.Call.TheVariants.{NotifyWait, NotifyTake}
+use Rattle.bench_types.specs.declared.step.Unfinished.TheVariants.{Made}
 use Rattle.bench_model.specs.Control.{core_at}
 use Rattle.bench_model.specs.Notes.{note_at, is_waiting, passes, notified, wait_ended, take_ended, state_cleared, value_cleared, of_task}
-use Rattle.bench_model.specs.State.{State, Moves, call_at, blocked}
+use Rattle.bench_model.specs.State.{State, Moves, blocked}
 use Rattle.bench_model.specs.Seek.{wake}
 
 -- a notification is awaited for so many ticks; 4294967295 are without end (FreeRTOS Reference Manual, portMAX_DELAY)
@@ -40,10 +40,6 @@ module _ {Orders : Type 0} where
       (Value made.0, record state { notes = made.1 })
   completed task call state = (Done, state)
 
-  -- The unfinished call of a task ends.
-  unfoldable pub finished : ℕ → State Orders → Reply × State Orders
-  finished task state = option_map_or (λ call. completed task call (record state { calls = slice_set state.calls task None })) (call_at state.calls task) (Done, state)
-
 module _ {Orders : Type 0} (moves : Moves Orders) where
   -- Notifying a task; one that waits for it is woken (V11 tasks.c, xTaskGenericNotify). The core acts.
   unfoldable pub notify : ℕ → ℕ → Action → State Orders → State Orders
@@ -64,4 +60,4 @@ module _ {Orders : Type 0} (moves : Moves Orders) where
   unfoldable pub awaited : ℕ → ℕ → Call → ℕ → Bool × List Notification → State Orders → Reply × State Orders
   awaited core task call ticks begun state =
       let waiting = record state { notes = begun.1 } in
-      if begun.0 && nat_lt 0 ticks then (Blocked, blocked moves core task call (awaited_for ticks) waiting) else completed task call waiting
+      if begun.0 && nat_lt 0 ticks then (Blocked, blocked moves core task (Made call) (awaited_for ticks) None waiting) else completed task call waiting

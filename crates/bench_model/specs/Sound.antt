@@ -1,25 +1,30 @@
 -- What the table of every kernel keeps.
-use Rattle.std.specs.Prelude.{◌≡◌, ℕ, ◌+◌, ◌<◌, ◌≤◌, ◌^◌, List, length, true, false, Option, Some, IfSome}
+use Rattle.std.specs.Prelude.{◌≡◌, ℕ, ◌+◌, ◌<◌, ◌≤◌, ◌^◌, List, length, Bool, true, false, Option, None, Some, IfSome, slice_index_or}
 use Rattle.bench_types.specs.declared.kernel_data.TaskControl.{TaskControl}
 use Rattle.bench_types.specs.declared.note.Notification.{Notification}
 use Rattle.bench_types.specs.declared.step.Step.{Step}
 use Rattle.bench_types.specs.declared.step.Step.TheVariants.{Tick, Switch, Interrupt}
 use Rattle.bench_types.specs.declared.step.Step.TheVariants as steps
-use Rattle.bench_types.specs.declared.step.Call.{Call}
-use Rattle.bench_types.specs.Step.{IsCheckedCall}
-use Rattle.bench_model.specs.declared.row.Standing.TheVariants.{Blocked}
+use Rattle.bench_types.specs.declared.kernel_data.MutexWait.{MutexWait}
+use Rattle.bench_types.specs.declared.kernel_data.Settings.{Settings}
+use Rattle.bench_types.specs.declared.step.Unfinished.{Unfinished}
+use Rattle.bench_types.specs.declared.step.Unfinished.TheVariants.{Take}
+use Rattle.bench_types.specs.Step.{IsCheckedUnfinished}
 use Rattle.bench_model.specs.Control.{Control, current, is_due, task_at}
 use Rattle.bench_model.specs.Notes.{note_at}
 use Rattle.bench_model.specs.State.{call_at}
-use Rattle.bench_model.specs.Table.{Stamps, Table, row_at, stamp_of, is_ready}
+use Rattle.bench_model.specs.Table.{Stamps, Table, row_at, stamp_of, wake_in, wait_in, deadline_at, is_ready}
 
--- there is a row, a control block, a notification and an unfinished call or none for each task, and an idle task for each core
+-- there is a row, a control block, a notification, a deadline or none and an unfinished call or none for each task, a holder or none
+-- for each mutex, and an idle task for each core
 pub record IsSized (table : Table) : Type 0 where
   pub cores : length table.control.cores ≡ table.settings.cores
   pub controls : length table.control.tasks ≡ table.settings.tasks
   pub calls : length table.calls ≡ table.settings.tasks
   pub notes : length table.notes ≡ table.settings.tasks
+  pub holders : length table.holders ≡ table.settings.mutexes
   pub rows : length table.orders.rows ≡ table.settings.tasks
+  pub deadlines : length table.orders.deadlines ≡ table.settings.tasks
   pub some_core : 0 < table.settings.cores
   pub idle_tasks : table.settings.cores ≤ table.settings.tasks
 
@@ -41,7 +46,7 @@ IsWait ticks = IfSome ticks (λ ticks. (0 < ticks) × (ticks < 2 ^ 32))
 
 -- a blocked task is woken after 1 to 4294967295 ticks, or waits without end
 abbrev pub WakesInTime : Stamps → Type 0
-WakesInTime stamps = (i wake : ℕ) → i < length stamps.rows → (row_at stamps i).standing ≡ Blocked (Some wake) → (stamps.tick < wake) × (wake < stamps.tick + 2 ^ 32)
+WakesInTime stamps = (i wake : ℕ) → i < length stamps.rows → wake_in (row_at stamps i).standing ≡ Some wake → (stamps.tick < wake) × (wake < stamps.tick + 2 ^ 32)
 
 -- the priority in use and the base priority are below the number of priorities
 abbrev pub IsBelow : ℕ → TaskControl → Type 0
@@ -51,18 +56,41 @@ IsBelow priorities task = (task.in_use < priorities) × (task.base < priorities)
 abbrev pub HasWords : List Notification → Type 0
 HasWords notes = (i : ℕ) → i < length notes → (note_at notes i).value < 2 ^ 32
 
+abbrev pub holder_at : List (Option ℕ) → ℕ → Option ℕ
+holder_at holders mutex = slice_index_or holders mutex None
+
+-- a wait is for a mutex that there is, with a priority that there is
+abbrev pub IsMutexWait : Settings → MutexWait → Type 0
+IsMutexWait settings wait = (wait.mutex < settings.mutexes) × (wait.priority < settings.priorities)
+
+abbrev pub takes_mutex : Option Unfinished → Bool
+takes_mutex (Some (Take mutex mark)) = true
+takes_mutex unfinished = false
+
+-- what is kept of mutexes: tasks hold them, tasks wait for them, and a deadline is that of an unfinished wait, less than 4294967296
+-- ticks ahead
+pub record HasMutexes (settings : Settings) (calls : List (Option Unfinished)) (holders : List (Option ℕ)) (stamps : Stamps) : Type 0 where
+  pub held_by_tasks : (mutex task : ℕ) → holder_at holders mutex ≡ Some task → task < settings.tasks
+  pub waits : (i : ℕ) (wait : MutexWait) → i < length stamps.rows → wait_in (row_at stamps i).standing ≡ Some wait → IsMutexWait settings wait
+  pub deadlines : (i deadline : ℕ) → deadline_at stamps i ≡ Some deadline → (deadline < stamps.tick + 2 ^ 32) × (takes_mutex (call_at calls i) ≡ true)
+
 pub record IsSound (table : Table) : Type 0 where
   pub sized : IsSized table
   pub stamped : IsStamped table.orders
   pub in_place : IsPlaced table.control table.orders
   pub in_time : WakesInTime table.orders
   pub priorities : (i : ℕ) → i < table.settings.tasks → IsBelow table.settings.priorities (task_at table.control i)
-  pub calls : (i : ℕ) (call : Call) → call_at table.calls i ≡ Some call → IsCheckedCall table.settings call
+  pub calls : (i : ℕ) (call : Unfinished) → call_at table.calls i ≡ Some call → IsCheckedUnfinished table.settings call
   pub notes : HasWords table.notes
+  pub mutexes : HasMutexes table.settings table.calls table.holders table.orders
+
+-- the ready task that a core runs
+abbrev pub IsCaller : Table → ℕ → ℕ → Type 0
+IsCaller table core task = (core < length table.control.cores) × (current table.control core ≡ task) × (task < length table.orders.rows) × (is_ready task table.orders ≡ true)
 
 -- what a checked step that is not refused finds: its core, and for a call its ready task there
 abbrev pub IsInPlace : Table → Step → Type 0
 IsInPlace table Tick = Unit {0}
 IsInPlace table (Switch core) = core < length table.control.cores
 IsInPlace table (Interrupt core note) = (core < length table.control.cores) × (note.task < table.settings.tasks)
-IsInPlace table (steps.Call core task call) = (core < length table.control.cores) × (current table.control core ≡ task) × (task < length table.orders.rows) × (is_ready task table.orders ≡ true)
+IsInPlace table (steps.Call core task call) = IsCaller table core task

@@ -41,16 +41,19 @@ ready_row stamp = record { stamp = stamp; standing = Ready }
 unfoldable pub first_stamps : Header → Stamps
 first_stamps header = let cores = header.config.cores in let users = length header.tasks in record {
   rows = map (λ core. ready_row (users + core)) (numbers cores) ++ map ready_row (numbers users);
+  deadlines = replicate (cores + users) None;
   tick = header.config.tick;
   next = cores + users;
 }
 
 -- the same as lists
 unfoldable pub first_lists : Header → Lists
-first_lists header = let cores = header.config.cores in record {
-  ready = ranked (outranks (first_control header)) (range_with_len cores (length header.tasks) ++ numbers cores);
+first_lists header = let cores = header.config.cores in let users = length header.tasks in record {
+  ready = ranked (outranks (first_control header)) (range_with_len cores users ++ numbers cores);
   tick = header.config.tick % 2 ^ 32;
   delayed = [];
+  waiters = [];
+  deadlines = replicate (cores + users) None;
 }
 
 module _ {Orders : Type 0} where
@@ -61,6 +64,7 @@ module _ {Orders : Type 0} where
     control = first_control header;
     calls = replicate (header.config.cores + length header.tasks) None;
     notes = replicate (header.config.cores + length header.tasks) no_note;
+    holders = replicate header.config.mutexes None;
     orders = orders;
   }
 

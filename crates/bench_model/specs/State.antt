@@ -1,7 +1,9 @@
 -- The state of a kernel, what it refuses, and the rules that seek no core, over orders of tasks that are kept in one way or
 -- another: as stamps and wakes (Table), or as lists (Lists).
 use Rattle.std.specs.Prelude.{ℕ, List, Bool, not, ◌==◌, Option, Some, None, unwrap_or, if◌then◌else◌, slice_index_or, slice_set}
+use Rattle.bench_types.specs.declared.kernel_data.MutexWait.{MutexWait}
 use Rattle.bench_types.specs.declared.kernel_data.Settings.{Settings}
+use Rattle.bench_types.specs.declared.kernel_data.Waiter.{Waiter}
 use Rattle.bench_types.specs.declared.note.Notification.{Notification}
 use Rattle.bench_types.specs.declared.reply.Refusal.{Refusal}
 use Rattle.bench_types.specs.declared.reply.Refusal.TheVariants.{Displaced, SwitchDue, InCall, NotInCall, NotDue}
@@ -10,15 +12,18 @@ use Rattle.bench_types.specs.declared.step.Step.TheVariants.{Tick, Switch, Inter
 use Rattle.bench_types.specs.declared.step.Step.TheVariants as steps
 use Rattle.bench_types.specs.declared.step.Call.{Call}
 use Rattle.bench_types.specs.declared.step.Call.TheVariants.{Finish}
+use Rattle.bench_types.specs.declared.step.Unfinished.{Unfinished}
 use Rattle.bench_model.specs.Control.{Control, current, is_due, ask, run_on}
 
 pub record State (Orders : Type 0) : Type 0 where
   pub settings : Settings
   pub control : Control
   -- per task its unfinished call
-  pub calls : List (Option Call)
+  pub calls : List (Option Unfinished)
   -- per task its notification
   pub notes : List Notification
+  -- per mutex the task that holds it, if there is one
+  pub holders : List (Option ℕ)
   -- which tasks are ready and which wait, how long, and in which order
   pub orders : Orders
 
@@ -29,24 +34,30 @@ pub record Moves (Orders : Type 0) : Type 0 where
   pub pick : Control → ℕ → Orders → Option ℕ
   -- the task waits no more and goes to the end of the ready list of its priority
   pub make_ready : Control → ℕ → Orders → Orders
-  -- the task leaves the ready lists and waits, for so many ticks or without end
-  pub delay : ℕ → Option ℕ → Orders → Orders
+  -- the task leaves the ready lists and waits, for so many ticks or without end, at a mutex or at none
+  pub delay : ℕ → Option ℕ → Option MutexWait → Orders → Orders
   -- one tick more, and the tasks that have waited long enough then, in the order in which they began to wait
   pub advance : Orders → Orders
   pub due : Orders → List ℕ
+  -- of the tasks that wait for the mutex the first
+  pub first_waiter : ℕ → Orders → Option Waiter
+  -- the ticks that are left to the end of the task's unfinished wait for a mutex, none where it has no end
+  pub deadline_left : ℕ → Orders → Option ℕ
+  -- the task's wait for a mutex is over
+  pub forget_deadline : ℕ → Orders → Orders
 
-abbrev pub call_at : List (Option Call) → ℕ → Option Call
+abbrev pub call_at : List (Option Unfinished) → ℕ → Option Unfinished
 call_at calls task = slice_index_or calls task None
 
 -- a task with an unfinished call can only finish it, and without one it can't finish
-abbrev pub call_refusal : Option Call → Call → Option Refusal
+abbrev pub call_refusal : Option Unfinished → Call → Option Refusal
 call_refusal None Finish = Some NotInCall
 call_refusal None _ = None
 call_refusal (Some unfinished) Finish = None
 call_refusal (Some unfinished) _ = Some InCall
 
 -- Why a step is refused, the first reason that applies.
-unfoldable pub refusal : Control → List (Option Call) → Step → Option Refusal
+unfoldable pub refusal : Control → List (Option Unfinished) → Step → Option Refusal
 refusal control calls Tick = None
 refusal control calls (Interrupt core note) = None
 refusal control calls (Switch core) = if is_due control core then None else Some NotDue
@@ -76,11 +87,11 @@ module _ {Orders : Type 0} (moves : Moves Orders) where
   unfoldable pub yielded : ℕ → State Orders → State Orders
   yielded core state = record state { control = ask core core state.control }
 
-  -- The task waits in its call, for so many ticks or without end, and its core asks itself to switch
+  -- The task waits in its call, for so many ticks or without end, at a mutex or at none, and its core asks itself to switch
   -- (V11 tasks.c, prvAddCurrentTaskToDelayedList).
-  unfoldable pub blocked : ℕ → ℕ → Call → Option ℕ → State Orders → State Orders
-  blocked core task call ticks state = record state {
+  unfoldable pub blocked : ℕ → ℕ → Unfinished → Option ℕ → Option MutexWait → State Orders → State Orders
+  blocked core task call ticks wait state = record state {
     control = ask core core state.control;
     calls = slice_set state.calls task (Some call);
-    orders = moves.delay task ticks state.orders;
+    orders = moves.delay task ticks wait state.orders;
   }

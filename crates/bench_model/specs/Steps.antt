@@ -1,18 +1,20 @@
 -- The rules of the steps, over orders of tasks that are kept in one way or another.
-use Rattle.std.specs.Prelude.{ℕ, List, fold, ◌==◌, Some, if◌then◌else◌}
+use Rattle.std.specs.Prelude.{ℕ, List, fold, ◌==◌, Some, None, if◌then◌else◌}
 use Rattle.std.specs.Option.{option_map_or}
 use Rattle.bench_types.specs.declared.reply.Reply.{Reply}
 use Rattle.bench_types.specs.declared.reply.Reply.TheVariants.{Done, Blocked, Flag, Refused}
 use Rattle.bench_types.specs.declared.step.Step.{Step}
 use Rattle.bench_types.specs.declared.step.Step.TheVariants.{Tick, Switch, Interrupt}
 use Rattle.bench_types.specs.declared.step.Step.TheVariants as steps
+use Rattle.bench_types.specs.declared.step.Unfinished.TheVariants.{Made}
 use Rattle.bench_types.specs.declared.step.Call.{Call}
 use Rattle.bench_types.specs.declared.step.Call.TheVariants.{Yield, Delay, Finish, PrioritySet, AffinitySet, PreemptOff, PreemptOn, Notify, NotifyWait, NotifyTake, StateClear, ValueClear}
-use Rattle.bench_model.specs.State.{State, Moves, refusal, yielded, blocked}
+use Rattle.bench_model.specs.State.{State, Moves, call_at, refusal, yielded, blocked}
 use Rattle.bench_model.specs.Seek.{wake, switched_and_sought, sliced}
 use Rattle.bench_model.specs.Sets.{priority_set, affinity_set, preemption_off, preemption_on}
 use Rattle.bench_model.specs.Notes.{wait_begun, take_begun, of_task}
-use Rattle.bench_model.specs.Notifying.{notify, is_passed, interrupted, state_forgotten, bits_cleared, finished, awaited}
+use Rattle.bench_model.specs.Notifying.{notify, is_passed, interrupted, state_forgotten, bits_cleared, awaited}
+use Rattle.bench_model.specs.Mutexes.{finished}
 
 module _ {Orders : Type 0} (moves : Moves Orders) where
   -- the tasks are woken in turn, by core 0
@@ -27,8 +29,8 @@ module _ {Orders : Type 0} (moves : Moves Orders) where
   unfoldable pub called : ℕ → ℕ → Call → State Orders → Reply × State Orders
   called core task Yield state = (Done, yielded moves core state)
   called core task (Delay ticks) state =
-      if ticks == 0 then (Done, yielded moves core state) else (Blocked, blocked moves core task (Delay ticks) (Some ticks) state)
-  called core task Finish state = finished task state
+      if ticks == 0 then (Done, yielded moves core state) else (Blocked, blocked moves core task (Made (Delay ticks)) (Some ticks) None state)
+  called core task Finish state = option_map_or (λ call. finished moves core task call state) (call_at state.calls task) (Done, state)
   called core task (PrioritySet other priority) state = (Done, priority_set moves core other priority state)
   called core task (AffinitySet other mask) state = (Done, affinity_set moves core other mask state)
   called core task (PreemptOff other) state = (Done, preemption_off moves other state)

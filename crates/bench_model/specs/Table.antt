@@ -1,6 +1,8 @@
 -- The kernel as a flat table: one row a task, whose stamps and absolute wakes give every order.
-use Rattle.std.specs.Prelude.{ℕ, suc, ◌+◌, List, length, Bool, true, false, ◌&&◌, ◌||◌, ◌==◌, nat_lt, nat_le, Option, None, option_map, slice_index_or, slice_set}
+use Rattle.std.specs.Prelude.{ℕ, suc, ◌+◌, ◌-◌, List, length, Bool, true, false, ◌&&◌, ◌||◌, ◌==◌, nat_lt, nat_le, Option, None, option_map, is_some, unwrap_or, if◌then◌else◌, slice_index_or, slice_set}
 use Rattle.std.specs.Option.{option_map_or}
+use Rattle.bench_types.specs.declared.kernel_data.MutexWait.{MutexWait}
+use Rattle.bench_types.specs.declared.kernel_data.Waiter.{Waiter}
 use Rattle.bench_model.specs.declared.row.TaskRow.{TaskRow}
 use Rattle.bench_model.specs.declared.row.Standing.{Standing}
 use Rattle.bench_model.specs.declared.row.Standing.TheVariants.{Ready, Blocked}
@@ -11,6 +13,8 @@ use Rattle.bench_model.specs.Search.{numbers, best, by_stamp}
 pub record Stamps : Type 0 where
   -- per task its stamp and, where it waits for some ticks, its wake
   pub rows : List TaskRow
+  -- per task the tick count at which its unfinished wait for a mutex is to end, none where there is none or it has no end
+  pub deadlines : List (Option ℕ)
   -- the tick count, never wrapped
   pub tick : ℕ
   -- a stamp above all that were given
@@ -31,11 +35,16 @@ tasks_of stamps = numbers (length stamps.rows)
 -- the tick count at which the task is to be woken, none for a ready task and for one that waits without end
 abbrev pub wake_in : Standing → Option ℕ
 wake_in Ready = None
-wake_in (Blocked wake) = wake
+wake_in (Blocked wake wait) = wake
+
+-- what the task waits for at a mutex
+abbrev pub wait_in : Standing → Option MutexWait
+wait_in Ready = None
+wait_in (Blocked wake wait) = wait
 
 abbrev pub stands_ready : Standing → Bool
 stands_ready Ready = true
-stands_ready (Blocked wake) = false
+stands_ready (Blocked wake wait) = false
 
 abbrev pub is_ready : ℕ → Stamps → Bool
 is_ready task stamps = stands_ready (row_at stamps task).standing
@@ -63,9 +72,49 @@ pick control core stamps = best (λ task. is_ready task stamps && may_select con
 unfoldable pub make_ready : ℕ → Stamps → Stamps
 make_ready task stamps = restamped task Ready stamps
 
--- Waiting for so many ticks from now, or without end (V11 tasks.c, prvAddCurrentTaskToDelayedList).
-unfoldable pub delay : ℕ → Option ℕ → Stamps → Stamps
-delay task ticks stamps = restamped task (Blocked (option_map (λ ticks. stamps.tick + ticks) ticks)) stamps
+-- so many ticks from now
+abbrev pub ahead : Stamps → Option ℕ → Option ℕ
+ahead stamps ticks = option_map (λ ticks. stamps.tick + ticks) ticks
+
+abbrev pub deadline_at : Stamps → ℕ → Option ℕ
+deadline_at stamps task = slice_index_or stamps.deadlines task None
+
+-- the deadline of the task's wait for a mutex
+abbrev pub with_deadline : ℕ → Option ℕ → Stamps → Stamps
+with_deadline task deadline stamps = record stamps { deadlines = slice_set stamps.deadlines task deadline }
+
+-- Waiting for so many ticks from now, or without end; at a mutex, or at none (V11 tasks.c, prvAddCurrentTaskToDelayedList). A
+-- wait for a mutex is to end when its ticks have run out, also where the task waits in several turns.
+unfoldable pub delay : ℕ → Option ℕ → Option MutexWait → Stamps → Stamps
+delay task ticks wait stamps =
+    with_deadline task (if is_some wait then ahead stamps ticks else None) (restamped task (Blocked (ahead stamps ticks) wait) stamps)
+
+-- the ticks that are left to the deadline, 0 where it is reached
+unfoldable pub deadline_left : ℕ → Stamps → Option ℕ
+deadline_left task stamps = option_map (λ deadline. deadline - stamps.tick) (deadline_at stamps task)
+
+-- the task waits for no mutex any more
+unfoldable pub forget_deadline : ℕ → Stamps → Stamps
+forget_deadline task stamps = with_deadline task None stamps
+
+abbrev pub waits_at : ℕ → Standing → Bool
+waits_at mutex standing = option_map_or (λ wait. wait.mutex == mutex) (wait_in standing) false
+
+-- the task with what it waits for
+abbrev pub waiter_of : Stamps → ℕ → Waiter
+waiter_of stamps task = record { task = task; wait = unwrap_or (wait_in (row_at stamps task).standing) (record { mutex = 0; priority = 0 }) }
+
+-- a waiter of a higher waiting priority goes first, and of one priority the one that began to wait before the other
+abbrev pub waits_before : Stamps → ℕ → ℕ → Bool
+waits_before stamps i j =
+    let a = (waiter_of stamps i).wait.priority in
+    let b = (waiter_of stamps j).wait.priority in
+    nat_lt b a || (a == b && nat_le (stamp_of stamps i) (stamp_of stamps j))
+
+-- The first waiter of a mutex: of all tasks that wait for it, the one that goes before the others (V11 queue.c, xTasksWaitingToReceive).
+unfoldable pub first_waiter : ℕ → Stamps → Option Waiter
+first_waiter mutex stamps =
+    option_map (waiter_of stamps) (best (λ task. waits_at mutex (row_at stamps task).standing) (waits_before stamps) (tasks_of stamps))
 
 unfoldable pub advance : Stamps → Stamps
 advance stamps = record stamps { tick = suc stamps.tick }
@@ -86,4 +135,7 @@ table_moves = record {
   delay = delay;
   advance = advance;
   due = due;
+  first_waiter = first_waiter;
+  deadline_left = deadline_left;
+  forget_deadline = forget_deadline;
 }

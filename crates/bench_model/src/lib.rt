@@ -3,6 +3,7 @@
 
 pub mod cores_laws;
 pub mod laws;
+pub mod mutex_laws;
 pub mod note_laws;
 mod row;
 pub mod seek_laws;

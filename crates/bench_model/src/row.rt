@@ -1,9 +1,15 @@
+use bench_types::MutexWait;
+
 /// Whether a task is ready or blocked.
 #[derive(Clone, Copy, Debug, PartialEq, Eq)]
 pub enum Standing {
     Ready,
-    /// Blocked until the tick count of the table is `wake`, in ticks; without end where there is none.
-    Blocked { wake: Option<u128> },
+    /// Blocked until the tick count of the table is `wake`, in ticks; without end where there is none. `wait` is what the
+    /// task waits for at a mutex, none where it waits at none.
+    Blocked {
+        wake: Option<u128>,
+        wait: Option<MutexWait>,
+    },
 }
 
 /// What the table keeps of a task's places in the kernel's lists.

@@ -12,6 +12,8 @@ use Rattle.bench_types.specs.declared.step.Step.{Step}
 use Rattle.bench_types.specs.declared.step.Step.TheVariants as step
 use Rattle.bench_types.specs.declared.step.Call.{Call}
 use Rattle.bench_types.specs.declared.step.Call.TheVariants as call
+use Rattle.bench_types.specs.declared.step.Unfinished.{Unfinished}
+use Rattle.bench_types.specs.declared.step.Unfinished.TheVariants as unfinished
 
 -- what a kernel keeps of its header's settings; the number of tasks counts the idle tasks too
 abbrev pub settings_of : Header → Settings
@@ -96,6 +98,10 @@ IsStepOfWords (step.Interrupt core note) = IsActionOfWord note.action
 pub record IsCheckedCall (settings : Settings) (call : Call) : Type 0 where
   pub passes : call_check settings call ≡ Ok tt
   pub words : IsOfWords call
+
+abbrev pub IsCheckedUnfinished : Settings → Unfinished → Type 0
+IsCheckedUnfinished settings (unfinished.Made call) = IsCheckedCall settings call
+IsCheckedUnfinished settings (unfinished.Take mutex mark) = mutex < settings.mutexes
 
 pub record IsCheckedStep (settings : Settings) (step : Step) : Type 0 where
   pub passes : step_check settings step ≡ Ok tt

@@ -43,6 +43,21 @@ pub struct Delayed {
     pub left: u32,
 }
 
+/// What a task waits for at a mutex.
+#[derive(Clone, Copy, Debug, PartialEq, Eq, Hash)]
+pub struct MutexWait {
+    pub mutex: u32,
+    /// The priority in use that the task had when it began to wait; a later change of priority leaves it.
+    pub priority: u32,
+}
+
+/// A task that waits for a mutex.
+#[derive(Clone, Copy, Debug, PartialEq, Eq, Hash)]
+pub struct Waiter {
+    pub task: u32,
+    pub wait: MutexWait,
+}
+
 /// What can be seen of a task.
 #[derive(Clone, Copy, Debug, PartialEq, Eq, Hash)]
 pub struct TaskLook {
@@ -59,6 +74,8 @@ pub struct TaskLook {
     /// The ticks to the wake of a blocked task (`xStateListItem` holds the tick count of it); none for a ready task and for one
     /// that waits without end.
     pub left: Option<u32>,
+    /// How many mutexes it holds (`uxMutexesHeld`).
+    pub held: u32,
     /// Whether it made a call that has not returned.
     pub in_call: bool,
     /// The notification value (`ulNotifiedValue`).

@@ -47,6 +47,16 @@ pub enum Call {
     Finish,
 }
 
+/// A call that has not returned, with what of it still counts.
+#[derive(Clone, Copy, Debug, PartialEq, Eq, Hash)]
+pub enum Unfinished {
+    /// The call waits for some ticks or for a notification.
+    Made(Call),
+    /// The call takes the mutex. `mark` says that the base priority of its holder was below the priority in use of the task
+    /// when the task began to wait, so the holder may have inherited.
+    Take { mutex: u32, mark: bool },
+}
+
 impl Step {
     /// F2 where the core is none, else F3 where the caller is no user task, else the fault of the call. For an interrupt F3 where
     /// the notified task is no user task.

@@ -155,7 +155,7 @@ fn read_call(word: &str) -> Option<Call> {
     let task = digit(word, 3);
     Some(match word.as_bytes().first() {
         Some(b'y') => Call::Yield,
-        Some(b'd') => Call::Delay(task),
+        Some(b'd') => Call::Delay(digit(word, 3)),
         Some(b'f') => Call::Finish,
         Some(b'p') => Call::PrioritySet {
             task,
@@ -237,7 +237,7 @@ fn read_steps(alloc: Global, text: &str) -> Result<Vec<Step>, AllocError> {
     text.split(' ').step_by(2).map(read_step).collect(alloc)
 }
 
-/// Whether an answer is that: the tasks stand behind a colon, or where there is none, behind the reply's one letter.
+/// Whether an answer has this reply and these tasks. They stand behind a colon, or else behind the reply's one letter.
 fn is_answer(answer: &str, reply: &Reply, row: &Row) -> bool {
     let (replied, tasks, first) = match answer.split_once(":") {
         Some((replied, tasks)) => (replied, tasks, 0),

@@ -23,7 +23,7 @@ impl SlowTable {
         self.notes[task as usize] = note;
     }
 
-    // Answers whether that passed.
+    // Answers whether the notification passed.
     #[tactic(auto, unfolding(crate::specs::Notifying::notify))]
     pub(super) fn notify(&mut self, acting: u32, note: Note) -> bool
         requires task { note.task < length self.old.orders.rows }
@@ -81,7 +81,7 @@ impl SlowTable {
         Reply::Value(value)
     }
 
-    // The call waited for a notification, if for anything.
+    // A call that waited for a notification answers with that.
     #[tactic(auto, unfolding(crate::specs::Notifying::completed))]
     fn complete(&mut self, task: u32, call: Call) -> Reply
         requires { task < length self.old.orders.rows }
@@ -114,7 +114,7 @@ impl SlowTable {
         self.complete(task, call)
     }
 
-    // Waits where the call has begun so, and is given ticks for that.
+    // Blocks a call that has nothing to complete with and some ticks to wait.
     #[tactic(auto, unfolding(crate::specs::Notifying::awaited))]
     pub(super) fn await_note(
         &mut self,

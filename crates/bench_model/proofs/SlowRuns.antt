@@ -1,21 +1,23 @@
 -- The slow start and the slow replay, place by place.
-use Rattle.std.proofs.Common.{◌≡◌, ℕ, zero, suc, ◌+◌, ◌*◌, ◌<◌, ◌≤◌, ◌^◌, Bool, true, false, cond, not, eqb, ◌&&◌, List, [], ◌∷◌, ◌++◌, length, map, take, drop, Option, Some, None, Ok, refl, sym, ap, subst, ◌∙◌, arith, zero-add}
-use Rattle.std.specs.Prelude.{option_map, slice_get}
+use Rattle.std.proofs.Common.{◌≡◌, ℕ, zero, suc, ◌+◌, ◌*◌, ◌<◌, ◌≤◌, ◌^◌, Bool, true, false, cond, not, eqb, ltb, ◌&&◌, List, [], ◌∷◌, ◌++◌, length, map, take, drop, Option, Some, None, Ok, refl, sym, ap, subst, ◌∙◌, arith, zero-add}
+use Rattle.std.specs.Prelude.{option_map, slice_get, slice_set}
 use Rattle.std.specs.Option.{option_map_or}
 use Rattle.std.specs.List.{fold, range_with_len}
 use Rattle.std.proofs.lemmas.List.FromFn.{length-range_with_len}
 use Rattle.std.proofs.lemmas.List.{append_assoc, append-nil, map_push, drop_all}
 use Rattle.arrayvec.specs.ArrayVec.{ArrayVec}
 use Rattle.bench_types.specs.declared.header.Header.{Header}
+use Rattle.bench_types.specs.declared.note.Action.{Action}
+use Rattle.bench_types.specs.declared.note.Notification.{Notification}
 use Rattle.bench_types.specs.declared.reply.Reply.{Reply}
 use Rattle.bench_types.specs.declared.reply.Reply.TheVariants.{Done, Refused}
 use Rattle.bench_types.specs.declared.reply.Reply.TheVariants as reply
 use Rattle.bench_types.specs.declared.reply.Refusal.{Refusal}
 use Rattle.bench_types.specs.declared.step.Step.{Step}
-use Rattle.bench_types.specs.declared.step.Step.TheVariants.{Tick, Switch}
+use Rattle.bench_types.specs.declared.step.Step.TheVariants.{Tick, Switch, Interrupt}
 use Rattle.bench_types.specs.declared.step.Step.TheVariants as steps
 use Rattle.bench_types.specs.declared.step.Call.{Call}
-use Rattle.bench_types.specs.declared.step.Call.TheVariants.{Yield, Delay, Finish, PrioritySet, AffinitySet, PreemptOff, PreemptOn}
+use Rattle.bench_types.specs.declared.step.Call.TheVariants.{Yield, Delay, Finish, PrioritySet, AffinitySet, PreemptOff, PreemptOn, Notify, NotifyWait, NotifyTake, StateClear, ValueClear}
 use Rattle.bench_types.specs.declared.kernel_data.Settings.{Settings}
 use Rattle.bench_types.specs.Header.{header_check}
 use Rattle.bench_types.proofs.Passes.{checked_header}
@@ -23,7 +25,9 @@ use Rattle.bench_types.specs.Step.{settings_of, IsCheckedStep}
 use Rattle.bench_model.specs.Search.{numbers}
 use Rattle.bench_model.specs.Changes.{with_base, in_use_set}
 use Rattle.bench_model.specs.Control.{task_at, running, current, ask_each}
-use Rattle.bench_model.specs.State.{refusal, switched, yielded, blocked}
+use Rattle.bench_model.specs.Notes.{note_at, is_waiting, notified, wait_begun, take_begun, of_task}
+use Rattle.bench_model.specs.Notifying.{awaited_for, notify, interrupted, state_forgotten, bits_cleared, completed, finished, awaited}
+use Rattle.bench_model.specs.State.{refusal, call_at, switched, yielded, blocked}
 use Rattle.bench_model.specs.Steps.{woken, ticked, called, performed, after}
 use Rattle.bench_model.specs.Seek.{seek, may_move, wake, resettled, switched_and_sought, shares_its_time, sliced}
 use Rattle.bench_model.specs.Sets.{capped, in_use_behind, priority_set, affinity_set, preemption_off, preemption_on}
@@ -142,9 +146,12 @@ option_map-slice_get f [] i = refl
 option_map-slice_get f (x ∷ xs) zero = refl
 option_map-slice_get f (x ∷ xs) (suc i) = option_map-slice_get f xs i
 
--- how far stamps and the tick count go in one step
+-- how far stamps and the tick count go in one step, whose settings stay
 abbrev pub IsNear : Table → Table → Type 0
-IsNear table next = (next.orders.next ≤ table.orders.next + length table.orders.rows) × (next.orders.tick ≤ table.orders.tick + 1)
+IsNear table next = (next.orders.next ≤ table.orders.next + length table.orders.rows) × (next.orders.tick ≤ table.orders.tick + 1) × (next.settings ≡ table.settings)
+
+beside_near : (table next : Table) → IsSameBeside table next → IsNear table next
+beside_near table next same = (omega (arith, ap (λ (o : Stamps). o.next) same.0), omega (arith, ap (λ (o : Stamps). o.tick) same.0), same.1)
 
 woken_next : (tasks : List ℕ) (table : Table) → (woken table_moves tasks table).orders.next ≡ table.orders.next + length tasks
 unfolding wake make_ready
@@ -159,21 +166,22 @@ unfolding ticked
 ticked_near table =
     let later = advance table.orders in
     let woke = with_orders table later in
-    let same = (sliced_beside (behind_wakes table)).0 in (
-      omega (arith, ap (λ (o : Stamps). o.next) same, woken_next (due later) woke, length_due later, advance_next table.orders),
-      omega (arith, ap (λ (o : Stamps). o.tick) same, woken_same_tick (due later) woke, advanced_tick table.orders),
+    let same = sliced_beside (behind_wakes table) in (
+      omega (arith, ap (λ (o : Stamps). o.next) same.0, woken_next (due later) woke, length_due later, advance_next table.orders),
+      omega (arith, ap (λ (o : Stamps). o.tick) same.0, woken_same_tick (due later) woke, advanced_tick table.orders),
+      same.1 ∙ ap (λ (t : Table). t.settings) (woken_parts (due later) woke),
     )
 
 switched_near : (core : ℕ) (table : Table) → 0 < length table.orders.rows → IsNear table (switched_and_sought table_moves core table)
-switched_near core table some = (omega (arith, turned_next core table), omega (arith, turned_tick core table))
+switched_near core table some = (omega (arith, turned_next core table), omega (arith, turned_tick core table), turned_settings core table)
 
 in_use_near : (task priority : ℕ) (table : Table) → 0 < length table.orders.rows → IsNear table (in_use_set table_moves task priority table)
 unfolding in_use_set make_ready
 in_use_near task priority table some = at (is_ready task table.orders)
   where
     at : (b : Bool) → IsNear table (record table { orders = cond b (make_ready task table.orders) table.orders })
-    at true = (omega arith, omega arith)
-    at false = (omega arith, omega arith)
+    at true = (omega arith, omega arith, refl)
+    at false = (omega arith, omega arith, refl)
 
 either_near : (table one other : Table) (b : Bool) → IsNear table one → IsNear table other → IsNear table (cond b one other)
 either_near table one other true here there = here
@@ -188,28 +196,85 @@ in_use task priority table = in_use_behind (task_at table.control task) (capped 
 priority_near : (acting task priority : ℕ) (table : Table) → 0 < length table.orders.rows → IsNear table (priority_set table_moves acting task priority table)
 unfolding priority_set
 priority_near acting task priority table some =
-    either_near table table _ (eqb (capped table.settings.priorities priority) (task_at table.control task).base) (omega arith, omega arith)
+    either_near table table _ (eqb (capped table.settings.priorities priority) (task_at table.control task).base) (omega arith, omega arith, refl)
     (in_use_near task (in_use task priority table) (based task priority table) some)
 
+completed_beside : (task : ℕ) (call : Call) (table : Table) → IsSameBeside table (completed task call table).1
+unfolding completed
+completed_beside task Yield table = (refl, refl)
+completed_beside task (Delay ticks) table = (refl, refl)
+completed_beside task Finish table = (refl, refl)
+completed_beside task (PrioritySet other priority) table = (refl, refl)
+completed_beside task (AffinitySet other mask) table = (refl, refl)
+completed_beside task (PreemptOff other) table = (refl, refl)
+completed_beside task (PreemptOn other) table = (refl, refl)
+completed_beside task (Notify note) table = (refl, refl)
+completed_beside task (NotifyWait entry exit ticks) table = (refl, refl)
+completed_beside task (NotifyTake clear ticks) table = (refl, refl)
+completed_beside task (StateClear other) table = (refl, refl)
+completed_beside task (ValueClear other bits) table = (refl, refl)
+
+finished_beside : (task : ℕ) (table : Table) → IsSameBeside table (finished task table).1
+unfolding finished
+finished_beside task table = at (call_at table.calls task)
+  where
+    freed : Table
+    freed = record table { calls = slice_set table.calls task None }
+
+    at : (unfinished : Option Call) → IsSameBeside table (option_map_or {U = Reply × Table} (λ call. completed task call freed) unfinished (Done, table)).1
+    at None = (refl, refl)
+    at (Some call) = completed_beside task call freed
+
+notify_near : (acting task : ℕ) (action : Action) (table : Table) → 0 < length table.orders.rows → IsNear table (notify table_moves acting task action table)
+unfolding notify wake make_ready
+notify_near acting task action table some = at (is_waiting note.state)
+  where
+    note : Notification
+    note = note_at table.notes task
+
+    told : Table
+    told = record table { notes = slice_set table.notes task (notified action note) }
+
+    at : (b : Bool) → IsNear table (cond b (wake table_moves acting task told) told)
+    at true = (omega arith, omega arith, refl)
+    at false = (omega arith, omega arith, refl)
+
+awaited_near : (core task : ℕ) (call : Call) (ticks : ℕ) (begun : Bool × List Notification) (table : Table) → 0 < length table.orders.rows → IsNear table (awaited table_moves core task call ticks begun table).1
+unfolding awaited blocked delay
+awaited_near core task call ticks begun table some = at (begun.0 && ltb 0 ticks)
+  where
+    waiting : Table
+    waiting = record table { notes = begun.1 }
+
+    at : (b : Bool) → IsNear table (cond {A = Reply × Table} b (reply.Blocked, blocked table_moves core task call (awaited_for ticks) waiting) (completed task call waiting)).1
+    at true = (omega arith, omega arith, refl)
+    at false = beside_near table (completed task call waiting).1 (completed_beside task call waiting)
+
 called_near : (core task : ℕ) (call : Call) (table : Table) → 0 < length table.orders.rows → IsNear table (called table_moves core task call table).1
-unfolding called yielded blocked delay affinity_set preemption_off preemption_on
-called_near core task Yield table some = (omega arith, omega arith)
+unfolding called yielded blocked delay affinity_set preemption_off preemption_on state_forgotten bits_cleared
+called_near core task Yield table some = (omega arith, omega arith, refl)
 called_near core task (Delay ticks) table some = at (eqb ticks 0)
   where
     at : (b : Bool) → IsNear table (cond {A = Reply × Table} b (Done, yielded table_moves core table) (reply.Blocked, blocked table_moves core task (Delay ticks) (Some ticks) table)).1
-    at true = (omega arith, omega arith)
-    at false = (omega arith, omega arith)
-called_near core task Finish table some = (omega arith, omega arith)
+    at true = (omega arith, omega arith, refl)
+    at false = (omega arith, omega arith, refl)
+called_near core task Finish table some = beside_near table (finished task table).1 (finished_beside task table)
 called_near core task (PrioritySet other priority) table some = priority_near core other priority table some
-called_near core task (AffinitySet other mask) table some = (omega arith, omega arith)
-called_near core task (PreemptOff other) table some = (omega arith, omega arith)
-called_near core task (PreemptOn other) table some = (omega arith, omega arith)
+called_near core task (AffinitySet other mask) table some = (omega arith, omega arith, refl)
+called_near core task (PreemptOff other) table some = (omega arith, omega arith, refl)
+called_near core task (PreemptOn other) table some = (omega arith, omega arith, refl)
+called_near core task (Notify note) table some = notify_near core note.task note.action table some
+called_near core task (NotifyWait entry exit ticks) table some = awaited_near core task (NotifyWait entry exit ticks) ticks (of_task task (wait_begun entry) table.notes) table some
+called_near core task (NotifyTake clear ticks) table some = awaited_near core task (NotifyTake clear ticks) ticks (of_task task take_begun table.notes) table some
+called_near core task (StateClear other) table some = (omega arith, omega arith, refl)
+called_near core task (ValueClear other bits) table some = (omega arith, omega arith, refl)
 
 performed_near : (step : Step) (table : Table) → 0 < length table.orders.rows → IsNear table (performed table_moves step table).1
-unfolding performed
+unfolding performed interrupted
 performed_near Tick table some = ticked_near table
 performed_near (Switch core) table some = switched_near core table some
 performed_near (steps.Call core task call) table some = called_near core task call table some
+performed_near (Interrupt core note) table some = notify_near core note.task note.action table some
 
 after_near : (step : Step) (table : Table) → 0 < length table.orders.rows → IsNear table (after table_moves step table).1
 unfolding after
@@ -217,7 +282,7 @@ after_near step table some = at (refusal table.control table.calls step)
   where
     at : (why : Option Refusal) → IsNear table (option_map_or {U = Reply × Table} (λ why. (Refused why, table)) why (performed table_moves step table)).1
     at None = performed_near step table some
-    at (Some why) = (omega arith, omega arith)
+    at (Some why) = (omega arith, omega arith, refl)
 
 -- the outcomes so far and what the rest of the steps gives are the whole trace
 pub record IsReplaying (header : Header) (steps : List Step) (place : ℕ) (table : Table) (outcomes : List (Reply × ArrayVec ℕ)) : Type 0 where
@@ -265,42 +330,6 @@ replaying_starts header steps table outcomes passes starts none =
       time = omega (arith, turns_tick cores before, ticks, first.1);
     })
 
-either_settings : (settings : Settings) (one other : Table) (b : Bool) → one.settings ≡ settings → other.settings ≡ settings → (cond b one other).settings ≡ settings
-either_settings settings one other true here there = here
-either_settings settings one other false here there = there
-
-priority_settings : (acting task priority : ℕ) (table : Table) → (priority_set table_moves acting task priority table).settings ≡ table.settings
-unfolding priority_set in_use_set
-priority_settings acting task priority table = either_settings table.settings table _ (eqb (capped table.settings.priorities priority) (task_at table.control task).base) refl refl
-
-called_settings : (core task : ℕ) (call : Call) (table : Table) → (called table_moves core task call table).1.settings ≡ table.settings
-unfolding called yielded blocked affinity_set preemption_off preemption_on
-called_settings core task Yield table = refl
-called_settings core task (Delay ticks) table = at (eqb ticks 0)
-  where
-    at : (b : Bool) → (cond {A = Reply × Table} b (Done, yielded table_moves core table) (reply.Blocked, blocked table_moves core task (Delay ticks) (Some ticks) table)).1.settings ≡ table.settings
-    at true = refl
-    at false = refl
-called_settings core task Finish table = refl
-called_settings core task (PrioritySet other priority) table = priority_settings core other priority table
-called_settings core task (AffinitySet other mask) table = refl
-called_settings core task (PreemptOff other) table = refl
-called_settings core task (PreemptOn other) table = refl
-
-performed_settings : (step : Step) (table : Table) → (performed table_moves step table).1.settings ≡ table.settings
-unfolding performed ticked
-performed_settings Tick table = (sliced_beside (behind_wakes table)).1 ∙ ap (λ (t : Table). t.settings) (woken_parts (due (advance table.orders)) (with_orders table (advance table.orders)))
-performed_settings (Switch core) table = turned_settings core table
-performed_settings (steps.Call core task call) table = called_settings core task call table
-
-after_settings : (step : Step) (table : Table) → (after table_moves step table).1.settings ≡ table.settings
-unfolding after
-after_settings step table = at (refusal table.control table.calls step)
-  where
-    at : (why : Option Refusal) → (option_map_or {U = Reply × Table} (λ why. (Refused why, table)) why (performed table_moves step table)).1.settings ≡ table.settings
-    at None = performed_settings step table
-    at (Some why) = refl
-
 -- the outcome of a step before those of the rest
 trace_cons : (table next : Table) (step : Step) (steps : List Step) (reply : Reply) (row : List ℕ) → reply ≡ (step_of step table).0 → next ≡ (step_of step table).1 → row ≡ running next.control → (reply, row) ∷ trace next steps ≡ trace table (step ∷ steps)
 trace_cons table next step steps reply row replied later runs =
@@ -331,7 +360,7 @@ replaying_goes header steps place table next outcomes step reply row passes repl
       whole = ap (λ os. os ++ trace next rest) (map_push shown outcomes (reply, row)) ∙ append_assoc (map shown outcomes) (shown (reply, row) ∷ []) (trace next rest)
           ∙ ap (λ os. map shown outcomes ++ os) (trace_cons table next step rest reply row.items replied later runs ∙ ap (trace table) (sym here)) ∙ replaying.whole;
       sound = subst IsSound (sym later) (after_sound step table replaying.sound fits);
-      settings = ap (λ (t : Table). t.settings) later ∙ after_settings step table ∙ replaying.settings;
+      settings = ap (λ (t : Table). t.settings) later ∙ near.2 ∙ replaying.settings;
       room = omega (arith, nexts, near.0, few.1, replaying.room);
       time = omega (arith, ticks, near.1, replaying.time);
     }

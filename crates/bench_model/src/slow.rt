@@ -1,6 +1,7 @@
 ghost use Rattle.std.specs.Prelude.{◌≡◌, ℕ, ◌<◌, ◌≤◌, ◌^◌, ◌+◌, ◌==◌, ◌&&◌, length, ◌++◌, map, replicate, option_map, slice_get, All, Some, None, IfOk, IfSome, nat_le, Ok};
 ghost use Rattle.bench_types.specs.Step.{call_check, step_check, settings_of, IsStepOfWords};
 ghost use Rattle.bench_types.specs.Header.{header_check};
+ghost use Rattle.bench_types.specs.declared.step.Call.TheVariants.{Delay};
 ghost use Rattle.bench_model.specs.Control.{is_elsewhere, is_allowed, may_select, is_due, current, run_on, running};
 ghost use Rattle.bench_model.specs.Notes.{no_note};
 ghost use Rattle.bench_model.specs.State.{call_refusal, refusal, queued, switched, yielded, blocked};
@@ -13,6 +14,7 @@ ghost use Rattle.bench_model.specs.Search.{is_best, numbers};
 ghost use Rattle.bench_model.specs.Start.{first_look, ready_row, idle_control, user_control, first_control, first_stamps, unstarted, start};
 ghost use Rattle.bench_model.specs.SlowDue.{first_due};
 
+mod notes;
 mod seek;
 mod sets;
 
@@ -256,15 +258,15 @@ impl SlowTable {
         self.resettle(core, loser);
     }
 
-    // Wakes a task as the tick does: core 0 acts.
     #[tactic(auto, unfolding(crate::specs::Seek::wake))]
-    fn wake(&mut self, task: u32)
+    fn wake(&mut self, acting: u32, task: u32)
         requires task { task < length self.old.orders.rows }
         requires room { self.old.orders.next + 1 < 2 ^ 128 }
-        ensures { self.new ≡ wake table_moves 0 task self.old }
+        ensures woken { self.new ≡ wake table_moves acting task self.old }
+        ensures settings { self.new.settings ≡ self.old.settings }
     {
         self.make_ready(task);
-        self.seek(0, task, None);
+        self.seek(acting, task, None);
     }
 
     #[tactic(auto, unfolding(crate::specs::Table::advance))]
@@ -275,7 +277,7 @@ impl SlowTable {
         self.tick += 1;
     }
 
-    // Wakes the tasks that are due one by one, and then ends time slices.
+    // Wakes the tasks that are due one by one, by core 0, and then ends time slices.
     fn advance(&mut self)
         requires sound { IsSound self.old }
         requires room { self.old.orders.next + length self.old.orders.rows < 2 ^ 128 }
@@ -284,28 +286,45 @@ impl SlowTable {
     {
         self.count_tick();
         while let Some(task) = self.first_due() {
-            self.wake(task);
+            self.wake(0, task);
         }
         self.slice();
     }
 
     #[tactic(auto, unfolding(crate::specs::State::blocked, crate::specs::State::yielded, crate::specs::Table::delay))]
-    fn block(&mut self, core: u32, task: u32, call: Call, ticks: u32)
+    fn block(&mut self, core: u32, task: u32, call: Call, ticks: Option<u32>)
         requires core { core < length self.old.control.cores }
         requires task { task < length self.old.orders.rows }
         requires room { self.old.orders.next + 1 < 2 ^ 128 }
-        requires time { self.old.orders.tick + ticks < 2 ^ 128 }
-        ensures { self.new ≡ blocked table_moves core task call (Some ticks) self.old }
+        requires time { self.old.orders.tick + 2 ^ 32 < 2 ^ 128 }
+        ensures { self.new ≡ blocked table_moves core task call ticks self.old }
     {
+        let tick = self.tick;
         self.rows[task as usize] = TaskRow {
             stamp: self.next,
             standing: Standing::Blocked {
-                wake: Some(self.tick + u128::from(ticks)),
+                wake: ticks.map(|ticks| tick + u128::from(ticks)),
             },
         };
         self.next += 1;
         self.calls[task as usize] = Some(call);
         self.ask_itself(core);
+    }
+
+    #[tactic(auto, unfolding(crate::specs::Steps::called))]
+    fn delay(&mut self, core: u32, task: u32, ticks: u32) -> Reply
+        requires core { core < length self.old.control.cores }
+        requires task { task < length self.old.orders.rows }
+        requires room { self.old.orders.next + 1 < 2 ^ 128 }
+        requires time { self.old.orders.tick + 2 ^ 32 < 2 ^ 128 }
+        ensures { (result, self.new) ≡ called table_moves core task (Delay ticks) self.old }
+    {
+        if ticks == 0 {
+            self.ask_itself(core);
+            return Reply::Done;
+        }
+        self.block(core, task, Call::Delay(ticks), Some(ticks));
+        Reply::Blocked
     }
 
     #[tactic(auto, unfolding(crate::specs::Steps::called))]
@@ -319,16 +338,24 @@ impl SlowTable {
         ensures { (result, self.new) ≡ called table_moves core task call self.old }
     {
         match call {
-            Call::Delay(ticks) if ticks != 0 => {
-                self.block(core, task, call, ticks);
-                return Reply::Blocked;
-            }
-            Call::Yield | Call::Delay(_) => self.ask_itself(core),
-            Call::Finish => self.calls[task as usize] = None,
+            Call::Yield => self.ask_itself(core),
             Call::PrioritySet { task, priority } => self.set_priority(core, task, priority),
             Call::AffinitySet { task, mask } => self.set_affinity(core, task, mask),
             Call::PreemptOff(task) => self.preempt_off(task),
             Call::PreemptOn(task) => self.preempt_on(core, task),
+            Call::Delay(ticks) => return self.delay(core, task, ticks),
+            Call::Finish => return self.finish(task),
+            Call::Notify(note) => return Reply::Flag(self.notify(core, note)),
+            Call::NotifyWait { entry, ticks, .. } => {
+                let begun = notes::wait_begun(entry, self.note(task));
+                return self.await_note(core, task, call, ticks, begun);
+            }
+            Call::NotifyTake { ticks, .. } => {
+                let begun = notes::take_begun(self.note(task));
+                return self.await_note(core, task, call, ticks, begun);
+            }
+            Call::StateClear(task) => return self.clear_state(task),
+            Call::ValueClear { task, bits } => return self.clear_value(task, bits),
         }
         Reply::Done
     }
@@ -347,7 +374,7 @@ impl SlowTable {
         ensures { result ≡ refusal self.now.control self.now.calls step.now }
     {
         match *step {
-            Step::Tick => None,
+            Step::Tick | Step::Interrupt { .. } => None,
             Step::Switch { core } => (!self.is_due(core)).then_some(Refusal::NotDue),
             Step::Call { core, task, .. } if !self.runs_on(core, task) => Some(Refusal::Displaced),
             Step::Call { core, .. } if self.is_due(core) => Some(Refusal::SwitchDue),
@@ -374,6 +401,7 @@ impl SlowTable {
                 Reply::Done
             }
             Step::Call { core, task, call } => self.call(core, task, call),
+            Step::Interrupt { core, note } => self.interrupt(core, note),
         }
     }
 

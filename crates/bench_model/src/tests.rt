@@ -2,12 +2,16 @@
 ghost use Rattle.std.specs.Prelude.{◌≡◌, ◌<◌, IsTrue, All, Ok};
 ghost use Rattle.bench_types.specs.Step.{step_check, settings_of};
 
+mod notes;
 mod random;
 mod sessions;
 mod sets;
+mod waits;
 
 use crate::replay_slow;
-use bench_types::{Call, Config, Header, Items, Name, Refusal, Reply, Row, Step, TaskArgs};
+use bench_types::{
+    Action, Call, Config, Header, Items, Name, Note, Refusal, Reply, Row, Step, TaskArgs,
+};
 use sessions::{Group, Line, Made};
 use std::alloc::{AllocError, Global};
 use std::process::Abort;
@@ -106,6 +110,14 @@ fn digit(word: &str, place: usize) -> u32
     }
 }
 
+/// The digit at a place of a word, or 4294967295 for `*`.
+fn number(word: &str, place: usize) -> u32 {
+    match word.as_bytes().get(place) {
+        Some(b'*') => u32::MAX,
+        _ => digit(word, place),
+    }
+}
+
 fn read_header(alloc: Global, text: &str) -> Result<Header, Fail> {
     let mut words = text.split(' ');
     let config = Config {
@@ -123,33 +135,95 @@ fn read_header(alloc: Global, text: &str) -> Result<Header, Fail> {
     header_of(alloc, config, &args)
 }
 
-fn read_step(word: &str) -> Step {
-    let core = digit(word, 1);
-    let other = digit(word, 3);
-    let call = match word.as_bytes().first() {
-        Some(b's') => return Step::Switch { core },
+/// The notified task at a place of a word, and the action behind it.
+fn read_note(word: &str, place: usize) -> Note
+    requires { place < 9 }
+{
+    let value = number(word, place + 2);
+    let action = match word.as_bytes().get(place + 1) {
+        Some(b'|') => Action::SetBits(value),
+        Some(b'+') => Action::Increment,
+        Some(b'=') => Action::Set(value),
+        Some(b'!') => Action::SetNew(value),
+        _ => Action::Nothing,
+    };
+    let task = digit(word, place);
+    Note { task, action }
+}
+
+fn read_call(word: &str) -> Option<Call> {
+    let task = digit(word, 3);
+    Some(match word.as_bytes().first() {
         Some(b'y') => Call::Yield,
-        Some(b'd') => Call::Delay(other),
+        Some(b'd') => Call::Delay(digit(word, 3)),
         Some(b'f') => Call::Finish,
         Some(b'p') => Call::PrioritySet {
-            task: other,
+            task,
             priority: digit(word, 4),
         },
         Some(b'a') => Call::AffinitySet {
-            task: other,
+            task,
             mask: digit(word, 4) * 16 + digit(word, 5),
         },
-        Some(b'o') => Call::PreemptOff(other),
-        Some(b'e') => Call::PreemptOn(other),
-        _ => return Step::Tick,
-    };
-    let task = digit(word, 2);
-    Step::Call { core, task, call }
+        Some(b'o') => Call::PreemptOff(task),
+        Some(b'e') => Call::PreemptOn(task),
+        Some(b'n') => Call::Notify(read_note(word, 3)),
+        Some(b'w') => Call::NotifyWait {
+            entry: number(word, 3),
+            exit: number(word, 4),
+            ticks: number(word, 5),
+        },
+        Some(b'k') => Call::NotifyTake {
+            clear: word.as_bytes().get(3) == Some(&b'c'),
+            ticks: number(word, 4),
+        },
+        Some(b'c') => Call::StateClear(task),
+        Some(b'v') => Call::ValueClear {
+            task,
+            bits: number(word, 4),
+        },
+        _ => return None,
+    })
+}
+
+fn read_step(word: &str) -> Step {
+    let core = digit(word, 1);
+    if let Some(call) = read_call(word) {
+        let task = digit(word, 2);
+        return Step::Call { core, task, call };
+    }
+    match word.as_bytes().first() {
+        Some(b's') => Step::Switch { core },
+        Some(b'i') => Step::Interrupt {
+            core,
+            note: read_note(word, 2),
+        },
+        _ => Step::Tick,
+    }
+}
+
+fn read_value(word: &str, letter: &str) -> u32 {
+    word.strip_prefix(letter).unwrap_or("").parse().unwrap_or(0)
 }
 
 fn read_reply(word: &str) -> Reply {
     match word.as_bytes().first() {
         Some(b'b') => Reply::Blocked,
+        Some(b'y') => Reply::Flag(true),
+        Some(b'n') => Reply::Flag(false),
+        Some(b'v') => Reply::Value(read_value(word, "v")),
+        Some(b'w') => Reply::Waited {
+            ok: true,
+            value: read_value(word, "w"),
+        },
+        Some(b'x') => Reply::Waited {
+            ok: false,
+            value: read_value(word, "x"),
+        },
+        Some(b'i') => Reply::Isr {
+            pass: digit(word, 1) == 1,
+            pend: digit(word, 2) == 1,
+        },
         Some(b'2') => Reply::Refused(Refusal::Displaced),
         Some(b'3') => Reply::Refused(Refusal::SwitchDue),
         Some(b'4') => Reply::Refused(Refusal::InCall),
@@ -163,9 +237,14 @@ fn read_steps(alloc: Global, text: &str) -> Result<Vec<Step>, AllocError> {
     text.split(' ').step_by(2).map(read_step).collect(alloc)
 }
 
+/// Whether an answer has this reply and these tasks. They stand behind a colon, or else behind the reply's one letter.
 fn is_answer(answer: &str, reply: &Reply, row: &Row) -> bool {
-    let mut tasks = row.as_slice().iter().enumerate();
-    *reply == read_reply(answer) && tasks.all(|(core, task)| *task == digit(answer, core + 1))
+    let (replied, tasks, first) = match answer.split_once(":") {
+        Some((replied, tasks)) => (replied, tasks, 0),
+        None => (answer, answer, 1),
+    };
+    let mut running = row.as_slice().iter().enumerate();
+    *reply == read_reply(replied) && running.all(|(core, task)| *task == digit(tasks, core + first))
 }
 
 fn replays_lines(rt: &(impl Alloc + Abort), alloc: Global, lines: &[&str]) -> Result<(), Fail> {
@@ -190,4 +269,9 @@ fn replays_the_random_sessions(rt: HostRuntime) -> Result<(), Fail> {
 #[test]
 fn replays_the_sessions_of_sets(rt: HostRuntime) -> Result<(), Fail> {
     replays_lines(&rt, rt.alloc(), &sets::SESSIONS)
+}
+
+#[test]
+fn replays_the_sessions_of_notifications(rt: HostRuntime) -> Result<(), Fail> {
+    replays_lines(&rt, rt.alloc(), &notes::SESSIONS)
 }

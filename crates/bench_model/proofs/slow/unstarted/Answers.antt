@@ -29,6 +29,7 @@ invariant_of-result c =
       cores = ap length c.in_ok-cores.ensures ∙ length-map-range_with_len _ 0 settings.cores;
       controls = ap length c.in_ok-tasks.ensures ∙ first_tasks c.args.header.now ∙ omega (arith, tasks);
       calls = ap length c.in_ok-calls.ensures ∙ length-replicate settings.tasks _;
+      notes = ap length c.in_ok-notes.ensures ∙ length-replicate settings.tasks _;
       rows = ap length c.in_ok-rows.ensures ∙ length_ranges _ _ settings.cores (settings.tasks - settings.cores) ∙ sum;
       runs_tasks = λ core low.
           let look = ap (λ looks. slice_index_or looks core no_look) c.in_ok-cores.ensures ∙ get_or-map-range_with_len first_look 0 settings.cores core core no_look low (omega arith) in

@@ -103,6 +103,8 @@ completed_seen table task (calls.NotifyWait entry exit ticks) = refl
 completed_seen table task (calls.NotifyTake clear ticks) = refl
 completed_seen table task (calls.StateClear other) = refl
 completed_seen table task (calls.ValueClear other bits) = refl
+completed_seen table task (calls.MutexTake mutex ticks) = refl
+completed_seen table task (calls.MutexGive mutex) = refl
 completed_seen table task calls.Finish = refl
 
 pub awaited_seen : (table : Table) (core task : ℕ) (call : Call) (ticks : ℕ) (begun : Bool × List Notification) → IsSound table → task < length table.orders.rows → is_ready task table.orders ≡ true →
@@ -144,6 +146,8 @@ completed_sound table task (calls.NotifyWait entry exit ticks) sound low = ruled
 completed_sound table task (calls.NotifyTake clear ticks) sound low = ruled_sound task (take_ended clear) table sound low (take_ended_word clear)
 completed_sound table task (calls.StateClear other) sound low = sound
 completed_sound table task (calls.ValueClear other bits) sound low = sound
+completed_sound table task (calls.MutexTake mutex ticks) sound low = sound
+completed_sound table task (calls.MutexGive mutex) sound low = sound
 completed_sound table task calls.Finish sound low = sound
 
 -- the ticks of a wait that does not end at once

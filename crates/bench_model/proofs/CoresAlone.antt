@@ -1,13 +1,15 @@
 -- What each rule does to cores and ready lists depends on them alone.
-use Rattle.std.proofs.Common.{◌≡◌, ℕ, ◌<◌, Bool, true, false, cond, not, eqb, ◌&&◌, length, Option, refl, sym, ap, ◌∙◌, arith}
+use Rattle.std.proofs.Common.{◌≡◌, ℕ, ◌<◌, Bool, true, false, cond, not, eqb, ltb, ◌&&◌, length, Option, refl, sym, ap, ◌∙◌, arith}
 use Rattle.std.specs.Prelude.{unwrap_or}
 use Rattle.bench_types.specs.declared.kernel_data.MutexWait.{MutexWait}
 use Rattle.bench_model.specs.Search.{without, has}
-use Rattle.bench_model.specs.Control.{Control, current, ask, ask_each, run_on}
+use Rattle.bench_model.specs.Control.{Control, task_at, current, in_mask, ask, ask_each, run_on}
 use Rattle.bench_model.specs.State.{switched}
 use Rattle.bench_model.specs.Table.{Table, table_moves, is_ready, delay}
 use Rattle.bench_model.specs.Lists as seen
 use Rattle.bench_model.specs.Lists.{Lists, View, list_moves, lists_of, image}
+use Rattle.bench_model.specs.Mutexes.{inherited, lowered}
+use Rattle.bench_model.specs.Sets.{ask_its_core}
 use Rattle.bench_model.specs.Seek.{seek, may_move, wake, resettled, switched_and_sought, shares_its_time, sliced}
 use Rattle.bench_model.specs.SeekLaws.{sought}
 use Rattle.bench_model.specs.Changes.{with_in_use, in_use_set}
@@ -16,6 +18,7 @@ use Rattle.bench_model.specs.CoresLaws.{cores_seen}
 use Rattle.bench_model.specs.Sound.{IsStamped, IsSound}
 use Rattle.bench_model.proofs.Changes.{in_use_seen}
 use Rattle.bench_model.proofs.SeenMoves.{delay_seen}
+use Rattle.bench_model.proofs.Mutexes.{inherited_seen, lowered_seen}
 use Rattle.bench_model.proofs.Seeks.{seek_seen, wake_seen, sought_switch_seen, sliced_seen}
 
 wake_alone : (acting task : ℕ) (view : View) → cores_of (wake list_moves acting task view) ≡ on_cores (wake list_moves acting task) (cores_of view)
@@ -104,3 +107,45 @@ wait_on table task ticks wait sound low ready =
     let below : task < length table.orders.rows = omega (arith, sound.sized.rows) in
     ap (λ (lists : Lists). record (cores_seen table) { ready = lists.ready }) (delay_seen table.control table.orders task ticks wait sound.stamped.given below ready)
     ∙ ap (λ ready. record (cores_seen table) { ready = ready }) (delay_ready task ticks wait (lists_of table.control table.orders))
+
+inherited_alone : (acting holder priority : ℕ) (view : View) → cores_of (inherited list_moves acting holder priority view) ≡ on_cores (inherited list_moves acting holder priority) (cores_of view)
+unfolding inherited in_use_set seen.make_ready
+inherited_alone acting holder priority view = at (ltb (task_at view.control holder).in_use priority) (has holder view.orders.ready)
+  where
+    changed : Control
+    changed = with_in_use holder priority view.control
+
+    later : Bool → View → View
+    later b of = record of { control = changed; orders = cond b (seen.make_ready changed holder of.orders) of.orders }
+
+    sought_for : View → View
+    sought_for of = record of { control = seek acting holder (in_mask of.control holder) of.control }
+
+    at : (b d : Bool) → cores_of (cond b (cond d (sought_for (later d view)) (later d view)) view) ≡ cores_of (cond b (cond d (sought_for (later d (alone (cores_of view)))) (later d (alone (cores_of view)))) (alone (cores_of view)))
+    at true true = refl
+    at true false = refl
+    at false d = refl
+
+lowered_alone : (acting task priority : ℕ) (view : View) → cores_of (lowered list_moves acting task priority view) ≡ on_cores (lowered list_moves acting task priority) (cores_of view)
+unfolding lowered in_use_set seen.make_ready
+lowered_alone acting task priority view = at (eqb (task_at view.control task).in_use priority) (has task view.orders.ready)
+  where
+    changed : Control
+    changed = with_in_use task priority view.control
+
+    later : Bool → View → View
+    later b of = record of { control = changed; orders = cond b (seen.make_ready changed task of.orders) of.orders }
+
+    asked : View → View
+    asked of = record of { control = ask_its_core acting task of.control }
+
+    at : (b d : Bool) → cores_of (cond b view (asked (later d view))) ≡ cores_of (cond b (alone (cores_of view)) (asked (later d (alone (cores_of view)))))
+    at true d = refl
+    at false true = refl
+    at false false = refl
+
+pub inherited_on : (table : Table) (acting holder priority : ℕ) → IsSound table → holder < table.settings.tasks → cores_seen (inherited table_moves acting holder priority table) ≡ on_cores (inherited list_moves acting holder priority) (cores_seen table)
+inherited_on table acting holder priority sound low = ap cores_of (inherited_seen table acting holder priority sound low) ∙ inherited_alone acting holder priority (image table)
+
+pub lowered_on : (table : Table) (acting task priority : ℕ) → IsSound table → task < table.settings.tasks → cores_seen (lowered table_moves acting task priority table) ≡ on_cores (lowered list_moves acting task priority) (cores_seen table)
+lowered_on table acting task priority sound low = ap cores_of (lowered_seen table acting task priority sound low) ∙ lowered_alone acting task priority (image table)

@@ -15,14 +15,14 @@ use Rattle.bench_model.specs.Changes.{in_use_set}
 use Rattle.bench_model.specs.Control.{task_at, current, in_mask}
 use Rattle.bench_model.specs.Laws.{seen_of}
 use Rattle.bench_model.specs.Lists.{View, list_moves, image}
-use Rattle.bench_model.specs.Mutexes.{held_by, is_marked, taken, inherited, waited_at, mutex_take, owed, lowered, timed_out, ended, take_finished, finished, disinherited, first_woken, mutex_give}
+use Rattle.bench_model.specs.Mutexes.{held_by, is_marked, taken, inherited, waited_at, mutex_take, owed, lowered, timed_out, ended, owed_to, take_finished, finished, disinherited, first_woken, mutex_give}
 use Rattle.bench_model.specs.Notifying.{awaited_for, completed}
 use Rattle.bench_model.specs.Seek.{seek, wake}
 use Rattle.bench_model.specs.SeekLaws.{sought}
 use Rattle.bench_model.specs.SetLaws.{on_control}
 use Rattle.bench_model.specs.Sets.{ask_its_core}
-use Rattle.bench_model.specs.Sound.{IsCaller, IsSound, IsWait, holder_at}
-use Rattle.bench_model.specs.State.{State, blocked}
+use Rattle.bench_model.specs.Sound.{IsCaller, IsSound, IsWait}
+use Rattle.bench_model.specs.State.{State, holder_at, blocked}
 use Rattle.bench_model.specs.Table.{Stamps, Table, table_moves, is_ready, make_ready, deadline_at, deadline_left, forget_deadline, first_waiter}
 use Rattle.bench_model.proofs.Awaiting.{waits_on, completed_seen, completed_sound}
 use Rattle.bench_model.proofs.Changes.{in_use_seen, in_use_sound}
@@ -283,13 +283,8 @@ module _ (table : Table) (acting task priority : ℕ) (sound : IsSound table) (l
       either_sound (eqb (task_at table.control task).in_use priority) table (on_control (ask_its_core acting task) now) sound
       (its_core_sound now acting task (in_use_sound table task priority sound low below))
 
-abbrev owed_from : ℕ → Option Waiter → ℕ
-owed_from base first =
-    let rank = option_map_or (λ (waiter : Waiter). waiter.wait.priority) first base in
-    cond (ltb base rank) rank base
-
 owed_seen : (table : Table) (task mutex : ℕ) → IsSound table → owed list_moves task mutex (image table) ≡ owed table_moves task mutex table
-owed_seen table task mutex sound = ap (owed_from (task_at table.control task).base) (first_waiter_seen mutex table.orders table.control sound.stamped)
+owed_seen table task mutex sound = ap (λ first. owed_to first (task_at table.control task).base) (first_waiter_seen mutex table.orders table.control sound.stamped)
 
 greater_below : (base rank bound : ℕ) → base < bound → rank < bound → cond (ltb base rank) rank base < bound
 greater_below base rank bound low high = at (ltb base rank)
@@ -304,7 +299,7 @@ owed_below table task mutex sound low = from (first_waiter mutex table.orders) r
     base : ℕ
     base = (task_at table.control task).base
 
-    from : (first : Option Waiter) → first_waiter mutex table.orders ≡ first → owed_from base first < table.settings.priorities
+    from : (first : Option Waiter) → first_waiter mutex table.orders ≡ first → owed_to first base < table.settings.priorities
     from None none = greater_below base base table.settings.priorities (sound.priorities task low).1 (sound.priorities task low).1
     from (Some waiter) some =
         let waits = first_waiter_waits mutex table.orders waiter some in

@@ -110,9 +110,9 @@ unfolding blocked
 blocked_seen core task call ticks wait table given below ready =
     same_state table.settings _ _ (slice_set table.calls task (Some call)) table.notes table.holders _ _ refl (lists_of_cores table.control _ (delay task ticks wait table.orders) ∙ delay_seen table.control table.orders task ticks wait given below ready)
 
-pub not_displaced : (control : Control) (calls : List (Option Unfinished)) (core task : ℕ) (call : Call) → refusal control calls (steps.Call core task call) ≡ None → (current control core ≡ task) × (is_due control core ≡ false)
+pub not_displaced : (control : Control) (calls : List (Option Unfinished)) (holders : List (Option ℕ)) (core task : ℕ) (call : Call) → refusal control calls holders (steps.Call core task call) ≡ None → (current control core ≡ task) × (is_due control core ≡ false)
 unfolding refusal
-not_displaced control calls core task call accepted = at (eqb (current control core) task) refl (is_due control core) refl
+not_displaced control calls holders core task call accepted = at (eqb (current control core) task) refl (is_due control core) refl
   where
     at : (b : Bool) → eqb (current control core) task ≡ b → (d : Bool) → is_due control core ≡ d → (current control core ≡ task) × (is_due control core ≡ false)
     at false other d due = absurd (cc (accepted, other))
@@ -120,7 +120,7 @@ not_displaced control calls core task call accepted = at (eqb (current control c
     at true same false due = (grind (arith, nat_tests, same), due)
 
 -- of a checked step that is not refused
-pub in_place : (step : Step) (table : Table) → IsSound table → step_check table.settings step ≡ Ok tt → refusal table.control table.calls step ≡ None → IsInPlace table step
+pub in_place : (step : Step) (table : Table) → IsSound table → step_check table.settings step ≡ Ok tt → refusal table.control table.calls table.holders step ≡ None → IsInPlace table step
 in_place Tick table sound checked accepted = tt
 in_place (Switch core) table sound checked accepted = omega (arith, sound.sized.cores, checked_core table.settings core checked)
 in_place (steps.Interrupt core note) table sound checked accepted =
@@ -128,7 +128,7 @@ in_place (steps.Interrupt core note) table sound checked accepted =
     (omega (arith, sound.sized.cores, checked_core table.settings core both.0), (checked_task table.settings note.task both.1).1)
 in_place (steps.Call core task call) table sound checked accepted =
     let low : core < length table.control.cores = omega (arith, sound.sized.cores, checked_core table.settings core (both_pass (core_check table.settings core) (task_check table.settings task) (both_pass (core_check table.settings core >> task_check table.settings task) (call_check table.settings call) checked).0).0) in
-    let found = not_displaced table.control table.calls core task call accepted in
+    let found = not_displaced table.control table.calls table.holders core task call accepted in
     let ready : is_ready (current table.control core) table.orders ≡ true = true_from_ne_false (is_ready (current table.control core) table.orders) (λ h. cc (sound.in_place.blocked_is_due core low h, found.1)) in
     (low, found.0, subst (λ i. i < length table.orders.rows) found.0 (sound.in_place.is_task core low), subst (λ i. is_ready i table.orders ≡ true) found.0 ready)
 

@@ -278,7 +278,7 @@ performed_near (Interrupt core note) table some = notify_near core note.task not
 
 after_near : (step : Step) (table : Table) → 0 < length table.orders.rows → IsNear table (after table_moves step table).1
 unfolding after
-after_near step table some = at (refusal table.control table.calls step)
+after_near step table some = at (refusal table.control table.calls table.holders step)
   where
     at : (why : Option Refusal) → IsNear table (option_map_or {U = Reply × Table} (λ why. (Refused why, table)) why (performed table_moves step table)).1
     at None = performed_near step table some

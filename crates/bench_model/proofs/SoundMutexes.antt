@@ -9,9 +9,9 @@ use Rattle.bench_types.specs.declared.step.Unfinished.{Unfinished}
 use Rattle.bench_model.specs.declared.row.Standing.{Standing}
 use Rattle.bench_model.specs.declared.row.Standing.TheVariants.{Ready, Blocked}
 use Rattle.bench_model.specs.declared.row.TaskRow.{TaskRow}
-use Rattle.bench_model.specs.State.{call_at}
+use Rattle.bench_model.specs.State.{call_at, holder_at}
 use Rattle.bench_model.specs.Table.{Stamps, row_at, wait_in, ahead, deadline_at, restamped, make_ready, delay, forget_deadline, advance}
-use Rattle.bench_model.specs.Sound.{IsWait, IsMutexWait, HasMutexes, holder_at, takes_mutex}
+use Rattle.bench_model.specs.Sound.{IsWait, IsMutexWait, HasMutexes, takes_mutex}
 use Rattle.bench_model.proofs.Restamps.{moved_length, row_same, row_other}
 
 -- a task that was set to stand so, and the others

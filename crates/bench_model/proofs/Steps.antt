@@ -12,8 +12,8 @@ use Rattle.bench_types.specs.declared.step.Step.TheVariants as steps
 use Rattle.bench_types.specs.declared.step.Unfinished.{Unfinished}
 use Rattle.bench_types.specs.declared.step.Unfinished.TheVariants.{Made}
 use Rattle.bench_types.specs.declared.step.Call.{Call}
-use Rattle.bench_types.specs.declared.step.Call.TheVariants.{Yield, Delay, Finish, PrioritySet, AffinitySet, PreemptOff, PreemptOn, Notify, NotifyWait, NotifyTake, StateClear, ValueClear}
-use Rattle.bench_types.proofs.Passes.{both_pass, checked_task}
+use Rattle.bench_types.specs.declared.step.Call.TheVariants.{Yield, Delay, Finish, PrioritySet, AffinitySet, PreemptOff, PreemptOn, Notify, NotifyWait, NotifyTake, StateClear, ValueClear, MutexTake, MutexGive}
+use Rattle.bench_types.proofs.Passes.{both_pass, checked_task, checked_mutex}
 use Rattle.bench_types.specs.Step.{IsCheckedStep, IsCheckedCall, core_check, task_check, mask_check, call_check, ◌>>◌}
 use Rattle.bench_model.specs.Notes.{wait_begun, take_begun, of_task}
 use Rattle.bench_model.specs.Notifying.{is_passed}
@@ -27,7 +27,7 @@ use Rattle.bench_model.specs.Equal.{Same}
 use Rattle.bench_model.specs.Session.{step_of}
 use Rattle.bench_model.specs.Sound.{IsCaller, IsInPlace, IsSound}
 use Rattle.bench_model.proofs.Awaiting.{wait_begun_word, take_begun_word, interrupted_seen, interrupted_sound, forgotten_seen, forgotten_sound, bits_seen, bits_sound, awaited_seen, awaited_sound}
-use Rattle.bench_model.proofs.Mutexes.{finished_seen, finished_sound}
+use Rattle.bench_model.proofs.Mutexes.{take_seen, take_sound, give_seen, give_sound, finished_seen, finished_sound}
 use Rattle.bench_model.proofs.Notifying.{notify_seen, notify_sound, ruled_sound}
 use Rattle.bench_model.proofs.SeenSteps.{yielded_seen, blocked_seen, in_place}
 use Rattle.bench_model.proofs.SoundSteps.{yielded_sound, blocked_sound}
@@ -55,6 +55,10 @@ checked_call settings core task call checked =
     let first = both_pass (core_check settings core) (task_check settings task) last.0 in
     (record { passes = last.1; words = checked.words }, (checked_task settings task first.1).0)
 
+-- the caller of a step in place is a task
+caller_below : (core task : ℕ) (table : Table) → IsSound table → IsCaller table core task → task < table.settings.tasks
+caller_below core task table sound place = omega (arith, sound.sized.rows, place.2)
+
 pub called_seen : (core task : ℕ) (call : Call) (table : Table) → IsSound table → IsCheckedCall table.settings call → IsCaller table core task → seen_of (called table_moves core task call table) ≡ called list_moves core task call (image table)
 unfolding called
 called_seen core task Yield table sound checked place = same_outcome Done _ _ (yielded_seen core table)
@@ -77,6 +81,8 @@ called_seen core task (NotifyWait entry exit ticks) table sound checked place = 
 called_seen core task (NotifyTake clear ticks) table sound checked place = awaited_seen table core task (NotifyTake clear ticks) ticks (of_task task take_begun table.notes) sound place.2 place.3
 called_seen core task (StateClear other) table sound checked place = forgotten_seen table other
 called_seen core task (ValueClear other bits) table sound checked place = bits_seen table other bits
+called_seen core task (MutexTake mutex ticks) table sound checked place = take_seen table core task mutex ticks sound place
+called_seen core task (MutexGive mutex) table sound checked place = give_seen table core task mutex sound (caller_below core task table sound place) (checked_mutex table.settings mutex checked.passes)
 
 pub performed_seen : (step : Step) (table : Table) → IsSound table → IsCheckedStep table.settings step → IsInPlace table step → seen_of (performed table_moves step table) ≡ performed list_moves step (image table)
 unfolding performed
@@ -91,7 +97,7 @@ after_from step table (Some why) performs = refl
 
 pub after_seen : (step : Step) (table : Table) → IsSound table → IsCheckedStep table.settings step → seen_of (after table_moves step table) ≡ after list_moves step (image table)
 unfolding after
-after_seen step table sound checked = after_from step table (refusal table.control table.calls step) (λ accepted. performed_seen step table sound checked (in_place step table sound checked.passes accepted))
+after_seen step table sound checked = after_from step table (refusal table.control table.calls table.holders step) (λ accepted. performed_seen step table sound checked (in_place step table sound checked.passes accepted))
 
 -- equal tables take every step alike
 pub equal_after : (a b : Table) (step : Step) → IsSound a → IsSound b → Same a b → IsCheckedStep a.settings step → ((step_of step a).0 ≡ (step_of step b).0) × Same (step_of step a).1 (step_of step b).1
@@ -99,10 +105,6 @@ equal_after a b step sound other same checked =
     let settings = ap (λ (view : View). view.settings) same in
     let both : seen_of (step_of step a) ≡ seen_of (step_of step b) = after_seen step a sound checked ∙ ap (after list_moves step) same ∙ sym (after_seen step b other (subst (λ s. IsCheckedStep s step) settings checked)) in
     (ap (λ (r : Reply × View). r.0) both, ap (λ (r : Reply × View). r.1) both)
-
--- the caller of a step in place is a task
-caller_below : (core task : ℕ) (table : Table) → IsSound table → IsCaller table core task → task < table.settings.tasks
-caller_below core task table sound place = omega (arith, sound.sized.rows, place.2)
 
 pub called_sound : (core task : ℕ) (call : Call) (table : Table) → IsSound table → IsCaller table core task → IsCheckedCall table.settings call → length table.control.cores ≤ task → IsSound (called table_moves core task call table).1
 unfolding called
@@ -132,6 +134,8 @@ called_sound core task (NotifyTake clear ticks) table sound place checked user =
     awaited_sound table core task call ticks (of_task task take_begun table.notes) begun place checked user checked.words
 called_sound core task (StateClear other) table sound place checked user = forgotten_sound table other sound (set_task table.settings other checked.passes)
 called_sound core task (ValueClear other bits) table sound place checked user = bits_sound table other bits sound (set_task table.settings other checked.passes)
+called_sound core task (MutexTake mutex ticks) table sound place checked user = take_sound table core task mutex ticks sound place user checked.words (checked_mutex table.settings mutex checked.passes)
+called_sound core task (MutexGive mutex) table sound place checked user = give_sound table core task mutex sound (caller_below core task table sound place) (checked_mutex table.settings mutex checked.passes)
 
 pub performed_sound : (step : Step) (table : Table) → IsSound table → IsCheckedStep table.settings step → IsInPlace table step → IsSound (performed table_moves step table).1
 unfolding performed
@@ -144,8 +148,8 @@ performed_sound (steps.Call core task call) table sound checked place =
 
 pub after_sound : (step : Step) (table : Table) → IsSound table → IsCheckedStep table.settings step → IsSound (after table_moves step table).1
 unfolding after
-after_sound step table sound checked = from (refusal table.control table.calls step) refl
+after_sound step table sound checked = from (refusal table.control table.calls table.holders step) refl
   where
-    from : (why : Option Refusal) → refusal table.control table.calls step ≡ why → IsSound (option_map_or {U = Reply × Table} (λ why. (Refused why, table)) why (performed table_moves step table)).1
+    from : (why : Option Refusal) → refusal table.control table.calls table.holders step ≡ why → IsSound (option_map_or {U = Reply × Table} (λ why. (Refused why, table)) why (performed table_moves step table)).1
     from None accepted = performed_sound step table sound checked (in_place step table sound checked.passes accepted)
     from (Some why) refused = sound

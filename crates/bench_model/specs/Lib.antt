@@ -9,6 +9,7 @@ pub mod Laws
 pub mod Lists
 pub mod Looks
 pub mod MutexLaws
+pub mod MutexParts
 pub mod Mutexes
 pub mod NoteExamples
 pub mod NoteLaws

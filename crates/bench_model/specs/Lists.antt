@@ -37,6 +37,9 @@ wakes_first a b = nat_le a.left b.left
 abbrev pub waits_first : Waiter → Waiter → Bool
 waits_first a b = nat_lt a.wait.mutex b.wait.mutex || (a.wait.mutex == b.wait.mutex && nat_le b.wait.priority a.wait.priority)
 
+abbrev pub without_waiter : ℕ → List Waiter → List Waiter
+without_waiter task waiters = filter (λ waiter. not (waiter.task == task)) waiters
+
 abbrev pub is_ready : ℕ → Lists → Bool
 is_ready task lists = has task lists.ready
 
@@ -48,7 +51,7 @@ unfoldable pub make_ready : Control → ℕ → Lists → Lists
 make_ready control task lists = record lists {
   ready = placed (outranks control) task (without task lists.ready);
   delayed = filter (λ entry. not (entry.task == task)) lists.delayed;
-  waiters = filter (λ waiter. not (waiter.task == task)) lists.waiters;
+  waiters = without_waiter task lists.waiters;
 }
 
 -- a task that waits without end stands in no list of delays
@@ -71,8 +74,12 @@ advance lists = record lists {
 unfoldable pub due : Lists → List ℕ
 due lists = map (λ entry. entry.task) (filter (λ entry. entry.left == 0) lists.delayed)
 
+-- the first of waiters that waits for the mutex
+abbrev pub first_of : ℕ → List Waiter → Option Waiter
+first_of mutex waiters = find (λ waiter. waiter.wait.mutex == mutex) waiters
+
 unfoldable pub first_waiter : ℕ → Lists → Option Waiter
-first_waiter mutex lists = find (λ waiter. waiter.wait.mutex == mutex) lists.waiters
+first_waiter mutex lists = first_of mutex lists.waiters
 
 abbrev pub deadline_left : ℕ → Lists → Option ℕ
 deadline_left task lists = slice_index_or lists.deadlines task None

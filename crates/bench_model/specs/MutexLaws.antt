@@ -5,9 +5,11 @@ use Rattle.bench_types.specs.Step.{IsCheckedUnfinished}
 use Rattle.bench_model.specs.Control.{Control}
 use Rattle.bench_model.specs.Laws.{seen_of}
 use Rattle.bench_model.specs.Table.{Stamps, Table, table_moves, first_waiter, deadline_left, forget_deadline}
+use Rattle.bench_model.specs.Cores.{on_cores}
+use Rattle.bench_model.specs.CoresLaws.{cores_seen}
 use Rattle.bench_model.specs.Lists as seen
 use Rattle.bench_model.specs.Lists.{list_moves, lists_of, image}
-use Rattle.bench_model.specs.Mutexes.{inherited, mutex_take, finished, mutex_give}
+use Rattle.bench_model.specs.Mutexes.{inherited, lowered, mutex_take, finished, mutex_give}
 use Rattle.bench_model.specs.Sound.{IsStamped, IsCaller, IsSound}
 
 -- the first waiter of a list is the best of all that wait
@@ -55,3 +57,23 @@ FinishKeepsSound = (table : Table) (core task : ℕ) (call : Unfinished) → IsS
 abbrev pub GiveKeepsSound : Type 0
 GiveKeepsSound = (table : Table) (core task mutex : ℕ) → IsSound table → task < table.settings.tasks → mutex < table.settings.mutexes →
     IsSound (mutex_give table_moves core task mutex table).1
+
+-- seen as lists, giving up an inherited priority is so, and it keeps a table sound
+
+abbrev pub LowerIsSeen : Type 0
+LowerIsSeen = (table : Table) (acting task priority : ℕ) → IsSound table → task < table.settings.tasks →
+    image (lowered table_moves acting task priority table) ≡ lowered list_moves acting task priority (image table)
+
+abbrev pub LowerKeepsSound : Type 0
+LowerKeepsSound = (table : Table) (acting task priority : ℕ) → IsSound table → task < table.settings.tasks → priority < table.settings.priorities →
+    IsSound (lowered table_moves acting task priority table)
+
+-- what each does to the cores and ready lists that are seen of a table depends on them alone
+
+abbrev pub InheritOnCores : Type 0
+InheritOnCores = (table : Table) (acting holder priority : ℕ) → IsSound table → holder < table.settings.tasks →
+    cores_seen (inherited table_moves acting holder priority table) ≡ on_cores (inherited list_moves acting holder priority) (cores_seen table)
+
+abbrev pub LowerOnCores : Type 0
+LowerOnCores = (table : Table) (acting task priority : ℕ) → IsSound table → task < table.settings.tasks →
+    cores_seen (lowered table_moves acting task priority table) ≡ on_cores (lowered list_moves acting task priority) (cores_seen table)

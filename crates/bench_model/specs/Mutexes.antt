@@ -2,6 +2,7 @@
 -- xSemaphoreTake and xSemaphoreGive).
 use Rattle.std.specs.Prelude.{ℕ, List, length, filter, Bool, true, false, not, ◌&&◌, ◌==◌, nat_lt, Option, Some, None, if◌then◌else◌, slice_set}
 use Rattle.std.specs.Option.{option_map_or}
+use Rattle.bench_types.specs.declared.kernel_data.Waiter.{Waiter}
 use Rattle.bench_types.specs.declared.reply.Reply.{Reply}
 use Rattle.bench_types.specs.declared.reply.Reply.TheVariants.{Blocked, Flag}
 use Rattle.bench_types.specs.declared.step.Unfinished.{Unfinished}
@@ -11,8 +12,7 @@ use Rattle.bench_model.specs.Control.{Control, task_at, in_mask}
 use Rattle.bench_model.specs.Notifying.{awaited_for, completed}
 use Rattle.bench_model.specs.Seek.{seek, wake}
 use Rattle.bench_model.specs.Sets.{ask_its_core}
-use Rattle.bench_model.specs.Sound.{holder_at}
-use Rattle.bench_model.specs.State.{State, Moves, blocked}
+use Rattle.bench_model.specs.State.{State, Moves, holder_at, blocked}
 
 -- the task holds the mutex
 abbrev pub holds : ℕ → Option ℕ → Bool
@@ -26,6 +26,12 @@ held_by holders task = length (filter (holds task) holders)
 -- (V11 tasks.c, xTaskPriorityInherit).
 abbrev pub is_marked : Control → ℕ → ℕ → Bool
 is_marked control task holder = not (holder == task) && nat_lt (task_at control holder).base (task_at control task).in_use
+
+-- the greater of the base priority and the waiting priority of a waiter, if there is one
+abbrev pub owed_to : Option Waiter → ℕ → ℕ
+owed_to first base =
+    let priority = option_map_or (λ (waiter : Waiter). waiter.wait.priority) first base in
+    if nat_lt base priority then priority else base
 
 module _ {Orders : Type 0} where
   unfoldable pub taken : ℕ → ℕ → State Orders → State Orders
@@ -55,12 +61,9 @@ module _ {Orders : Type 0} (moves : Moves Orders) where
       (holder_at state.holders mutex)
       (Flag true, taken task mutex state)
 
-  -- the greater of the task's base priority and the waiting priority of the first waiter of the mutex
+  -- what the task owes to the first waiter of the mutex
   abbrev pub owed : ℕ → ℕ → State Orders → ℕ
-  owed task mutex state =
-      let base = (task_at state.control task).base in
-      let first = option_map_or (λ waiter. waiter.wait.priority) (moves.first_waiter mutex state.orders) base in
-      if nat_lt base first then first else base
+  owed task mutex state = owed_to (moves.first_waiter mutex state.orders) (task_at state.control task).base
 
   -- A task's priority in use becomes this one, unless it is this one already; the core of a running task is asked.
   unfoldable pub lowered : ℕ → ℕ → ℕ → State Orders → State Orders

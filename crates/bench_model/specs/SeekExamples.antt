@@ -98,7 +98,7 @@ evicted = switched_and_sought table_moves 0 (woken_by_tick 2 (record (delayed_on
 
 pub record WorkedChoices : Type 0 where
   pub start_asks_none : flags (start (timed three_tasks)).control ≡ (false, false) ∷ (false, false) ∷ []
-  pub start_has_none_due : refusal (start (timed three_tasks)).control (start (timed three_tasks)).calls (Switch 0) ≡ Some NotDue
+  pub start_has_none_due : refusal (start (timed three_tasks)).control (start (timed three_tasks)).calls (start (timed three_tasks)).holders (Switch 0) ≡ Some NotDue
   pub shared_time : flags (sliced table_moves (start (timed three_tasks))).control ≡ (false, false) ∷ (false, true) ∷ []
   pub next_in_turn : running (switched_and_sought table_moves 1 (sliced table_moves (start (timed three_tasks)))).control ≡ 2 ∷ 4 ∷ []
   pub idle_share_too : flags (sliced table_moves (start (timed one_task))).control ≡ (false, false) ∷ (false, true) ∷ []

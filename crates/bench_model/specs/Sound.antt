@@ -1,5 +1,5 @@
 -- What the table of every kernel keeps.
-use Rattle.std.specs.Prelude.{◌≡◌, ℕ, ◌+◌, ◌<◌, ◌≤◌, ◌^◌, List, length, Bool, true, false, Option, None, Some, IfSome, slice_index_or}
+use Rattle.std.specs.Prelude.{◌≡◌, ℕ, ◌+◌, ◌<◌, ◌≤◌, ◌^◌, List, length, Bool, true, false, Option, Some, IfSome}
 use Rattle.bench_types.specs.declared.kernel_data.TaskControl.{TaskControl}
 use Rattle.bench_types.specs.declared.note.Notification.{Notification}
 use Rattle.bench_types.specs.declared.step.Step.{Step}
@@ -12,7 +12,7 @@ use Rattle.bench_types.specs.declared.step.Unfinished.TheVariants.{Take}
 use Rattle.bench_types.specs.Step.{IsCheckedUnfinished}
 use Rattle.bench_model.specs.Control.{Control, current, is_due, task_at}
 use Rattle.bench_model.specs.Notes.{note_at}
-use Rattle.bench_model.specs.State.{call_at}
+use Rattle.bench_model.specs.State.{call_at, holder_at}
 use Rattle.bench_model.specs.Table.{Stamps, Table, row_at, stamp_of, wake_in, wait_in, deadline_at, is_ready}
 
 -- there is a row, a control block, a notification, a deadline or none and an unfinished call or none for each task, a holder or none
@@ -55,9 +55,6 @@ IsBelow priorities task = (task.in_use < priorities) × (task.base < priorities)
 -- each notification value is a number of 32 bits
 abbrev pub HasWords : List Notification → Type 0
 HasWords notes = (i : ℕ) → i < length notes → (note_at notes i).value < 2 ^ 32
-
-abbrev pub holder_at : List (Option ℕ) → ℕ → Option ℕ
-holder_at holders mutex = slice_index_or holders mutex None
 
 -- a wait is for a mutex that there is, with a priority that there is
 abbrev pub IsMutexWait : Settings → MutexWait → Type 0

@@ -8,13 +8,13 @@ use Rattle.bench_types.specs.declared.step.Step.TheVariants.{Tick, Switch, Inter
 use Rattle.bench_types.specs.declared.step.Step.TheVariants as steps
 use Rattle.bench_types.specs.declared.step.Unfinished.TheVariants.{Made}
 use Rattle.bench_types.specs.declared.step.Call.{Call}
-use Rattle.bench_types.specs.declared.step.Call.TheVariants.{Yield, Delay, Finish, PrioritySet, AffinitySet, PreemptOff, PreemptOn, Notify, NotifyWait, NotifyTake, StateClear, ValueClear}
+use Rattle.bench_types.specs.declared.step.Call.TheVariants.{Yield, Delay, Finish, PrioritySet, AffinitySet, PreemptOff, PreemptOn, Notify, NotifyWait, NotifyTake, StateClear, ValueClear, MutexTake, MutexGive}
 use Rattle.bench_model.specs.State.{State, Moves, call_at, refusal, yielded, blocked}
 use Rattle.bench_model.specs.Seek.{wake, switched_and_sought, sliced}
 use Rattle.bench_model.specs.Sets.{priority_set, affinity_set, preemption_off, preemption_on}
 use Rattle.bench_model.specs.Notes.{wait_begun, take_begun, of_task}
 use Rattle.bench_model.specs.Notifying.{notify, is_passed, interrupted, state_forgotten, bits_cleared, awaited}
-use Rattle.bench_model.specs.Mutexes.{finished}
+use Rattle.bench_model.specs.Mutexes.{mutex_take, mutex_give, finished}
 
 module _ {Orders : Type 0} (moves : Moves Orders) where
   -- the tasks are woken in turn, by core 0
@@ -41,6 +41,8 @@ module _ {Orders : Type 0} (moves : Moves Orders) where
   called core task (NotifyTake clear ticks) state = awaited moves core task (NotifyTake clear ticks) ticks (of_task task take_begun state.notes) state
   called core task (StateClear other) state = state_forgotten other state
   called core task (ValueClear other bits) state = bits_cleared other bits state
+  called core task (MutexTake mutex ticks) state = mutex_take moves core task mutex ticks state
+  called core task (MutexGive mutex) state = mutex_give moves core task mutex state
 
   -- what a step that is not refused answers and does
   unfoldable pub performed : Step → State Orders → Reply × State Orders
@@ -51,4 +53,4 @@ module _ {Orders : Type 0} (moves : Moves Orders) where
 
   -- The step: its reply and the state afterwards. A refused step changes nothing.
   unfoldable pub after : Step → State Orders → Reply × State Orders
-  after step state = option_map_or (λ why. (Refused why, state)) (refusal state.control state.calls step) (performed step state)
+  after step state = option_map_or (λ why. (Refused why, state)) (refusal state.control state.calls state.holders step) (performed step state)

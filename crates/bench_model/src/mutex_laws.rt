@@ -1,5 +1,5 @@
 //! The laws of mutexes with priority inheritance, each on a function that does nothing.
-ghost use Rattle.bench_model.specs.MutexLaws.{FirstWaiterIsSeen, DeadlineIsSeen, ForgettingIsSeen, InheritIsSeen, InheritKeepsSound, TakeIsSeen, TakeKeepsSound, FinishIsSeen, FinishKeepsSound, GiveIsSeen, GiveKeepsSound};
+ghost use Rattle.bench_model.specs.MutexLaws.{FirstWaiterIsSeen, DeadlineIsSeen, ForgettingIsSeen, InheritIsSeen, InheritKeepsSound, TakeIsSeen, TakeKeepsSound, FinishIsSeen, FinishKeepsSound, GiveIsSeen, GiveKeepsSound, LowerIsSeen, LowerKeepsSound, InheritOnCores, LowerOnCores};
 
 /// The first waiter of a mutex in its list is the best of all tasks that wait for it.
 pub fn first_waiter_is_seen()
@@ -54,4 +54,24 @@ pub fn give_is_seen()
 /// A sound table is sound when a task gave a mutex.
 pub fn give_keeps_sound()
     ensures { GiveKeepsSound }
+{}
+
+/// Giving up an inherited priority in use, and who is asked behind it, is so over lists.
+pub fn lower_is_seen()
+    ensures { LowerIsSeen }
+{}
+
+/// A sound table is sound when a task gave up an inherited priority in use.
+pub fn lower_keeps_sound()
+    ensures { LowerKeepsSound }
+{}
+
+/// What inheriting does to the cores and ready lists depends on them alone.
+pub fn inherit_on_cores()
+    ensures { InheritOnCores }
+{}
+
+/// What giving up an inherited priority does to the cores and ready lists depends on them alone.
+pub fn lower_on_cores()
+    ensures { LowerOnCores }
 {}

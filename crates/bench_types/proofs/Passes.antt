@@ -8,7 +8,7 @@ use Rattle.bench_types.specs.declared.header.Header.{Header}
 use Rattle.bench_types.specs.declared.kernel_data.Settings.{Settings}
 use Rattle.bench_types.specs.Header.{header_check, is_header, has_valid_config, has_valid_args, repeats_name}
 use Rattle.bench_types.specs.Name.{is_within}
-use Rattle.bench_types.specs.Step.{core_check, task_check, ◌>>◌}
+use Rattle.bench_types.specs.Step.{core_check, task_check, mutex_check, ◌>>◌}
 
 -- two checks, one after the other
 pub both_pass : {Why : Type 0} (one other : Result (Unit {0}) Why) → (one >> other) ≡ Ok tt → (one ≡ Ok tt) × (other ≡ Ok tt)
@@ -31,6 +31,13 @@ checked_task settings task passes = at (leb settings.cores task) refl (ltb task 
     at true user false above = absurd (cc (passes, user, above))
     at false idle true below = absurd (cc (passes, idle))
     at false idle false above = absurd (cc (passes, idle))
+
+pub checked_mutex : (settings : Settings) (mutex : ℕ) → mutex_check settings mutex ≡ Ok tt → mutex < settings.mutexes
+checked_mutex settings mutex passes = at (ltb mutex settings.mutexes) refl
+  where
+    at : (b : Bool) → ltb mutex settings.mutexes ≡ b → mutex < settings.mutexes
+    at true below = grind (arith, nat_tests, below)
+    at false above = absurd (cc (passes, above))
 
 -- what a checked header says of its numbers and names
 pub record IsCheckedHeader (header : Header) : Type 0 where

@@ -1,7 +1,7 @@
 -- Which steps a session of a header may have.
 use Rattle.std.specs.Prelude.{◌≡◌, ℕ, ◌+◌, ◌^◌, ◌<◌, length, nat_lt, nat_le, ◌&&◌, Result, Ok, Err, if◌then◌else◌, ⊤}
 use Rattle.bench_types.specs.declared.fault.Fault.{Fault}
-use Rattle.bench_types.specs.declared.fault.Fault.TheVariants.{BadCore, BadTask, BadArgument}
+use Rattle.bench_types.specs.declared.fault.Fault.TheVariants.{BadCore, BadTask, BadMutex, BadArgument}
 use Rattle.bench_types.specs.Header.{cores_of_mask}
 use Rattle.bench_types.specs.declared.header.Header.{Header}
 use Rattle.bench_types.specs.declared.kernel_data.Settings.{Settings}
@@ -33,6 +33,10 @@ core_check settings core = if nat_lt core settings.cores then Ok tt else Err Bad
 abbrev pub task_check : Settings → ℕ → Result ⊤ Fault
 task_check settings task = if nat_le settings.cores task && nat_lt task settings.tasks then Ok tt else Err BadTask
 
+-- F4: there is no such mutex
+abbrev pub mutex_check : Settings → ℕ → Result ⊤ Fault
+mutex_check settings mutex = if nat_lt mutex settings.mutexes then Ok tt else Err BadMutex
+
 -- F5: the mask allows no core
 abbrev pub mask_check : Settings → ℕ → Result ⊤ Fault
 mask_check settings mask = if nat_lt 0 (cores_of_mask settings.cores mask) then Ok tt else Err BadArgument
@@ -57,6 +61,8 @@ call_check settings (call.NotifyWait entry exit ticks) = Ok tt
 call_check settings (call.NotifyTake clear ticks) = Ok tt
 call_check settings (call.StateClear task) = task_check settings task
 call_check settings (call.ValueClear task bits) = task_check settings task
+call_check settings (call.MutexTake mutex ticks) = mutex_check settings mutex
+call_check settings (call.MutexGive mutex) = mutex_check settings mutex
 
 -- the faults of a step, in the order in which they are tried
 abbrev pub step_check : Settings → Step → Result ⊤ Fault
@@ -87,6 +93,8 @@ IsOfWords (call.NotifyWait entry exit ticks) = (entry < 2 ^ 32) × (exit < 2 ^ 3
 IsOfWords (call.NotifyTake clear ticks) = ticks < 2 ^ 32
 IsOfWords (call.StateClear task) = ⊤
 IsOfWords (call.ValueClear task bits) = bits < 2 ^ 32
+IsOfWords (call.MutexTake mutex ticks) = ticks < 2 ^ 32
+IsOfWords (call.MutexGive mutex) = ⊤
 
 abbrev pub IsStepOfWords : Step → Type 0
 IsStepOfWords step.Tick = ⊤

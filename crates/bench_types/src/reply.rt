@@ -33,6 +33,8 @@ pub enum Refusal {
     InCall,
     /// E5: the task has no unfinished call to finish.
     NotInCall,
+    /// E9: another task holds the mutex that the task would give.
+    NotHolder,
     /// E10: the core of the switch is not due.
     NotDue,
 }

@@ -1,5 +1,5 @@
 ghost use Rattle.std.specs.Prelude.{◌≡◌};
-ghost use Rattle.bench_types.specs.Step.{settings_of, call_check, core_check, mask_check, step_check, task_check};
+ghost use Rattle.bench_types.specs.Step.{settings_of, call_check, core_check, mask_check, mutex_check, step_check, task_check};
 
 use crate::header::allows_core;
 use crate::{Fault, Header, Note};
@@ -43,6 +43,10 @@ pub enum Call {
     StateClear(u32),
     /// `ulTaskNotifyValueClear` of these bits of the task's value.
     ValueClear { task: u32, bits: u32 },
+    /// `xSemaphoreTake` of the mutex, for so many ticks; 4294967295 is without end.
+    MutexTake { mutex: u32, ticks: u32 },
+    /// `xSemaphoreGive` of the mutex.
+    MutexGive(u32),
     /// The return of the task's unfinished call, once the task runs again.
     Finish,
 }
@@ -80,8 +84,8 @@ impl Step {
 }
 
 impl Call {
-    /// The fault of the call's arguments: F3 where the task that it is for is no user task, else F5 where a mask
-    /// allows no core.
+    /// The fault of the call's arguments: F3 where the task that it is for is no user task, F4 where the mutex that it is for is
+    /// none, F5 where a mask allows no core.
     pub fn check(&self, header: &Header) -> Result<(), Fault>
         ensures { result ≡ call_check (settings_of header.now) self.now }
     {
@@ -101,6 +105,7 @@ impl Call {
             | Call::Notify(Note { task, .. })
             | Call::StateClear(task)
             | Call::ValueClear { task, .. } => check_task(*task, header),
+            Call::MutexTake { mutex, .. } | Call::MutexGive(mutex) => check_mutex(*mutex, header),
         }
     }
 }
@@ -122,6 +127,16 @@ pub(crate) fn check_task(task: u32, header: &Header) -> Result<(), Fault>
     let is_user = header.config.cores <= task
         && ((task - header.config.cores) as usize) < tasks.len();
     if is_user { Ok(()) } else { Err(Fault::BadTask) }
+}
+
+fn check_mutex(mutex: u32, header: &Header) -> Result<(), Fault>
+    ensures { result ≡ mutex_check (settings_of header.now) mutex }
+{
+    if mutex < header.config.mutexes {
+        Ok(())
+    } else {
+        Err(Fault::BadMutex)
+    }
 }
 
 fn check_mask(mask: u32, header: &Header) -> Result<(), Fault>
@@ -246,6 +261,22 @@ mod tests {
             let note = note(task);
             let step = Step::Interrupt { core, note };
             assert_eq!(rt; step.check(&header), answer, "at {core} and {task}");
+        }
+        Ok(())
+    }
+
+    #[test]
+    fn limits_the_mutex(rt: HostRuntime) -> Result<(), Fail> {
+        let header = samples::crowd(rt.alloc(), 3)?;
+        for (mutex, answer) in [
+            (0, Ok(())),
+            (1, Ok(())),
+            (2, Err(Fault::BadMutex)),
+            (4_294_967_295, Err(Fault::BadMutex)),
+        ] {
+            let take = Call::MutexTake { mutex, ticks: 0 };
+            assert_eq!(rt; take.check(&header), answer, "at {mutex}");
+            assert_eq!(rt; Call::MutexGive(mutex).check(&header), answer, "at {mutex}");
         }
         Ok(())
     }

@@ -6,7 +6,7 @@ use Rattle.std.proofs.lemmas.Bool.{true_from_ne_false}
 use Rattle.std.proofs.lemmas.Bool.Decides.{nat_tests}
 use Rattle.bench_types.specs.declared.note.Notification.{Notification}
 use Rattle.bench_types.specs.declared.reply.Reply.{Reply}
-use Rattle.bench_types.specs.declared.reply.Reply.TheVariants.{Done, Blocked, Flag, Refused}
+use Rattle.bench_types.specs.declared.reply.Reply.TheVariants.{Done, Blocked, Refused}
 use Rattle.bench_types.specs.declared.step.Step.{Step}
 use Rattle.bench_types.specs.declared.step.Step.TheVariants.{Tick, Switch, Interrupt}
 use Rattle.bench_types.specs.declared.step.Step.TheVariants as steps
@@ -19,7 +19,7 @@ use Rattle.bench_model.specs.Search.{numbers, has}
 use Rattle.bench_model.specs.Control.{core_at, task_at, current}
 use Rattle.bench_model.specs.State.{call_at, refusal, yielded, blocked}
 use Rattle.bench_model.specs.Notes.{wait_begun, take_begun, of_task}
-use Rattle.bench_model.specs.Notifying.{notify, interrupted, state_forgotten, bits_cleared, completed, finished, awaited, awaited_for}
+use Rattle.bench_model.specs.Notifying.{interrupted, state_forgotten, bits_cleared, completed, finished, awaited, awaited_for}
 use Rattle.bench_model.specs.Changes.{with_base, in_use_set}
 use Rattle.bench_model.specs.Sets.{capped, in_use_behind, ranked_anew, priority_set, affinity_set, preemption_off, preemption_on}
 use Rattle.bench_model.specs.Looks.{task_look, look_in}

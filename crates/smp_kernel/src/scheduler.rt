@@ -1,6 +1,6 @@
 ghost use Rattle.std.specs.Prelude.{◌≡◌, ◌<◌, ◌≤◌, length, [], true, IfOk, Ok, Some, None, replicate};
 ghost use Rattle.bench_types.specs.Header.{header_check};
-ghost use Rattle.bench_types.specs.Step.{call_check, step_check, IsOfWords, IsStepOfWords};
+ghost use Rattle.bench_types.specs.Step.{call_check, step_check, IsStepOfWords};
 ghost use Rattle.bench_types.specs.declared.step.Call.TheVariants.{Delay};
 ghost use Rattle.bench_model.specs.Search.{has};
 ghost use Rattle.bench_model.specs.Control.{core_at, current, is_due};
@@ -133,7 +133,7 @@ impl Scheduler {
         ensures made { (result, self.new) ≡ after list_moves step.now self.old }
         ensures words { IsStepOfWords step.now }
     {
-        match self.refusal(step) {
+        match self.refusal(*step) {
             Some(why) => Reply::Refused(why),
             None => self.perform(step),
         }
@@ -158,25 +158,25 @@ impl Scheduler {
 
     // Why the step is refused, the first reason that applies.
     #[tactic(auto, unfolding(bench_model::specs::State::refusal))]
-    fn refusal(&self, step: &Step) -> Option<Refusal>
-        requires { step_check self.now.settings step.now ≡ Ok tt }
-        ensures reason { result ≡ refusal self.now.control self.now.calls step.now }
-        ensures words { IsStepOfWords step.now }
+    fn refusal(&self, step: Step) -> Option<Refusal>
+        requires { step_check self.now.settings step ≡ Ok tt }
+        ensures reason { result ≡ refusal self.now.control self.now.calls step }
+        ensures words { IsStepOfWords step }
     {
         match step {
             Step::Tick | Step::Interrupt { .. } => None,
             Step::Switch { core } => {
-                if self.is_due(*core) {
+                if self.is_due(core) {
                     None
                 } else {
                     Some(Refusal::NotDue)
                 }
             }
             Step::Call { core, task, call } => {
-                let unfinished = unfinished_refusal(self.calls[*task as usize], *call);
-                if self.cores.running(*core) != *task {
+                let unfinished = unfinished_refusal(self.calls[task as usize], call);
+                if self.cores.running(core) != task {
                     Some(Refusal::Displaced)
-                } else if self.is_due(*core) {
+                } else if self.is_due(core) {
                     Some(Refusal::SwitchDue)
                 } else {
                     unfinished
@@ -323,8 +323,7 @@ fn no_calls(alloc: Global, tasks: u32) -> Result<Vec<Option<Call>>, AllocError>
 
 // A task with an unfinished call can only finish it, and without one it can't finish.
 fn unfinished_refusal(unfinished: Option<Call>, call: Call) -> Option<Refusal>
-    ensures reason { result ≡ call_refusal unfinished call }
-    ensures words { IsOfWords call }
+    ensures { result ≡ call_refusal unfinished call }
 {
     let is_finish = matches!(call, Call::Finish);
     match unfinished {

@@ -1,6 +1,5 @@
 //! Notifying a task, and the calls that wait for a notification.
 ghost use Rattle.std.specs.Prelude.{◌≡◌, ◌<◌, true};
-ghost use Rattle.bench_types.specs.declared.step.Call.TheVariants.{NotifyWait, NotifyTake};
 ghost use Rattle.bench_model.specs.Search.{has};
 ghost use Rattle.bench_model.specs.Notes.{of_task, wait_begun, take_begun};
 ghost use Rattle.bench_model.specs.Notifying.{notify, is_passed, interrupted, state_forgotten, bits_cleared, completed, finished, awaited, awaited_for};
@@ -11,7 +10,7 @@ use bench_types::{Call, Note, Reply};
 
 impl Scheduler {
     // Notifies a task, by the acting core; one that waits for it is woken. Answers whether the notification passed.
-    #[tactic(auto, unfolding(bench_model::specs::Notifying::notify))]
+    #[tactic(auto, unfolding(bench_model::specs::Notifying::notify, bench_model::specs::Seek::wake))]
     pub(super) fn notify(&mut self, acting: u32, note: Note) -> bool
         requires { note.task < self.old.settings.tasks }
         ensures passed { result ≡ is_passed note self.old }

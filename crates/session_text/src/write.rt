@@ -2,9 +2,14 @@ ghost use Rattle.std.specs.Prelude.{◌≡◌, ◌+◌, ◌<◌, ◌≤◌, All,
 ghost use Rattle.serde_json.specs.View.{view};
 ghost use Rattle.bench_types.specs.Step.{IsOfWords, IsStepOfWords, call_check, settings_of};
 ghost use Rattle.session_text.specs.Session.{session, step_fault, IsChecked};
-ghost use Rattle.session_text.specs.Written.{bare_call, call_data, call_for, session_data, step_data, steps_data, task_data, task_name, tasks_data, written, IsSession, IsTyped};
+ghost use Rattle.session_text.specs.Written.{call_data, session_data, step_data, steps_data, task_data, task_name, tasks_data, written, IsSession, IsTyped};
 
-use bench_types::{Call, Config, Header, Step, TaskArgs};
+mod calls;
+mod notes;
+
+use bench_types::{Call, Config, Header, Note, Step, TaskArgs};
+use calls::{affinity_value, bare_call, call_for, delay_value, priority_value};
+use notes::{interrupt_value, notify_value, take_value, value_clear_value, wait_value};
 use serde_json::{Value, json};
 use std::alloc::{AllocError, Global};
 
@@ -86,6 +91,9 @@ fn step_value(alloc: Global, header: &Header, step: &Step) -> Result<Value, Allo
         Step::Call { core, task, call } => {
             call_value(alloc, header, task_name(header, *task), *core, *call)
         }
+        Step::Interrupt { core, note } => {
+            interrupt_value(alloc, *core, task_name(header, note.task), note.action)
+        }
     }
 }
 
@@ -102,35 +110,26 @@ fn call_value(
 {
     match call {
         Call::Yield => bare_call(alloc, by, core, "yield"),
-        Call::Delay(ticks) => {
-            json!(in alloc; {"by": by, "core": core, "do": "delay", "ticks": ticks})
-        }
+        Call::Delay(ticks) => delay_value(alloc, by, core, ticks),
         Call::PrioritySet { task, priority } => {
-            let to = task_name(header, task);
-            json!(in alloc; {
-                "by": by, "core": core, "do": "priority_set", "priority": priority, "to": to
-            })
+            priority_value(alloc, by, core, task_name(header, task), priority)
         }
         Call::AffinitySet { task, mask } => {
-            let to = task_name(header, task);
-            json!(in alloc; {"by": by, "core": core, "do": "affinity_set", "mask": mask, "to": to})
+            affinity_value(alloc, by, core, task_name(header, task), mask)
         }
         Call::PreemptOff(task) => call_for(alloc, by, core, "preempt_off", task_name(header, task)),
         Call::PreemptOn(task) => call_for(alloc, by, core, "preempt_on", task_name(header, task)),
+        Call::Notify(Note { task, action }) => {
+            notify_value(alloc, by, core, task_name(header, task), action)
+        }
+        Call::NotifyWait { entry, exit, ticks } => wait_value(alloc, by, core, entry, exit, ticks),
+        Call::NotifyTake { clear, ticks } => take_value(alloc, by, core, clear, ticks),
+        Call::StateClear(task) => call_for(alloc, by, core, "state_clear", task_name(header, task)),
+        Call::ValueClear { task, bits } => {
+            value_clear_value(alloc, by, core, task_name(header, task), bits)
+        }
         Call::Finish => bare_call(alloc, by, core, "finish"),
     }
-}
-
-fn bare_call(alloc: Global, by: &str, core: u32, word: &str) -> Result<Value, AllocError>
-    ensures { IfOk result (λ value. view value ≡ bare_call by.now core word.now) }
-{
-    json!(in alloc; {"by": by, "core": core, "do": word})
-}
-
-fn call_for(alloc: Global, by: &str, core: u32, word: &str, to: &str) -> Result<Value, AllocError>
-    ensures { IfOk result (λ value. view value ≡ call_for by.now core word.now to.now) }
-{
-    json!(in alloc; {"by": by, "core": core, "do": word, "to": to})
 }
 
 fn task_name(header: &Header, task: u32) -> &str

@@ -16,8 +16,8 @@ use bench_types::Step;
 pub(crate) enum Kind {
     Tick,
     Switch,
-    Interrupt,
     Call(CallKind),
+    Interrupt,
 }
 
 impl Kind {

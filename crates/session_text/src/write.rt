@@ -8,8 +8,8 @@ mod calls;
 mod notes;
 
 use bench_types::{Call, Config, Header, Note, Step, TaskArgs};
-use calls::{affinity_value, bare_call, call_for, delay_value, priority_value};
-use notes::{interrupt_value, notify_value, take_value, value_clear_value, wait_value};
+use calls::Caller;
+use notes::interrupt_value;
 use serde_json::{Value, json};
 use std::alloc::{AllocError, Global};
 
@@ -89,7 +89,12 @@ fn step_value(alloc: Global, header: &Header, step: &Step) -> Result<Value, Allo
         Step::Tick => json!(in alloc; {"do": "tick"}),
         Step::Switch { core } => json!(in alloc; {"core": *core, "do": "switch"}),
         Step::Call { core, task, call } => {
-            call_value(alloc, header, task_name(header, *task), *core, *call)
+            let caller = Caller {
+                alloc,
+                by: task_name(header, *task),
+                core: *core,
+            };
+            call_value(header, &caller, *call)
         }
         Step::Interrupt { core, note } => {
             interrupt_value(alloc, *core, task_name(header, note.task), note.action)
@@ -97,38 +102,27 @@ fn step_value(alloc: Global, header: &Header, step: &Step) -> Result<Value, Allo
     }
 }
 
-fn call_value(
-    alloc: Global,
-    header: &Header,
-    by: &str,
-    core: u32,
-    call: Call,
-) -> Result<Value, AllocError>
+fn call_value(header: &Header, caller: &Caller<'_>, call: Call) -> Result<Value, AllocError>
     requires { call_check (settings_of header.now) call ≡ Ok tt }
-    ensures value { IfOk result (λ value. view value ≡ call_data header.now by.now core call) }
+    ensures value { IfOk result
+        (λ value. view value ≡ call_data header.now caller.now.by.now caller.now.core call) }
     ensures typed { OnOk result (IsOfWords call) }
 {
     match call {
-        Call::Yield => bare_call(alloc, by, core, "yield"),
-        Call::Delay(ticks) => delay_value(alloc, by, core, ticks),
+        Call::Yield => caller.bare("yield"),
+        Call::Delay(ticks) => caller.delay(ticks),
         Call::PrioritySet { task, priority } => {
-            priority_value(alloc, by, core, task_name(header, task), priority)
+            caller.priority_set(task_name(header, task), priority)
         }
-        Call::AffinitySet { task, mask } => {
-            affinity_value(alloc, by, core, task_name(header, task), mask)
-        }
-        Call::PreemptOff(task) => call_for(alloc, by, core, "preempt_off", task_name(header, task)),
-        Call::PreemptOn(task) => call_for(alloc, by, core, "preempt_on", task_name(header, task)),
-        Call::Notify(Note { task, action }) => {
-            notify_value(alloc, by, core, task_name(header, task), action)
-        }
-        Call::NotifyWait { entry, exit, ticks } => wait_value(alloc, by, core, entry, exit, ticks),
-        Call::NotifyTake { clear, ticks } => take_value(alloc, by, core, clear, ticks),
-        Call::StateClear(task) => call_for(alloc, by, core, "state_clear", task_name(header, task)),
-        Call::ValueClear { task, bits } => {
-            value_clear_value(alloc, by, core, task_name(header, task), bits)
-        }
-        Call::Finish => bare_call(alloc, by, core, "finish"),
+        Call::AffinitySet { task, mask } => caller.affinity_set(task_name(header, task), mask),
+        Call::PreemptOff(task) => caller.call_for("preempt_off", task_name(header, task)),
+        Call::PreemptOn(task) => caller.call_for("preempt_on", task_name(header, task)),
+        Call::Notify(Note { task, action }) => caller.notify(task_name(header, task), action),
+        Call::NotifyWait { entry, exit, ticks } => caller.wait(entry, exit, ticks),
+        Call::NotifyTake { clear, ticks } => caller.take(clear, ticks),
+        Call::StateClear(task) => caller.call_for("state_clear", task_name(header, task)),
+        Call::ValueClear { task, bits } => caller.value_clear(task_name(header, task), bits),
+        Call::Finish => caller.bare("finish"),
     }
 }
 

@@ -5,57 +5,51 @@ ghost use Rattle.session_text.specs.Written.{affinity_data, bare_call, call_for,
 use serde_json::{Value, json};
 use std::alloc::{AllocError, Global};
 
-/// A call that has no member but the word and those of every call.
-pub(super) fn bare_call(alloc: Global, by: &str, core: u32, word: &str) -> Result<Value, AllocError>
-    ensures { IfOk result (λ value. view value ≡ bare_call by.now core word.now) }
-{
-    json!(in alloc; {"by": by, "core": core, "do": word})
+/// A task that makes a call on a core, with the allocator for what is written of it.
+#[derive(Clone, Copy)]
+pub(super) struct Caller<'a> {
+    pub(super) alloc: Global,
+    pub(super) by: &'a str,
+    pub(super) core: u32,
 }
 
-/// The same, for the task of the other name.
-pub(super) fn call_for(
-    alloc: Global,
-    by: &str,
-    core: u32,
-    word: &str,
-    to: &str,
-) -> Result<Value, AllocError>
-    ensures { IfOk result (λ value. view value ≡ call_for by.now core word.now to.now) }
-{
-    json!(in alloc; {"by": by, "core": core, "do": word, "to": to})
-}
+impl Caller<'_> {
+    /// A call of which its word is all that is said.
+    pub(super) fn bare(&self, word: &str) -> Result<Value, AllocError>
+        ensures { IfOk result (λ value. view value ≡ bare_call self.now.by.now self.now.core word.now) }
+    {
+        json!(in self.alloc; {"by": self.by, "core": self.core, "do": word})
+    }
 
-pub(super) fn delay_value(
-    alloc: Global,
-    by: &str,
-    core: u32,
-    ticks: u32,
-) -> Result<Value, AllocError>
-    ensures { IfOk result (λ value. view value ≡ delay_data by.now core ticks) }
-{
-    json!(in alloc; {"by": by, "core": core, "do": "delay", "ticks": ticks})
-}
+    /// The same, for the task of the other name.
+    pub(super) fn call_for(&self, word: &str, to: &str) -> Result<Value, AllocError>
+        ensures { IfOk result
+            (λ value. view value ≡ call_for self.now.by.now self.now.core word.now to.now) }
+    {
+        json!(in self.alloc; {"by": self.by, "core": self.core, "do": word, "to": to})
+    }
 
-pub(super) fn priority_value(
-    alloc: Global,
-    by: &str,
-    core: u32,
-    to: &str,
-    priority: u32,
-) -> Result<Value, AllocError>
-    ensures { IfOk result (λ value. view value ≡ priority_data by.now core to.now priority) }
-{
-    json!(in alloc; {"by": by, "core": core, "do": "priority_set", "priority": priority, "to": to})
-}
+    pub(super) fn delay(&self, ticks: u32) -> Result<Value, AllocError>
+        ensures { IfOk result (λ value. view value ≡ delay_data self.now.by.now self.now.core ticks) }
+    {
+        json!(in self.alloc; {"by": self.by, "core": self.core, "do": "delay", "ticks": ticks})
+    }
 
-pub(super) fn affinity_value(
-    alloc: Global,
-    by: &str,
-    core: u32,
-    to: &str,
-    mask: u32,
-) -> Result<Value, AllocError>
-    ensures { IfOk result (λ value. view value ≡ affinity_data by.now core to.now mask) }
-{
-    json!(in alloc; {"by": by, "core": core, "do": "affinity_set", "mask": mask, "to": to})
+    pub(super) fn priority_set(&self, to: &str, priority: u32) -> Result<Value, AllocError>
+        ensures { IfOk result
+            (λ value. view value ≡ priority_data self.now.by.now self.now.core to.now priority) }
+    {
+        json!(in self.alloc; {
+            "by": self.by, "core": self.core, "do": "priority_set", "priority": priority, "to": to
+        })
+    }
+
+    pub(super) fn affinity_set(&self, to: &str, mask: u32) -> Result<Value, AllocError>
+        ensures { IfOk result
+            (λ value. view value ≡ affinity_data self.now.by.now self.now.core to.now mask) }
+    {
+        json!(in self.alloc; {
+            "by": self.by, "core": self.core, "do": "affinity_set", "mask": mask, "to": to
+        })
+    }
 }

@@ -27,7 +27,7 @@ use Rattle.session_text.specs.Names.{names_of, number_of}
 use Rattle.session_text.specs.Session.{format_at, session_at, session_accepted, session, step_fault}
 use Rattle.session_text.specs.Step.{step_at, kind_at, step_of_kind_at, task_named_at, note_at, call_at}
 use Rattle.session_text.specs.Written.{task_data, task_name, step_data, session_data, IsSession, IsTyped, WrittenReadsBack}
-use Rattle.session_text.proofs.Limits.{IsInPlace, IsCallInPlace, IsInterruptInPlace, IsUserTask, in_place}
+use Rattle.session_text.proofs.Limits.{IsInPlace, IsCallInPlace, IsUserTask, in_place}
 use Rattle.session_text.proofs.Passing.{all_accepted}
 use Rattle.session_text.proofs.Plain.{IsTask, IsWritable, session_plain, session_depth, utf8_name}
 use Rattle.session_text.proofs.ReadBack.{document-compact_text}

@@ -1,18 +1,28 @@
-//! A random session against numbers that a program apart from this one computed.
+//! Random sessions against numbers that a program apart from this one computed.
 
-use crate::random::random_session;
+use crate::random::{Mix, random_session};
 use bench_types::{Refusal, Reply};
 use std::test::Fail;
 
-fn code_of(reply: Reply) -> u32 {
+fn code_of(why: Refusal) -> u32 {
+    match why {
+        Refusal::Displaced => 2,
+        Refusal::SwitchDue => 3,
+        Refusal::InCall => 4,
+        Refusal::NotInCall => 5,
+        Refusal::NotDue => 10,
+    }
+}
+
+fn with_reply(digest: u32, reply: Reply) -> u32 {
     match reply {
-        Reply::Done => 0,
-        Reply::Blocked => 1,
-        Reply::Refused(Refusal::Displaced) => 2,
-        Reply::Refused(Refusal::SwitchDue) => 3,
-        Reply::Refused(Refusal::InCall) => 4,
-        Reply::Refused(Refusal::NotInCall) => 5,
-        Reply::Refused(Refusal::NotDue) => 10,
+        Reply::Done => with(digest, &[0]),
+        Reply::Blocked => with(digest, &[1]),
+        Reply::Flag(flag) => with(digest, &[11, u32::from(flag)]),
+        Reply::Value(value) => with(digest, &[12, value]),
+        Reply::Waited { ok, value } => with(digest, &[13, u32::from(ok), value]),
+        Reply::Isr { pass, pend } => with(digest, &[14, u32::from(pass), u32::from(pend)]),
+        Reply::Refused(why) => with(digest, &[code_of(why)]),
     }
 }
 
@@ -25,17 +35,19 @@ fn with(digest: u32, numbers: &[u32]) -> u32 {
     digest
 }
 
-// A program that was written apart from this one, over a flat table, computed the digest and the last tick count.
+// A program that was written apart from this one, over a flat table, computed the digests and the last tick counts.
 #[test]
 fn two_thousand_steps(rt: HostRuntime) -> Result<(), Fail> {
-    let played = random_session(&rt, 2000, false)?;
-    let mut digest = 0;
-    for (reply, tasks) in &played.outcomes {
-        digest = with(with(digest, &[code_of(*reply)]), tasks.as_slice());
+    for (mix, expected) in [
+        (Mix::Nothing, (370_025_982, 32, 2000)),
+        (Mix::Notes, (33_837_225, 20, 2000)),
+    ] {
+        let played = random_session(&rt, 2000, mix)?;
+        let mut digest = 0;
+        for (reply, tasks) in &played.outcomes {
+            digest = with(with_reply(digest, *reply), tasks.as_slice());
+        }
+        assert_eq!(rt; (digest, played.tick, played.count), expected);
     }
-    assert_eq!(rt;
-        (digest, played.tick, played.count),
-        (370_025_982, 32, 2000)
-    );
     Ok(())
 }

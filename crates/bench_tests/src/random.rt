@@ -1,7 +1,7 @@
 //! Random sessions: 8 cores, 64 tasks, and steps that are chosen by what the kernel shows.
 ghost use Rattle.std.specs.Prelude.{◌≡◌, ◌<◌, ◌^◌, IfOk};
 
-use bench_types::{Call, Config, Header, Items, Name, Reply, Row, Step, TaskArgs};
+use bench_types::{Action, Call, Config, Header, Items, Name, Note, Reply, Row, Step, TaskArgs};
 use smp_kernel::{Kernel, Meter};
 use std::alloc::Global;
 use std::process::Abort;
@@ -21,11 +21,21 @@ pub struct Played {
     pub count: u64,
 }
 
-/// A session of so many steps of which most are not refused; with `sets`, some of them set something of a task.
+/// What steps of a session do beside ticks, switches, yields and delays.
+#[derive(Clone, Copy, PartialEq, Eq)]
+pub enum Mix {
+    Nothing,
+    /// Some set something of a task.
+    Sets,
+    /// Some set something of a task, and some notify a task, wait for that, or clear it.
+    Notes,
+}
+
+/// A session of so many steps, of which most are not refused.
 pub fn random_session(
     rt: &(impl Runtime + AllocGlobal + Abort),
     count: usize,
-    sets: bool,
+    mix: Mix,
 ) -> Result<Played, Fail> {
     let header = large_header(rt.alloc())?;
     let mut kernel = Kernel::start(rt.alloc(), &header)?;
@@ -35,8 +45,11 @@ pub fn random_session(
     let mut outcomes = Vec::with_capacity(rt.alloc(), count)?;
     for _ in 0..count {
         let mut step = some_step(&kernel, number(&mut seed));
-        if sets {
+        if mix != Mix::Nothing {
             step = with_set(&kernel, step, number(&mut seed));
+        }
+        if mix == Mix::Notes {
+            step = with_note(step, number(&mut seed));
         }
         assert_eq!(rt; step.check(&header), Ok(()));
         let reply = kernel.step(&mut meter, &step);
@@ -143,6 +156,88 @@ fn with_set(kernel: &Kernel, step: Step, choice: u32) -> Step
         core,
         task: caller,
         call,
+    }
+}
+
+// The step, or an interrupt in place of a yield and of some switches, and of most calls that set something a call that
+// notifies a task, waits for that or clears it, chosen by a number of 16 bits.
+fn with_note(step: Step, choice: u32) -> Step
+    requires { choice < 2 ^ 16 }
+{
+    match step {
+        Step::Switch { core } if choice > 60_000 => interrupt(core, choice),
+        Step::Call {
+            core,
+            call: Call::Yield,
+            ..
+        } => interrupt(core, choice),
+        Step::Call { core, task, call } if is_set(call) && choice % 16 < 13 => {
+            let call = some_note_call(choice);
+            Step::Call { core, task, call }
+        }
+        _ => step,
+    }
+}
+
+fn is_set(call: Call) -> bool {
+    matches!(
+        call,
+        Call::PrioritySet { .. }
+            | Call::AffinitySet { .. }
+            | Call::PreemptOff(_)
+            | Call::PreemptOn(_)
+    )
+}
+
+fn interrupt(core: u32, choice: u32) -> Step
+    requires { choice < 2 ^ 16 }
+{
+    let note = some_note(choice);
+    Step::Interrupt { core, note }
+}
+
+// A notification of some task. Some of the values wrap at the next increment.
+fn some_note(choice: u32) -> Note
+    requires { choice < 2 ^ 16 }
+{
+    let number = choice / 1024 % 8;
+    let action = match choice / 64 % 16 {
+        0..=2 => Action::Nothing,
+        3..=5 => Action::SetBits(number),
+        6..=9 => Action::Increment,
+        10 => Action::Set(4_294_967_295),
+        11..=12 => Action::Set(number),
+        _ => Action::SetNew(number),
+    };
+    Note {
+        task: 8 + choice % 64,
+        action,
+    }
+}
+
+// Waits are for 0 ticks, for some, or without end.
+fn some_note_call(choice: u32) -> Call
+    requires { choice < 2 ^ 16 }
+{
+    let task = 8 + choice / 16 % 64;
+    let bits = choice / 1024 % 8;
+    let ticks = match choice / 8192 {
+        0 => 4_294_967_295,
+        ticks => ticks - 1,
+    };
+    match choice % 16 {
+        0..=2 => Call::Notify(some_note(choice / 16)),
+        3..=5 => Call::NotifyWait {
+            entry: bits,
+            exit: 7 - bits,
+            ticks,
+        },
+        6..=8 => Call::NotifyTake {
+            clear: bits < 2,
+            ticks,
+        },
+        9..=10 => Call::StateClear(task),
+        _ => Call::ValueClear { task, bits },
     }
 }
 

@@ -2,7 +2,7 @@
 ghost use Rattle.std.specs.Prelude.{◌≡◌, All, IsTrue, Ok};
 ghost use Rattle.bench_types.specs.Step.{settings_of, step_check};
 
-use crate::random::{Played, random_session};
+use crate::random::{Mix, Played, random_session};
 use bench_model::replay_slow;
 use bench_types::{Edit, Header, Reply, Row, Step};
 use session_store::Store;
@@ -41,12 +41,17 @@ fn check_kernel(rt: &(impl AllocGlobal + Abort), played: &Played) -> Result<(), 
 
 #[test]
 fn as_the_definitions_replay_it(rt: HostRuntime) -> Result<(), Fail> {
-    check_kernel(&rt, &random_session(&rt, 2000, false)?)
+    check_kernel(&rt, &random_session(&rt, 2000, Mix::Nothing)?)
 }
 
 #[test]
 fn as_the_definitions_replay_sets(rt: HostRuntime) -> Result<(), Fail> {
-    check_kernel(&rt, &random_session(&rt, 2000, true)?)
+    check_kernel(&rt, &random_session(&rt, 2000, Mix::Sets)?)
+}
+
+#[test]
+fn as_the_definitions_replay_notifications(rt: HostRuntime) -> Result<(), Fail> {
+    check_kernel(&rt, &random_session(&rt, 2000, Mix::Notes)?)
 }
 
 // The steps of the store are these, and their replies and current tasks those of the definitions.
@@ -64,7 +69,7 @@ fn check_store(rt: &(impl AllocGlobal + Abort), store: &Store, steps: &[Step]) -
 #[test]
 fn an_edited_store_is_as_the_definitions_replay_it(rt: HostRuntime) -> Result<(), Fail> {
     let alloc = rt.alloc();
-    let played = random_session(&rt, 200, true)?;
+    let played = random_session(&rt, 200, Mix::Notes)?;
     let mut steps = Vec::from_slice(alloc, &played.steps)?;
     assert_eq!(rt; steps.len(), 200);
     let mut meter = Meter::new(&rt);

@@ -22,6 +22,11 @@ HasTarget header (call.PrioritySet task priority) = IsUserTask header task
 HasTarget header (call.AffinitySet task mask) = IsUserTask header task
 HasTarget header (call.PreemptOff task) = IsUserTask header task
 HasTarget header (call.PreemptOn task) = IsUserTask header task
+HasTarget header (call.Notify note) = IsUserTask header note.task
+HasTarget header (call.NotifyWait entry exit ticks) = ⊤
+HasTarget header (call.NotifyTake clear ticks) = ⊤
+HasTarget header (call.StateClear task) = IsUserTask header task
+HasTarget header (call.ValueClear task bits) = IsUserTask header task
 HasTarget header call.Finish = ⊤
 
 -- the core and the caller of a call are there, and the task that it is for
@@ -30,11 +35,17 @@ pub record IsCallInPlace (header : Header) (core task : ℕ) (made : Call) : Typ
   pub caller : IsUserTask header task
   pub target : HasTarget header made
 
+-- the core of an interrupt is there, and the task that it notifies
+pub record IsInterruptInPlace (header : Header) (core task : ℕ) : Type 0 where
+  pub core_there : core < header.config.cores
+  pub target : IsUserTask header task
+
 -- the same of a step
 abbrev pub IsInPlace : Header → Step → Type 0
 IsInPlace header step.Tick = ⊤
 IsInPlace header (step.Switch core) = core < header.config.cores
 IsInPlace header (step.Call core task made) = IsCallInPlace header core task made
+IsInPlace header (step.Interrupt core note) = IsInterruptInPlace header core note.task
 
 has_target : (header : Header) (made : Call) → call_check (settings_of header) made ≡ Ok tt → HasTarget header made
 has_target header call.Yield passes = tt
@@ -45,6 +56,11 @@ has_target header (call.AffinitySet task mask) passes =
     checked_task settings task (both_pass (task_check settings task) (mask_check settings mask) passes).0
 has_target header (call.PreemptOff task) passes = checked_task (settings_of header) task passes
 has_target header (call.PreemptOn task) passes = checked_task (settings_of header) task passes
+has_target header (call.Notify note) passes = checked_task (settings_of header) note.task passes
+has_target header (call.NotifyWait entry exit ticks) passes = tt
+has_target header (call.NotifyTake clear ticks) passes = tt
+has_target header (call.StateClear task) passes = checked_task (settings_of header) task passes
+has_target header (call.ValueClear task bits) passes = checked_task (settings_of header) task passes
 has_target header call.Finish passes = tt
 
 pub in_place : (header : Header) (made : Step) → step_fault header made ≡ Ok tt → IsInPlace header made
@@ -58,4 +74,11 @@ in_place header (step.Call core task made) passes =
       core_there = checked_core settings core one.0;
       caller = checked_task settings task one.1;
       target = has_target header made two.1;
+    }
+in_place header (step.Interrupt core note) passes =
+    let settings = settings_of header in
+    let both = both_pass (core_check settings core) (task_check settings note.task) passes in
+    record {
+      core_there = checked_core settings core both.0;
+      target = checked_task settings note.task both.1;
     }

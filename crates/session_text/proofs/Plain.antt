@@ -11,13 +11,15 @@ use Rattle.bench_types.specs.declared.header.Config.{Config}
 use Rattle.bench_types.specs.declared.header.TaskArgs.{TaskArgs}
 use Rattle.bench_types.specs.Header.{has_valid_args}
 use Rattle.bench_types.specs.declared.header.Header.{Header}
+use Rattle.bench_types.specs.declared.note.Action.{Action}
+use Rattle.bench_types.specs.declared.note.Action.TheVariants as action
 use Rattle.bench_types.specs.declared.step.Step.{Step}
 use Rattle.bench_types.specs.declared.step.Step.TheVariants as step
 use Rattle.bench_types.specs.declared.step.Call.{Call}
 use Rattle.bench_types.specs.declared.step.Call.TheVariants as call
 use Rattle.bench_types.specs.Name.{is_name, is_name_byte, is_within}
-use Rattle.bench_types.specs.Step.{IsOfWords, IsStepOfWords}
-use Rattle.session_text.specs.Written.{task_data, task_name, bare_call, call_for, call_data, step_data, session_data, IsTyped}
+use Rattle.bench_types.specs.Step.{IsActionOfWord, IsOfWords, IsStepOfWords}
+use Rattle.session_text.specs.Written.{task_data, task_name, bare_call, call_for, notify_data, interrupt_data, call_data, step_data, session_data, IsTyped}
 use Rattle.bench_types.proofs.Passes.{IsCheckedHeader}
 use Rattle.session_text.proofs.Limits.{IsInPlace, HasTarget}
 use Rattle.session_text.proofs.ReadBack.{IsPlain, ArePlain}
@@ -47,6 +49,20 @@ bare_plain by core word utf8 small word_utf8 = (refl, refl, utf8, (refl, refl, s
 for_plain : (by : List ℕ) (core : ℕ) (word to : List ℕ) → IsUtf8 by → core < 2 ^ 64 → IsUtf8 word → IsUtf8 to → IsPlain (call_for by core word to)
 for_plain by core word to utf8 small word_utf8 to_utf8 = (refl, refl, utf8, (refl, refl, small, (refl, refl, word_utf8, (refl, refl, to_utf8, tt))))
 
+notify_plain : (by : List ℕ) (core : ℕ) (to : List ℕ) (what : Action) → IsUtf8 by → core < 2 ^ 64 → IsUtf8 to → IsActionOfWord what → IsPlain (notify_data by core to what)
+notify_plain by core to action.Nothing utf8 small to_utf8 word = (refl, refl, IsUtf8-are_ascii _ refl, (refl, refl, utf8, (refl, refl, small, (refl, refl, IsUtf8-are_ascii _ refl, (refl, refl, to_utf8, tt)))))
+notify_plain by core to (action.SetBits bits) utf8 small to_utf8 word = (refl, refl, IsUtf8-are_ascii _ refl, (refl, refl, utf8, (refl, refl, small, (refl, refl, IsUtf8-are_ascii _ refl, (refl, refl, to_utf8, (refl, refl, omega arith, tt))))))
+notify_plain by core to action.Increment utf8 small to_utf8 word = (refl, refl, IsUtf8-are_ascii _ refl, (refl, refl, utf8, (refl, refl, small, (refl, refl, IsUtf8-are_ascii _ refl, (refl, refl, to_utf8, tt)))))
+notify_plain by core to (action.Set value) utf8 small to_utf8 word = (refl, refl, IsUtf8-are_ascii _ refl, (refl, refl, utf8, (refl, refl, small, (refl, refl, IsUtf8-are_ascii _ refl, (refl, refl, to_utf8, (refl, refl, omega arith, tt))))))
+notify_plain by core to (action.SetNew value) utf8 small to_utf8 word = (refl, refl, IsUtf8-are_ascii _ refl, (refl, refl, utf8, (refl, refl, small, (refl, refl, IsUtf8-are_ascii _ refl, (refl, refl, to_utf8, (refl, refl, omega arith, tt))))))
+
+interrupt_plain : (core : ℕ) (to : List ℕ) (what : Action) → core < 2 ^ 64 → IsUtf8 to → IsActionOfWord what → IsPlain (interrupt_data core to what)
+interrupt_plain core to action.Nothing small to_utf8 word = (refl, refl, IsUtf8-are_ascii _ refl, (refl, refl, small, (refl, refl, IsUtf8-are_ascii _ refl, (refl, refl, to_utf8, tt))))
+interrupt_plain core to (action.SetBits bits) small to_utf8 word = (refl, refl, IsUtf8-are_ascii _ refl, (refl, refl, small, (refl, refl, IsUtf8-are_ascii _ refl, (refl, refl, to_utf8, (refl, refl, omega arith, tt)))))
+interrupt_plain core to action.Increment small to_utf8 word = (refl, refl, IsUtf8-are_ascii _ refl, (refl, refl, small, (refl, refl, IsUtf8-are_ascii _ refl, (refl, refl, to_utf8, tt))))
+interrupt_plain core to (action.Set value) small to_utf8 word = (refl, refl, IsUtf8-are_ascii _ refl, (refl, refl, small, (refl, refl, IsUtf8-are_ascii _ refl, (refl, refl, to_utf8, (refl, refl, omega arith, tt)))))
+interrupt_plain core to (action.SetNew value) small to_utf8 word = (refl, refl, IsUtf8-are_ascii _ refl, (refl, refl, small, (refl, refl, IsUtf8-are_ascii _ refl, (refl, refl, to_utf8, (refl, refl, omega arith, tt)))))
+
 pub call_plain : (header : Header) (by : List ℕ) (core : ℕ) (made : Call) → AreNames header → HasTarget header made → IsUtf8 by → core < 2 ^ 64 → IsOfWords made → IsPlain (call_data header by core made)
 call_plain header by core call.Yield names target utf8 small words = bare_plain by core _ utf8 small (IsUtf8-are_ascii _ refl)
 call_plain header by core (call.Delay ticks) names target utf8 small words = (refl, refl, utf8, (refl, refl, small, (refl, refl, IsUtf8-are_ascii _ refl, (refl, refl, omega arith, tt))))
@@ -54,12 +70,18 @@ call_plain header by core (call.PrioritySet task priority) names target utf8 sma
 call_plain header by core (call.AffinitySet task mask) names target utf8 small words = (refl, refl, utf8, (refl, refl, small, (refl, refl, IsUtf8-are_ascii _ refl, (refl, refl, omega arith, (refl, refl, names task target.1 target.0, tt)))))
 call_plain header by core (call.PreemptOff task) names target utf8 small words = for_plain by core _ _ utf8 small (IsUtf8-are_ascii _ refl) (names task target.1 target.0)
 call_plain header by core (call.PreemptOn task) names target utf8 small words = for_plain by core _ _ utf8 small (IsUtf8-are_ascii _ refl) (names task target.1 target.0)
+call_plain header by core (call.Notify note) names target utf8 small words = notify_plain by core _ note.action utf8 small (names note.task target.1 target.0) words
+call_plain header by core (call.NotifyWait entry exit ticks) names target utf8 small words = (refl, refl, utf8, (refl, refl, small, (refl, refl, IsUtf8-are_ascii _ refl, (refl, refl, omega (arith, words.0), (refl, refl, omega (arith, words.1), (refl, refl, omega (arith, words.2), tt))))))
+call_plain header by core (call.NotifyTake clear ticks) names target utf8 small words = (refl, refl, utf8, (refl, refl, tt, (refl, refl, small, (refl, refl, IsUtf8-are_ascii _ refl, (refl, refl, omega arith, tt)))))
+call_plain header by core (call.StateClear task) names target utf8 small words = for_plain by core _ _ utf8 small (IsUtf8-are_ascii _ refl) (names task target.1 target.0)
+call_plain header by core (call.ValueClear task bits) names target utf8 small words = (refl, refl, omega arith, (refl, refl, utf8, (refl, refl, small, (refl, refl, IsUtf8-are_ascii _ refl, (refl, refl, names task target.1 target.0, tt)))))
 call_plain header by core call.Finish names target utf8 small words = bare_plain by core _ utf8 small (IsUtf8-are_ascii _ refl)
 
 step_plain : (header : Header) (made : Step) → header.config.cores ≤ 8 → AreNames header → IsInPlace header made → IsStepOfWords made → IsPlain (step_data header made)
 step_plain header step.Tick few names place words = (refl, refl, IsUtf8-are_ascii _ refl, tt)
 step_plain header (step.Switch core) few names place words = (refl, refl, omega arith, (refl, refl, IsUtf8-are_ascii _ refl, tt))
 step_plain header (step.Call core task made) few names place words = call_plain header (task_name header task) core made names place.target (names task place.caller.1 place.caller.0) (omega (arith, place.core_there)) words
+step_plain header (step.Interrupt core note) few names place words = interrupt_plain core _ note.action (omega (arith, place.core_there)) (names note.task place.target.1 place.target.0) words
 
 steps_plain : (header : Header) (steps : List Step) → header.config.cores ≤ 8 → AreNames header → AllByRecursion (λ made. IsInPlace header made × IsStepOfWords made) steps → ArePlain (items_of (map (step_data header) steps))
 steps_plain header [] few names each = tt
@@ -127,6 +149,20 @@ items_within : {A : Type 0} (data_of : A → Data) (n : ℕ) → ((x : A) → de
 items_within data_of n each [] = omega arith
 items_within data_of n each (x ∷ xs) = omega (arith, each x, items_within data_of n each xs)
 
+notify_depth : (by : List ℕ) (core : ℕ) (to : List ℕ) (what : Action) → depth (notify_data by core to what) ≤ 1
+notify_depth by core to action.Nothing = omega arith
+notify_depth by core to (action.SetBits bits) = omega arith
+notify_depth by core to action.Increment = omega arith
+notify_depth by core to (action.Set value) = omega arith
+notify_depth by core to (action.SetNew value) = omega arith
+
+interrupt_depth : (core : ℕ) (to : List ℕ) (what : Action) → depth (interrupt_data core to what) ≤ 1
+interrupt_depth core to action.Nothing = omega arith
+interrupt_depth core to (action.SetBits bits) = omega arith
+interrupt_depth core to action.Increment = omega arith
+interrupt_depth core to (action.Set value) = omega arith
+interrupt_depth core to (action.SetNew value) = omega arith
+
 call_depth : (header : Header) (by : List ℕ) (core : ℕ) (made : Call) → depth (call_data header by core made) ≤ 1
 call_depth header by core call.Yield = omega arith
 call_depth header by core (call.Delay ticks) = omega arith
@@ -134,12 +170,18 @@ call_depth header by core (call.PrioritySet task priority) = omega arith
 call_depth header by core (call.AffinitySet task mask) = omega arith
 call_depth header by core (call.PreemptOff task) = omega arith
 call_depth header by core (call.PreemptOn task) = omega arith
+call_depth header by core (call.Notify note) = notify_depth by core (task_name header note.task) note.action
+call_depth header by core (call.NotifyWait entry exit ticks) = omega arith
+call_depth header by core (call.NotifyTake clear ticks) = omega arith
+call_depth header by core (call.StateClear task) = omega arith
+call_depth header by core (call.ValueClear task bits) = omega arith
 call_depth header by core call.Finish = omega arith
 
 step_depth : (header : Header) (made : Step) → depth (step_data header made) ≤ 1
 step_depth header step.Tick = omega arith
 step_depth header (step.Switch core) = omega arith
 step_depth header (step.Call core task made) = call_depth header (task_name header task) core made
+step_depth header (step.Interrupt core note) = interrupt_depth core (task_name header note.task) note.action
 
 pub session_depth : (header : Header) (steps : List Step) → depth (session_data header steps) ≤ max_depth
 unfolding session_data

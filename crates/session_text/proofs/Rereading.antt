@@ -8,21 +8,24 @@ use Rattle.serde_json.specs.View.{items_of}
 use Rattle.bench_types.specs.declared.header.Config.{Config}
 use Rattle.bench_types.specs.declared.header.TaskArgs.{TaskArgs}
 use Rattle.bench_types.specs.declared.header.Header.{Header}
+use Rattle.bench_types.specs.declared.note.Action.{Action}
+use Rattle.bench_types.specs.declared.note.Action.TheVariants as action
 use Rattle.bench_types.specs.declared.step.Step.{Step}
 use Rattle.bench_types.specs.declared.step.Step.TheVariants as step
 use Rattle.bench_types.specs.declared.step.Call.{Call}
 use Rattle.bench_types.specs.declared.step.Call.TheVariants as call
 use Rattle.bench_types.specs.Header.{has_valid_args, is_header}
 use Rattle.bench_types.specs.Name.{is_name}
-use Rattle.bench_types.specs.Step.{IsOfWords, IsStepOfWords}
+use Rattle.bench_types.specs.Step.{IsActionOfWord, IsOfWords, IsStepOfWords}
 use Rattle.session_text.specs.Accepted.{items_accepted}
+use Rattle.session_text.specs.Action.{action_at, action_kind_at, action_of_kind_at}
 use Rattle.session_text.specs.Array.{each_at, list_at}
 use Rattle.session_text.specs.Header.{task_at, config_at, header_at}
 use Rattle.session_text.specs.Member.{number_at, text_at, flag_at, array_at}
 use Rattle.bench_types.proofs.Passes.{IsCheckedHeader, header_facts}
 use Rattle.session_text.specs.Names.{names_of, number_of}
 use Rattle.session_text.specs.Session.{format_at, session_at, session_accepted, session, step_fault}
-use Rattle.session_text.specs.Step.{step_at, kind_at, step_of_kind_at, task_named_at, call_at}
+use Rattle.session_text.specs.Step.{step_at, kind_at, step_of_kind_at, task_named_at, note_at, call_at}
 use Rattle.session_text.specs.Written.{task_data, task_name, step_data, session_data, IsSession, IsTyped, WrittenReadsBack}
 use Rattle.session_text.proofs.Limits.{IsInPlace, IsCallInPlace, IsUserTask, in_place}
 use Rattle.session_text.proofs.Passing.{all_accepted}
@@ -46,14 +49,35 @@ target_named header task h there = number_of_name header task there.0 there.1 h.
 core_number : (header : Header) (core : ℕ) → IsCheckedHeader header → core < header.config.cores → ltb core (2 ^ 32) ≡ true
 core_number header core h there = lt-ltb _ _ (omega (arith, h.few_cores))
 
+notify_read : (header : Header) (at : List ℕ) (core task to : ℕ) (what : Action) → IsCheckedHeader header → core < header.config.cores → IsUserTask header task → IsUserTask header to → IsActionOfWord what → step_at (names_of header) at (step_data header (step.Call core task (call.Notify (record { task = to; action = what })))) ≡ Ok (step.Call core task (call.Notify (record { task = to; action = what })))
+unfolding step_at kind_at text_at step_of_kind_at number_at task_named_at call_at note_at action_at action_kind_at action_of_kind_at
+notify_read header at core task to action.Nothing h there caller target word = rw (core_number header core h there, target_named header task h caller, target_named header to h target) refl
+notify_read header at core task to (action.SetBits bits) h there caller target word = rw (core_number header core h there, lt-ltb _ _ word, target_named header task h caller, target_named header to h target) refl
+notify_read header at core task to action.Increment h there caller target word = rw (core_number header core h there, target_named header task h caller, target_named header to h target) refl
+notify_read header at core task to (action.Set value) h there caller target word = rw (core_number header core h there, lt-ltb _ _ word, target_named header task h caller, target_named header to h target) refl
+notify_read header at core task to (action.SetNew value) h there caller target word = rw (core_number header core h there, lt-ltb _ _ word, target_named header task h caller, target_named header to h target) refl
+
+interrupt_read : (header : Header) (at : List ℕ) (core to : ℕ) (what : Action) → IsCheckedHeader header → core < header.config.cores → IsUserTask header to → IsActionOfWord what → step_at (names_of header) at (step_data header (step.Interrupt core (record { task = to; action = what }))) ≡ Ok (step.Interrupt core (record { task = to; action = what }))
+unfolding step_at kind_at text_at step_of_kind_at number_at task_named_at note_at action_at action_kind_at action_of_kind_at
+interrupt_read header at core to action.Nothing h there target word = rw (core_number header core h there, target_named header to h target) refl
+interrupt_read header at core to (action.SetBits bits) h there target word = rw (core_number header core h there, lt-ltb _ _ word, target_named header to h target) refl
+interrupt_read header at core to action.Increment h there target word = rw (core_number header core h there, target_named header to h target) refl
+interrupt_read header at core to (action.Set value) h there target word = rw (core_number header core h there, lt-ltb _ _ word, target_named header to h target) refl
+interrupt_read header at core to (action.SetNew value) h there target word = rw (core_number header core h there, lt-ltb _ _ word, target_named header to h target) refl
+
 call_read : (header : Header) (at : List ℕ) (core task : ℕ) (made : Call) → IsCheckedHeader header → IsCallInPlace header core task made → IsOfWords made → step_at (names_of header) at (step_data header (step.Call core task made)) ≡ Ok (step.Call core task made)
-unfolding step_at kind_at text_at step_of_kind_at number_at task_named_at call_at
+unfolding step_at kind_at text_at step_of_kind_at number_at flag_at task_named_at call_at
 call_read header at core task call.Yield h place words = rw (core_number header core h place.core_there, target_named header task h place.caller) refl
 call_read header at core task (call.Delay ticks) h place words = rw (core_number header core h place.core_there, lt-ltb _ _ words, target_named header task h place.caller) refl
 call_read header at core task (call.PrioritySet to priority) h place words = rw (core_number header core h place.core_there, lt-ltb _ _ words, target_named header task h place.caller, target_named header to h place.target) refl
 call_read header at core task (call.AffinitySet to mask) h place words = rw (core_number header core h place.core_there, lt-ltb _ _ words, target_named header task h place.caller, target_named header to h place.target) refl
 call_read header at core task (call.PreemptOff to) h place words = rw (core_number header core h place.core_there, target_named header task h place.caller, target_named header to h place.target) refl
 call_read header at core task (call.PreemptOn to) h place words = rw (core_number header core h place.core_there, target_named header task h place.caller, target_named header to h place.target) refl
+call_read header at core task (call.Notify note) h place words = notify_read header at core task note.task note.action h place.core_there place.caller place.target words
+call_read header at core task (call.NotifyWait entry exit ticks) h place words = rw (core_number header core h place.core_there, lt-ltb _ _ words.0, lt-ltb _ _ words.1, lt-ltb _ _ words.2, target_named header task h place.caller) refl
+call_read header at core task (call.NotifyTake clear ticks) h place words = rw (core_number header core h place.core_there, lt-ltb _ _ words, target_named header task h place.caller) refl
+call_read header at core task (call.StateClear to) h place words = rw (core_number header core h place.core_there, target_named header task h place.caller, target_named header to h place.target) refl
+call_read header at core task (call.ValueClear to bits) h place words = rw (core_number header core h place.core_there, lt-ltb _ _ words, target_named header task h place.caller, target_named header to h place.target) refl
 call_read header at core task call.Finish h place words = rw (core_number header core h place.core_there, target_named header task h place.caller) refl
 
 step_read : (header : Header) (at : List ℕ) (made : Step) → IsCheckedHeader header → IsInPlace header made → IsStepOfWords made → step_at (names_of header) at (step_data header made) ≡ Ok made
@@ -61,6 +85,7 @@ unfolding step_at kind_at text_at step_of_kind_at number_at
 step_read header at step.Tick h place words = refl
 step_read header at (step.Switch core) h place words = rw (core_number header core h place) refl
 step_read header at (step.Call core task made) h place words = call_read header at core task made h place words
+step_read header at (step.Interrupt core note) h place words = interrupt_read header at core note.task note.action h place.core_there place.target words
 
 steps_read : (header : Header) (at : List ℕ) (index : ℕ) (steps : List Step) → IsCheckedHeader header → AllByRecursion (λ made. IsInPlace header made × IsStepOfWords made) steps → each_at (step_at (names_of header)) at index (items_of (map (step_data header) steps)) ≡ Ok steps
 steps_read header at index [] h each = refl

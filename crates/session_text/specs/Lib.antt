@@ -1,4 +1,5 @@
 pub mod Accepted
+pub mod Action
 pub mod Array
 pub mod Bench
 pub mod Edit

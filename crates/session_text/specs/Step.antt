@@ -1,6 +1,7 @@
 -- A step: `do` says which, and after it stand the members of its kind.
-use Rattle.std.specs.Prelude.{ℕ, List, [], ◌∷◌, codes, bytes_eq, find, Option, option_map, Result, Ok}
+use Rattle.std.specs.Prelude.{ℕ, List, [], ◌∷◌, codes, bytes_eq, find, Option, Some, None, option_map, Result, Ok}
 use Rattle.serde_json.specs.Data.{Data}
+use Rattle.bench_types.specs.declared.note.Note.{Note}
 use Rattle.bench_types.specs.declared.step.Step.{Step}
 use Rattle.bench_types.specs.declared.step.Step.TheVariants as step
 use Rattle.bench_types.specs.declared.step.Call.{Call}
@@ -10,7 +11,8 @@ use Rattle.session_text.specs.declared.step.Kind.{Kind}
 use Rattle.session_text.specs.declared.step.Kind.TheVariants as kind
 use Rattle.session_text.specs.declared.call.CallKind.{CallKind}
 use Rattle.session_text.specs.declared.call.CallKind.TheVariants as callkind
-use Rattle.session_text.specs.Member.{object_at, number_at, text_at, only_at}
+use Rattle.session_text.specs.Action.{action_at, action_number}
+use Rattle.session_text.specs.Member.{object_at, number_at, text_at, flag_at, only_at}
 use Rattle.session_text.specs.Names.{TaskNames, number_of}
 use Rattle.session_text.specs.Outcome.{◌>>=◌, found}
 use Rattle.session_text.specs.Path.{member_path}
@@ -20,12 +22,18 @@ abbrev pub kinds : List (List ℕ × Kind)
 kinds =
     (codes "tick", kind.Tick) ∷
     (codes "switch", kind.Switch) ∷
+    (codes "isr_notify", kind.Interrupt) ∷
     (codes "yield", kind.Call callkind.Yield) ∷
     (codes "delay", kind.Call callkind.Delay) ∷
     (codes "priority_set", kind.Call callkind.PrioritySet) ∷
     (codes "affinity_set", kind.Call callkind.AffinitySet) ∷
     (codes "preempt_off", kind.Call callkind.PreemptOff) ∷
     (codes "preempt_on", kind.Call callkind.PreemptOn) ∷
+    (codes "notify", kind.Call callkind.Notify) ∷
+    (codes "notify_wait", kind.Call callkind.NotifyWait) ∷
+    (codes "notify_take", kind.Call callkind.NotifyTake) ∷
+    (codes "state_clear", kind.Call callkind.StateClear) ∷
+    (codes "value_clear", kind.Call callkind.ValueClear) ∷
     (codes "finish", kind.Call callkind.Finish) ∷ []
 
 abbrev pub kind_of : List ℕ → Option Kind
@@ -36,26 +44,47 @@ kind_at at d = do
   word ← text_at at (codes "do") d
   found (kind_of word) (member_path at (codes "do"))
 
--- the members of a call beside those that every call has
-abbrev pub arguments_of : CallKind → List (List ℕ)
-arguments_of callkind.Yield = []
-arguments_of callkind.Delay = codes "ticks" ∷ []
-arguments_of callkind.PrioritySet = codes "to" ∷ codes "priority" ∷ []
-arguments_of callkind.AffinitySet = codes "to" ∷ codes "mask" ∷ []
-arguments_of callkind.PreemptOff = codes "to" ∷ []
-arguments_of callkind.PreemptOn = codes "to" ∷ []
-arguments_of callkind.Finish = []
+-- the members of a notification: `value` is one where the action has a number
+abbrev pub note_members : Option ℕ → List (List ℕ)
+note_members None = codes "to" ∷ codes "action" ∷ []
+note_members (Some value) = codes "to" ∷ codes "action" ∷ codes "value" ∷ []
 
-abbrev pub members_of : Kind → List (List ℕ)
-members_of kind.Tick = codes "do" ∷ []
-members_of kind.Switch = codes "do" ∷ codes "core" ∷ []
-members_of (kind.Call which) = codes "do" ∷ codes "core" ∷ codes "by" ∷ arguments_of which
+-- the members of a call beside those that every call has
+abbrev pub arguments_of : Call → List (List ℕ)
+arguments_of call.Yield = []
+arguments_of (call.Delay ticks) = codes "ticks" ∷ []
+arguments_of (call.PrioritySet task priority) = codes "to" ∷ codes "priority" ∷ []
+arguments_of (call.AffinitySet task mask) = codes "to" ∷ codes "mask" ∷ []
+arguments_of (call.PreemptOff task) = codes "to" ∷ []
+arguments_of (call.PreemptOn task) = codes "to" ∷ []
+arguments_of (call.Notify note) = note_members (action_number note.action)
+arguments_of (call.NotifyWait entry exit ticks) = codes "entry" ∷ codes "exit" ∷ codes "ticks" ∷ []
+arguments_of (call.NotifyTake clear ticks) = codes "clear" ∷ codes "ticks" ∷ []
+arguments_of (call.StateClear task) = codes "to" ∷ []
+arguments_of (call.ValueClear task bits) = codes "to" ∷ codes "bits" ∷ []
+arguments_of call.Finish = []
+
+abbrev pub members_of_call : Call → List (List ℕ)
+members_of_call made = codes "do" ∷ codes "core" ∷ codes "by" ∷ arguments_of made
+
+abbrev pub members_of : Step → List (List ℕ)
+members_of step.Tick = codes "do" ∷ []
+members_of (step.Switch core) = codes "do" ∷ codes "core" ∷ []
+members_of (step.Call core task made) = members_of_call made
+members_of (step.Interrupt core note) = codes "do" ∷ codes "core" ∷ note_members (action_number note.action)
 
 -- the number of the task that a member names
 unfoldable pub task_named_at : TaskNames → List ℕ → List ℕ → Data → Result ℕ TextFault
 task_named_at names at name d = do
   text ← text_at at name d
   Ok (number_of names text)
+
+-- `to` names the task that is notified
+unfoldable pub note_at : TaskNames → List ℕ → Data → Result Note TextFault
+note_at names at d = do
+  task ← task_named_at names at (codes "to") d
+  what ← action_at at d
+  Ok (record { task = task; action = what })
 
 -- `to` names the task that a call is for
 unfoldable pub call_at : TaskNames → CallKind → List ℕ → Data → Result Call TextFault
@@ -77,6 +106,25 @@ call_at names callkind.PreemptOff at d = do
 call_at names callkind.PreemptOn at d = do
   task ← task_named_at names at (codes "to") d
   Ok (call.PreemptOn task)
+call_at names callkind.Notify at d = do
+  note ← note_at names at d
+  Ok (call.Notify note)
+call_at names callkind.NotifyWait at d = do
+  entry ← number_at at (codes "entry") d
+  exit ← number_at at (codes "exit") d
+  ticks ← number_at at (codes "ticks") d
+  Ok (call.NotifyWait entry exit ticks)
+call_at names callkind.NotifyTake at d = do
+  clear ← flag_at at (codes "clear") d
+  ticks ← number_at at (codes "ticks") d
+  Ok (call.NotifyTake clear ticks)
+call_at names callkind.StateClear at d = do
+  task ← task_named_at names at (codes "to") d
+  Ok (call.StateClear task)
+call_at names callkind.ValueClear at d = do
+  task ← task_named_at names at (codes "to") d
+  bits ← number_at at (codes "bits") d
+  Ok (call.ValueClear task bits)
 call_at names callkind.Finish at d = Ok call.Finish
 
 unfoldable pub step_of_kind_at : TaskNames → Kind → List ℕ → Data → Result Step TextFault
@@ -89,11 +137,15 @@ step_of_kind_at names (kind.Call which) at d = do
   task ← task_named_at names at (codes "by") d
   made ← call_at names which at d
   Ok (step.Call core task made)
+step_of_kind_at names kind.Interrupt at d = do
+  core ← number_at at (codes "core") d
+  note ← note_at names at d
+  Ok (step.Interrupt core note)
 
 unfoldable pub step_at : TaskNames → List ℕ → Data → Result Step TextFault
 step_at names at d = do
   members ← object_at at d
   which ← kind_at at d
   made ← step_of_kind_at names which at d
-  only ← only_at at (members_of which) members
+  only ← only_at at (members_of made) members
   Ok made

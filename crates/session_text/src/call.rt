@@ -1,11 +1,13 @@
+ghost use Rattle.std.specs.Prelude.{◌≡◌, map};
 ghost use Rattle.session_text.specs.Node.{data_of, place_of};
 ghost use Rattle.session_text.specs.Outcome.{Gives};
-ghost use Rattle.session_text.specs.Step.{call_at};
+ghost use Rattle.session_text.specs.Step.{call_at, members_of_call, note_at};
 
+use crate::action::{action_at, action_number};
 use crate::fault::Stop;
 use crate::names::Names;
 use crate::node::Node;
-use bench_types::Call;
+use bench_types::{Call, Note};
 
 /// What `do` says of a call.
 #[derive(Clone, Copy)]
@@ -16,7 +18,24 @@ pub(crate) enum CallKind {
     AffinitySet,
     PreemptOff,
     PreemptOn,
+    Notify,
+    NotifyWait,
+    NotifyTake,
+    StateClear,
+    ValueClear,
     Finish,
+}
+
+/// The notification of a call or of an interrupt.
+#[tactic(auto, unfolding(crate::specs::Step::note_at))]
+pub(crate) fn note_at(names: &Names<'_>, node: &Node<'_, '_>) -> Result<Note, Stop>
+    ensures { Gives (λ note. note) result
+        (note_at names.now (place_of node.now) (data_of node.now)) }
+{
+    Ok(Note {
+        task: names.task_named_at(node, "to")?,
+        action: action_at(node)?,
+    })
 }
 
 #[tactic(auto, unfolding(crate::specs::Step::call_at))]
@@ -37,6 +56,43 @@ pub(crate) fn call_at(names: &Names<'_>, kind: CallKind, node: &Node<'_, '_>) ->
         }),
         CallKind::PreemptOff => Ok(Call::PreemptOff(names.task_named_at(node, "to")?)),
         CallKind::PreemptOn => Ok(Call::PreemptOn(names.task_named_at(node, "to")?)),
+        CallKind::Notify => Ok(Call::Notify(note_at(names, node)?)),
+        CallKind::NotifyWait => Ok(Call::NotifyWait {
+            entry: node.number("entry")?,
+            exit: node.number("exit")?,
+            ticks: node.number("ticks")?,
+        }),
+        CallKind::NotifyTake => Ok(Call::NotifyTake {
+            clear: node.flag("clear")?,
+            ticks: node.number("ticks")?,
+        }),
+        CallKind::StateClear => Ok(Call::StateClear(names.task_named_at(node, "to")?)),
+        CallKind::ValueClear => Ok(Call::ValueClear {
+            task: names.task_named_at(node, "to")?,
+            bits: node.number("bits")?,
+        }),
         CallKind::Finish => Ok(Call::Finish),
+    }
+}
+
+/// The members that a call like this one has.
+pub(crate) fn call_members(call: Call) -> &'static [&'static str]
+    ensures { map (λ name. name.now) result.now ≡ members_of_call call }
+{
+    match call {
+        Call::Yield | Call::Finish => &["do", "core", "by"],
+        Call::Delay(_) => &["do", "core", "by", "ticks"],
+        Call::PrioritySet { .. } => &["do", "core", "by", "to", "priority"],
+        Call::AffinitySet { .. } => &["do", "core", "by", "to", "mask"],
+        Call::PreemptOff(_) | Call::PreemptOn(_) | Call::StateClear(_) => {
+            &["do", "core", "by", "to"]
+        }
+        Call::Notify(note) => match action_number(note.action) {
+            None => &["do", "core", "by", "to", "action"],
+            Some(_) => &["do", "core", "by", "to", "action", "value"],
+        },
+        Call::NotifyWait { .. } => &["do", "core", "by", "entry", "exit", "ticks"],
+        Call::NotifyTake { .. } => &["do", "core", "by", "clear", "ticks"],
+        Call::ValueClear { .. } => &["do", "core", "by", "to", "bits"],
     }
 }

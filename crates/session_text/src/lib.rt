@@ -2,6 +2,7 @@
 #![tactic(auto)]
 
 mod accepted;
+mod action;
 mod array;
 mod bench;
 mod call;

@@ -3,8 +3,9 @@ ghost use Rattle.session_text.specs.Node.{data_of, place_of};
 ghost use Rattle.session_text.specs.Outcome.{Gives};
 ghost use Rattle.session_text.specs.Step.{kind_at, kind_of, members_of, step_at, step_of_kind_at};
 
+use crate::action::action_number;
 use crate::array::ReadItem;
-use crate::call::{CallKind, call_at};
+use crate::call::{CallKind, call_at, call_members, note_at};
 use crate::fault::Stop;
 use crate::names::Names;
 use crate::node::Node;
@@ -16,6 +17,7 @@ pub(crate) enum Kind {
     Tick,
     Switch,
     Call(CallKind),
+    Interrupt,
 }
 
 impl Kind {
@@ -25,30 +27,36 @@ impl Kind {
         match word {
             "tick" => Some(Kind::Tick),
             "switch" => Some(Kind::Switch),
+            "isr_notify" => Some(Kind::Interrupt),
             "yield" => Some(Kind::Call(CallKind::Yield)),
             "delay" => Some(Kind::Call(CallKind::Delay)),
             "priority_set" => Some(Kind::Call(CallKind::PrioritySet)),
             "affinity_set" => Some(Kind::Call(CallKind::AffinitySet)),
             "preempt_off" => Some(Kind::Call(CallKind::PreemptOff)),
             "preempt_on" => Some(Kind::Call(CallKind::PreemptOn)),
+            "notify" => Some(Kind::Call(CallKind::Notify)),
+            "notify_wait" => Some(Kind::Call(CallKind::NotifyWait)),
+            "notify_take" => Some(Kind::Call(CallKind::NotifyTake)),
+            "state_clear" => Some(Kind::Call(CallKind::StateClear)),
+            "value_clear" => Some(Kind::Call(CallKind::ValueClear)),
             "finish" => Some(Kind::Call(CallKind::Finish)),
             _ => None,
         }
     }
+}
 
-    /// The members that a step of this kind has.
-    fn members(self) -> &'static [&'static str]
-        ensures { map (λ name. name.now) result.now ≡ members_of self }
-    {
-        match self {
-            Kind::Tick => &["do"],
-            Kind::Switch => &["do", "core"],
-            Kind::Call(CallKind::Yield | CallKind::Finish) => &["do", "core", "by"],
-            Kind::Call(CallKind::Delay) => &["do", "core", "by", "ticks"],
-            Kind::Call(CallKind::PrioritySet) => &["do", "core", "by", "to", "priority"],
-            Kind::Call(CallKind::AffinitySet) => &["do", "core", "by", "to", "mask"],
-            Kind::Call(CallKind::PreemptOff | CallKind::PreemptOn) => &["do", "core", "by", "to"],
-        }
+/// The members that a step like this one has.
+fn known_members(step: &Step) -> &'static [&'static str]
+    ensures { map (λ name. name.now) result.now ≡ members_of step.now }
+{
+    match step {
+        Step::Tick => &["do"],
+        Step::Switch { .. } => &["do", "core"],
+        Step::Call { call, .. } => call_members(*call),
+        Step::Interrupt { note, .. } => match action_number(note.action) {
+            None => &["do", "core", "to", "action"],
+            Some(_) => &["do", "core", "to", "action", "value"],
+        },
     }
 }
 
@@ -74,6 +82,10 @@ fn step_of_kind_at(names: &Names<'_>, kind: Kind, node: &Node<'_, '_>) -> Result
             task: names.task_named_at(node, "by")?,
             call: call_at(names, kind, node)?,
         }),
+        Kind::Interrupt => Ok(Step::Interrupt {
+            core: node.number("core")?,
+            note: note_at(names, node)?,
+        }),
     }
 }
 
@@ -87,7 +99,7 @@ impl<'v> ReadItem<'v> for Names<'_> {
         let members = node.object()?;
         let kind = kind_at(node)?;
         let step = step_of_kind_at(self, kind, node)?;
-        node.only(kind.members(), members)?;
+        node.only(known_members(&step), members)?;
         Ok(step)
     }
 }

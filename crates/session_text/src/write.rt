@@ -2,9 +2,14 @@ ghost use Rattle.std.specs.Prelude.{◌≡◌, ◌+◌, ◌<◌, ◌≤◌, All,
 ghost use Rattle.serde_json.specs.View.{view};
 ghost use Rattle.bench_types.specs.Step.{IsOfWords, IsStepOfWords, call_check, settings_of};
 ghost use Rattle.session_text.specs.Session.{session, step_fault, IsChecked};
-ghost use Rattle.session_text.specs.Written.{bare_call, call_data, call_for, session_data, step_data, steps_data, task_data, task_name, tasks_data, written, IsSession, IsTyped};
+ghost use Rattle.session_text.specs.Written.{call_data, session_data, step_data, steps_data, task_data, task_name, tasks_data, written, IsSession, IsTyped};
 
-use bench_types::{Call, Config, Header, Step, TaskArgs};
+mod calls;
+mod notes;
+
+use bench_types::{Call, Config, Header, Note, Step, TaskArgs};
+use calls::Caller;
+use notes::interrupt_value;
 use serde_json::{Value, json};
 use std::alloc::{AllocError, Global};
 
@@ -84,53 +89,41 @@ fn step_value(alloc: Global, header: &Header, step: &Step) -> Result<Value, Allo
         Step::Tick => json!(in alloc; {"do": "tick"}),
         Step::Switch { core } => json!(in alloc; {"core": *core, "do": "switch"}),
         Step::Call { core, task, call } => {
-            call_value(alloc, header, task_name(header, *task), *core, *call)
+            let caller = Caller {
+                alloc,
+                by: task_name(header, *task),
+                core: *core,
+            };
+            call_value(header, &caller, *call)
+        }
+        Step::Interrupt { core, note } => {
+            interrupt_value(alloc, *core, task_name(header, note.task), note.action)
         }
     }
 }
 
-fn call_value(
-    alloc: Global,
-    header: &Header,
-    by: &str,
-    core: u32,
-    call: Call,
-) -> Result<Value, AllocError>
+fn call_value(header: &Header, caller: &Caller<'_>, call: Call) -> Result<Value, AllocError>
     requires { call_check (settings_of header.now) call ≡ Ok tt }
-    ensures value { IfOk result (λ value. view value ≡ call_data header.now by.now core call) }
+    ensures value { IfOk result
+        (λ value. view value ≡ call_data header.now caller.now.by.now caller.now.core call) }
     ensures typed { OnOk result (IsOfWords call) }
 {
     match call {
-        Call::Yield => bare_call(alloc, by, core, "yield"),
-        Call::Delay(ticks) => {
-            json!(in alloc; {"by": by, "core": core, "do": "delay", "ticks": ticks})
-        }
+        Call::Yield => caller.bare("yield"),
+        Call::Delay(ticks) => caller.delay(ticks),
         Call::PrioritySet { task, priority } => {
-            let to = task_name(header, task);
-            json!(in alloc; {
-                "by": by, "core": core, "do": "priority_set", "priority": priority, "to": to
-            })
+            caller.priority_set(task_name(header, task), priority)
         }
-        Call::AffinitySet { task, mask } => {
-            let to = task_name(header, task);
-            json!(in alloc; {"by": by, "core": core, "do": "affinity_set", "mask": mask, "to": to})
-        }
-        Call::PreemptOff(task) => call_for(alloc, by, core, "preempt_off", task_name(header, task)),
-        Call::PreemptOn(task) => call_for(alloc, by, core, "preempt_on", task_name(header, task)),
-        Call::Finish => bare_call(alloc, by, core, "finish"),
+        Call::AffinitySet { task, mask } => caller.affinity_set(task_name(header, task), mask),
+        Call::PreemptOff(task) => caller.call_for("preempt_off", task_name(header, task)),
+        Call::PreemptOn(task) => caller.call_for("preempt_on", task_name(header, task)),
+        Call::Notify(Note { task, action }) => caller.notify(task_name(header, task), action),
+        Call::NotifyWait { entry, exit, ticks } => caller.wait(entry, exit, ticks),
+        Call::NotifyTake { clear, ticks } => caller.take(clear, ticks),
+        Call::StateClear(task) => caller.call_for("state_clear", task_name(header, task)),
+        Call::ValueClear { task, bits } => caller.value_clear(task_name(header, task), bits),
+        Call::Finish => caller.bare("finish"),
     }
-}
-
-fn bare_call(alloc: Global, by: &str, core: u32, word: &str) -> Result<Value, AllocError>
-    ensures { IfOk result (λ value. view value ≡ bare_call by.now core word.now) }
-{
-    json!(in alloc; {"by": by, "core": core, "do": word})
-}
-
-fn call_for(alloc: Global, by: &str, core: u32, word: &str, to: &str) -> Result<Value, AllocError>
-    ensures { IfOk result (λ value. view value ≡ call_for by.now core word.now to.now) }
-{
-    json!(in alloc; {"by": by, "core": core, "do": word, "to": to})
 }
 
 fn task_name(header: &Header, task: u32) -> &str

@@ -1,12 +1,12 @@
 -- The lines of edits and of a replay.
-use Rattle.std.specs.Prelude.{ℕ, suc, ◌-◌, List, [], ◌∷◌, ◌++◌, flat_map, codes, decimal, nat_lt, if◌then◌else◌, slice_index_or, Result, Ok, Err}
+use Rattle.std.specs.Prelude.{ℕ, suc, ◌-◌, List, [], ◌∷◌, ◌++◌, flat_map, codes, decimal, Bool, nat_lt, if◌then◌else◌, slice_index_or, Result, Ok, Err}
 use Rattle.bench_types.specs.declared.edit.EditFault.{EditFault}
 use Rattle.bench_types.specs.declared.edit.EditFault.TheVariants.{Bench, NoPlace, TooLong}
 use Rattle.bench_types.specs.declared.fault.Fault.{Fault}
 use Rattle.bench_types.specs.declared.fault.Fault.TheVariants.{BadHeader, BadCore, BadTask, BadMutex, BadArgument}
 use Rattle.bench_types.specs.declared.header.Header.{Header}
 use Rattle.bench_types.specs.declared.reply.Reply.{Reply}
-use Rattle.bench_types.specs.declared.reply.Reply.TheVariants.{Done, Blocked, Refused}
+use Rattle.bench_types.specs.declared.reply.Reply.TheVariants.{Done, Blocked, Flag, Value, Waited, Isr, Refused}
 use Rattle.bench_types.specs.declared.reply.Refusal.{Refusal}
 use Rattle.bench_types.specs.declared.reply.Refusal.TheVariants.{Displaced, SwitchDue, InCall, NotInCall, NotDue}
 use Rattle.session_store.specs.declared.outcome.Outcome.{Outcome}
@@ -31,9 +31,16 @@ refusal_text InCall = codes "E4"
 refusal_text NotInCall = codes "E5"
 refusal_text NotDue = codes "E10"
 
+abbrev pub flag_text : Bool → List ℕ
+flag_text flag = if flag then codes "true" else codes "false"
+
 abbrev pub reply_text : Reply → List ℕ
 reply_text Done = codes "done"
 reply_text Blocked = codes "blocked"
+reply_text (Flag flag) = flag_text flag
+reply_text (Value value) = codes "value" ++ spaced (decimal value)
+reply_text (Waited ok value) = codes "waited" ++ spaced (flag_text ok) ++ spaced (decimal value)
+reply_text (Isr pass pend) = codes "isr" ++ spaced (flag_text pass) ++ spaced (flag_text pend)
 reply_text (Refused why) = codes "refused" ++ spaced (refusal_text why)
 
 -- the first line: the tasks that run at the start

@@ -30,6 +30,10 @@ fn push_reply(text: &mut String, reply: Reply) -> Result<(), AllocError>
     match reply {
         Reply::Done => text.push_str("done"),
         Reply::Blocked => text.push_str("blocked"),
+        Reply::Flag(flag) => write!(text, "{flag}"),
+        Reply::Value(value) => write!(text, "value {value}"),
+        Reply::Waited { ok, value } => write!(text, "waited {ok} {value}"),
+        Reply::Isr { pass, pend } => write!(text, "isr {pass} {pend}"),
         Reply::Refused(why) => {
             text.push_str("refused")?;
             push_spaced(text, refusal_text(why))

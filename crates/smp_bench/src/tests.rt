@@ -175,6 +175,42 @@ fn replayed_sessions(rt: HostRuntime) -> Result<(), Fail> {
     Ok(())
 }
 
+const NOTIFYING: &str = r#"{"do":"notify_take","core":0,"by":"A","clear":false,"ticks":0},
+{"do":"isr_notify","core":1,"to":"A","action":"set","value":2},
+{"do":"isr_notify","core":1,"to":"A","action":"set_new","value":9},
+{"do":"notify_take","core":0,"by":"A","clear":false,"ticks":0},
+{"do":"state_clear","core":0,"by":"A","to":"A"},
+{"do":"notify_wait","core":0,"by":"A","entry":0,"exit":4294967295,"ticks":4294967295},
+{"do":"switch","core":0},
+{"do":"isr_notify","core":1,"to":"A","action":"increment"},
+{"do":"switch","core":1},
+{"do":"finish","core":1,"by":"A"},
+{"do":"notify","core":1,"by":"A","to":"C","action":"set_new","value":7},
+{"do":"value_clear","core":1,"by":"A","to":"C","bits":3},
+{"do":"notify_wait","core":1,"by":"A","entry":0,"exit":0,"ticks":0}"#;
+
+const NOTIFIED: &str = "start A B
+0 value 0 A B
+1 isr true false A B
+2 isr false false A B
+3 value 2 A B
+4 false A B
+5 blocked A B
+6 done C B
+7 isr true true C B
+8 done C A
+9 waited true 2 C A
+10 true C A
+11 value 7 C A
+12 waited false 0 C A
+";
+
+#[test]
+fn replayed_notifications(rt: HostRuntime) -> Result<(), Fail> {
+    let input = session(rt.alloc(), ABC, NOTIFYING)?;
+    expect(&rt, rt.alloc(), &input, Status::Fine, NOTIFIED)
+}
+
 /// A session of three tasks and two steps as a program would write it.
 fn written(
     alloc: Global,

@@ -3,7 +3,7 @@ use Rattle.std.proofs.Common.{◌≡◌, Some, None, Ok, refl, sym, ap, ◌∙�
 use Rattle.bench_types.specs.declared.reply.Reply.TheVariants.{Refused}
 use Rattle.bench_types.specs.declared.reply.Refusal.{Refusal}
 use Rattle.bench_types.specs.declared.step.Step.{Step}
-use Rattle.bench_types.specs.declared.step.Step.TheVariants.{Tick, Switch}
+use Rattle.bench_types.specs.declared.step.Step.TheVariants.{Tick, Switch, Interrupt}
 use Rattle.bench_types.specs.declared.step.Step.TheVariants as steps
 use Rattle.bench_types.specs.Step.{step_check, core_check, task_check, call_check, ◌>>◌}
 use Rattle.bench_model.specs.Search.{has}
@@ -23,6 +23,9 @@ finds_its_place (steps.Call core task call) view settled passes accepted =
     let low = checked_core view.settings core in_range.0 in
     let found = not_displaced view.control view.calls core task call accepted in
     (low, (checked_task view.settings task in_range.1).1, ap (λ i. has i view.orders.ready) (sym found.0) ∙ settled.runs_ready core low found.1, both.1)
+finds_its_place (Interrupt core note) view settled passes accepted =
+    let both = both_pass (core_check view.settings core) (task_check view.settings note.task) passes in
+    (checked_core view.settings core both.0, (checked_task view.settings note.task both.1).1)
 
 pub after_refused : (step : Step) (view : View) (why : Refusal) → refusal view.control view.calls step ≡ Some why → (Refused why, view) ≡ after list_moves step view
 unfolding after

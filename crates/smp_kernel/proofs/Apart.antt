@@ -51,6 +51,14 @@ apart_waiting entry ready delayed apart t found = at (has t ready) refl
     at true before = grind (arith, nat_tests, found, before, apart t before, waiting-placed t entry delayed, has-filter (λ m. not (eqb m entry.task)) t ready)
     at false before = absurd (cc (found, before, has-filter (λ m. not (eqb m entry.task)) t ready, and_false (not (eqb t entry.task))))
 
+-- a task that waits without end is ready no more, and stands in no other list
+pub apart_endless : (task : ℕ) (ready : List ℕ) (delayed : List Delayed) → IsApart ready delayed → IsApart (without task ready) delayed
+apart_endless task ready delayed apart t found = at (has t ready) refl
+  where
+    at : (b : Bool) → has t ready ≡ b → is_waiting t delayed ≡ false
+    at true before = apart t before
+    at false before = absurd (cc (found, before, has-filter (λ m. not (eqb m task)) t ready, and_false (not (eqb t task))))
+
 -- the ready lists where a task that is ready goes to the end of its list
 pub apart_queued : (task : ℕ) (control : Control) (ready : List ℕ) (delayed : List Delayed) → IsApart ready delayed → IsApart (cond (has task ready) (placed (outranks control) task (without task ready)) ready) delayed
 apart_queued task control ready delayed apart = at (has task ready) refl

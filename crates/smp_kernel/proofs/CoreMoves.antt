@@ -1,15 +1,18 @@
 -- What the rules do to the cores and ready lists of a kernel, where no task is ready and waits: they read these alone.
 use Rattle.std.proofs.Common.{◌≡◌, ℕ, Bool, true, false, cond, not, eqb, ◌&&◌, List, [], ◌∷◌, length, Option, refl, sym, ap, ◌∙◌}
-use Rattle.std.specs.Prelude.{unwrap_or}
+use Rattle.std.specs.Prelude.{unwrap_or, slice_set}
 use Rattle.std.specs.List.{find}
 use Rattle.std.proofs.lemmas.List.{length-set}
 use Rattle.bench_types.specs.declared.kernel_data.Settings.{Settings}
+use Rattle.bench_types.specs.declared.note.Action.{Action}
 use Rattle.bench_types.specs.declared.note.Notification.{Notification}
 use Rattle.bench_types.specs.declared.step.Call.{Call}
 use Rattle.bench_model.specs.Search.{placed, without, has}
 use Rattle.bench_model.specs.Control.{Control, current, may_select, in_mask, run_on, ask_each}
 use Rattle.bench_model.specs.State.{switched}
 use Rattle.bench_model.specs.Seek.{seek, may_move, wake, resettled, switched_and_sought, shares_its_time, sliced}
+use Rattle.bench_model.specs.Notes.{note_at, is_waiting, notified}
+use Rattle.bench_model.specs.Notifying.{notify}
 use Rattle.bench_model.specs.Steps.{woken}
 use Rattle.bench_model.specs.Changes.{with_in_use, in_use_set}
 use Rattle.bench_model.specs.Cores.{CoresView, cores_of, alone, on_cores}
@@ -115,19 +118,19 @@ pub turned_ready : (core : ℕ) (cores : CoresView) → (on_cores (switched_and_
 turned_ready core cores = ap (λ (part : CoresView). part.ready) (turned_cores core cores)
 
 -- waking a task
-pub wake_seen : (settings : Settings) (cores : CoresView) (calls : List (Option Call)) (notes : List Notification) (delays : DelayView) (task : ℕ) → kernel_view settings (on_cores (wake list_moves 0 task) cores) calls notes (record delays { delayed = cancelled task delays.delayed }) ≡ wake list_moves 0 task (kernel_view settings cores calls notes delays)
+pub wake_seen : (settings : Settings) (cores : CoresView) (calls : List (Option Call)) (notes : List Notification) (delays : DelayView) (acting task : ℕ) → kernel_view settings (on_cores (wake list_moves acting task) cores) calls notes (record delays { delayed = cancelled task delays.delayed }) ≡ wake list_moves acting task (kernel_view settings cores calls notes delays)
 unfolding wake make_ready
-wake_seen settings cores calls notes delays task = refl
+wake_seen settings cores calls notes delays acting task = refl
 
-pub wake_kept : (task : ℕ) (cores : CoresView) → IsKept cores (on_cores (wake list_moves 0 task) cores)
+pub wake_kept : (acting task : ℕ) (cores : CoresView) → IsKept cores (on_cores (wake list_moves acting task) cores)
 unfolding wake
-wake_kept task cores =
-    let more = seek_more 0 task (in_mask cores.control task) cores.control in
+wake_kept acting task cores =
+    let more = seek_more acting task (in_mask cores.control task) cores.control in
     record { priorities = refl; slicing = refl; cores = more.cores; controls = ap length more.tasks }
 
-pub wake_ready : (task : ℕ) (cores : CoresView) → (on_cores (wake list_moves 0 task) cores).ready ≡ placed (outranks cores.control) task (without task cores.ready)
+pub wake_ready : (acting task : ℕ) (cores : CoresView) → (on_cores (wake list_moves acting task) cores).ready ≡ placed (outranks cores.control) task (without task cores.ready)
 unfolding wake make_ready
-wake_ready task cores = refl
+wake_ready acting task cores = refl
 
 -- setting a priority in use
 in_use_part : (task priority : ℕ) (view : View) → IsApart view.orders.ready view.orders.delayed → in_use_set list_moves task priority view ≡ with_part view (with_in_use task priority view.control) (queue_of task (with_in_use task priority view.control) view.orders.ready)
@@ -187,6 +190,12 @@ slice_ready cores = elim cores.slicing as (λ b. (cores_of (cond b (record (alon
 pub turned_settings : (core : ℕ) (view : View) → (switched_and_sought list_moves core view).settings ≡ view.settings
 unfolding switched_and_sought switched
 turned_settings core view = ap (λ (v : View). v.settings) (resettle_part core (current view.control core) (switched list_moves core view))
+
+pub notify_settings : (acting task : ℕ) (action : Action) (view : View) → (notify list_moves acting task action view).settings ≡ view.settings
+unfolding notify wake
+notify_settings acting task action view =
+    let told = record view { notes = slice_set view.notes task (notified action (note_at view.notes task)) } in
+    elim (is_waiting (note_at view.notes task).state) as (λ b. (cond b (wake list_moves acting task told) told).settings ≡ view.settings) [ true ↦ refl | false ↦ refl ]
 
 pub woken_settings : (tasks : List ℕ) (view : View) → (woken list_moves tasks view).settings ≡ view.settings
 unfolding wake

@@ -1,21 +1,25 @@
 -- What a kernel that stands for a sound table keeps, and what it stands for after a step.
-use Rattle.std.proofs.Common.{◌≡◌, ℕ, ◌<◌, ◌%◌, ◌^◌, true, false, cond, eqb, [], length, Some, None, Ok, refl, sym, ap, subst, ◌∙◌, arith}
+use Rattle.std.proofs.Common.{◌≡◌, ℕ, ◌<◌, ◌%◌, ◌^◌, Bool, true, false, cond, eqb, ltb, ◌&&◌, List, [], length, Some, None, Ok, refl, sym, ap, subst, ◌∙◌, arith}
+use Rattle.std.specs.Prelude.{slice_set}
 use Rattle.std.specs.Option.{option_map_or}
 use Rattle.std.proofs.lemmas.Bool.{true_from_ne_false}
 use Rattle.std.proofs.lemmas.Bool.Decides.{nat_tests}
+use Rattle.bench_types.specs.declared.note.Notification.{Notification}
 use Rattle.bench_types.specs.declared.reply.Reply.{Reply}
 use Rattle.bench_types.specs.declared.reply.Reply.TheVariants.{Done, Blocked, Refused}
 use Rattle.bench_types.specs.declared.step.Step.{Step}
-use Rattle.bench_types.specs.declared.step.Step.TheVariants.{Tick, Switch}
+use Rattle.bench_types.specs.declared.step.Step.TheVariants.{Tick, Switch, Interrupt}
 use Rattle.bench_types.specs.declared.step.Step.TheVariants as steps
 use Rattle.bench_types.specs.declared.step.Call.{Call}
-use Rattle.bench_types.specs.declared.step.Call.TheVariants.{Yield, Delay, Finish, PrioritySet, AffinitySet, PreemptOff, PreemptOn}
+use Rattle.bench_types.specs.declared.step.Call.TheVariants.{Yield, Delay, Finish, PrioritySet, AffinitySet, PreemptOff, PreemptOn, Notify, NotifyWait, NotifyTake, StateClear, ValueClear}
 use Rattle.bench_types.specs.Step.{step_check, IsStepOfWords, IsCheckedStep}
 use Rattle.bench_model.specs.declared.row.Standing.{Standing}
 use Rattle.bench_model.specs.declared.row.Standing.TheVariants as standing
 use Rattle.bench_model.specs.Search.{numbers, has}
 use Rattle.bench_model.specs.Control.{core_at, task_at, current}
-use Rattle.bench_model.specs.State.{refusal, yielded, blocked}
+use Rattle.bench_model.specs.State.{call_at, refusal, yielded, blocked}
+use Rattle.bench_model.specs.Notes.{wait_begun, take_begun, of_task}
+use Rattle.bench_model.specs.Notifying.{interrupted, state_forgotten, bits_cleared, completed, finished, awaited, awaited_for}
 use Rattle.bench_model.specs.Changes.{with_base, in_use_set}
 use Rattle.bench_model.specs.Sets.{capped, in_use_behind, ranked_anew, priority_set, affinity_set, preemption_off, preemption_on}
 use Rattle.bench_model.specs.Looks.{task_look, look_in}
@@ -34,7 +38,7 @@ use Rattle.bench_model.proofs.Looks.{look_seen}
 use Rattle.bench_model.proofs.Steps.{after_seen, after_sound}
 use Rattle.smp_kernel.specs.Parts.{due_tasks}
 use Rattle.smp_kernel.specs.Kernel.{IsSettled, StandsForSome}
-use Rattle.smp_kernel.proofs.CoreMoves.{turned_settings, woken_settings, sliced_settings}
+use Rattle.smp_kernel.proofs.CoreMoves.{turned_settings, notify_settings, woken_settings, sliced_settings}
 
 not_yet : (stamps : Stamps) → WakesInTime stamps → (i : ℕ) → i < length stamps.rows → wakes_at stamps.tick (row_at stamps i).standing ≡ false
 not_yet stamps in_time i low = at (row_at stamps i).standing refl
@@ -97,23 +101,56 @@ priority_settings core task priority view =
     let later = in_use_set list_moves task (in_use_behind block new) (record view { control = with_base task new view.control }) in
     elim (eqb new block.base) as (λ b. (cond b view (record later { control = ranked_anew core task block.base new (has task view.orders.ready) later.control })).settings ≡ view.settings) [ true ↦ refl | false ↦ refl ]
 
+completed_settings : (task : ℕ) (call : Call) (view : View) → (completed task call view).1.settings ≡ view.settings
+unfolding completed
+completed_settings task Yield view = refl
+completed_settings task (Delay ticks) view = refl
+completed_settings task Finish view = refl
+completed_settings task (PrioritySet other priority) view = refl
+completed_settings task (AffinitySet other mask) view = refl
+completed_settings task (PreemptOff other) view = refl
+completed_settings task (PreemptOn other) view = refl
+completed_settings task (Notify note) view = refl
+completed_settings task (NotifyWait entry exit ticks) view = refl
+completed_settings task (NotifyTake clear ticks) view = refl
+completed_settings task (StateClear other) view = refl
+completed_settings task (ValueClear other bits) view = refl
+
+finished_settings : (task : ℕ) (view : View) → (finished task view).1.settings ≡ view.settings
+unfolding finished
+finished_settings task view =
+    let ended = record view { calls = slice_set view.calls task None } in
+    elim (call_at view.calls task) as (λ call. (option_map_or (λ call. completed task call ended) call (outcome Done view)).1.settings ≡ view.settings) [ None ↦ refl | Some call ↦ completed_settings task call ended ]
+
+awaited_settings : (core task : ℕ) (call : Call) (ticks : ℕ) (begun : Bool × List Notification) (view : View) → (awaited list_moves core task call ticks begun view).1.settings ≡ view.settings
+unfolding awaited blocked
+awaited_settings core task call ticks begun view =
+    let waiting = record view { notes = begun.1 } in
+    elim (begun.0 && ltb 0 ticks) as (λ b. (cond b (outcome Blocked (blocked list_moves core task call (awaited_for ticks) waiting)) (completed task call waiting)).1.settings ≡ view.settings) [ true ↦ refl | false ↦ completed_settings task call waiting ]
+
 called_settings : (core task : ℕ) (call : Call) (view : View) → (called list_moves core task call view).1.settings ≡ view.settings
-unfolding called yielded blocked affinity_set preemption_off preemption_on
+unfolding called yielded blocked affinity_set preemption_off preemption_on state_forgotten bits_cleared
 called_settings core task Yield view = refl
 called_settings core task (Delay ticks) view = elim (eqb ticks 0) as (λ b. (cond b (outcome Done (yielded list_moves core view)) (outcome Blocked (blocked list_moves core task (Delay ticks) (Some ticks) view))).1.settings ≡ view.settings) [ true ↦ refl | false ↦ refl ]
-called_settings core task Finish view = refl
+called_settings core task Finish view = finished_settings task view
 called_settings core task (PrioritySet other priority) view = priority_settings core other priority view
 called_settings core task (AffinitySet other mask) view = refl
 called_settings core task (PreemptOff other) view = refl
 called_settings core task (PreemptOn other) view = refl
+called_settings core task (Notify note) view = notify_settings core note.task note.action view
+called_settings core task (NotifyWait entry exit ticks) view = awaited_settings core task (NotifyWait entry exit ticks) ticks (of_task task (wait_begun entry) view.notes) view
+called_settings core task (NotifyTake clear ticks) view = awaited_settings core task (NotifyTake clear ticks) ticks (of_task task take_begun view.notes) view
+called_settings core task (StateClear other) view = refl
+called_settings core task (ValueClear other bits) view = refl
 
 performed_settings : (step : Step) (view : View) → (performed list_moves step view).1.settings ≡ view.settings
-unfolding performed ticked
+unfolding performed ticked interrupted
 performed_settings Tick view =
     let later = record view { orders = seen.advance view.orders } in
     sliced_settings (woken list_moves (seen.due later.orders) later) ∙ woken_settings (seen.due later.orders) later
 performed_settings (Switch core) view = turned_settings core view
 performed_settings (steps.Call core task call) view = called_settings core task call view
+performed_settings (Interrupt core note) view = notify_settings core note.task note.action view
 
 after_settings : (step : Step) (view : View) → (after list_moves step view).1.settings ≡ view.settings
 unfolding after

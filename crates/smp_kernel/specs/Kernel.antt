@@ -47,11 +47,13 @@ pub record IsSettled (view : View) : Type 0 where
   pub none_due : due_tasks view.orders.delayed ≡ []
   pub runs_ready : (core : ℕ) → core < view.settings.cores → is_due view.control core ≡ false → has (current view.control core) view.orders.ready ≡ true
 
--- what a step finds that is not refused: no task that is due, its core, and for a call its ready task and what it is for
+-- what a step finds that is not refused: no task that is due, its core, for a call its ready task and what it is for, and for
+-- an interrupt the task that it notifies
 abbrev pub FindsItsPlace : View → Step → Type 0
 FindsItsPlace view step.Tick = due_tasks view.orders.delayed ≡ []
 FindsItsPlace view (step.Switch core) = core < view.settings.cores
 FindsItsPlace view (step.Call core task call) = (core < view.settings.cores) × (task < view.settings.tasks) × (has task view.orders.ready ≡ true) × (call_check view.settings call ≡ Ok tt)
+FindsItsPlace view (step.Interrupt core note) = (core < view.settings.cores) × (note.task < view.settings.tasks)
 
 -- there is a sound table that a kernel of which this can be seen stands for
 abbrev pub StandsForSome : View → Type 0

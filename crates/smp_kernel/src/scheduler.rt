@@ -1,6 +1,6 @@
 ghost use Rattle.std.specs.Prelude.{◌≡◌, ◌<◌, ◌≤◌, length, [], true, IfOk, Ok, Some, None, replicate};
 ghost use Rattle.bench_types.specs.Header.{header_check};
-ghost use Rattle.bench_types.specs.Step.{call_check, step_check, IsOfWords, IsStepOfWords};
+ghost use Rattle.bench_types.specs.Step.{call_check, step_check, IsStepOfWords};
 ghost use Rattle.bench_types.specs.declared.step.Call.TheVariants.{Delay};
 ghost use Rattle.bench_model.specs.Search.{has};
 ghost use Rattle.bench_model.specs.Control.{core_at, current, is_due};
@@ -13,6 +13,7 @@ ghost use Rattle.bench_model.specs.Looks.{look_in};
 ghost use Rattle.smp_kernel.specs.Parts.{due_tasks};
 ghost use Rattle.smp_kernel.specs.Kernel.{IsSettled, FindsItsPlace};
 
+mod notes;
 mod sets;
 
 use crate::delays::Delays;
@@ -132,7 +133,7 @@ impl Scheduler {
         ensures made { (result, self.new) ≡ after list_moves step.now self.old }
         ensures words { IsStepOfWords step.now }
     {
-        match self.refusal(step) {
+        match self.refusal(*step) {
             Some(why) => Reply::Refused(why),
             None => self.perform(step),
         }
@@ -157,25 +158,25 @@ impl Scheduler {
 
     // Why the step is refused, the first reason that applies.
     #[tactic(auto, unfolding(bench_model::specs::State::refusal))]
-    fn refusal(&self, step: &Step) -> Option<Refusal>
-        requires { step_check self.now.settings step.now ≡ Ok tt }
-        ensures reason { result ≡ refusal self.now.control self.now.calls step.now }
-        ensures words { IsStepOfWords step.now }
+    fn refusal(&self, step: Step) -> Option<Refusal>
+        requires { step_check self.now.settings step ≡ Ok tt }
+        ensures reason { result ≡ refusal self.now.control self.now.calls step }
+        ensures words { IsStepOfWords step }
     {
         match step {
-            Step::Tick => None,
+            Step::Tick | Step::Interrupt { .. } => None,
             Step::Switch { core } => {
-                if self.is_due(*core) {
+                if self.is_due(core) {
                     None
                 } else {
                     Some(Refusal::NotDue)
                 }
             }
             Step::Call { core, task, call } => {
-                let unfinished = unfinished_refusal(self.calls[*task as usize], *call);
-                if self.cores.running(*core) != *task {
+                let unfinished = unfinished_refusal(self.calls[task as usize], call);
+                if self.cores.running(core) != task {
                     Some(Refusal::Displaced)
-                } else if self.is_due(*core) {
+                } else if self.is_due(core) {
                     Some(Refusal::SwitchDue)
                 } else {
                     unfinished
@@ -200,6 +201,7 @@ impl Scheduler {
                 Reply::Done
             }
             Step::Call { core, task, call } => self.call(*core, *task, *call),
+            Step::Interrupt { core, note } => self.interrupt(*core, *note),
         }
     }
 
@@ -210,17 +212,17 @@ impl Scheduler {
     {
         self.delays.advance();
         while let Some(task) = self.delays.first_due() {
-            self.wake(task);
+            self.wake(0, task);
         }
         self.slice();
     }
 
-    // The task waits no more, goes to the end of its ready list, and core 0 seeks a core for it.
-    fn wake(&mut self, task: u32)
+    // The task waits no more, goes to the end of its ready list, and the acting core seeks a core for it.
+    fn wake(&mut self, acting: u32, task: u32)
         requires { task < self.old.settings.tasks }
-        ensures { self.new ≡ wake list_moves 0 task self.old }
+        ensures { self.new ≡ wake list_moves acting task self.old }
     {
-        self.cores.make_ready(0, task);
+        self.cores.make_ready(acting, task);
         self.delays.cancel(task);
     }
 
@@ -249,13 +251,20 @@ impl Scheduler {
         ensures { (result, self.new) ≡ called list_moves core task call self.old }
     {
         match call {
-            Call::Delay(ticks) => return self.delay(core, task, ticks),
             Call::Yield => self.ask_itself(core),
-            Call::Finish => self.calls[task as usize] = None,
             Call::PrioritySet { task, priority } => self.set_priority(core, task, priority),
             Call::AffinitySet { task, mask } => self.set_affinity(core, task, mask),
             Call::PreemptOff(task) => self.preempt_off(task),
             Call::PreemptOn(task) => self.preempt_on(core, task),
+            Call::Delay(ticks) => return self.delay(core, task, ticks),
+            Call::Notify(note) => return Reply::Flag(self.notify(core, note)),
+            Call::NotifyWait { entry, ticks, .. } => return self.wait(
+                core, task, call, entry, ticks,
+            ),
+            Call::NotifyTake { ticks, .. } => return self.take(core, task, call, ticks),
+            Call::StateClear(task) => return self.clear_state(task),
+            Call::ValueClear { task, bits } => return self.clear_value(task, bits),
+            Call::Finish => return self.finish(task),
         }
         Reply::Done
     }
@@ -272,7 +281,7 @@ impl Scheduler {
             self.ask_itself(core);
             return Reply::Done;
         }
-        self.block(core, task, Call::Delay(ticks), ticks);
+        self.block(core, task, Call::Delay(ticks), Some(ticks));
         Reply::Blocked
     }
 
@@ -285,18 +294,20 @@ impl Scheduler {
         self.cores.ask(core, core);
     }
 
-    // The task waits in its call for so many ticks, and its core asks itself to switch.
+    // The task waits in its call, for so many ticks or without end, and its core asks itself to switch.
     #[tactic(auto, unfolding(bench_model::specs::State::blocked, bench_model::specs::Lists::delay))]
-    fn block(&mut self, core: u32, task: u32, call: Call, ticks: u32)
+    fn block(&mut self, core: u32, task: u32, call: Call, ticks: Option<u32>)
         requires core { core < self.old.settings.cores }
         requires task { task < self.old.settings.tasks }
         requires ready { has task self.old.orders.ready ≡ true }
-        ensures { self.new ≡ blocked list_moves core task call (Some ticks) self.old }
+        ensures { self.new ≡ blocked list_moves core task call ticks self.old }
     {
         self.cores.ask(core, core);
         self.calls[task as usize] = Some(call);
         self.cores.unready(task);
-        self.delays.delay(task, ticks);
+        if let Some(ticks) = ticks {
+            self.delays.delay(task, ticks);
+        }
     }
 }
 
@@ -312,21 +323,12 @@ fn no_calls(alloc: Global, tasks: u32) -> Result<Vec<Option<Call>>, AllocError>
 
 // A task with an unfinished call can only finish it, and without one it can't finish.
 fn unfinished_refusal(unfinished: Option<Call>, call: Call) -> Option<Refusal>
-    ensures reason { result ≡ call_refusal unfinished call }
-    ensures words { IsOfWords call }
+    ensures { result ≡ call_refusal unfinished call }
 {
+    let is_finish = matches!(call, Call::Finish);
     match unfinished {
-        None => match call {
-            Call::Finish => Some(Refusal::NotInCall),
-            Call::Yield | Call::Delay(_) => None,
-            Call::PrioritySet { .. } | Call::AffinitySet { .. } => None,
-            Call::PreemptOff(_) | Call::PreemptOn(_) => None,
-        },
-        Some(_) => match call {
-            Call::Finish => None,
-            Call::Yield | Call::Delay(_) => Some(Refusal::InCall),
-            Call::PrioritySet { .. } | Call::AffinitySet { .. } => Some(Refusal::InCall),
-            Call::PreemptOff(_) | Call::PreemptOn(_) => Some(Refusal::InCall),
-        },
+        None if is_finish => Some(Refusal::NotInCall),
+        Some(_) if !is_finish => Some(Refusal::InCall),
+        _ => None,
     }
 }

@@ -156,11 +156,11 @@ const STEPS: &str =
 const WRITTEN: &str =
     "{\"cores\":2,\"format\":1,\"mutexes\":0,\"priorities\":5,\"slicing\":false,\"steps\":[{\"by\":\"A\",\"core\":0,\"do\":\"priority_set\",\"priority\":4294967295,\"to\":\"B\"},{\"by\":\"B\",\"core\":1,\"do\":\"affinity_set\",\"mask\":6,\"to\":\"A\"},{\"by\":\"A\",\"core\":0,\"do\":\"preempt_off\",\"to\":\"A\"},{\"by\":\"A\",\"core\":1,\"do\":\"preempt_on\",\"to\":\"B\"}],\"tasks\":[{\"mask\":3,\"name\":\"A\",\"priority\":2},{\"mask\":3,\"name\":\"B\",\"priority\":1}],\"tick\":0}";
 
-fn session_of(alloc: Global, steps: &str) -> Result<String, AllocError> {
+pub(super) fn session_of(alloc: Global, steps: &str) -> Result<String, AllocError> {
     format!(in alloc; "{FRONT}{steps}]}}")
 }
 
-fn check_steps(rt: &impl Abort, alloc: Global, table: &str) -> Result<(), Fail> {
+pub(super) fn check_steps(rt: &impl Abort, alloc: Global, table: &str) -> Result<(), Fail> {
     for line in table.trim().lines() {
         let (steps, want) = row(line)?;
         let text = session_of(alloc, steps)?;

@@ -5,6 +5,7 @@ ghost use Rattle.bench_model.specs.Session.{step_of};
 ghost use Rattle.bench_model.specs.Equal.{StandsFor};
 
 mod looks;
+mod notes;
 mod sets;
 
 use super::{Kernel, StartFault};
@@ -52,6 +53,11 @@ fn header_of(alloc: Global, config: Config, args: &[(&str, u32, u32)]) -> Result
 
 fn call(task: u32, call: Call) -> Step {
     let core = 0;
+    Step::Call { core, task, call }
+}
+
+fn call_on_1(task: u32, call: Call) -> Step {
+    let core = 1;
     Step::Call { core, task, call }
 }
 

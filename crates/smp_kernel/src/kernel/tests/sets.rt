@@ -1,16 +1,11 @@
 //! The calls that set a task's priority, core affinity mask and preemption.
-use super::{CONFIG, SWITCH_0, SWITCH_1, Started, call, header_of, play, three_tasks};
+use super::{CONFIG, SWITCH_0, SWITCH_1, Started, call, call_on_1, header_of, play, three_tasks};
 use bench_types::{Call, Header, NoteState, Reply, Step, TaskLook};
 use std::process::Abort;
 use std::rt::Runtime;
 use std::test::Fail;
 
 type Flags = [(bool, bool); 2];
-
-fn call_on_1(task: u32, call: Call) -> Step {
-    let core = 1;
-    Step::Call { core, task, call }
-}
 
 // Steps of which each is done or blocks, with the flags of both cores behind each.
 fn play_flags<R: Runtime + AllocGlobal + Abort>(

@@ -1,0 +1,321 @@
+//! Notifications as texts. What reading and writing gives was worked out by hand from the format's description, and by a
+//! program of its own.
+
+use super::calls::{check_steps, session_of};
+use super::{Document, row};
+use crate::{read_edit, read_session, write_session};
+use bench_types::{Action, Call, Edit, Note, Step};
+use std::test::Fail;
+
+// Steps, and what reading the session of them gives.
+const ACTIONS: &str = r#"
+{"do":"notify","core":0,"by":"A","to":"B","action":"none"} | read
+{"do":"notify","core":0,"by":"A","to":"B","action":"set_bits","value":0} | read
+{"do":"notify","core":0,"by":"A","to":"B","action":"increment"} | read
+{"do":"notify","core":0,"by":"A","to":"B","action":"set","value":7} | read
+{"do":"notify","core":0,"by":"A","to":"B","action":"set_new","value":4294967295} | read
+{"do":"isr_notify","core":0,"to":"B","action":"none"} | read
+{"do":"isr_notify","core":1,"to":"B","action":"set_bits","value":4294967295} | read
+{"do":"isr_notify","core":0,"to":"A","action":"increment"} | read
+{"do":"isr_notify","core":0,"to":"B","action":"set","value":0} | read
+{"do":"isr_notify","core":0,"to":"B","action":"set_new","value":7} | read
+{"value":7,"action":"set","to":"B","by":"A","core":0,"do":"notify"} | read
+{"value":7,"action":"set_bits","to":"B","core":0,"do":"isr_notify"} | read
+{"do":"notify","core":0,"by":"A","to":"B","action":"none","value":0} | H2 steps[0]
+{"do":"notify","core":0,"by":"A","to":"B","action":"none","value":"0"} | H2 steps[0]
+{"do":"notify","core":0,"by":"A","to":"B","action":"increment","value":1} | H2 steps[0]
+{"do":"notify","core":0,"by":"A","to":"B","action":"increment","value":null} | H2 steps[0]
+{"do":"notify","core":0,"by":"A","to":"B","action":"set_bits"} | H2 steps[0].value
+{"do":"notify","core":0,"by":"A","to":"B","action":"set"} | H2 steps[0].value
+{"do":"notify","core":0,"by":"A","to":"B","action":"set_new"} | H2 steps[0].value
+{"do":"isr_notify","core":0,"to":"B","action":"none","value":0} | H2 steps[0]
+{"do":"isr_notify","core":0,"to":"B","action":"increment","value":1} | H2 steps[0]
+{"do":"isr_notify","core":0,"to":"B","action":"set_bits"} | H2 steps[0].value
+{"do":"isr_notify","core":0,"to":"B","action":"set"} | H2 steps[0].value
+{"do":"isr_notify","core":0,"to":"B","action":"set_new"} | H2 steps[0].value
+{"do":"notify","core":0,"by":"A","to":"B","action":"set_bits","value":"3"} | H2 steps[0].value
+{"do":"notify","core":0,"by":"A","to":"B","action":"set","value":null} | H2 steps[0].value
+{"do":"notify","core":0,"by":"A","to":"B","action":"set_new","value":true} | H2 steps[0].value
+{"do":"notify","core":0,"by":"A","to":"B","action":"set","value":4294967296} | H2 steps[0].value
+{"do":"notify","core":0,"by":"A","to":"B","action":"set","value":-1} | H2 steps[0].value
+{"do":"notify","core":0,"by":"A","to":"B","action":"set","value":1.0} | H2 steps[0].value
+{"do":"isr_notify","core":0,"to":"B","action":"set_bits","value":[]} | H2 steps[0].value
+{"do":"isr_notify","core":0,"to":"B","action":"set_new","value":4294967296} | H2 steps[0].value
+{"do":"notify","core":0,"by":"A","to":"B","action":"","value":1} | H2 steps[0].action
+{"do":"notify","core":0,"by":"A","to":"B","action":"Set","value":1} | H2 steps[0].action
+{"do":"notify","core":0,"by":"A","to":"B","action":"set_","value":1} | H2 steps[0].action
+{"do":"notify","core":0,"by":"A","to":"B","action":"nothing"} | H2 steps[0].action
+{"do":"notify","core":0,"by":"A","to":"B","action":"eIncrement"} | H2 steps[0].action
+{"do":"notify","core":0,"by":"A","to":"B","action":null} | H2 steps[0].action
+{"do":"notify","core":0,"by":"A","to":"B","action":4,"value":1} | H2 steps[0].action
+{"do":"notify","core":0,"by":"A","to":"B","value":1} | H2 steps[0].action
+{"do":"isr_notify","core":0,"to":"B","action":"overwrite","value":1} | H2 steps[0].action
+{"do":"isr_notify","core":0,"to":"B","action":false} | H2 steps[0].action
+{"do":"isr_notify","core":0,"to":"B"} | H2 steps[0].action
+{"do":"notify","core":0,"by":"A","to":"B","action":"\u0073et","value":1} | read
+{"do":"notify","core":0,"by":"A","to":"B","action":"none","action":"set","value":1} | read
+{"do":"notify","core":0,"by":"A","to":"B","action":"set","action":"none","value":1} | H2 steps[0]
+"#;
+
+// The same: each member is missing, ill-typed, out of its order or joined by an unknown one.
+const SHAPES: &str = r#"
+{"do":"notify","by":"A","to":"B","action":"none"} | H2 steps[0].core
+{"do":"notify","core":0,"to":"B","action":"none"} | H2 steps[0].by
+{"do":"notify","core":0,"by":"A","action":"none"} | H2 steps[0].to
+{"do":"notify","core":"0","by":"A","to":"B","action":"none"} | H2 steps[0].core
+{"do":"notify","core":0,"by":0,"to":"B","action":"none"} | H2 steps[0].by
+{"do":"notify","core":0,"by":"A","to":1,"action":"none"} | H2 steps[0].to
+{"do":"notify","core":0,"by":"A","to":"B","action":"none","more":1} | H2 steps[0]
+{"do":"notify","core":0,"by":"A","to":"B","action":"set","value":1,"ticks":1} | H2 steps[0]
+{"do":"notify","core":"0","by":1,"to":2,"action":"all","value":"4","more":1} | H2 steps[0].core
+{"do":"notify","core":0,"by":1,"to":2,"action":"all","value":"4","more":1} | H2 steps[0].by
+{"do":"notify","core":0,"by":"A","to":2,"action":"all","value":"4","more":1} | H2 steps[0].to
+{"do":"notify","core":0,"by":"A","to":"B","action":"all","value":"4","more":1} | H2 steps[0].action
+{"do":"notify","core":0,"by":"A","to":"B","action":"set","value":"4","more":1} | H2 steps[0].value
+{"do":"notify","core":9,"by":"X","to":"Y","action":"set"} | H2 steps[0].value
+{"do":"notify","core":9,"by":"X","to":"Y","action":"none","value":4} | H2 steps[0]
+{"do":"isr_notify","to":"B","action":"none"} | H2 steps[0].core
+{"do":"isr_notify","core":0,"action":"none"} | H2 steps[0].to
+{"do":"isr_notify","core":null,"to":"B","action":"none"} | H2 steps[0].core
+{"do":"isr_notify","core":0,"to":["B"],"action":"none"} | H2 steps[0].to
+{"do":"isr_notify","core":0,"by":"A","to":"B","action":"none"} | H2 steps[0]
+{"do":"isr_notify","core":0,"by":"A","to":"B","action":"set","value":1} | H2 steps[0]
+{"do":"isr_notify","core":"0","by":1,"to":2,"action":"all","value":"4"} | H2 steps[0].core
+{"do":"isr_notify","core":0,"by":1,"to":2,"action":"all","value":"4"} | H2 steps[0].to
+{"do":"isr_notify","core":0,"by":1,"to":"B","action":"all","value":"4"} | H2 steps[0].action
+{"do":"isr_notify","core":0,"by":1,"to":"B","action":"set","value":"4"} | H2 steps[0].value
+{"do":"isr_notify","core":0,"by":1,"to":"B","action":"set","value":4} | H2 steps[0]
+{"do":"notify_wait","core":0,"by":"A","entry":0,"exit":4294967295,"ticks":4294967295} | read
+{"ticks":0,"exit":1,"entry":4294967295,"by":"A","core":0,"do":"notify_wait"} | read
+{"do":"notify_wait","by":"A","entry":0,"exit":1,"ticks":2} | H2 steps[0].core
+{"do":"notify_wait","core":0,"entry":0,"exit":1,"ticks":2} | H2 steps[0].by
+{"do":"notify_wait","core":0,"by":"A","exit":1,"ticks":2} | H2 steps[0].entry
+{"do":"notify_wait","core":0,"by":"A","entry":0,"ticks":2} | H2 steps[0].exit
+{"do":"notify_wait","core":0,"by":"A","entry":0,"exit":1} | H2 steps[0].ticks
+{"do":"notify_wait","core":"0","by":1,"entry":"0","exit":"1","ticks":"2","to":"B"} | H2 steps[0].core
+{"do":"notify_wait","core":0,"by":1,"entry":"0","exit":"1","ticks":"2","to":"B"} | H2 steps[0].by
+{"do":"notify_wait","core":0,"by":"A","entry":"0","exit":"1","ticks":"2","to":"B"} | H2 steps[0].entry
+{"do":"notify_wait","core":0,"by":"A","entry":0,"exit":"1","ticks":"2","to":"B"} | H2 steps[0].exit
+{"do":"notify_wait","core":0,"by":"A","entry":0,"exit":1,"ticks":"2","to":"B"} | H2 steps[0].ticks
+{"do":"notify_wait","core":0,"by":"A","entry":0,"exit":1,"ticks":2,"to":"B"} | H2 steps[0]
+{"do":"notify_wait","core":0,"by":"A","entry":4294967296,"exit":1,"ticks":2} | H2 steps[0].entry
+{"do":"notify_wait","core":0,"by":"A","entry":0,"exit":-1,"ticks":2} | H2 steps[0].exit
+{"do":"notify_wait","core":0,"by":"A","entry":0,"exit":1,"ticks":2.0} | H2 steps[0].ticks
+{"do":"notify_wait","core":0,"by":"A","entry":0,"exit":1,"ticks":2,"clear":true} | H2 steps[0]
+{"do":"notify_take","core":0,"by":"A","clear":true,"ticks":0} | read
+{"do":"notify_take","core":0,"by":"A","clear":false,"ticks":4294967295} | read
+{"ticks":5,"clear":false,"by":"A","core":0,"do":"notify_take"} | read
+{"do":"notify_take","by":"A","clear":true,"ticks":0} | H2 steps[0].core
+{"do":"notify_take","core":0,"clear":true,"ticks":0} | H2 steps[0].by
+{"do":"notify_take","core":0,"by":"A","ticks":0} | H2 steps[0].clear
+{"do":"notify_take","core":0,"by":"A","clear":true} | H2 steps[0].ticks
+{"do":"notify_take","core":0,"by":"A","clear":1,"ticks":0} | H2 steps[0].clear
+{"do":"notify_take","core":0,"by":"A","clear":"true","ticks":0} | H2 steps[0].clear
+{"do":"notify_take","core":0,"by":"A","clear":null,"ticks":"0"} | H2 steps[0].clear
+{"do":"notify_take","core":0,"by":"A","clear":true,"ticks":"0","to":"B"} | H2 steps[0].ticks
+{"do":"notify_take","core":0,"by":"A","clear":true,"ticks":false} | H2 steps[0].ticks
+{"do":"notify_take","core":0,"by":0,"clear":0,"ticks":"0"} | H2 steps[0].by
+{"do":"notify_take","core":0,"by":"A","clear":true,"ticks":0,"entry":0} | H2 steps[0]
+{"do":"state_clear","core":0,"by":"A","to":"B"} | read
+{"to":"B","by":"A","core":0,"do":"state_clear"} | read
+{"do":"state_clear","by":"A","to":"B"} | H2 steps[0].core
+{"do":"state_clear","core":0,"to":"B"} | H2 steps[0].by
+{"do":"state_clear","core":0,"by":"A"} | H2 steps[0].to
+{"do":"state_clear","core":0,"by":"A","to":null} | H2 steps[0].to
+{"do":"state_clear","core":0,"by":"A","to":"B","bits":1} | H2 steps[0]
+{"do":"value_clear","core":0,"by":"A","to":"B","bits":0} | read
+{"bits":4294967295,"to":"A","by":"A","core":1,"do":"value_clear"} | read
+{"do":"value_clear","by":"A","to":"B","bits":1} | H2 steps[0].core
+{"do":"value_clear","core":0,"to":"B","bits":1} | H2 steps[0].by
+{"do":"value_clear","core":0,"by":"A","bits":1} | H2 steps[0].to
+{"do":"value_clear","core":0,"by":"A","to":"B"} | H2 steps[0].bits
+{"do":"value_clear","core":0,"by":"A","to":"B","value":1} | H2 steps[0].bits
+{"do":"value_clear","core":0,"by":"A","to":0,"bits":"1"} | H2 steps[0].to
+{"do":"value_clear","core":0,"by":"A","to":"B","bits":"1","value":1} | H2 steps[0].bits
+{"do":"value_clear","core":0,"by":"A","to":"B","bits":1,"value":1} | H2 steps[0]
+{"do":"notify_","core":0,"by":"A","to":"B","action":"none"} | H2 steps[0].do
+{"do":"notify_isr","core":0,"to":"B","action":"none"} | H2 steps[0].do
+{"do":"notify_give","core":0,"by":"A","to":"B"} | H2 steps[0].do
+{"do":"Notify","core":0,"by":"A","to":"B","action":"none"} | H2 steps[0].do
+"#;
+
+// The same, where the shape is right.
+const JUDGED: &str = r#"
+{"do":"notify","core":2,"by":"X","to":"Y","action":"none"} | F2 steps[0]
+{"do":"notify","core":1,"by":"X","to":"B","action":"none"} | F3 steps[0]
+{"do":"notify","core":1,"by":"A","to":"Y","action":"set","value":1} | F3 steps[0]
+{"do":"notify","core":1,"by":"A","to":"IDLE0","action":"increment"} | F3 steps[0]
+{"do":"notify","core":1,"by":"A","to":"A","action":"increment"} | read
+{"do":"isr_notify","core":2,"to":"B","action":"none"} | F2 steps[0]
+{"do":"isr_notify","core":2,"to":"Y","action":"none"} | F2 steps[0]
+{"do":"isr_notify","core":1,"to":"Y","action":"none"} | F3 steps[0]
+{"do":"isr_notify","core":1,"to":"","action":"set_new","value":1} | F3 steps[0]
+{"do":"isr_notify","core":1,"to":"IDLE1","action":"increment"} | F3 steps[0]
+{"do":"notify_wait","core":2,"by":"X","entry":0,"exit":0,"ticks":0} | F2 steps[0]
+{"do":"notify_wait","core":1,"by":"X","entry":0,"exit":0,"ticks":0} | F3 steps[0]
+{"do":"notify_take","core":2,"by":"A","clear":true,"ticks":0} | F2 steps[0]
+{"do":"notify_take","core":1,"by":"IDLE0","clear":true,"ticks":0} | F3 steps[0]
+{"do":"state_clear","core":2,"by":"A","to":"B"} | F2 steps[0]
+{"do":"state_clear","core":1,"by":"X","to":"B"} | F3 steps[0]
+{"do":"state_clear","core":1,"by":"A","to":"b"} | F3 steps[0]
+{"do":"value_clear","core":2,"by":"A","to":"B","bits":1} | F2 steps[0]
+{"do":"value_clear","core":1,"by":"X","to":"B","bits":1} | F3 steps[0]
+{"do":"value_clear","core":1,"by":"A","to":"X","bits":1} | F3 steps[0]
+{"do":"tick"},{"do":"isr_notify","core":1,"to":"Y","action":"none"} | F3 steps[1]
+{"do":"isr_notify","core":1,"to":"Y","action":"none"},{"do":"notify_take"} | H2 steps[1].core
+{"do":"isr_notify","core":1,"to":"Y","action":"none"},{"do":"switch","core":2} | F3 steps[0]
+"#;
+
+// A step that an edit inserts, and what reading the bench document of it gives.
+const EDITS: &str = r#"
+{"do":"notify","core":0,"by":"A","to":"B","action":"set","value":1} | read
+{"do":"isr_notify","core":0,"to":"B","action":"none"} | read
+{"do":"notify_take","core":0,"by":"A","clear":true,"ticks":0} | read
+{"do":"notify","core":0,"by":"A","to":"B","action":"set"} | H2 edits[0].step.value
+{"do":"notify","core":0,"by":"A","to":"B","action":"sets"} | H2 edits[0].step.action
+{"do":"isr_notify","core":0,"to":"B","action":"none","value":1} | H2 edits[0].step
+{"do":"isr_notify","core":0,"by":"A","to":"B","action":"none"} | H2 edits[0].step
+{"do":"notify_take","core":0,"by":"A","clear":0,"ticks":0} | H2 edits[0].step.clear
+{"do":"isr_notify","core":2,"to":"B","action":"none"} | F2 edits[0]
+{"do":"isr_notify","core":0,"to":"X","action":"none"} | F3 edits[0]
+{"do":"state_clear","core":0,"by":"A","to":"X"} | F3 edits[0]
+"#;
+
+// Steps, each as it may stand in a text and as it is written.
+const WRITTEN: &str = r#"
+{"do":"notify","core":0,"by":"A","to":"B","action":"none"} | {"action":"none","by":"A","core":0,"do":"notify","to":"B"}
+{"do":"notify","core":0,"by":"A","to":"B","action":"set_bits","value":5} | {"action":"set_bits","by":"A","core":0,"do":"notify","to":"B","value":5}
+{"do":"notify","core":1,"by":"B","to":"B","action":"increment"} | {"action":"increment","by":"B","core":1,"do":"notify","to":"B"}
+{"do":"notify","core":0,"by":"A","to":"B","action":"set","value":7} | {"action":"set","by":"A","core":0,"do":"notify","to":"B","value":7}
+{"value":4294967295,"action":"set_new","to":"A","by":"B","core":1,"do":"notify"} | {"action":"set_new","by":"B","core":1,"do":"notify","to":"A","value":4294967295}
+{"do":"isr_notify","core":1,"to":"A","action":"none"} | {"action":"none","core":1,"do":"isr_notify","to":"A"}
+{"do":"isr_notify","core":0,"to":"B","action":"set_bits","value":4294967295} | {"action":"set_bits","core":0,"do":"isr_notify","to":"B","value":4294967295}
+{"action":"increment","to":"B","core":0,"do":"isr_notify"} | {"action":"increment","core":0,"do":"isr_notify","to":"B"}
+{"do":"isr_notify","core":0,"to":"B","action":"set","value":0} | {"action":"set","core":0,"do":"isr_notify","to":"B","value":0}
+{"do":"isr_notify","core":0,"to":"B","action":"set_new","value":9} | {"action":"set_new","core":0,"do":"isr_notify","to":"B","value":9}
+{"do":"notify_wait","core":1,"by":"B","entry":1,"exit":2,"ticks":3} | {"by":"B","core":1,"do":"notify_wait","entry":1,"exit":2,"ticks":3}
+{"do":"notify_take","core":0,"by":"A","clear":true,"ticks":4294967295} | {"by":"A","clear":true,"core":0,"do":"notify_take","ticks":4294967295}
+{"do":"notify_take","core":0,"by":"A","clear":false,"ticks":0} | {"by":"A","clear":false,"core":0,"do":"notify_take","ticks":0}
+{"do":"state_clear","core":0,"by":"A","to":"B"} | {"by":"A","core":0,"do":"state_clear","to":"B"}
+{"do":"value_clear","core":0,"by":"A","to":"B","bits":6} | {"bits":6,"by":"A","core":0,"do":"value_clear","to":"B"}
+"#;
+
+/// The steps of that table.
+fn wanted() -> [Step; 15] {
+    let call = |core, task, call| Step::Call { core, task, call };
+    let note = |task, action| Note { task, action };
+    let interrupt = |core, note| Step::Interrupt { core, note };
+    [
+        call(0, 2, Call::Notify(note(3, Action::Nothing))),
+        call(0, 2, Call::Notify(note(3, Action::SetBits(5)))),
+        call(1, 3, Call::Notify(note(3, Action::Increment))),
+        call(0, 2, Call::Notify(note(3, Action::Set(7)))),
+        call(1, 3, Call::Notify(note(2, Action::SetNew(4_294_967_295)))),
+        interrupt(1, note(2, Action::Nothing)),
+        interrupt(0, note(3, Action::SetBits(4_294_967_295))),
+        interrupt(0, note(3, Action::Increment)),
+        interrupt(0, note(3, Action::Set(0))),
+        interrupt(0, note(3, Action::SetNew(9))),
+        call(
+            1,
+            3,
+            Call::NotifyWait {
+                entry: 1,
+                exit: 2,
+                ticks: 3,
+            },
+        ),
+        call(
+            0,
+            2,
+            Call::NotifyTake {
+                clear: true,
+                ticks: 4_294_967_295,
+            },
+        ),
+        call(
+            0,
+            2,
+            Call::NotifyTake {
+                clear: false,
+                ticks: 0,
+            },
+        ),
+        call(0, 2, Call::StateClear(3)),
+        call(0, 2, Call::ValueClear { task: 3, bits: 6 }),
+    ]
+}
+
+#[test]
+fn actions(rt: HostRuntime) -> Result<(), Fail> {
+    check_steps(&rt, rt.alloc(), ACTIONS)
+}
+
+#[test]
+fn shapes_of_notifications(rt: HostRuntime) -> Result<(), Fail> {
+    check_steps(&rt, rt.alloc(), SHAPES)
+}
+
+#[test]
+fn judged_notifications(rt: HostRuntime) -> Result<(), Fail> {
+    check_steps(&rt, rt.alloc(), JUDGED)
+}
+
+#[test]
+fn notifications_of_edits(rt: HostRuntime) -> Result<(), Fail> {
+    let alloc = rt.alloc();
+    let session = session_of(alloc, "")?;
+    for line in EDITS.trim().lines() {
+        let (step, want) = row(line)?;
+        let text = format!(in alloc;
+            "{{\"session\":{session},\"edits\":[{{\"edit\":\"insert\",\"at\":0,\"step\":{step}}}]}}"
+        )?;
+        Document::Bench.check(&rt, alloc, text.as_str(), want)?;
+    }
+    Ok(())
+}
+
+#[test]
+fn replace_by_an_interrupt(rt: HostRuntime) -> Result<(), Fail> {
+    let alloc = rt.alloc();
+    let session = session_of(alloc, "")?;
+    let Ok((header, _)) = read_session(alloc, session.as_bytes()) else {
+        return Err(Fail::from("the text is a session"));
+    };
+    let text =
+        "{\"edit\":\"replace\",\"at\":7,\"step\":{\"do\":\"isr_notify\",\"core\":1,\"to\":\"B\",\"action\":\"set\",\"value\":4}}";
+    let edit = read_edit(alloc, text.as_bytes(), &header)
+        .ok()
+        .ok_or("the text is an edit")?;
+    let note = Note {
+        task: 3,
+        action: Action::Set(4),
+    };
+    let step = Step::Interrupt { core: 1, note };
+    assert_eq!(rt; edit, Edit::Replace { at: 7, step });
+    Ok(())
+}
+
+#[test]
+fn notifications_read_and_written(rt: HostRuntime) -> Result<(), Fail> {
+    let alloc = rt.alloc();
+    let wanted = wanted();
+    assert_eq!(rt; WRITTEN.trim().lines().count(), wanted.len());
+    for (line, want) in WRITTEN.trim().lines().zip(wanted) {
+        let (step, written) = row(line)?;
+        let part = format!(in alloc; "\"steps\":[{written}],")?;
+        for step in [step, written] {
+            let text = session_of(alloc, step)?;
+            let Ok((header, steps)) = read_session(alloc, text.as_bytes()) else {
+                return Err(Fail::from("the text is a session"));
+            };
+            assert_eq!(rt; steps.as_slice(), [want].as_slice(), "{text}");
+            let bytes = write_session(alloc, &header, &steps)?;
+            let got = std::str::from_utf8(bytes.as_slice())
+                .ok()
+                .ok_or("the text is UTF-8")?;
+            assert!(rt; got.contains(part.as_str()), "{got}");
+        }
+    }
+    Ok(())
+}

@@ -9,6 +9,7 @@ pub mod Examples
 pub mod Filters
 pub mod FirstWaiters
 pub mod Looks
+pub mod MutexExamples
 pub mod Mutexes
 pub mod NoteExamples
 pub mod Notifying

@@ -8,6 +8,7 @@ pub mod Examples
 pub mod Laws
 pub mod Lists
 pub mod Looks
+pub mod MutexExamples
 pub mod MutexLaws
 pub mod MutexParts
 pub mod Mutexes

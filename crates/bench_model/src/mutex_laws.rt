@@ -1,4 +1,5 @@
-//! The laws of mutexes with priority inheritance, each on a function that does nothing.
+//! The laws of mutexes with priority inheritance, and worked ones, each on a function that does nothing.
+ghost use Rattle.bench_model.specs.MutexExamples.{WorkedMutexes};
 ghost use Rattle.bench_model.specs.MutexLaws.{FirstWaiterIsSeen, DeadlineIsSeen, ForgettingIsSeen, InheritIsSeen, InheritKeepsSound, TakeIsSeen, TakeKeepsSound, FinishIsSeen, FinishKeepsSound, GiveIsSeen, GiveKeepsSound, LowerIsSeen, LowerKeepsSound, InheritOnCores, LowerOnCores};
 
 /// The first waiter of a mutex in its list is the best of all tasks that wait for it.
@@ -74,4 +75,9 @@ pub fn inherit_on_cores()
 /// What giving up an inherited priority does to the cores and ready lists depends on them alone.
 pub fn lower_on_cores()
     ensures { LowerOnCores }
+{}
+
+/// The definitions give the worked sessions of two tasks and two mutexes.
+pub fn worked_mutexes()
+    ensures { WorkedMutexes }
 {}

@@ -2,7 +2,6 @@ ghost use Rattle.std.specs.Prelude.{◌≡◌, ℕ, ◌<◌, ◌≤◌, ◌^◌,
 ghost use Rattle.bench_types.specs.Step.{call_check, step_check, settings_of, IsStepOfWords};
 ghost use Rattle.bench_types.specs.Header.{header_check};
 ghost use Rattle.bench_types.specs.declared.step.Call.TheVariants.{Delay};
-ghost use Rattle.bench_types.specs.declared.step.Unfinished.{Unfinished};
 ghost use Rattle.bench_model.specs.Control.{is_elsewhere, is_allowed, may_select, is_due, current, run_on, running};
 ghost use Rattle.bench_model.specs.Notes.{no_note};
 ghost use Rattle.bench_model.specs.State.{call_refusal, give_refusal, refusal, queued, switched, yielded, blocked};

@@ -1,13 +1,12 @@
 //! Mutexes with priority inheritance, each rule as it is defined.
-ghost use Rattle.std.specs.Prelude.{◌≡◌, ℕ, ◌<◌, ◌≤◌, ◌+◌, ◌^◌, length, Option, Some, None, IfSome, option_map, slice_set};
-ghost use Rattle.bench_types.specs.declared.kernel_data.Waiter.{Waiter};
-ghost use Rattle.bench_model.specs.Mutexes.{held_by, is_marked, taken, inherited, waited_at, mutex_take, owed, lowered, timed_out, ended, take_finished, disinherited, first_woken, mutex_give};
+ghost use Rattle.std.specs.Prelude.{◌≡◌, ◌<◌, ◌≤◌, ◌+◌, ◌^◌, length, IfSome, option_map, slice_set};
+ghost use Rattle.bench_types.specs.declared.step.Call.TheVariants.{Finish};
+ghost use Rattle.bench_model.specs.Mutexes.{held_by, is_marked, inherited, waited_at, mutex_take, owed, lowered, timed_out, ended, take_finished, disinherited, first_woken, mutex_give};
 ghost use Rattle.bench_model.specs.Search.{is_best};
 ghost use Rattle.bench_model.specs.Sound.{IsSound};
 ghost use Rattle.bench_model.specs.State.{holder_at};
 ghost use Rattle.bench_model.specs.Steps.{called};
 ghost use Rattle.bench_model.specs.Table.{table_moves, row_at, tasks_of, wait_in, waits_at, waiter_of, waits_before, first_waiter, deadline_at, deadline_left};
-ghost use Rattle.bench_types.specs.declared.step.Call.TheVariants.{Finish};
 
 use super::{SlowTable, notes};
 use crate::Standing;

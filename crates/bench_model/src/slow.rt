@@ -4,7 +4,7 @@ ghost use Rattle.bench_types.specs.Header.{header_check};
 ghost use Rattle.bench_types.specs.declared.step.Call.TheVariants.{Delay};
 ghost use Rattle.bench_model.specs.Control.{is_elsewhere, is_allowed, may_select, is_due, current, run_on, running};
 ghost use Rattle.bench_model.specs.Notes.{no_note};
-ghost use Rattle.bench_model.specs.State.{call_refusal, refusal, queued, switched, yielded, blocked};
+ghost use Rattle.bench_model.specs.State.{call_refusal, give_refusal, refusal, queued, switched, yielded, blocked};
 ghost use Rattle.bench_model.specs.Seek.{wake, switched_and_sought};
 ghost use Rattle.bench_model.specs.Steps.{ticked, called, performed};
 ghost use Rattle.bench_model.specs.Sound.{IsSound, IsInPlace};
@@ -14,14 +14,15 @@ ghost use Rattle.bench_model.specs.Search.{is_best, numbers};
 ghost use Rattle.bench_model.specs.Start.{first_look, ready_row, idle_control, user_control, first_control, first_stamps, unstarted, start};
 ghost use Rattle.bench_model.specs.SlowDue.{first_due};
 
+mod mutexes;
 mod notes;
 mod seek;
 mod sets;
 
 use crate::{Standing, TaskRow};
 use bench_types::{
-    Call, CoreLook, Header, NoteState, Notification, Refusal, Reply, Row, Settings, Step, TaskArgs,
-    TaskControl,
+    Call, CoreLook, Header, MutexWait, NoteState, Notification, Refusal, Reply, Row, Settings,
+    Step, TaskArgs, TaskControl, Unfinished,
 };
 use std::alloc::{AllocError, Global};
 use std::marker::Model;
@@ -33,9 +34,11 @@ struct SlowTable {
     settings: Settings,
     cores: Vec<CoreLook>,
     tasks: Vec<TaskControl>,
-    calls: Vec<Option<Call>>,
+    calls: Vec<Option<Unfinished>>,
     notes: Vec<Notification>,
+    holders: Vec<Option<u32>>,
     rows: Vec<TaskRow>,
+    deadlines: Vec<Option<u128>>,
     tick: u128,
     next: u128,
 }
@@ -52,7 +55,8 @@ impl Model for SlowTable {
       control = record { cores = t.cores.items; tasks = t.tasks.items };
       calls = t.calls.items;
       notes = t.notes.items;
-      orders = record { rows = t.rows.items; tick = t.tick; next = t.next };
+      holders = t.holders.items;
+      orders = record { rows = t.rows.items; deadlines = t.deadlines.items; tick = t.tick; next = t.next };
     } };
 
     ghost invariant = { IsFit };
@@ -164,8 +168,11 @@ impl SlowTable {
         ensures { result ≡ wakes_at self.now.orders.tick (row_at self.now.orders task).standing }
     {
         match self.rows[task as usize].standing {
-            Standing::Ready | Standing::Blocked { wake: None } => false,
-            Standing::Blocked { wake: Some(wake) } => wake == self.tick,
+            Standing::Ready | Standing::Blocked { wake: None, .. } => false,
+            Standing::Blocked {
+                wake: Some(wake),
+                ..
+            } => wake == self.tick,
         }
     }
 
@@ -192,6 +199,8 @@ impl SlowTable {
         requires room { self.old.orders.next + 1 < 2 ^ 128 }
         ensures made { self.new ≡ record self.old { orders = make_ready task self.old.orders } }
         ensures rows { length self.new.orders.rows ≡ length self.old.orders.rows }
+        ensures stamps { self.new.orders.next ≡ self.old.orders.next + 1 }
+        ensures tick { self.new.orders.tick ≡ self.old.orders.tick }
     {
         self.rows[task as usize] = TaskRow {
             stamp: self.next,
@@ -292,21 +301,28 @@ impl SlowTable {
     }
 
     #[tactic(auto, unfolding(crate::specs::State::blocked, crate::specs::State::yielded, crate::specs::Table::delay))]
-    fn block(&mut self, core: u32, task: u32, call: Call, ticks: Option<u32>)
+    fn block(
+        &mut self,
+        core: u32,
+        task: u32,
+        call: Unfinished,
+        ticks: Option<u32>,
+        wait: Option<MutexWait>,
+    )
         requires core { core < length self.old.control.cores }
         requires task { task < length self.old.orders.rows }
         requires room { self.old.orders.next + 1 < 2 ^ 128 }
         requires time { self.old.orders.tick + 2 ^ 32 < 2 ^ 128 }
-        ensures { self.new ≡ blocked table_moves core task call ticks self.old }
+        ensures { self.new ≡ blocked table_moves core task call ticks wait self.old }
     {
         let tick = self.tick;
+        let wake = ticks.map(|ticks| tick + u128::from(ticks));
         self.rows[task as usize] = TaskRow {
             stamp: self.next,
-            standing: Standing::Blocked {
-                wake: ticks.map(|ticks| tick + u128::from(ticks)),
-            },
+            standing: Standing::Blocked { wake, wait },
         };
         self.next += 1;
+        self.deadlines[task as usize] = if wait.is_some() { wake } else { None };
         self.calls[task as usize] = Some(call);
         self.ask_itself(core);
     }
@@ -323,7 +339,8 @@ impl SlowTable {
             self.ask_itself(core);
             return Reply::Done;
         }
-        self.block(core, task, Call::Delay(ticks), Some(ticks));
+        let call = Unfinished::Made(Call::Delay(ticks));
+        self.block(core, task, call, Some(ticks), None);
         Reply::Blocked
     }
 
@@ -333,7 +350,7 @@ impl SlowTable {
         requires core { core < length self.old.control.cores }
         requires task { task < length self.old.orders.rows }
         requires checked { call_check self.old.settings call ≡ Ok tt }
-        requires room { self.old.orders.next + 1 < 2 ^ 128 }
+        requires room { self.old.orders.next + 2 < 2 ^ 128 }
         requires time { self.old.orders.tick + 2 ^ 32 < 2 ^ 128 }
         ensures { (result, self.new) ≡ called table_moves core task call self.old }
     {
@@ -344,7 +361,7 @@ impl SlowTable {
             Call::PreemptOff(task) => self.preempt_off(task),
             Call::PreemptOn(task) => self.preempt_on(core, task),
             Call::Delay(ticks) => return self.delay(core, task, ticks),
-            Call::Finish => return self.finish(task),
+            Call::Finish => return self.finish(core, task),
             Call::Notify(note) => return Reply::Flag(self.notify(core, note)),
             Call::NotifyWait { entry, ticks, .. } => {
                 let begun = notes::wait_begun(entry, self.note(task));
@@ -356,6 +373,8 @@ impl SlowTable {
             }
             Call::StateClear(task) => return self.clear_state(task),
             Call::ValueClear { task, bits } => return self.clear_value(task, bits),
+            Call::MutexTake { mutex, ticks } => return self.take(core, task, mutex, ticks),
+            Call::MutexGive(mutex) => return self.give(core, task, mutex),
         }
         Reply::Done
     }
@@ -368,17 +387,32 @@ impl SlowTable {
         look.pend || look.asked
     }
 
+    fn give_refusal(&self, task: u32, call: Call) -> Option<Refusal>
+        requires { call_check self.now.settings call ≡ Ok tt }
+        ensures { result ≡ give_refusal self.now.holders task call }
+    {
+        match call {
+            Call::MutexGive(mutex) => match self.holder(mutex) {
+                Some(holder) if holder != task => Some(Refusal::NotHolder),
+                _ => None,
+            },
+            _ => None,
+        }
+    }
+
     #[tactic(auto, unfolding(crate::specs::State::refusal))]
     fn refusal(&self, step: &Step) -> Option<Refusal>
         requires { step_check self.now.settings step.now ≡ Ok tt }
-        ensures { result ≡ refusal self.now.control self.now.calls step.now }
+        ensures { result ≡ refusal self.now.control self.now.calls self.now.holders step.now }
     {
         match *step {
             Step::Tick | Step::Interrupt { .. } => None,
             Step::Switch { core } => (!self.is_due(core)).then_some(Refusal::NotDue),
             Step::Call { core, task, .. } if !self.runs_on(core, task) => Some(Refusal::Displaced),
             Step::Call { core, .. } if self.is_due(core) => Some(Refusal::SwitchDue),
-            Step::Call { task, call, .. } => call_refusal(self.calls[task as usize], call),
+            Step::Call { task, call, .. } => {
+                call_refusal(self.calls[task as usize], call).or(self.give_refusal(task, call))
+            }
         }
     }
 
@@ -387,7 +421,7 @@ impl SlowTable {
         requires sound { IsSound self.old }
         requires fits { IsInPlace self.old step.now }
         requires checked { step_check self.old.settings step.now ≡ Ok tt }
-        requires room { self.old.orders.next + length self.old.orders.rows < 2 ^ 128 }
+        requires room { self.old.orders.next + length self.old.orders.rows + 1 < 2 ^ 128 }
         requires time { self.old.orders.tick + 2 ^ 32 < 2 ^ 128 }
         ensures { (result, self.new) ≡ performed table_moves step.now self.old }
     {
@@ -409,7 +443,7 @@ impl SlowTable {
     fn step(&mut self, step: Step) -> Reply
         requires sound { IsSound self.old }
         requires checked { step_check self.old.settings step ≡ Ok tt }
-        requires room { self.old.orders.next + length self.old.orders.rows < 2 ^ 128 }
+        requires room { self.old.orders.next + length self.old.orders.rows + 1 < 2 ^ 128 }
         requires time { self.old.orders.tick + 2 ^ 32 < 2 ^ 128 }
         ensures outcome { (result, self.new) ≡ step_of step self.old }
         ensures words { IsStepOfWords step }
@@ -464,7 +498,7 @@ fn first_rows(alloc: Global, cores: u32, users: u32) -> Result<Vec<TaskRow>, All
     idle.chain((0..users).map(ready_row)).collect(alloc)
 }
 
-fn no_calls(alloc: Global, tasks: u32) -> Result<Vec<Option<Call>>, AllocError>
+fn no_calls(alloc: Global, tasks: u32) -> Result<Vec<Option<Unfinished>>, AllocError>
     ensures { IfOk result (λ calls. calls.items ≡ replicate tasks None) }
 {
     let mut calls = Vec::new(alloc);
@@ -482,6 +516,18 @@ fn no_notes(alloc: Global, tasks: u32) -> Result<Vec<Notification>, AllocError>
         state: NoteState::NotWaiting,
     };
     vec![in alloc; note; tasks as usize]
+}
+
+fn no_holders(alloc: Global, mutexes: u32) -> Result<Vec<Option<u32>>, AllocError>
+    ensures { IfOk result (λ holders. holders.items ≡ replicate mutexes None) }
+{
+    vec![in alloc; None; mutexes as usize]
+}
+
+fn no_deadlines(alloc: Global, tasks: u32) -> Result<Vec<Option<u128>>, AllocError>
+    ensures { IfOk result (λ deadlines. deadlines.items ≡ replicate tasks None) }
+{
+    vec![in alloc; None; tasks as usize]
 }
 
 fn idle_control(cores: u32) -> TaskControl
@@ -557,14 +603,18 @@ fn unstarted(alloc: Global, header: &Header) -> Result<SlowTable, AllocError>
     let tasks = first_controls(alloc, header)?;
     let calls = no_calls(alloc, settings.tasks)?;
     let notes = no_notes(alloc, settings.tasks)?;
+    let holders = no_holders(alloc, settings.mutexes)?;
     let rows = first_rows(alloc, settings.cores, users)?;
+    let deadlines = no_deadlines(alloc, settings.tasks)?;
     Ok(SlowTable {
         settings,
         cores,
         tasks,
         calls,
         notes,
+        holders,
         rows,
+        deadlines,
         tick: u128::from(header.config.tick),
         next: u128::from(settings.tasks),
     })
@@ -606,7 +656,7 @@ pub fn replay_slow<R: Alloc>(
     Ok(outcomes)
 }
 
-fn call_refusal(unfinished: Option<Call>, call: Call) -> Option<Refusal>
+fn call_refusal(unfinished: Option<Unfinished>, call: Call) -> Option<Refusal>
     ensures { result ≡ call_refusal unfinished call }
 {
     match (unfinished, call) {

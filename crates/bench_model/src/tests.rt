@@ -2,10 +2,12 @@
 ghost use Rattle.std.specs.Prelude.{◌≡◌, ◌<◌, IsTrue, All, Ok};
 ghost use Rattle.bench_types.specs.Step.{step_check, settings_of};
 
+mod mutexes;
 mod notes;
 mod random;
 mod sessions;
 mod sets;
+mod takes;
 mod waits;
 
 use crate::replay_slow;
@@ -120,12 +122,15 @@ fn number(word: &str, place: usize) -> u32 {
 
 fn read_header(alloc: Global, text: &str) -> Result<Header, Fail> {
     let mut words = text.split(' ');
+    let cores = digit(words.next().unwrap_or(""), 0);
+    let priorities = digit(words.next().unwrap_or(""), 0);
+    let kind = words.next().unwrap_or("");
     let config = Config {
-        cores: digit(words.next().unwrap_or(""), 0),
-        priorities: digit(words.next().unwrap_or(""), 0),
-        slicing: words.next() == Some("s"),
+        cores,
+        priorities,
+        slicing: kind.as_bytes().first() == Some(&b's'),
         tick: words.next().unwrap_or("").parse().unwrap_or(0),
-        mutexes: 0,
+        mutexes: digit(kind, 1),
     };
     let mut args = Vec::new(alloc);
     for word in words {
@@ -167,6 +172,13 @@ fn read_call(word: &str) -> Option<Call> {
         },
         Some(b'o') => Call::PreemptOff(task),
         Some(b'e') => Call::PreemptOn(task),
+        _ => return read_note_call(word),
+    })
+}
+
+fn read_note_call(word: &str) -> Option<Call> {
+    let task = digit(word, 3);
+    Some(match word.as_bytes().first() {
         Some(b'n') => Call::Notify(read_note(word, 3)),
         Some(b'w') => Call::NotifyWait {
             entry: number(word, 3),
@@ -182,8 +194,20 @@ fn read_call(word: &str) -> Option<Call> {
             task,
             bits: number(word, 4),
         },
-        _ => return None,
+        _ => return read_mutex_call(word),
     })
+}
+
+fn read_mutex_call(word: &str) -> Option<Call> {
+    let mutex = digit(word, 3);
+    match word.as_bytes().first() {
+        Some(b'm') => Some(Call::MutexTake {
+            mutex,
+            ticks: number(word, 4),
+        }),
+        Some(b'g') => Some(Call::MutexGive(mutex)),
+        _ => None,
+    }
 }
 
 fn read_step(word: &str) -> Step {
@@ -228,6 +252,7 @@ fn read_reply(word: &str) -> Reply {
         Some(b'3') => Reply::Refused(Refusal::SwitchDue),
         Some(b'4') => Reply::Refused(Refusal::InCall),
         Some(b'5') => Reply::Refused(Refusal::NotInCall),
+        Some(b'9') => Reply::Refused(Refusal::NotHolder),
         Some(b'0') => Reply::Refused(Refusal::NotDue),
         _ => Reply::Done,
     }
@@ -274,4 +299,9 @@ fn replays_the_sessions_of_sets(rt: HostRuntime) -> Result<(), Fail> {
 #[test]
 fn replays_the_sessions_of_notifications(rt: HostRuntime) -> Result<(), Fail> {
     replays_lines(&rt, rt.alloc(), &notes::SESSIONS)
+}
+
+#[test]
+fn replays_the_sessions_of_mutexes(rt: HostRuntime) -> Result<(), Fail> {
+    replays_lines(&rt, rt.alloc(), &takes::SESSIONS)
 }

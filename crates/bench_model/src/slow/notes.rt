@@ -2,11 +2,11 @@
 ghost use Rattle.std.specs.Prelude.{◌≡◌, ◌<◌, ◌+◌, ◌^◌, length, slice_set};
 ghost use Rattle.bench_model.specs.Control.{core_at};
 ghost use Rattle.bench_model.specs.Notes.{note_at, is_received, is_waiting, without_bits, passes, acted, notified, wait_begun, wait_ended, take_begun, take_ended, state_cleared, value_cleared};
-ghost use Rattle.bench_model.specs.Notifying.{awaited_for, is_passed, state_forgotten, bits_cleared, completed, finished, notify, interrupted, awaited};
+ghost use Rattle.bench_model.specs.Notifying.{awaited_for, is_passed, state_forgotten, bits_cleared, completed, notify, interrupted, awaited};
 ghost use Rattle.bench_model.specs.Table.{table_moves};
 
 use super::SlowTable;
-use bench_types::{Action, Call, Note, NoteState, Notification, Reply};
+use bench_types::{Action, Call, Note, NoteState, Notification, Reply, Unfinished};
 
 impl SlowTable {
     pub(super) fn note(&self, task: u32) -> Notification
@@ -83,7 +83,7 @@ impl SlowTable {
 
     // A call that waited for a notification answers with that.
     #[tactic(auto, unfolding(crate::specs::Notifying::completed))]
-    fn complete(&mut self, task: u32, call: Call) -> Reply
+    pub(super) fn complete(&mut self, task: u32, call: Call) -> Reply
         requires { task < length self.old.orders.rows }
         ensures { (result, self.new) ≡ completed task call self.old }
     {
@@ -100,18 +100,6 @@ impl SlowTable {
             }
             _ => Reply::Done,
         }
-    }
-
-    #[tactic(auto, unfolding(crate::specs::Notifying::finished))]
-    pub(super) fn finish(&mut self, task: u32) -> Reply
-        requires { task < length self.old.orders.rows }
-        ensures { (result, self.new) ≡ finished task self.old }
-    {
-        let Some(call) = self.calls[task as usize] else {
-            return Reply::Done;
-        };
-        self.calls[task as usize] = None;
-        self.complete(task, call)
     }
 
     // Blocks a call that has nothing to complete with and some ticks to wait.
@@ -133,14 +121,14 @@ impl SlowTable {
         let (waits, note) = begun;
         self.set_note(task, note);
         if waits && 0 < ticks {
-            self.block(core, task, call, awaited_for(ticks));
+            self.block(core, task, Unfinished::Made(call), awaited_for(ticks), None);
             return Reply::Blocked;
         }
         self.complete(task, call)
     }
 }
 
-fn awaited_for(ticks: u32) -> Option<u32>
+pub(super) fn awaited_for(ticks: u32) -> Option<u32>
     ensures { result ≡ awaited_for ticks }
 {
     (ticks != u32::MAX).then_some(ticks)

@@ -121,7 +121,8 @@ impl SlowTable {
 
     pub(super) fn ask(&mut self, acting: u32, core: u32)
         requires { core < length self.old.control.cores }
-        ensures { self.new ≡ record self.old { control = ask acting core self.old.control } }
+        ensures asked { self.new ≡ record self.old { control = ask acting core self.old.control } }
+        ensures cores { length self.new.control.cores ≡ length self.old.control.cores }
     {
         let look = &mut self.cores[core as usize];
         if core == acting {
@@ -135,7 +136,8 @@ impl SlowTable {
     pub(super) fn seek(&mut self, acting: u32, task: u32, lost: Option<u32>)
         requires task { task < length self.old.orders.rows }
         requires lost { IfSome lost (λ lost. lost < length self.old.control.cores) }
-        ensures { self.new ≡ record self.old { control = seek acting task (may_go self.old.control task lost) self.old.control } }
+        ensures sought { self.new ≡ record self.old { control = seek acting task (may_go self.old.control task lost) self.old.control } }
+        ensures cores { length self.new.control.cores ≡ length self.old.control.cores }
     {
         if self.is_running(task) {
             return;

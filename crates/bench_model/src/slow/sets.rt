@@ -1,5 +1,5 @@
 //! The calls that set a task's priority, core affinity mask and preemption, each as it is defined.
-ghost use Rattle.std.specs.Prelude.{◌≡◌, ◌<◌, ◌+◌, ◌^◌, length, IfSome};
+ghost use Rattle.std.specs.Prelude.{◌≡◌, ◌<◌, ◌≤◌, ◌+◌, ◌^◌, length, IfSome};
 ghost use Rattle.bench_model.specs.Changes.{with_base, with_affinity, with_preemption, in_use_set};
 ghost use Rattle.bench_model.specs.Sets.{runs_on, ask_its_core, capped, in_use_behind, ranked_anew, masked_anew, priority_set, affinity_set, preemption_off, preemption_on};
 ghost use Rattle.bench_model.specs.Table.{table_moves, is_ready};
@@ -17,7 +17,7 @@ impl SlowTable {
     }
 
     #[tactic(auto, unfolding(crate::specs::Sets::ask_its_core))]
-    fn ask_its_core(&mut self, acting: u32, task: u32)
+    pub(super) fn ask_its_core(&mut self, acting: u32, task: u32)
         ensures { self.new ≡ record self.old { control = ask_its_core acting task self.old.control } }
     {
         if let Some(core) = self.its_core(task) {
@@ -59,11 +59,14 @@ impl SlowTable {
     }
 
     #[tactic(auto, unfolding(crate::specs::Changes::in_use_set))]
-    fn set_in_use(&mut self, task: u32, priority: u32)
+    pub(super) fn set_in_use(&mut self, task: u32, priority: u32)
         requires task { task < length self.old.orders.rows }
         requires room { self.old.orders.next + 1 < 2 ^ 128 }
         ensures set { self.new ≡ in_use_set table_moves task priority self.old }
         ensures rows { length self.new.orders.rows ≡ length self.old.orders.rows }
+        ensures stamps { self.new.orders.next ≤ self.old.orders.next + 1 }
+        ensures tick { self.new.orders.tick ≡ self.old.orders.tick }
+        ensures cores { length self.new.control.cores ≡ length self.old.control.cores }
     {
         self.tasks[task as usize].in_use = priority;
         if self.is_ready(task) {

@@ -6,7 +6,7 @@ use bench_types::Call::{Finish, Notify, StateClear, ValueClear, Yield};
 use bench_types::Refusal::InCall;
 use bench_types::Reply::{self, Blocked, Done, Flag, Isr, Refused, Value, Waited};
 use bench_types::Step::{Switch, Tick};
-use bench_types::{Action, Call, Config, Note, Step};
+use bench_types::{Action, Call, Config, Header, Note, Step};
 use std::alloc::Global;
 use std::process::Abort;
 use std::test::Fail;
@@ -19,9 +19,10 @@ const C: u32 = 4;
 
 const MAX: u32 = 4_294_967_295;
 
-type Line = (Step, Reply, [u32; 2]);
+/// A step, its reply, and the tasks that run behind it.
+pub type Line = (Step, Reply, [u32; 2]);
 
-fn call(core: u32, task: u32, call: Call) -> Step {
+pub fn call(core: u32, task: u32, call: Call) -> Step {
     Step::Call { core, task, call }
 }
 
@@ -68,8 +69,18 @@ fn replays(
         mutexes: 0,
     };
     let header = header_of(alloc, config, &[(2, 3), (1, 3), (1, 3)])?;
+    replays_steps(rt, alloc, &header, session)
+}
+
+/// Holds a session against its replies and running tasks.
+pub fn replays_steps(
+    rt: &(impl Alloc + Abort),
+    alloc: Global,
+    header: &Header,
+    session: &[Line],
+) -> Result<(), Fail> {
     let steps: Vec<Step> = session.iter().map(|(step, _, _)| *step).collect(alloc)?;
-    let outcomes = replayed(rt, alloc, &header, &steps)?;
+    let outcomes = replayed(rt, alloc, header, &steps)?;
     assert_eq!(rt; outcomes.len(), session.len());
     for ((reply, row), (step, answer, tasks)) in outcomes.iter().zip(session) {
         assert_eq!(rt; reply, answer, "{step:?}");

@@ -1,4 +1,4 @@
-use Rattle.std.proofs.Common.{◌≡◌, ℕ, ◌+◌, ◌-◌, false, List, ◌++◌, length, map, replicate, Option, None, ap, ◌∙◌, arith}
+use Rattle.std.proofs.Common.{◌≡◌, ℕ, zero, suc, ◌+◌, ◌-◌, false, List, ◌++◌, length, map, replicate, Option, Some, None, refl, ap, sym, ◌∙◌, arith}
 use Rattle.std.specs.Prelude.{slice_index_or}
 use Rattle.std.proofs.lemmas.List.{length-replicate}
 use Rattle.std.proofs.lemmas.List.FromFn.{length-map-range_with_len, get_or-map-range_with_len}
@@ -6,7 +6,7 @@ use Rattle.bench_types.specs.declared.kernel_data.CoreLook.{CoreLook}
 use Rattle.bench_types.specs.declared.kernel_data.Settings.{Settings}
 use Rattle.bench_types.specs.declared.kernel_data.TaskControl.{TaskControl}
 use Rattle.bench_types.specs.declared.note.Notification.{Notification}
-use Rattle.bench_types.specs.declared.step.Call.{Call}
+use Rattle.bench_types.specs.declared.step.Unfinished.{Unfinished}
 use Rattle.bench_model.specs.declared.row.TaskRow.{TaskRow}
 use Rattle.bench_model.specs.Notes.{no_note}
 use Rattle.bench_model.specs.Search.{numbers}
@@ -17,6 +17,14 @@ use Rattle.bench_model.proofs.slow.unstarted.Goals as goal
 
 abbrev no_look : CoreLook
 no_look = record { current = 0; pend = false; asked = false }
+
+none_at : (n mutex : ℕ) → slice_index_or {A = Option ℕ} (replicate n None) mutex None ≡ None
+none_at zero mutex = refl
+none_at (suc n) zero = refl
+none_at (suc n) (suc mutex) = none_at n mutex
+
+none_held : (n mutex task : ℕ) → slice_index_or {A = Option ℕ} (replicate n None) mutex None ≡ Some task → ⊥
+none_held n mutex task held = cc (none_at n mutex, held)
 
 pub invariant_of-result : goal.invariant_of-result
 invariant_of-result c =
@@ -30,23 +38,27 @@ invariant_of-result c =
       controls = ap length c.in_ok-tasks.ensures ∙ first_tasks c.args.header.now ∙ omega (arith, tasks);
       calls = ap length c.in_ok-calls.ensures ∙ length-replicate settings.tasks _;
       notes = ap length c.in_ok-notes.ensures ∙ length-replicate settings.tasks _;
+      holders = ap length c.in_ok-holders.ensures ∙ length-replicate settings.mutexes _;
       rows = ap length c.in_ok-rows.ensures ∙ length_ranges _ _ settings.cores (settings.tasks - settings.cores) ∙ sum;
+      deadlines = ap length c.in_ok-deadlines.ensures ∙ length-replicate settings.tasks _;
+      held_by_tasks = λ mutex task held. absurd (none_held settings.mutexes mutex task (ap (λ holders. slice_index_or holders mutex None) (sym c.in_ok-holders.ensures) ∙ held));
       runs_tasks = λ core low.
           let look = ap (λ looks. slice_index_or looks core no_look) c.in_ok-cores.ensures ∙ get_or-map-range_with_len first_look 0 settings.cores core core no_look low (omega arith) in
           omega (arith, ap (λ (l : CoreLook). l.current) look, cores, tasks);
     }
 
-abbrev table_of : Settings → List CoreLook → List TaskControl → List (Option Call) → List Notification → List TaskRow → ℕ → ℕ → Table
-table_of settings cores tasks calls notes rows tick next = record {
+abbrev table_of : Settings → List CoreLook → List TaskControl → List (Option Unfinished) → List Notification → List (Option ℕ) → List TaskRow → List (Option ℕ) → ℕ → ℕ → Table
+table_of settings cores tasks calls notes holders rows deadlines tick next = record {
   settings = settings;
   control = record { cores = cores; tasks = tasks };
   calls = calls;
   notes = notes;
-  orders = record { rows = rows; tick = tick; next = next };
+  holders = holders;
+  orders = record { rows = rows; deadlines = deadlines; tick = tick; next = next };
 }
 
-same_table : {s t : Settings} {cs ds : List CoreLook} {bs es : List TaskControl} {us vs : List (Option Call)} {ns ms : List Notification} {rs qs : List TaskRow} {i j k l : ℕ} → s ≡ t → cs ≡ ds → bs ≡ es → us ≡ vs → ns ≡ ms → rs ≡ qs → i ≡ j → k ≡ l → table_of s cs bs us ns rs i k ≡ table_of t ds es vs ms qs j l
-same_table a b c d e f g h = cc
+same_table : {s t : Settings} {cs ds : List CoreLook} {bs es : List TaskControl} {us vs : List (Option Unfinished)} {ns ms : List Notification} {hs gs : List (Option ℕ)} {rs qs : List TaskRow} {xs ys : List (Option ℕ)} {i j k l : ℕ} → s ≡ t → cs ≡ ds → bs ≡ es → us ≡ vs → ns ≡ ms → hs ≡ gs → rs ≡ qs → xs ≡ ys → i ≡ j → k ≡ l → table_of s cs bs us ns hs rs xs i k ≡ table_of t ds es vs ms gs qs ys j l
+same_table a b c d e f g h i j = cc
 
 abbrev rows_for : ℕ → ℕ → List TaskRow
 rows_for cores users = map (λ core. ready_row (users + core)) (numbers cores) ++ map ready_row (numbers users)
@@ -63,5 +75,7 @@ returns c =
     same_table same (c.in_ok-cores.ensures ∙ ap (λ n. map first_look (numbers n)) cores) c.in_ok-tasks.ensures
     (c.in_ok-calls.ensures ∙ ap (λ n. replicate n None) tasks)
     (c.in_ok-notes.ensures ∙ ap (λ n. replicate n no_note) tasks)
+    (c.in_ok-holders.ensures ∙ ap (λ n. replicate n None) (ap (λ (s : Settings). s.mutexes) same))
     (c.in_ok-rows.ensures ∙ ap (λ n. rows_for n (settings.tasks - settings.cores)) cores ∙ ap (rows_for header.config.cores) users)
+    (c.in_ok-deadlines.ensures ∙ ap (λ n. replicate n None) tasks)
     c.from.ensures (c.from-2.ensures ∙ tasks)

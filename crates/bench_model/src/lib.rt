@@ -5,6 +5,7 @@ pub mod cores_laws;
 pub mod laws;
 pub mod mutex_laws;
 pub mod note_laws;
+pub mod notes;
 mod row;
 pub mod seek_laws;
 pub mod set_laws;

@@ -2,6 +2,7 @@ ghost use Rattle.std.specs.Prelude.{◌≡◌, ◌↔◌, ◌<◌, length, repli
 ghost use Rattle.bench_types.specs.declared.note.NoteState.TheVariants.{NotWaiting};
 ghost use Rattle.bench_model.specs.Notes.{no_note, note_at, is_received, is_waiting, without_bits, passes, acted, notified, wait_begun, wait_ended, take_begun, take_ended, state_cleared, value_cleared, of_task};
 
+use bench_model::notes::{acted, is_received, is_waiting, passes, without_bits};
 use bench_types::{Action, NoteState, Notification};
 use std::alloc::{AllocError, Global};
 use std::marker::Model;
@@ -194,50 +195,6 @@ fn notified(action: Action, note: Notification) -> Notification
     Notification {
         value,
         state: NoteState::Received,
-    }
-}
-
-fn is_received(state: NoteState) -> bool
-    ensures { result ≡ is_received state }
-{
-    match state {
-        NoteState::Received => true,
-        NoteState::NotWaiting | NoteState::Waiting => false,
-    }
-}
-
-fn is_waiting(state: NoteState) -> bool
-    ensures { result ≡ is_waiting state }
-{
-    match state {
-        NoteState::Waiting => true,
-        NoteState::NotWaiting | NoteState::Received => false,
-    }
-}
-
-fn without_bits(bits: u32, value: u32) -> u32
-    ensures { result ≡ without_bits bits value }
-{
-    value & !bits
-}
-
-fn passes(action: Action, state: NoteState) -> bool
-    ensures { result ≡ passes action state }
-{
-    match action {
-        Action::SetNew(_) => !is_received(state),
-        Action::Nothing | Action::SetBits(_) | Action::Increment | Action::Set(_) => true,
-    }
-}
-
-fn acted(action: Action, value: u32) -> u32
-    ensures { result ≡ acted action value }
-{
-    match action {
-        Action::Nothing => value,
-        Action::SetBits(bits) => value | bits,
-        Action::Increment => value.wrapping_add(1),
-        Action::Set(new) | Action::SetNew(new) => new,
     }
 }
 

@@ -6,6 +6,7 @@ ghost use Rattle.bench_model.specs.Notifying.{awaited_for, is_passed, state_forg
 ghost use Rattle.bench_model.specs.Table.{table_moves};
 
 use super::SlowTable;
+use crate::notes::{acted, is_received, is_waiting, passes, without_bits};
 use bench_types::{Action, Call, Note, NoteState, Notification, Reply, Unfinished};
 
 impl SlowTable {
@@ -216,48 +217,4 @@ fn value_cleared(bits: u32, note: Notification) -> (u32, Notification)
 {
     let value = without_bits(bits, note.value);
     (note.value, Notification { value, ..note })
-}
-
-fn is_received(state: NoteState) -> bool
-    ensures { result ≡ is_received state }
-{
-    match state {
-        NoteState::Received => true,
-        NoteState::NotWaiting | NoteState::Waiting => false,
-    }
-}
-
-fn is_waiting(state: NoteState) -> bool
-    ensures { result ≡ is_waiting state }
-{
-    match state {
-        NoteState::Waiting => true,
-        NoteState::NotWaiting | NoteState::Received => false,
-    }
-}
-
-fn without_bits(bits: u32, value: u32) -> u32
-    ensures { result ≡ without_bits bits value }
-{
-    value & !bits
-}
-
-fn passes(action: Action, state: NoteState) -> bool
-    ensures { result ≡ passes action state }
-{
-    match action {
-        Action::SetNew(_) => !is_received(state),
-        Action::Nothing | Action::SetBits(_) | Action::Increment | Action::Set(_) => true,
-    }
-}
-
-fn acted(action: Action, value: u32) -> u32
-    ensures { result ≡ acted action value }
-{
-    match action {
-        Action::Nothing => value,
-        Action::SetBits(bits) => value | bits,
-        Action::Increment => value.wrapping_add(1),
-        Action::Set(new) | Action::SetNew(new) => new,
-    }
 }

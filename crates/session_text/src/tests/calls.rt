@@ -169,6 +169,19 @@ pub(super) fn check_steps(rt: &impl Abort, alloc: Global, table: &str) -> Result
     Ok(())
 }
 
+/// Checks each step of the table as an insertion at the start of a session without steps.
+pub(super) fn check_edits(rt: &impl Abort, alloc: Global, table: &str) -> Result<(), Fail> {
+    let session = session_of(alloc, "")?;
+    for line in table.trim().lines() {
+        let (step, want) = row(line)?;
+        let text = format!(in alloc;
+            "{{\"session\":{session},\"edits\":[{{\"edit\":\"insert\",\"at\":0,\"step\":{step}}}]}}"
+        )?;
+        Document::Bench.check(rt, alloc, text.as_str(), want)?;
+    }
+    Ok(())
+}
+
 #[test]
 fn shapes_of_setting_calls(rt: HostRuntime) -> Result<(), Fail> {
     check_steps(&rt, rt.alloc(), SHAPES)
@@ -181,16 +194,7 @@ fn judged_setting_calls(rt: HostRuntime) -> Result<(), Fail> {
 
 #[test]
 fn setting_calls_of_edits(rt: HostRuntime) -> Result<(), Fail> {
-    let alloc = rt.alloc();
-    let session = session_of(alloc, "")?;
-    for line in EDITS.trim().lines() {
-        let (step, want) = row(line)?;
-        let text = format!(in alloc;
-            "{{\"session\":{session},\"edits\":[{{\"edit\":\"insert\",\"at\":0,\"step\":{step}}}]}}"
-        )?;
-        Document::Bench.check(&rt, alloc, text.as_str(), want)?;
-    }
-    Ok(())
+    check_edits(&rt, rt.alloc(), EDITS)
 }
 
 #[test]

@@ -1,8 +1,8 @@
 //! Notifications as texts. What reading and writing gives was worked out by hand from the format's description, and by a
 //! program of its own.
 
-use super::calls::{check_steps, session_of};
-use super::{Document, row};
+use super::calls::{check_edits, check_steps, session_of};
+use super::row;
 use crate::{read_edit, read_session, write_session};
 use bench_types::{Action, Call, Edit, Note, Step};
 use std::test::Fail;
@@ -263,16 +263,7 @@ fn judged_notifications(rt: HostRuntime) -> Result<(), Fail> {
 
 #[test]
 fn notifications_of_edits(rt: HostRuntime) -> Result<(), Fail> {
-    let alloc = rt.alloc();
-    let session = session_of(alloc, "")?;
-    for line in EDITS.trim().lines() {
-        let (step, want) = row(line)?;
-        let text = format!(in alloc;
-            "{{\"session\":{session},\"edits\":[{{\"edit\":\"insert\",\"at\":0,\"step\":{step}}}]}}"
-        )?;
-        Document::Bench.check(&rt, alloc, text.as_str(), want)?;
-    }
-    Ok(())
+    check_edits(&rt, rt.alloc(), EDITS)
 }
 
 #[test]

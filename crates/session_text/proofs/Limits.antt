@@ -6,7 +6,7 @@ use Rattle.bench_types.specs.declared.step.Step.{Step}
 use Rattle.bench_types.specs.declared.step.Step.TheVariants as step
 use Rattle.bench_types.specs.declared.step.Call.{Call}
 use Rattle.bench_types.specs.declared.step.Call.TheVariants as call
-use Rattle.bench_types.proofs.Passes.{both_pass, checked_core, checked_task}
+use Rattle.bench_types.proofs.Passes.{both_pass, checked_core, checked_mutex, checked_task}
 use Rattle.bench_types.specs.Step.{settings_of, core_check, task_check, mask_check, call_check, ◌>>◌}
 use Rattle.session_text.specs.Session.{step_fault}
 
@@ -14,7 +14,7 @@ use Rattle.session_text.specs.Session.{step_fault}
 abbrev pub IsUserTask : Header → ℕ → Type 0
 IsUserTask header task = (header.config.cores ≤ task) × (task < header.config.cores + length header.tasks)
 
--- the task that a call is for is there
+-- the task or the mutex that a call is for is there
 abbrev pub HasTarget : Header → Call → Type 0
 HasTarget header call.Yield = ⊤
 HasTarget header (call.Delay ticks) = ⊤
@@ -27,9 +27,11 @@ HasTarget header (call.NotifyWait entry exit ticks) = ⊤
 HasTarget header (call.NotifyTake clear ticks) = ⊤
 HasTarget header (call.StateClear task) = IsUserTask header task
 HasTarget header (call.ValueClear task bits) = IsUserTask header task
+HasTarget header (call.MutexTake mutex ticks) = mutex < header.config.mutexes
+HasTarget header (call.MutexGive mutex) = mutex < header.config.mutexes
 HasTarget header call.Finish = ⊤
 
--- the core and the caller of a call are there, and the task that it is for
+-- the core and the caller of a call are there, and what it is for
 pub record IsCallInPlace (header : Header) (core task : ℕ) (made : Call) : Type 0 where
   pub core_there : core < header.config.cores
   pub caller : IsUserTask header task
@@ -61,6 +63,8 @@ has_target header (call.NotifyWait entry exit ticks) passes = tt
 has_target header (call.NotifyTake clear ticks) passes = tt
 has_target header (call.StateClear task) passes = checked_task (settings_of header) task passes
 has_target header (call.ValueClear task bits) passes = checked_task (settings_of header) task passes
+has_target header (call.MutexTake mutex ticks) passes = checked_mutex (settings_of header) mutex passes
+has_target header (call.MutexGive mutex) passes = checked_mutex (settings_of header) mutex passes
 has_target header call.Finish passes = tt
 
 pub in_place : (header : Header) (made : Step) → step_fault header made ≡ Ok tt → IsInPlace header made

@@ -63,29 +63,31 @@ interrupt_plain core to action.Increment small to_utf8 word = (refl, refl, IsUtf
 interrupt_plain core to (action.Set value) small to_utf8 word = (refl, refl, IsUtf8-are_ascii _ refl, (refl, refl, small, (refl, refl, IsUtf8-are_ascii _ refl, (refl, refl, to_utf8, (refl, refl, omega arith, tt)))))
 interrupt_plain core to (action.SetNew value) small to_utf8 word = (refl, refl, IsUtf8-are_ascii _ refl, (refl, refl, small, (refl, refl, IsUtf8-are_ascii _ refl, (refl, refl, to_utf8, (refl, refl, omega arith, tt)))))
 
-pub call_plain : (header : Header) (by : List ℕ) (core : ℕ) (made : Call) → AreNames header → HasTarget header made → IsUtf8 by → core < 2 ^ 64 → IsOfWords made → IsPlain (call_data header by core made)
-call_plain header by core call.Yield names target utf8 small words = bare_plain by core _ utf8 small (IsUtf8-are_ascii _ refl)
-call_plain header by core (call.Delay ticks) names target utf8 small words = (refl, refl, utf8, (refl, refl, small, (refl, refl, IsUtf8-are_ascii _ refl, (refl, refl, omega arith, tt))))
-call_plain header by core (call.PrioritySet task priority) names target utf8 small words = (refl, refl, utf8, (refl, refl, small, (refl, refl, IsUtf8-are_ascii _ refl, (refl, refl, omega arith, (refl, refl, names task target.1 target.0, tt)))))
-call_plain header by core (call.AffinitySet task mask) names target utf8 small words = (refl, refl, utf8, (refl, refl, small, (refl, refl, IsUtf8-are_ascii _ refl, (refl, refl, omega arith, (refl, refl, names task target.1 target.0, tt)))))
-call_plain header by core (call.PreemptOff task) names target utf8 small words = for_plain by core _ _ utf8 small (IsUtf8-are_ascii _ refl) (names task target.1 target.0)
-call_plain header by core (call.PreemptOn task) names target utf8 small words = for_plain by core _ _ utf8 small (IsUtf8-are_ascii _ refl) (names task target.1 target.0)
-call_plain header by core (call.Notify note) names target utf8 small words = notify_plain by core _ note.action utf8 small (names note.task target.1 target.0) words
-call_plain header by core (call.NotifyWait entry exit ticks) names target utf8 small words = (refl, refl, utf8, (refl, refl, small, (refl, refl, IsUtf8-are_ascii _ refl, (refl, refl, omega (arith, words.0), (refl, refl, omega (arith, words.1), (refl, refl, omega (arith, words.2), tt))))))
-call_plain header by core (call.NotifyTake clear ticks) names target utf8 small words = (refl, refl, utf8, (refl, refl, tt, (refl, refl, small, (refl, refl, IsUtf8-are_ascii _ refl, (refl, refl, omega arith, tt)))))
-call_plain header by core (call.StateClear task) names target utf8 small words = for_plain by core _ _ utf8 small (IsUtf8-are_ascii _ refl) (names task target.1 target.0)
-call_plain header by core (call.ValueClear task bits) names target utf8 small words = (refl, refl, omega arith, (refl, refl, utf8, (refl, refl, small, (refl, refl, IsUtf8-are_ascii _ refl, (refl, refl, names task target.1 target.0, tt)))))
-call_plain header by core call.Finish names target utf8 small words = bare_plain by core _ utf8 small (IsUtf8-are_ascii _ refl)
+pub call_plain : (header : Header) (by : List ℕ) (core : ℕ) (made : Call) → IsCheckedHeader header → AreNames header → HasTarget header made → IsUtf8 by → core < 2 ^ 64 → IsOfWords made → IsPlain (call_data header by core made)
+call_plain header by core call.Yield h names target utf8 small words = bare_plain by core _ utf8 small (IsUtf8-are_ascii _ refl)
+call_plain header by core (call.Delay ticks) h names target utf8 small words = (refl, refl, utf8, (refl, refl, small, (refl, refl, IsUtf8-are_ascii _ refl, (refl, refl, omega arith, tt))))
+call_plain header by core (call.PrioritySet task priority) h names target utf8 small words = (refl, refl, utf8, (refl, refl, small, (refl, refl, IsUtf8-are_ascii _ refl, (refl, refl, omega arith, (refl, refl, names task target.1 target.0, tt)))))
+call_plain header by core (call.AffinitySet task mask) h names target utf8 small words = (refl, refl, utf8, (refl, refl, small, (refl, refl, IsUtf8-are_ascii _ refl, (refl, refl, omega arith, (refl, refl, names task target.1 target.0, tt)))))
+call_plain header by core (call.PreemptOff task) h names target utf8 small words = for_plain by core _ _ utf8 small (IsUtf8-are_ascii _ refl) (names task target.1 target.0)
+call_plain header by core (call.PreemptOn task) h names target utf8 small words = for_plain by core _ _ utf8 small (IsUtf8-are_ascii _ refl) (names task target.1 target.0)
+call_plain header by core (call.Notify note) h names target utf8 small words = notify_plain by core _ note.action utf8 small (names note.task target.1 target.0) words
+call_plain header by core (call.NotifyWait entry exit ticks) h names target utf8 small words = (refl, refl, utf8, (refl, refl, small, (refl, refl, IsUtf8-are_ascii _ refl, (refl, refl, omega (arith, words.0), (refl, refl, omega (arith, words.1), (refl, refl, omega (arith, words.2), tt))))))
+call_plain header by core (call.NotifyTake clear ticks) h names target utf8 small words = (refl, refl, utf8, (refl, refl, tt, (refl, refl, small, (refl, refl, IsUtf8-are_ascii _ refl, (refl, refl, omega arith, tt)))))
+call_plain header by core (call.StateClear task) h names target utf8 small words = for_plain by core _ _ utf8 small (IsUtf8-are_ascii _ refl) (names task target.1 target.0)
+call_plain header by core (call.ValueClear task bits) h names target utf8 small words = (refl, refl, omega arith, (refl, refl, utf8, (refl, refl, small, (refl, refl, IsUtf8-are_ascii _ refl, (refl, refl, names task target.1 target.0, tt)))))
+call_plain header by core (call.MutexTake mutex ticks) h names target utf8 small words = (refl, refl, utf8, (refl, refl, small, (refl, refl, IsUtf8-are_ascii _ refl, (refl, refl, omega (arith, h.few_mutexes), (refl, refl, omega arith, tt)))))
+call_plain header by core (call.MutexGive mutex) h names target utf8 small words = (refl, refl, utf8, (refl, refl, small, (refl, refl, IsUtf8-are_ascii _ refl, (refl, refl, omega (arith, h.few_mutexes), tt))))
+call_plain header by core call.Finish h names target utf8 small words = bare_plain by core _ utf8 small (IsUtf8-are_ascii _ refl)
 
-step_plain : (header : Header) (made : Step) → header.config.cores ≤ 8 → AreNames header → IsInPlace header made → IsStepOfWords made → IsPlain (step_data header made)
-step_plain header step.Tick few names place words = (refl, refl, IsUtf8-are_ascii _ refl, tt)
-step_plain header (step.Switch core) few names place words = (refl, refl, omega arith, (refl, refl, IsUtf8-are_ascii _ refl, tt))
-step_plain header (step.Call core task made) few names place words = call_plain header (task_name header task) core made names place.target (names task place.caller.1 place.caller.0) (omega (arith, place.core_there)) words
-step_plain header (step.Interrupt core note) few names place words = interrupt_plain core _ note.action (omega (arith, place.core_there)) (names note.task place.target.1 place.target.0) words
+step_plain : (header : Header) (made : Step) → IsCheckedHeader header → AreNames header → IsInPlace header made → IsStepOfWords made → IsPlain (step_data header made)
+step_plain header step.Tick h names place words = (refl, refl, IsUtf8-are_ascii _ refl, tt)
+step_plain header (step.Switch core) h names place words = (refl, refl, omega (arith, h.few_cores), (refl, refl, IsUtf8-are_ascii _ refl, tt))
+step_plain header (step.Call core task made) h names place words = call_plain header (task_name header task) core made h names place.target (names task place.caller.1 place.caller.0) (omega (arith, h.few_cores, place.core_there)) words
+step_plain header (step.Interrupt core note) h names place words = interrupt_plain core _ note.action (omega (arith, h.few_cores, place.core_there)) (names note.task place.target.1 place.target.0) words
 
-steps_plain : (header : Header) (steps : List Step) → header.config.cores ≤ 8 → AreNames header → AllByRecursion (λ made. IsInPlace header made × IsStepOfWords made) steps → ArePlain (items_of (map (step_data header) steps))
-steps_plain header [] few names each = tt
-steps_plain header (made ∷ steps) few names each = (step_plain header made few names each.0.0 each.0.1, steps_plain header steps few names each.1)
+steps_plain : (header : Header) (steps : List Step) → IsCheckedHeader header → AreNames header → AllByRecursion (λ made. IsInPlace header made × IsStepOfWords made) steps → ArePlain (items_of (map (step_data header) steps))
+steps_plain header [] h names each = tt
+steps_plain header (made ∷ steps) h names each = (step_plain header made h names each.0.0 each.0.1, steps_plain header steps h names each.1)
 
 -- a task of a header with these settings
 abbrev pub IsTask : Config → TaskArgs → Type 0
@@ -131,7 +133,7 @@ session_plain header steps h =
               (
                 refl,
                 refl,
-                steps_plain header steps limits.few_cores h.names h.each_step,
+                steps_plain header steps limits h.names h.each_step,
                 (
                   refl,
                   refl,
@@ -175,6 +177,8 @@ call_depth header by core (call.NotifyWait entry exit ticks) = omega arith
 call_depth header by core (call.NotifyTake clear ticks) = omega arith
 call_depth header by core (call.StateClear task) = omega arith
 call_depth header by core (call.ValueClear task bits) = omega arith
+call_depth header by core (call.MutexTake mutex ticks) = omega arith
+call_depth header by core (call.MutexGive mutex) = omega arith
 call_depth header by core call.Finish = omega arith
 
 step_depth : (header : Header) (made : Step) → depth (step_data header made) ≤ 1

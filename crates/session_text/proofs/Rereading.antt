@@ -25,7 +25,7 @@ use Rattle.session_text.specs.Member.{number_at, text_at, flag_at, array_at}
 use Rattle.bench_types.proofs.Passes.{IsCheckedHeader, header_facts}
 use Rattle.session_text.specs.Names.{names_of, number_of}
 use Rattle.session_text.specs.Session.{format_at, session_at, session_accepted, session, step_fault}
-use Rattle.session_text.specs.Step.{step_at, kind_at, step_of_kind_at, task_named_at, note_at, call_at}
+use Rattle.session_text.specs.Step.{step_at, kind_at, step_of_kind_at, task_named_at, note_at, wait_at, call_at}
 use Rattle.session_text.specs.Written.{task_data, task_name, step_data, session_data, IsSession, IsTyped, WrittenReadsBack}
 use Rattle.session_text.proofs.Limits.{IsInPlace, IsCallInPlace, IsUserTask, in_place}
 use Rattle.session_text.proofs.Passing.{all_accepted}
@@ -49,6 +49,9 @@ target_named header task h there = number_of_name header task there.0 there.1 h.
 core_number : (header : Header) (core : ℕ) → IsCheckedHeader header → core < header.config.cores → ltb core (2 ^ 32) ≡ true
 core_number header core h there = lt-ltb _ _ (omega (arith, h.few_cores))
 
+mutex_number : (header : Header) (mutex : ℕ) → IsCheckedHeader header → mutex < header.config.mutexes → ltb mutex (2 ^ 32) ≡ true
+mutex_number header mutex h there = lt-ltb _ _ (omega (arith, h.few_mutexes))
+
 notify_read : (header : Header) (at : List ℕ) (core task to : ℕ) (what : Action) → IsCheckedHeader header → core < header.config.cores → IsUserTask header task → IsUserTask header to → IsActionOfWord what → step_at (names_of header) at (step_data header (step.Call core task (call.Notify (record { task = to; action = what })))) ≡ Ok (step.Call core task (call.Notify (record { task = to; action = what })))
 unfolding step_at kind_at text_at step_of_kind_at number_at task_named_at call_at note_at action_at action_kind_at action_of_kind_at
 notify_read header at core task to action.Nothing h there caller target word = rw (core_number header core h there, target_named header task h caller, target_named header to h target) refl
@@ -66,7 +69,7 @@ interrupt_read header at core to (action.Set value) h there target word = rw (co
 interrupt_read header at core to (action.SetNew value) h there target word = rw (core_number header core h there, lt-ltb _ _ word, target_named header to h target) refl
 
 call_read : (header : Header) (at : List ℕ) (core task : ℕ) (made : Call) → IsCheckedHeader header → IsCallInPlace header core task made → IsOfWords made → step_at (names_of header) at (step_data header (step.Call core task made)) ≡ Ok (step.Call core task made)
-unfolding step_at kind_at text_at step_of_kind_at number_at flag_at task_named_at call_at
+unfolding step_at kind_at text_at step_of_kind_at number_at flag_at task_named_at call_at wait_at
 call_read header at core task call.Yield h place words = rw (core_number header core h place.core_there, target_named header task h place.caller) refl
 call_read header at core task (call.Delay ticks) h place words = rw (core_number header core h place.core_there, lt-ltb _ _ words, target_named header task h place.caller) refl
 call_read header at core task (call.PrioritySet to priority) h place words = rw (core_number header core h place.core_there, lt-ltb _ _ words, target_named header task h place.caller, target_named header to h place.target) refl
@@ -78,6 +81,8 @@ call_read header at core task (call.NotifyWait entry exit ticks) h place words =
 call_read header at core task (call.NotifyTake clear ticks) h place words = rw (core_number header core h place.core_there, lt-ltb _ _ words, target_named header task h place.caller) refl
 call_read header at core task (call.StateClear to) h place words = rw (core_number header core h place.core_there, target_named header task h place.caller, target_named header to h place.target) refl
 call_read header at core task (call.ValueClear to bits) h place words = rw (core_number header core h place.core_there, lt-ltb _ _ words, target_named header task h place.caller, target_named header to h place.target) refl
+call_read header at core task (call.MutexTake mutex ticks) h place words = rw (core_number header core h place.core_there, mutex_number header mutex h place.target, lt-ltb _ _ words, target_named header task h place.caller) refl
+call_read header at core task (call.MutexGive mutex) h place words = rw (core_number header core h place.core_there, mutex_number header mutex h place.target, target_named header task h place.caller) refl
 call_read header at core task call.Finish h place words = rw (core_number header core h place.core_there, target_named header task h place.caller) refl
 
 step_read : (header : Header) (at : List ℕ) (made : Step) → IsCheckedHeader header → IsInPlace header made → IsStepOfWords made → step_at (names_of header) at (step_data header made) ≡ Ok made

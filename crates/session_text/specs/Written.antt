@@ -79,6 +79,12 @@ take_data by core clear ticks = object_with ((codes "by", string by) ∷ (codes 
 abbrev pub value_clear_data : List ℕ → ℕ → List ℕ → ℕ → Data
 value_clear_data by core to bits = object_with ((codes "bits", whole bits) ∷ (codes "by", string by) ∷ (codes "core", whole core) ∷ (codes "do", string (codes "value_clear")) ∷ (codes "to", string to) ∷ [])
 
+abbrev pub mutex_take_data : List ℕ → ℕ → ℕ → ℕ → Data
+mutex_take_data by core mutex ticks = object_with ((codes "by", string by) ∷ (codes "core", whole core) ∷ (codes "do", string (codes "mutex_take")) ∷ (codes "mutex", whole mutex) ∷ (codes "ticks", whole ticks) ∷ [])
+
+abbrev pub mutex_give_data : List ℕ → ℕ → ℕ → Data
+mutex_give_data by core mutex = object_with ((codes "by", string by) ∷ (codes "core", whole core) ∷ (codes "do", string (codes "mutex_give")) ∷ (codes "mutex", whole mutex) ∷ [])
+
 abbrev pub call_data : Header → List ℕ → ℕ → Call → Data
 call_data header by core call.Yield = bare_call by core (codes "yield")
 call_data header by core (call.Delay ticks) = delay_data by core ticks
@@ -91,6 +97,8 @@ call_data header by core (call.NotifyWait entry exit ticks) = wait_data by core 
 call_data header by core (call.NotifyTake clear ticks) = take_data by core clear ticks
 call_data header by core (call.StateClear task) = call_for by core (codes "state_clear") (task_name header task)
 call_data header by core (call.ValueClear task bits) = value_clear_data by core (task_name header task) bits
+call_data header by core (call.MutexTake mutex ticks) = mutex_take_data by core mutex ticks
+call_data header by core (call.MutexGive mutex) = mutex_give_data by core mutex
 call_data header by core call.Finish = bare_call by core (codes "finish")
 
 abbrev pub step_data : Header → Step → Data

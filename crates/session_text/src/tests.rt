@@ -1,5 +1,6 @@
 mod calls;
 mod documents;
+mod mutexes;
 mod notes;
 mod rows;
 mod written;

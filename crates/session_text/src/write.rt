@@ -122,6 +122,8 @@ fn call_value(header: &Header, caller: &Caller<'_>, call: Call) -> Result<Value,
         Call::NotifyTake { clear, ticks } => caller.take(clear, ticks),
         Call::StateClear(task) => caller.call_for("state_clear", task_name(header, task)),
         Call::ValueClear { task, bits } => caller.value_clear(task_name(header, task), bits),
+        Call::MutexTake { mutex, ticks } => caller.mutex_take(mutex, ticks),
+        Call::MutexGive(mutex) => caller.mutex_give(mutex),
         Call::Finish => caller.bare("finish"),
     }
 }

@@ -1,6 +1,6 @@
 ghost use Rattle.std.specs.Prelude.{◌≡◌, IfOk};
 ghost use Rattle.serde_json.specs.View.{view};
-ghost use Rattle.session_text.specs.Written.{affinity_data, bare_call, call_for, delay_data, priority_data};
+ghost use Rattle.session_text.specs.Written.{affinity_data, bare_call, call_for, delay_data, mutex_give_data, mutex_take_data, priority_data};
 
 use serde_json::{Value, json};
 use std::alloc::{AllocError, Global};
@@ -50,6 +50,24 @@ impl Caller<'_> {
     {
         json!(in self.alloc; {
             "by": self.by, "core": self.core, "do": "affinity_set", "mask": mask, "to": to
+        })
+    }
+
+    pub(super) fn mutex_take(&self, mutex: u32, ticks: u32) -> Result<Value, AllocError>
+        ensures { IfOk result
+            (λ value. view value ≡ mutex_take_data self.now.by.now self.now.core mutex ticks) }
+    {
+        json!(in self.alloc; {
+            "by": self.by, "core": self.core, "do": "mutex_take", "mutex": mutex, "ticks": ticks
+        })
+    }
+
+    pub(super) fn mutex_give(&self, mutex: u32) -> Result<Value, AllocError>
+        ensures { IfOk result
+            (λ value. view value ≡ mutex_give_data self.now.by.now self.now.core mutex) }
+    {
+        json!(in self.alloc; {
+            "by": self.by, "core": self.core, "do": "mutex_give", "mutex": mutex
         })
     }
 }

@@ -3,7 +3,6 @@ mod documents;
 mod mutexes;
 mod notes;
 mod rows;
-mod written;
 
 use crate::{TextFault, Why, read_bench, read_session};
 use bench_types::{Call, Config, Fault, Step};

@@ -1,9 +1,8 @@
-//! Calls that take and give mutexes, as texts. What reading and writing gives was worked out by hand from the format's
-//! description.
+//! Calls that take and give mutexes, as texts. What reading gives was worked out by hand from the format's description.
 
 use super::calls::session_of;
 use super::{Document, changed, row, told};
-use crate::{read_edit, read_session, write_session};
+use crate::{read_edit, read_session};
 use bench_types::{Call, Edit, Step};
 use std::alloc::Global;
 use std::process::Abort;
@@ -111,8 +110,8 @@ const EDITS: &str = r#"
 {"do":"mutex_give","core":0,"by":"A","mutex":2} | F4 edits[0]
 "#;
 
-// Steps, each as it may stand in a text and as it is written.
-const WRITTEN: &str = r#"
+// Steps, each with its members in two orders.
+const ORDERS: &str = r#"
 {"do":"mutex_take","core":0,"by":"A","mutex":1,"ticks":5} | {"by":"A","core":0,"do":"mutex_take","mutex":1,"ticks":5}
 {"ticks":4294967295,"mutex":0,"by":"B","core":1,"do":"mutex_take"} | {"by":"B","core":1,"do":"mutex_take","mutex":0,"ticks":4294967295}
 {"do":"mutex_give","core":0,"by":"A","mutex":1} | {"by":"A","core":0,"do":"mutex_give","mutex":1}
@@ -208,24 +207,18 @@ fn replace_by_a_take(rt: HostRuntime) -> Result<(), Fail> {
 }
 
 #[test]
-fn mutex_calls_read_and_written(rt: HostRuntime) -> Result<(), Fail> {
+fn mutex_calls(rt: HostRuntime) -> Result<(), Fail> {
     let alloc = rt.alloc();
     let wanted = wanted();
-    assert_eq!(rt; WRITTEN.trim().lines().count(), wanted.len());
-    for (line, want) in WRITTEN.trim().lines().zip(wanted) {
-        let (step, written) = row(line)?;
-        let part = format!(in alloc; "\"steps\":[{written}],")?;
-        for step in [step, written] {
+    assert_eq!(rt; ORDERS.trim().lines().count(), wanted.len());
+    for (line, want) in ORDERS.trim().lines().zip(wanted) {
+        let (step, sorted) = row(line)?;
+        for step in [step, sorted] {
             let text = session_with_mutexes(alloc, step)?;
-            let Ok((header, steps)) = read_session(alloc, text.as_bytes()) else {
+            let Ok((_, steps)) = read_session(alloc, text.as_bytes()) else {
                 return Err(Fail::from("the text is a session"));
             };
             assert_eq!(rt; steps.as_slice(), [want].as_slice(), "{text}");
-            let bytes = write_session(alloc, &header, &steps)?;
-            let got = std::str::from_utf8(bytes.as_slice())
-                .ok()
-                .ok_or("the text is UTF-8")?;
-            assert!(rt; got.contains(part.as_str()), "{got}");
         }
     }
     Ok(())

@@ -1,12 +1,6 @@
 mod Accepting
-mod Documents
-mod Limits
+pub mod Documents
 mod Lists
 mod Loops
 mod NewNames
 mod Passing
-mod Plain
-mod ReadBack
-mod Rereading
-mod TaskNames
-mod Values

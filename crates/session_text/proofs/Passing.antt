@@ -2,7 +2,7 @@
 use Rattle.std.proofs.Common.{◌≡◌, ℕ, suc, List, [], ◌∷◌, Result, Ok, Err, refl}
 use Rattle.std.specs.Prelude.{All, ⊤}
 use Rattle.std.specs.List.{AllByRecursion}
-use Rattle.std.proofs.lemmas.List.Elements.{All-from_recursion, recursion_from_All}
+use Rattle.std.proofs.lemmas.List.Elements.{All-from_recursion}
 use Rattle.bench_types.specs.declared.fault.Fault.{Fault}
 use Rattle.session_text.specs.declared.fault.TextFault.{TextFault}
 use Rattle.session_text.specs.Accepted.{item_accepted, items_accepted}
@@ -21,10 +21,3 @@ each_passes fault_of at index (item ∷ items) e =
 
 pub all_pass : {A : Type 0} (fault_of : A → Result ⊤ Fault) (at : List ℕ) (items : List A) → items_accepted fault_of at 0 items ≡ Ok tt → All (λ item. fault_of item ≡ Ok tt) items
 all_pass fault_of at items e = All-from_recursion (λ item. fault_of item ≡ Ok tt) items (each_passes fault_of at 0 items e)
-
-none_at_fault : {A : Type 0} (fault_of : A → Result ⊤ Fault) (at : List ℕ) (index : ℕ) (items : List A) → AllByRecursion (λ item. fault_of item ≡ Ok tt) items → items_accepted fault_of at index items ≡ Ok tt
-none_at_fault fault_of at index [] each = refl
-none_at_fault fault_of at index (item ∷ items) each = rw (each.0, none_at_fault fault_of at (suc index) items each.1) refl
-
-pub all_accepted : {A : Type 0} (fault_of : A → Result ⊤ Fault) (at : List ℕ) (items : List A) → All (λ item. fault_of item ≡ Ok tt) items → items_accepted fault_of at 0 items ≡ Ok tt
-all_accepted fault_of at items pass = none_at_fault fault_of at 0 items (recursion_from_All (λ item. fault_of item ≡ Ok tt) items pass)

@@ -11,4 +11,3 @@ pub mod Outcome
 pub mod Path
 pub mod Session
 pub mod Step
-pub mod Written

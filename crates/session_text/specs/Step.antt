@@ -34,6 +34,8 @@ kinds =
     (codes "notify_take", kind.Call callkind.NotifyTake) ∷
     (codes "state_clear", kind.Call callkind.StateClear) ∷
     (codes "value_clear", kind.Call callkind.ValueClear) ∷
+    (codes "mutex_take", kind.Call callkind.MutexTake) ∷
+    (codes "mutex_give", kind.Call callkind.MutexGive) ∷
     (codes "finish", kind.Call callkind.Finish) ∷ []
 
 abbrev pub kind_of : List ℕ → Option Kind
@@ -62,6 +64,8 @@ arguments_of (call.NotifyWait entry exit ticks) = codes "entry" ∷ codes "exit"
 arguments_of (call.NotifyTake clear ticks) = codes "clear" ∷ codes "ticks" ∷ []
 arguments_of (call.StateClear task) = codes "to" ∷ []
 arguments_of (call.ValueClear task bits) = codes "to" ∷ codes "bits" ∷ []
+arguments_of (call.MutexTake mutex ticks) = codes "mutex" ∷ codes "ticks" ∷ []
+arguments_of (call.MutexGive mutex) = codes "mutex" ∷ []
 arguments_of call.Finish = []
 
 abbrev pub members_of_call : Call → List (List ℕ)
@@ -86,6 +90,13 @@ note_at names at d = do
   what ← action_at at d
   Ok (record { task = task; action = what })
 
+unfoldable pub wait_at : List ℕ → Data → Result Call TextFault
+wait_at at d = do
+  entry ← number_at at (codes "entry") d
+  exit ← number_at at (codes "exit") d
+  ticks ← number_at at (codes "ticks") d
+  Ok (call.NotifyWait entry exit ticks)
+
 -- `to` names the task that a call is for
 unfoldable pub call_at : TaskNames → CallKind → List ℕ → Data → Result Call TextFault
 call_at names callkind.Yield at d = Ok call.Yield
@@ -109,11 +120,7 @@ call_at names callkind.PreemptOn at d = do
 call_at names callkind.Notify at d = do
   note ← note_at names at d
   Ok (call.Notify note)
-call_at names callkind.NotifyWait at d = do
-  entry ← number_at at (codes "entry") d
-  exit ← number_at at (codes "exit") d
-  ticks ← number_at at (codes "ticks") d
-  Ok (call.NotifyWait entry exit ticks)
+call_at names callkind.NotifyWait at d = wait_at at d
 call_at names callkind.NotifyTake at d = do
   clear ← flag_at at (codes "clear") d
   ticks ← number_at at (codes "ticks") d
@@ -125,6 +132,13 @@ call_at names callkind.ValueClear at d = do
   task ← task_named_at names at (codes "to") d
   bits ← number_at at (codes "bits") d
   Ok (call.ValueClear task bits)
+call_at names callkind.MutexTake at d = do
+  mutex ← number_at at (codes "mutex") d
+  ticks ← number_at at (codes "ticks") d
+  Ok (call.MutexTake mutex ticks)
+call_at names callkind.MutexGive at d = do
+  mutex ← number_at at (codes "mutex") d
+  Ok (call.MutexGive mutex)
 call_at names callkind.Finish at d = Ok call.Finish
 
 unfoldable pub step_of_kind_at : TaskNames → Kind → List ℕ → Data → Result Step TextFault

@@ -1,7 +1,7 @@
 ghost use Rattle.std.specs.Prelude.{◌≡◌, map};
 ghost use Rattle.session_text.specs.Node.{data_of, place_of};
 ghost use Rattle.session_text.specs.Outcome.{Gives};
-ghost use Rattle.session_text.specs.Step.{call_at, members_of_call, note_at};
+ghost use Rattle.session_text.specs.Step.{call_at, members_of_call, note_at, wait_at};
 
 use crate::action::{action_at, action_number};
 use crate::fault::Stop;
@@ -23,6 +23,8 @@ pub(crate) enum CallKind {
     NotifyTake,
     StateClear,
     ValueClear,
+    MutexTake,
+    MutexGive,
     Finish,
 }
 
@@ -35,6 +37,17 @@ pub(crate) fn note_at(names: &Names<'_>, node: &Node<'_, '_>) -> Result<Note, St
     Ok(Note {
         task: names.task_named_at(node, "to")?,
         action: action_at(node)?,
+    })
+}
+
+#[tactic(auto, unfolding(crate::specs::Step::wait_at))]
+fn wait_at(node: &Node<'_, '_>) -> Result<Call, Stop>
+    ensures { Gives (λ call. call) result (wait_at (place_of node.now) (data_of node.now)) }
+{
+    Ok(Call::NotifyWait {
+        entry: node.number("entry")?,
+        exit: node.number("exit")?,
+        ticks: node.number("ticks")?,
     })
 }
 
@@ -57,11 +70,7 @@ pub(crate) fn call_at(names: &Names<'_>, kind: CallKind, node: &Node<'_, '_>) ->
         CallKind::PreemptOff => Ok(Call::PreemptOff(names.task_named_at(node, "to")?)),
         CallKind::PreemptOn => Ok(Call::PreemptOn(names.task_named_at(node, "to")?)),
         CallKind::Notify => Ok(Call::Notify(note_at(names, node)?)),
-        CallKind::NotifyWait => Ok(Call::NotifyWait {
-            entry: node.number("entry")?,
-            exit: node.number("exit")?,
-            ticks: node.number("ticks")?,
-        }),
+        CallKind::NotifyWait => wait_at(node),
         CallKind::NotifyTake => Ok(Call::NotifyTake {
             clear: node.flag("clear")?,
             ticks: node.number("ticks")?,
@@ -71,6 +80,11 @@ pub(crate) fn call_at(names: &Names<'_>, kind: CallKind, node: &Node<'_, '_>) ->
             task: names.task_named_at(node, "to")?,
             bits: node.number("bits")?,
         }),
+        CallKind::MutexTake => Ok(Call::MutexTake {
+            mutex: node.number("mutex")?,
+            ticks: node.number("ticks")?,
+        }),
+        CallKind::MutexGive => Ok(Call::MutexGive(node.number("mutex")?)),
         CallKind::Finish => Ok(Call::Finish),
     }
 }
@@ -94,5 +108,7 @@ pub(crate) fn call_members(call: Call) -> &'static [&'static str]
         Call::NotifyWait { .. } => &["do", "core", "by", "entry", "exit", "ticks"],
         Call::NotifyTake { .. } => &["do", "core", "by", "clear", "ticks"],
         Call::ValueClear { .. } => &["do", "core", "by", "to", "bits"],
+        Call::MutexTake { .. } => &["do", "core", "by", "mutex", "ticks"],
+        Call::MutexGive(_) => &["do", "core", "by", "mutex"],
     }
 }

@@ -39,6 +39,8 @@ impl Kind {
             "notify_take" => Some(Kind::Call(CallKind::NotifyTake)),
             "state_clear" => Some(Kind::Call(CallKind::StateClear)),
             "value_clear" => Some(Kind::Call(CallKind::ValueClear)),
+            "mutex_take" => Some(Kind::Call(CallKind::MutexTake)),
+            "mutex_give" => Some(Kind::Call(CallKind::MutexGive)),
             "finish" => Some(Kind::Call(CallKind::Finish)),
             _ => None,
         }

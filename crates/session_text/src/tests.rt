@@ -1,8 +1,8 @@
 mod calls;
 mod documents;
+mod mutexes;
 mod notes;
 mod rows;
-mod written;
 
 use crate::{TextFault, Why, read_bench, read_session};
 use bench_types::{Call, Config, Fault, Step};

@@ -1,0 +1,6 @@
+mod Limits
+mod Plain
+mod ReadBack
+mod Rereading
+mod TaskNames
+mod Values

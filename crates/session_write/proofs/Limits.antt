@@ -1,0 +1,88 @@
+-- What a checked step says of its numbers.
+use Rattle.std.proofs.Common.{◌≡◌, ℕ, ◌+◌, ◌<◌, ◌≤◌, length, Ok}
+use Rattle.std.specs.Prelude.{⊤}
+use Rattle.bench_types.specs.declared.header.Header.{Header}
+use Rattle.bench_types.specs.declared.step.Step.{Step}
+use Rattle.bench_types.specs.declared.step.Step.TheVariants as step
+use Rattle.bench_types.specs.declared.step.Call.{Call}
+use Rattle.bench_types.specs.declared.step.Call.TheVariants as call
+use Rattle.bench_types.proofs.Passes.{both_pass, checked_core, checked_mutex, checked_task}
+use Rattle.bench_types.specs.Step.{settings_of, core_check, task_check, mask_check, call_check, ◌>>◌}
+use Rattle.session_text.specs.Session.{step_fault}
+
+-- the number of a user task
+abbrev pub IsUserTask : Header → ℕ → Type 0
+IsUserTask header task = (header.config.cores ≤ task) × (task < header.config.cores + length header.tasks)
+
+-- the task or the mutex that a call is for is there
+abbrev pub HasTarget : Header → Call → Type 0
+HasTarget header call.Yield = ⊤
+HasTarget header (call.Delay ticks) = ⊤
+HasTarget header (call.PrioritySet task priority) = IsUserTask header task
+HasTarget header (call.AffinitySet task mask) = IsUserTask header task
+HasTarget header (call.PreemptOff task) = IsUserTask header task
+HasTarget header (call.PreemptOn task) = IsUserTask header task
+HasTarget header (call.Notify note) = IsUserTask header note.task
+HasTarget header (call.NotifyWait entry exit ticks) = ⊤
+HasTarget header (call.NotifyTake clear ticks) = ⊤
+HasTarget header (call.StateClear task) = IsUserTask header task
+HasTarget header (call.ValueClear task bits) = IsUserTask header task
+HasTarget header (call.MutexTake mutex ticks) = mutex < header.config.mutexes
+HasTarget header (call.MutexGive mutex) = mutex < header.config.mutexes
+HasTarget header call.Finish = ⊤
+
+-- the core and the caller of a call are there, and what it is for
+pub record IsCallInPlace (header : Header) (core task : ℕ) (made : Call) : Type 0 where
+  pub core_there : core < header.config.cores
+  pub caller : IsUserTask header task
+  pub target : HasTarget header made
+
+-- the core of an interrupt is there, and the task that it notifies
+pub record IsInterruptInPlace (header : Header) (core task : ℕ) : Type 0 where
+  pub core_there : core < header.config.cores
+  pub target : IsUserTask header task
+
+-- the same of a step
+abbrev pub IsInPlace : Header → Step → Type 0
+IsInPlace header step.Tick = ⊤
+IsInPlace header (step.Switch core) = core < header.config.cores
+IsInPlace header (step.Call core task made) = IsCallInPlace header core task made
+IsInPlace header (step.Interrupt core note) = IsInterruptInPlace header core note.task
+
+has_target : (header : Header) (made : Call) → call_check (settings_of header) made ≡ Ok tt → HasTarget header made
+has_target header call.Yield passes = tt
+has_target header (call.Delay ticks) passes = tt
+has_target header (call.PrioritySet task priority) passes = checked_task (settings_of header) task passes
+has_target header (call.AffinitySet task mask) passes =
+    let settings = settings_of header in
+    checked_task settings task (both_pass (task_check settings task) (mask_check settings mask) passes).0
+has_target header (call.PreemptOff task) passes = checked_task (settings_of header) task passes
+has_target header (call.PreemptOn task) passes = checked_task (settings_of header) task passes
+has_target header (call.Notify note) passes = checked_task (settings_of header) note.task passes
+has_target header (call.NotifyWait entry exit ticks) passes = tt
+has_target header (call.NotifyTake clear ticks) passes = tt
+has_target header (call.StateClear task) passes = checked_task (settings_of header) task passes
+has_target header (call.ValueClear task bits) passes = checked_task (settings_of header) task passes
+has_target header (call.MutexTake mutex ticks) passes = checked_mutex (settings_of header) mutex passes
+has_target header (call.MutexGive mutex) passes = checked_mutex (settings_of header) mutex passes
+has_target header call.Finish passes = tt
+
+pub in_place : (header : Header) (made : Step) → step_fault header made ≡ Ok tt → IsInPlace header made
+in_place header step.Tick passes = tt
+in_place header (step.Switch core) passes = checked_core (settings_of header) core passes
+in_place header (step.Call core task made) passes =
+    let settings = settings_of header in
+    let two = both_pass (core_check settings core >> task_check settings task) (call_check settings made) passes in
+    let one = both_pass (core_check settings core) (task_check settings task) two.0 in
+    record {
+      core_there = checked_core settings core one.0;
+      caller = checked_task settings task one.1;
+      target = has_target header made two.1;
+    }
+in_place header (step.Interrupt core note) passes =
+    let settings = settings_of header in
+    let both = both_pass (core_check settings core) (task_check settings note.task) passes in
+    record {
+      core_there = checked_core settings core both.0;
+      target = checked_task settings note.task both.1;
+    }

@@ -1,0 +1,165 @@
+-- A session that is written is read back.
+use Rattle.std.proofs.Common.{◌≡◌, ℕ, suc, ◌-◌, ◌^◌, ◌<◌, ◌≤◌, true, List, [], ◌∷◌, map, codes, refl, arith, ltb, lt-ltb, Result, Ok}
+use Rattle.std.specs.Prelude.{All, ⊤}
+use Rattle.std.specs.List.{list_all, AllByRecursion}
+use Rattle.std.proofs.lemmas.Bool.{and_parts, and_from}
+use Rattle.std.proofs.lemmas.Bool.Decides.{nat_tests}
+use Rattle.std.proofs.lemmas.List.Elements.{recursion_from_All}
+use Rattle.serde_json.specs.View.{items_of}
+use Rattle.bench_types.specs.declared.fault.Fault.{Fault}
+use Rattle.bench_types.specs.declared.header.Config.{Config}
+use Rattle.bench_types.specs.declared.header.TaskArgs.{TaskArgs}
+use Rattle.bench_types.specs.declared.header.Header.{Header}
+use Rattle.bench_types.specs.declared.note.Action.{Action}
+use Rattle.bench_types.specs.declared.note.Action.TheVariants as action
+use Rattle.bench_types.specs.declared.step.Step.{Step}
+use Rattle.bench_types.specs.declared.step.Step.TheVariants as step
+use Rattle.bench_types.specs.declared.step.Call.{Call}
+use Rattle.bench_types.specs.declared.step.Call.TheVariants as call
+use Rattle.bench_types.specs.Header.{has_valid_args, is_header}
+use Rattle.bench_types.specs.Name.{is_name}
+use Rattle.bench_types.specs.Step.{IsActionOfWord, IsOfWords, IsStepOfWords}
+use Rattle.session_text.specs.Accepted.{items_accepted}
+use Rattle.session_text.specs.Action.{action_at, action_kind_at, action_of_kind_at}
+use Rattle.session_text.specs.Array.{each_at, list_at}
+use Rattle.session_text.specs.Header.{task_at, config_at, header_at}
+use Rattle.session_text.specs.Member.{number_at, text_at, flag_at, array_at}
+use Rattle.bench_types.proofs.Passes.{IsCheckedHeader, header_facts}
+use Rattle.session_text.specs.Names.{names_of, number_of}
+use Rattle.session_text.specs.Session.{format_at, session_at, session_accepted, session, step_fault}
+use Rattle.session_text.specs.Step.{step_at, kind_at, step_of_kind_at, task_named_at, note_at, wait_at, call_at}
+use Rattle.session_write.specs.Written.{task_data, task_name, step_data, session_data, IsSession, IsTyped, WrittenReadsBack}
+use Rattle.session_write.proofs.Limits.{IsInPlace, IsCallInPlace, IsUserTask, in_place}
+use Rattle.session_write.proofs.Plain.{IsTask, IsWritable, session_plain, session_depth, utf8_name}
+use Rattle.session_write.proofs.ReadBack.{document-compact_text}
+use Rattle.session_write.proofs.TaskNames.{number_of_name}
+
+task_read : (at : List ℕ) (task : TaskArgs) → task.priority < 2 ^ 32 → task.mask < 2 ^ 32 → task_at at (task_data task) ≡ Ok task
+unfolding task_at number_at text_at
+task_read at task priority mask = rw (lt-ltb _ _ priority, lt-ltb _ _ mask) refl
+
+tasks_read : (config : Config) (at : List ℕ) (index : ℕ) (tasks : List TaskArgs) → config.priorities ≤ 32 → AllByRecursion (IsTask config) tasks → each_at task_at at index (items_of (map task_data tasks)) ≡ Ok tasks
+tasks_read config at index [] few each = refl
+tasks_read config at index (task ∷ tasks) few each =
+    let priority : task.priority < config.priorities = grind (arith, nat_tests, each.0.0) in
+    rw (task_read _ task (omega arith) each.0.1.mask, tasks_read config at (suc index) tasks few each.1) refl
+
+target_named : (header : Header) (task : ℕ) → IsCheckedHeader header → IsUserTask header task → number_of (names_of header) (task_name header task) ≡ task
+target_named header task h there = number_of_name header task there.0 there.1 h.once
+
+core_number : (header : Header) (core : ℕ) → IsCheckedHeader header → core < header.config.cores → ltb core (2 ^ 32) ≡ true
+core_number header core h there = lt-ltb _ _ (omega (arith, h.few_cores))
+
+mutex_number : (header : Header) (mutex : ℕ) → IsCheckedHeader header → mutex < header.config.mutexes → ltb mutex (2 ^ 32) ≡ true
+mutex_number header mutex h there = lt-ltb _ _ (omega (arith, h.few_mutexes))
+
+notify_read : (header : Header) (at : List ℕ) (core task to : ℕ) (what : Action) → IsCheckedHeader header → core < header.config.cores → IsUserTask header task → IsUserTask header to → IsActionOfWord what → step_at (names_of header) at (step_data header (step.Call core task (call.Notify (record { task = to; action = what })))) ≡ Ok (step.Call core task (call.Notify (record { task = to; action = what })))
+unfolding step_at kind_at text_at step_of_kind_at number_at task_named_at call_at note_at action_at action_kind_at action_of_kind_at
+notify_read header at core task to action.Nothing h there caller target word = rw (core_number header core h there, target_named header task h caller, target_named header to h target) refl
+notify_read header at core task to (action.SetBits bits) h there caller target word = rw (core_number header core h there, lt-ltb _ _ word, target_named header task h caller, target_named header to h target) refl
+notify_read header at core task to action.Increment h there caller target word = rw (core_number header core h there, target_named header task h caller, target_named header to h target) refl
+notify_read header at core task to (action.Set value) h there caller target word = rw (core_number header core h there, lt-ltb _ _ word, target_named header task h caller, target_named header to h target) refl
+notify_read header at core task to (action.SetNew value) h there caller target word = rw (core_number header core h there, lt-ltb _ _ word, target_named header task h caller, target_named header to h target) refl
+
+interrupt_read : (header : Header) (at : List ℕ) (core to : ℕ) (what : Action) → IsCheckedHeader header → core < header.config.cores → IsUserTask header to → IsActionOfWord what → step_at (names_of header) at (step_data header (step.Interrupt core (record { task = to; action = what }))) ≡ Ok (step.Interrupt core (record { task = to; action = what }))
+unfolding step_at kind_at text_at step_of_kind_at number_at task_named_at note_at action_at action_kind_at action_of_kind_at
+interrupt_read header at core to action.Nothing h there target word = rw (core_number header core h there, target_named header to h target) refl
+interrupt_read header at core to (action.SetBits bits) h there target word = rw (core_number header core h there, lt-ltb _ _ word, target_named header to h target) refl
+interrupt_read header at core to action.Increment h there target word = rw (core_number header core h there, target_named header to h target) refl
+interrupt_read header at core to (action.Set value) h there target word = rw (core_number header core h there, lt-ltb _ _ word, target_named header to h target) refl
+interrupt_read header at core to (action.SetNew value) h there target word = rw (core_number header core h there, lt-ltb _ _ word, target_named header to h target) refl
+
+call_read : (header : Header) (at : List ℕ) (core task : ℕ) (made : Call) → IsCheckedHeader header → IsCallInPlace header core task made → IsOfWords made → step_at (names_of header) at (step_data header (step.Call core task made)) ≡ Ok (step.Call core task made)
+unfolding step_at kind_at text_at step_of_kind_at number_at flag_at task_named_at call_at wait_at
+call_read header at core task call.Yield h place words = rw (core_number header core h place.core_there, target_named header task h place.caller) refl
+call_read header at core task (call.Delay ticks) h place words = rw (core_number header core h place.core_there, lt-ltb _ _ words, target_named header task h place.caller) refl
+call_read header at core task (call.PrioritySet to priority) h place words = rw (core_number header core h place.core_there, lt-ltb _ _ words, target_named header task h place.caller, target_named header to h place.target) refl
+call_read header at core task (call.AffinitySet to mask) h place words = rw (core_number header core h place.core_there, lt-ltb _ _ words, target_named header task h place.caller, target_named header to h place.target) refl
+call_read header at core task (call.PreemptOff to) h place words = rw (core_number header core h place.core_there, target_named header task h place.caller, target_named header to h place.target) refl
+call_read header at core task (call.PreemptOn to) h place words = rw (core_number header core h place.core_there, target_named header task h place.caller, target_named header to h place.target) refl
+call_read header at core task (call.Notify note) h place words = notify_read header at core task note.task note.action h place.core_there place.caller place.target words
+call_read header at core task (call.NotifyWait entry exit ticks) h place words = rw (core_number header core h place.core_there, lt-ltb _ _ words.0, lt-ltb _ _ words.1, lt-ltb _ _ words.2, target_named header task h place.caller) refl
+call_read header at core task (call.NotifyTake clear ticks) h place words = rw (core_number header core h place.core_there, lt-ltb _ _ words, target_named header task h place.caller) refl
+call_read header at core task (call.StateClear to) h place words = rw (core_number header core h place.core_there, target_named header task h place.caller, target_named header to h place.target) refl
+call_read header at core task (call.ValueClear to bits) h place words = rw (core_number header core h place.core_there, lt-ltb _ _ words, target_named header task h place.caller, target_named header to h place.target) refl
+call_read header at core task (call.MutexTake mutex ticks) h place words = rw (core_number header core h place.core_there, mutex_number header mutex h place.target, lt-ltb _ _ words, target_named header task h place.caller) refl
+call_read header at core task (call.MutexGive mutex) h place words = rw (core_number header core h place.core_there, mutex_number header mutex h place.target, target_named header task h place.caller) refl
+call_read header at core task call.Finish h place words = rw (core_number header core h place.core_there, target_named header task h place.caller) refl
+
+step_read : (header : Header) (at : List ℕ) (made : Step) → IsCheckedHeader header → IsInPlace header made → IsStepOfWords made → step_at (names_of header) at (step_data header made) ≡ Ok made
+unfolding step_at kind_at text_at step_of_kind_at number_at
+step_read header at step.Tick h place words = refl
+step_read header at (step.Switch core) h place words = rw (core_number header core h place) refl
+step_read header at (step.Call core task made) h place words = call_read header at core task made h place words
+step_read header at (step.Interrupt core note) h place words = interrupt_read header at core note.task note.action h place.core_there place.target words
+
+steps_read : (header : Header) (at : List ℕ) (index : ℕ) (steps : List Step) → IsCheckedHeader header → AllByRecursion (λ made. IsInPlace header made × IsStepOfWords made) steps → each_at (step_at (names_of header)) at index (items_of (map (step_data header) steps)) ≡ Ok steps
+steps_read header at index [] h each = refl
+steps_read header at index (made ∷ steps) h each = rw (step_read header _ made h each.0.0 each.0.1, steps_read header at (suc index) steps h each.1) refl
+
+config_read : (header : Header) (steps : List Step) (at : List ℕ) → IsWritable header steps → config_at at (session_data header steps) ≡ Ok header.config
+unfolding session_data config_at number_at flag_at
+config_read header steps at h =
+    let limits = h.limits in
+    let cores : header.config.cores < 2 ^ 32 = omega (arith, limits.few_cores) in
+    let priorities : header.config.priorities < 2 ^ 32 = omega (arith, limits.few_priorities) in
+    let mutexes : header.config.mutexes < 2 ^ 32 = omega (arith, limits.few_mutexes) in
+    rw (lt-ltb _ _ cores, lt-ltb _ _ priorities, lt-ltb _ _ mutexes, lt-ltb _ _ h.tick) refl
+
+are_named : (config : Config) (tasks : List TaskArgs) → AllByRecursion (IsTask config) tasks → list_all (λ task. is_name task.name) tasks ≡ true
+are_named config [] each = refl
+are_named config (task ∷ tasks) each = and_from _ _ each.0.1.named (are_named config tasks each.1)
+
+header_read : (header : Header) (steps : List Step) (at : List ℕ) → is_header header ≡ true → IsWritable header steps → header_at at (session_data header steps) ≡ Ok (Ok header)
+unfolding session_data header_at list_at array_at
+header_read header steps at valid h =
+    rw (config_read header steps at h, tasks_read header.config _ 0 header.tasks h.limits.few_priorities h.each_task, are_named header.config header.tasks h.each_task, valid) refl
+
+format_read : (header : Header) (steps : List Step) (at : List ℕ) → format_at at (session_data header steps) ≡ Ok tt
+unfolding session_data format_at number_at
+format_read header steps at = refl
+
+steps_at_read : (header : Header) (steps : List Step) (at : List ℕ) → IsWritable header steps → list_at (step_at (names_of header)) at (codes "steps") (session_data header steps) ≡ Ok steps
+unfolding session_data list_at array_at
+steps_at_read header steps at h = steps_read header _ 0 steps h.limits h.each_step
+
+session_read : (header : Header) (steps : List Step) (at : List ℕ) → is_header header ≡ true → IsWritable header steps → session_at at (session_data header steps) ≡ Ok (Ok header, steps)
+unfolding session_data session_at
+session_read header steps at valid h = rw (format_read header steps at, header_read header steps at valid h, steps_at_read header steps at h) refl
+
+both_of : (config : Config) (tasks : List TaskArgs) → list_all (has_valid_args config) tasks ≡ true → AllByRecursion IsTyped tasks → AllByRecursion (IsTask config) tasks
+both_of config [] all each = tt
+both_of config (task ∷ tasks) all each =
+    let both = and_parts (has_valid_args config task) (list_all (has_valid_args config) tasks) all in
+    ((both.0, each.0), both_of config tasks both.1 each.1)
+
+pub writable : (header : Header) (steps : List Step) → IsSession header steps → IsWritable header steps
+writable header steps h =
+    let within = header_facts header h.checked.header_fits in
+    record {
+      limits = within;
+      tick = h.tick;
+      each_task = both_of header.config header.tasks within.args (recursion_from_All IsTyped header.tasks h.tasks);
+      names = λ task high low. utf8_name (task_name header task) (h.tasks (task - header.config.cores) _ (omega arith)).named;
+      each_step = recursion_from_All (λ made. IsInPlace header made × IsStepOfWords made) steps (λ k d short. (in_place header _ (h.checked.steps_pass k d short), h.steps_typed k d short));
+    }
+
+-- items of which none is at fault pass their checks
+none_at_fault : {A : Type 0} (fault_of : A → Result ⊤ Fault) (at : List ℕ) (index : ℕ) (items : List A) → AllByRecursion (λ item. fault_of item ≡ Ok tt) items → items_accepted fault_of at index items ≡ Ok tt
+none_at_fault fault_of at index [] each = refl
+none_at_fault fault_of at index (item ∷ items) each = rw (each.0, none_at_fault fault_of at (suc index) items each.1) refl
+
+all_accepted : {A : Type 0} (fault_of : A → Result ⊤ Fault) (at : List ℕ) (items : List A) → All (λ item. fault_of item ≡ Ok tt) items → items_accepted fault_of at 0 items ≡ Ok tt
+all_accepted fault_of at items pass = none_at_fault fault_of at 0 items (recursion_from_All (λ item. fault_of item ≡ Ok tt) items pass)
+
+accepted_read : (header : Header) (steps : List Step) → items_accepted (step_fault header) (codes "steps") 0 steps ≡ Ok tt → session_accepted [] (Ok header) steps ≡ Ok (header, steps)
+unfolding session_accepted
+accepted_read header steps passing = rw passing refl
+
+pub written_reads_back : WrittenReadsBack
+unfolding session
+written_reads_back header steps h =
+    let writes = writable header steps h in
+    let passing = all_accepted (step_fault header) (codes "steps") steps h.checked.steps_pass in
+    rw (document-compact_text (session_data header steps) (session_plain header steps writes) (session_depth header steps), session_read header steps [] h.checked.header_fits writes)
+    (accepted_read header steps passing)

@@ -1,0 +1,144 @@
+-- A session as it is written: a JSON value, whose members stand in ascending byte order, in its compact text.
+use Rattle.std.specs.Prelude.{◌≡◌, ◌-◌, ◌^◌, ◌<◌, ℕ, Bool, List, [], ◌∷◌, map, codes, Option, Some, None, Ok, All, IsTrue, slice_index_or}
+use Rattle.serde_json.specs.Data.{Data, Members, number, unsigned, string, boolean, array, object, no_members, member}
+use Rattle.serde_json.specs.View.{items_of}
+use Rattle.serde_json.specs.Written.{compact_text}
+use Rattle.bench_types.specs.declared.note.Action.{Action}
+use Rattle.bench_types.specs.declared.note.Action.TheVariants as action
+use Rattle.bench_types.specs.declared.header.TaskArgs.{TaskArgs}
+use Rattle.bench_types.specs.declared.header.Header.{Header}
+use Rattle.bench_types.specs.declared.step.Step.{Step}
+use Rattle.bench_types.specs.declared.step.Step.TheVariants as step
+use Rattle.bench_types.specs.declared.step.Call.{Call}
+use Rattle.bench_types.specs.declared.step.Call.TheVariants as call
+use Rattle.bench_types.specs.Name.{is_name}
+use Rattle.bench_types.specs.Step.{IsStepOfWords}
+use Rattle.session_text.specs.Action.{action_number}
+use Rattle.session_text.specs.Session.{session, IsChecked}
+
+abbrev pub members : List (List ℕ × Data) → Members
+members [] = no_members
+members (first ∷ others) = member first.0 first.1 (members others)
+
+-- an object with these members, in this order
+abbrev pub object_with : List (List ℕ × Data) → Data
+object_with all = object (members all)
+
+abbrev pub whole : ℕ → Data
+whole n = number (unsigned n)
+
+abbrev pub task_data : TaskArgs → Data
+task_data task = object_with ((codes "mask", whole task.mask) ∷ (codes "name", string task.name) ∷ (codes "priority", whole task.priority) ∷ [])
+
+-- the name of a user task
+abbrev pub task_name : Header → ℕ → List ℕ
+task_name header task = (slice_index_or header.tasks (task - header.config.cores) (record { name = []; priority = 0; mask = 0 })).name
+
+-- a call by the task of this name on a core: the call's word is all that is said of it
+abbrev pub bare_call : List ℕ → ℕ → List ℕ → Data
+bare_call by core word = object_with ((codes "by", string by) ∷ (codes "core", whole core) ∷ (codes "do", string word) ∷ [])
+
+-- the same, for the task of the other name
+abbrev pub call_for : List ℕ → ℕ → List ℕ → List ℕ → Data
+call_for by core word to = object_with ((codes "by", string by) ∷ (codes "core", whole core) ∷ (codes "do", string word) ∷ (codes "to", string to) ∷ [])
+
+abbrev pub delay_data : List ℕ → ℕ → ℕ → Data
+delay_data by core ticks = object_with ((codes "by", string by) ∷ (codes "core", whole core) ∷ (codes "do", string (codes "delay")) ∷ (codes "ticks", whole ticks) ∷ [])
+
+abbrev pub priority_data : List ℕ → ℕ → List ℕ → ℕ → Data
+priority_data by core to priority = object_with ((codes "by", string by) ∷ (codes "core", whole core) ∷ (codes "do", string (codes "priority_set")) ∷ (codes "priority", whole priority) ∷ (codes "to", string to) ∷ [])
+
+abbrev pub affinity_data : List ℕ → ℕ → List ℕ → ℕ → Data
+affinity_data by core to mask = object_with ((codes "by", string by) ∷ (codes "core", whole core) ∷ (codes "do", string (codes "affinity_set")) ∷ (codes "mask", whole mask) ∷ (codes "to", string to) ∷ [])
+
+-- the word of an action
+abbrev pub action_word : Action → List ℕ
+action_word action.Nothing = codes "none"
+action_word (action.SetBits bits) = codes "set_bits"
+action_word action.Increment = codes "increment"
+action_word (action.Set value) = codes "set"
+action_word (action.SetNew value) = codes "set_new"
+
+-- the last member of a notification, where its action has a number
+abbrev pub value_member : Option ℕ → List (List ℕ × Data)
+value_member None = []
+value_member (Some value) = (codes "value", whole value) ∷ []
+
+abbrev pub notify_data : List ℕ → ℕ → List ℕ → Action → Data
+notify_data by core to what = object_with ((codes "action", string (action_word what)) ∷ (codes "by", string by) ∷ (codes "core", whole core) ∷ (codes "do", string (codes "notify")) ∷ (codes "to", string to) ∷ value_member (action_number what))
+
+abbrev pub interrupt_data : ℕ → List ℕ → Action → Data
+interrupt_data core to what = object_with ((codes "action", string (action_word what)) ∷ (codes "core", whole core) ∷ (codes "do", string (codes "isr_notify")) ∷ (codes "to", string to) ∷ value_member (action_number what))
+
+abbrev pub wait_data : List ℕ → ℕ → ℕ → ℕ → ℕ → Data
+wait_data by core entry exit ticks = object_with ((codes "by", string by) ∷ (codes "core", whole core) ∷ (codes "do", string (codes "notify_wait")) ∷ (codes "entry", whole entry) ∷ (codes "exit", whole exit) ∷ (codes "ticks", whole ticks) ∷ [])
+
+abbrev pub take_data : List ℕ → ℕ → Bool → ℕ → Data
+take_data by core clear ticks = object_with ((codes "by", string by) ∷ (codes "clear", boolean clear) ∷ (codes "core", whole core) ∷ (codes "do", string (codes "notify_take")) ∷ (codes "ticks", whole ticks) ∷ [])
+
+abbrev pub value_clear_data : List ℕ → ℕ → List ℕ → ℕ → Data
+value_clear_data by core to bits = object_with ((codes "bits", whole bits) ∷ (codes "by", string by) ∷ (codes "core", whole core) ∷ (codes "do", string (codes "value_clear")) ∷ (codes "to", string to) ∷ [])
+
+abbrev pub mutex_take_data : List ℕ → ℕ → ℕ → ℕ → Data
+mutex_take_data by core mutex ticks = object_with ((codes "by", string by) ∷ (codes "core", whole core) ∷ (codes "do", string (codes "mutex_take")) ∷ (codes "mutex", whole mutex) ∷ (codes "ticks", whole ticks) ∷ [])
+
+abbrev pub mutex_give_data : List ℕ → ℕ → ℕ → Data
+mutex_give_data by core mutex = object_with ((codes "by", string by) ∷ (codes "core", whole core) ∷ (codes "do", string (codes "mutex_give")) ∷ (codes "mutex", whole mutex) ∷ [])
+
+abbrev pub call_data : Header → List ℕ → ℕ → Call → Data
+call_data header by core call.Yield = bare_call by core (codes "yield")
+call_data header by core (call.Delay ticks) = delay_data by core ticks
+call_data header by core (call.PrioritySet task priority) = priority_data by core (task_name header task) priority
+call_data header by core (call.AffinitySet task mask) = affinity_data by core (task_name header task) mask
+call_data header by core (call.PreemptOff task) = call_for by core (codes "preempt_off") (task_name header task)
+call_data header by core (call.PreemptOn task) = call_for by core (codes "preempt_on") (task_name header task)
+call_data header by core (call.Notify note) = notify_data by core (task_name header note.task) note.action
+call_data header by core (call.NotifyWait entry exit ticks) = wait_data by core entry exit ticks
+call_data header by core (call.NotifyTake clear ticks) = take_data by core clear ticks
+call_data header by core (call.StateClear task) = call_for by core (codes "state_clear") (task_name header task)
+call_data header by core (call.ValueClear task bits) = value_clear_data by core (task_name header task) bits
+call_data header by core (call.MutexTake mutex ticks) = mutex_take_data by core mutex ticks
+call_data header by core (call.MutexGive mutex) = mutex_give_data by core mutex
+call_data header by core call.Finish = bare_call by core (codes "finish")
+
+abbrev pub step_data : Header → Step → Data
+step_data header step.Tick = object_with ((codes "do", string (codes "tick")) ∷ [])
+step_data header (step.Switch core) = object_with ((codes "core", whole core) ∷ (codes "do", string (codes "switch")) ∷ [])
+step_data header (step.Call core task made) = call_data header (task_name header task) core made
+step_data header (step.Interrupt core note) = interrupt_data core (task_name header note.task) note.action
+
+abbrev pub tasks_data : List TaskArgs → Data
+tasks_data tasks = array (items_of (map task_data tasks))
+
+abbrev pub steps_data : Header → List Step → Data
+steps_data header steps = array (items_of (map (step_data header) steps))
+
+unfoldable pub session_data : Header → List Step → Data
+session_data header steps = object_with (
+    (codes "cores", whole header.config.cores) ∷
+    (codes "format", whole 1) ∷
+    (codes "mutexes", whole header.config.mutexes) ∷
+    (codes "priorities", whole header.config.priorities) ∷
+    (codes "slicing", boolean header.config.slicing) ∷
+    (codes "steps", steps_data header steps) ∷
+    (codes "tasks", tasks_data header.tasks) ∷
+    (codes "tick", whole header.config.tick) ∷ [])
+
+abbrev pub written : Header → List Step → List ℕ
+written header steps = compact_text (session_data header steps)
+
+-- A task as the program's types hold it: its name is a name, and its mask is one of 32 bits.
+pub record IsTyped (task : TaskArgs) : Type 0 where
+  pub named : IsTrue (is_name task.name)
+  pub mask : task.mask < 2 ^ 32
+
+-- A checked session as the program's types hold it: names are names, and numbers are of 32 bits.
+pub record IsSession (header : Header) (steps : List Step) : Type 0 where
+  pub checked : IsChecked header steps
+  pub tick : header.config.tick < 2 ^ 32
+  pub tasks : All IsTyped header.tasks
+  pub steps_typed : All IsStepOfWords steps
+
+-- Every session that is written is read back as itself.
+abbrev pub WrittenReadsBack : Type 0
+WrittenReadsBack = (header : Header) (steps : List Step) → IsSession header steps → session (written header steps) ≡ Ok (header, steps)

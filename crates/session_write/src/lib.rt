@@ -1,0 +1,13 @@
+//! Sessions, written as JSON texts that are read back as themselves.
+#![tactic(auto)]
+
+mod caller;
+pub mod laws;
+mod notes;
+mod session;
+mod step;
+
+pub use session::write_session;
+
+#[cfg(test)]
+mod tests;

@@ -1,0 +1,84 @@
+ghost use Rattle.std.specs.Prelude.{◌≡◌, ◌+◌, ◌<◌, ◌≤◌, All, IfOk, Ok, OnOk, length};
+ghost use Rattle.serde_json.specs.View.{view};
+ghost use Rattle.bench_types.specs.Step.{IsOfWords, IsStepOfWords, call_check, settings_of};
+ghost use Rattle.session_text.specs.Session.{step_fault};
+ghost use Rattle.session_write.specs.Written.{call_data, step_data, steps_data, task_name};
+
+use crate::caller::Caller;
+use crate::notes::interrupt_value;
+use bench_types::{Call, Header, Note, Step};
+use serde_json::{Value, json};
+use std::alloc::{AllocError, Global};
+
+pub(crate) fn steps_value(
+    alloc: Global,
+    header: &Header,
+    steps: &[Step],
+) -> Result<Value, AllocError>
+    requires { All (λ step. step_fault header.now step ≡ Ok tt) steps.now }
+    ensures value { IfOk result (λ value. view value ≡ steps_data header.now steps.now) }
+    ensures typed { OnOk result (All IsStepOfWords steps.now) }
+{
+    let mut values = Vec::with_capacity(alloc, steps.len())?;
+    for step in steps {
+        values.push(step_value(alloc, header, step)?)?;
+    }
+    Ok(Value::Array(values))
+}
+
+fn step_value(alloc: Global, header: &Header, step: &Step) -> Result<Value, AllocError>
+    requires { step_fault header.now step.now ≡ Ok tt }
+    ensures value { IfOk result (λ value. view value ≡ step_data header.now step.now) }
+    ensures typed { OnOk result (IsStepOfWords step.now) }
+{
+    match step {
+        Step::Tick => json!(in alloc; {"do": "tick"}),
+        Step::Switch { core } => json!(in alloc; {"core": *core, "do": "switch"}),
+        Step::Call { core, task, call } => {
+            let caller = Caller {
+                alloc,
+                by: task_name(header, *task),
+                core: *core,
+            };
+            call_value(header, &caller, *call)
+        }
+        Step::Interrupt { core, note } => {
+            interrupt_value(alloc, *core, task_name(header, note.task), note.action)
+        }
+    }
+}
+
+fn call_value(header: &Header, caller: &Caller<'_>, call: Call) -> Result<Value, AllocError>
+    requires { call_check (settings_of header.now) call ≡ Ok tt }
+    ensures value { IfOk result
+        (λ value. view value ≡ call_data header.now caller.now.by.now caller.now.core call) }
+    ensures typed { OnOk result (IsOfWords call) }
+{
+    match call {
+        Call::Yield => caller.bare("yield"),
+        Call::Delay(ticks) => caller.delay(ticks),
+        Call::PrioritySet { task, priority } => {
+            caller.priority_set(task_name(header, task), priority)
+        }
+        Call::AffinitySet { task, mask } => caller.affinity_set(task_name(header, task), mask),
+        Call::PreemptOff(task) => caller.call_for("preempt_off", task_name(header, task)),
+        Call::PreemptOn(task) => caller.call_for("preempt_on", task_name(header, task)),
+        Call::Notify(Note { task, action }) => caller.notify(task_name(header, task), action),
+        Call::NotifyWait { entry, exit, ticks } => caller.wait(entry, exit, ticks),
+        Call::NotifyTake { clear, ticks } => caller.take(clear, ticks),
+        Call::StateClear(task) => caller.call_for("state_clear", task_name(header, task)),
+        Call::ValueClear { task, bits } => caller.value_clear(task_name(header, task), bits),
+        Call::MutexTake { mutex, ticks } => caller.mutex_take(mutex, ticks),
+        Call::MutexGive(mutex) => caller.mutex_give(mutex),
+        Call::Finish => caller.bare("finish"),
+    }
+}
+
+fn task_name(header: &Header, task: u32) -> &str
+    requires user { header.now.config.cores ≤ task }
+    requires here { task < header.now.config.cores + length header.now.tasks }
+    ensures { result.now ≡ task_name header.now task }
+{
+    let place = (task - header.config.cores) as usize;
+    header.tasks.as_slice()[place].name.as_str()
+}

@@ -1,0 +1,192 @@
+//! Sessions that are written, and read back.
+
+ghost use Rattle.std.specs.Prelude.{IfOk};
+ghost use Rattle.session_text.specs.Session.{IsChecked};
+
+use crate::write_session;
+use bench_types::{Header, Step};
+use session_text::read_session;
+use std::alloc::{AllocError, Global};
+use std::process::Abort;
+use std::test::Fail;
+
+/// Texts of sessions, and what is written for them: worked out by hand from the format's description.
+const WRITTEN: [(&str, &str); 5] = [
+    (
+        "{\"cores\":2,\"format\":1,\"mutexes\":0,\"priorities\":5,\"slicing\":false,\"steps\":[{\"do\":\"tick\"},{\"core\":1,\"do\":\"switch\"}],\"tasks\":[{\"mask\":3,\"name\":\"A\",\"priority\":2},{\"mask\":3,\"name\":\"B\",\"priority\":1},{\"mask\":3,\"name\":\"C\",\"priority\":1}],\"tick\":0}",
+        "{\"cores\":2,\"format\":1,\"mutexes\":0,\"priorities\":5,\"slicing\":false,\"steps\":[{\"do\":\"tick\"},{\"core\":1,\"do\":\"switch\"}],\"tasks\":[{\"mask\":3,\"name\":\"A\",\"priority\":2},{\"mask\":3,\"name\":\"B\",\"priority\":1},{\"mask\":3,\"name\":\"C\",\"priority\":1}],\"tick\":0}",
+    ),
+    (
+        "{\"cores\":2,\"format\":1,\"mutexes\":0,\"priorities\":5,\"slicing\":true,\"steps\":[{\"do\":\"tick\"},{\"core\":1,\"do\":\"switch\"}],\"tasks\":[{\"mask\":3,\"name\":\"A\",\"priority\":2},{\"mask\":3,\"name\":\"B\",\"priority\":1},{\"mask\":3,\"name\":\"C\",\"priority\":1}],\"tick\":0}",
+        "{\"cores\":2,\"format\":1,\"mutexes\":0,\"priorities\":5,\"slicing\":true,\"steps\":[{\"do\":\"tick\"},{\"core\":1,\"do\":\"switch\"}],\"tasks\":[{\"mask\":3,\"name\":\"A\",\"priority\":2},{\"mask\":3,\"name\":\"B\",\"priority\":1},{\"mask\":3,\"name\":\"C\",\"priority\":1}],\"tick\":0}",
+    ),
+    (
+        "{\"format\":1,\"cores\":2,\"priorities\":5,\"slicing\":false,\"tick\":0,\"mutexes\":0,\"tasks\":[{\"name\":\"A\",\"priority\":2,\"mask\":3},{\"name\":\"B\",\"priority\":1,\"mask\":3}],\"steps\":[{\"do\":\"tick\"},{\"do\":\"switch\",\"core\":1},{\"do\":\"yield\",\"core\":0,\"by\":\"A\"},{\"do\":\"delay\",\"core\":0,\"by\":\"A\",\"ticks\":7},{\"do\":\"finish\",\"core\":1,\"by\":\"B\"}]}",
+        "{\"cores\":2,\"format\":1,\"mutexes\":0,\"priorities\":5,\"slicing\":false,\"steps\":[{\"do\":\"tick\"},{\"core\":1,\"do\":\"switch\"},{\"by\":\"A\",\"core\":0,\"do\":\"yield\"},{\"by\":\"A\",\"core\":0,\"do\":\"delay\",\"ticks\":7},{\"by\":\"B\",\"core\":1,\"do\":\"finish\"}],\"tasks\":[{\"mask\":3,\"name\":\"A\",\"priority\":2},{\"mask\":3,\"name\":\"B\",\"priority\":1}],\"tick\":0}",
+    ),
+    (
+        " { \"format\": 1, \"cores\": 8, \"priorities\": 32, \"slicing\": false, \"tick\": 4294967295, \"mutexes\": 32,\n \"tasks\": [ { \"name\": \"a\\u0022\\/\", \"priority\": 31, \"mask\": 4294967295 } ],\r\n\t\"steps\": [ ] } ",
+        "{\"cores\":8,\"format\":1,\"mutexes\":32,\"priorities\":32,\"slicing\":false,\"steps\":[],\"tasks\":[{\"mask\":4294967295,\"name\":\"a\\\"/\",\"priority\":31}],\"tick\":4294967295}",
+    ),
+    (
+        "{\"format\":1,\"cores\":2,\"priorities\":1,\"slicing\":false,\"tick\":10,\"mutexes\":0,\"tasks\":[{\"name\":\"\\\\\",\"priority\":0,\"mask\":1},{\"name\":\"\\\"\",\"priority\":0,\"mask\":2}],\"steps\":[{\"do\":\"delay\",\"core\":1,\"by\":\"\\\"\",\"ticks\":4294967295},{\"do\":\"finish\",\"core\":0,\"by\":\"\\u005c\"}]}",
+        "{\"cores\":2,\"format\":1,\"mutexes\":0,\"priorities\":1,\"slicing\":false,\"steps\":[{\"by\":\"\\\"\",\"core\":1,\"do\":\"delay\",\"ticks\":4294967295},{\"by\":\"\\\\\",\"core\":0,\"do\":\"finish\"}],\"tasks\":[{\"mask\":1,\"name\":\"\\\\\",\"priority\":0},{\"mask\":2,\"name\":\"\\\"\",\"priority\":0}],\"tick\":10}",
+    ),
+];
+
+// Steps, each as it may stand in a text and as it is written.
+const STEPS: &str = r#"
+{"do":"tick"} | {"do":"tick"}
+{"do":"switch","core":1} | {"core":1,"do":"switch"}
+{"do":"yield","core":0,"by":"A"} | {"by":"A","core":0,"do":"yield"}
+{"ticks":4294967295,"by":"B","do":"delay","core":1} | {"by":"B","core":1,"do":"delay","ticks":4294967295}
+{"do":"finish","core":1,"by":"B"} | {"by":"B","core":1,"do":"finish"}
+{"do":"priority_set","core":0,"by":"A","to":"B","priority":4294967295} | {"by":"A","core":0,"do":"priority_set","priority":4294967295,"to":"B"}
+{"do":"affinity_set","core":1,"by":"B","to":"A","mask":6} | {"by":"B","core":1,"do":"affinity_set","mask":6,"to":"A"}
+{"do":"preempt_off","core":0,"by":"A","to":"A"} | {"by":"A","core":0,"do":"preempt_off","to":"A"}
+{"do":"preempt_on","core":1,"by":"A","to":"B"} | {"by":"A","core":1,"do":"preempt_on","to":"B"}
+{"do":"notify","core":0,"by":"A","to":"B","action":"none"} | {"action":"none","by":"A","core":0,"do":"notify","to":"B"}
+{"do":"notify","core":0,"by":"A","to":"B","action":"set_bits","value":5} | {"action":"set_bits","by":"A","core":0,"do":"notify","to":"B","value":5}
+{"do":"notify","core":1,"by":"B","to":"B","action":"increment"} | {"action":"increment","by":"B","core":1,"do":"notify","to":"B"}
+{"do":"notify","core":0,"by":"A","to":"B","action":"set","value":7} | {"action":"set","by":"A","core":0,"do":"notify","to":"B","value":7}
+{"value":4294967295,"action":"set_new","to":"A","by":"B","core":1,"do":"notify"} | {"action":"set_new","by":"B","core":1,"do":"notify","to":"A","value":4294967295}
+{"do":"isr_notify","core":1,"to":"A","action":"none"} | {"action":"none","core":1,"do":"isr_notify","to":"A"}
+{"do":"isr_notify","core":0,"to":"B","action":"set_bits","value":4294967295} | {"action":"set_bits","core":0,"do":"isr_notify","to":"B","value":4294967295}
+{"action":"increment","to":"B","core":0,"do":"isr_notify"} | {"action":"increment","core":0,"do":"isr_notify","to":"B"}
+{"do":"isr_notify","core":0,"to":"B","action":"set","value":0} | {"action":"set","core":0,"do":"isr_notify","to":"B","value":0}
+{"do":"isr_notify","core":0,"to":"B","action":"set_new","value":9} | {"action":"set_new","core":0,"do":"isr_notify","to":"B","value":9}
+{"do":"notify_wait","core":1,"by":"B","entry":1,"exit":2,"ticks":3} | {"by":"B","core":1,"do":"notify_wait","entry":1,"exit":2,"ticks":3}
+{"do":"notify_take","core":0,"by":"A","clear":true,"ticks":4294967295} | {"by":"A","clear":true,"core":0,"do":"notify_take","ticks":4294967295}
+{"do":"notify_take","core":0,"by":"A","clear":false,"ticks":0} | {"by":"A","clear":false,"core":0,"do":"notify_take","ticks":0}
+{"do":"state_clear","core":0,"by":"A","to":"B"} | {"by":"A","core":0,"do":"state_clear","to":"B"}
+{"do":"value_clear","core":0,"by":"A","to":"B","bits":6} | {"bits":6,"by":"A","core":0,"do":"value_clear","to":"B"}
+{"do":"mutex_take","core":0,"by":"A","mutex":1,"ticks":5} | {"by":"A","core":0,"do":"mutex_take","mutex":1,"ticks":5}
+{"ticks":4294967295,"mutex":0,"by":"B","core":1,"do":"mutex_take"} | {"by":"B","core":1,"do":"mutex_take","mutex":0,"ticks":4294967295}
+{"do":"mutex_give","core":0,"by":"A","mutex":1} | {"by":"A","core":0,"do":"mutex_give","mutex":1}
+{"mutex":0,"by":"B","core":1,"do":"mutex_give"} | {"by":"B","core":1,"do":"mutex_give","mutex":0}
+"#;
+
+fn read(alloc: Global, text: &str) -> Result<(Header, Vec<Step>), Fail>
+    ensures { IfOk result (λ session. IsChecked session.0 session.1.items) }
+{
+    match read_session(alloc, text.as_bytes()) {
+        Ok(session) => Ok(session),
+        Err(_) => Err(Fail::from("the text is a session")),
+    }
+}
+
+#[test]
+fn known_texts(rt: HostRuntime) -> Result<(), Fail> {
+    let alloc = rt.alloc();
+    for (text, want) in WRITTEN {
+        let (header, steps) = read(alloc, text)?;
+        let written = write_session(alloc, &header, &steps)?;
+        assert_eq!(rt; written.as_slice(), want.as_bytes(), "{text}");
+    }
+    Ok(())
+}
+
+/// The text is written in this way, and what is written has the same steps.
+fn check_written(rt: &impl Abort, alloc: Global, text: &str, want: &str) -> Result<(), Fail> {
+    let (header, steps) = read(alloc, text)?;
+    let written = write_session(alloc, &header, &steps)?;
+    assert_eq!(rt; written.as_slice(), want.as_bytes(), "{text}");
+    let (_, again) = read(alloc, want)?;
+    assert_eq!(rt; again.as_slice(), steps.as_slice(), "{text}");
+    Ok(())
+}
+
+/// A session of these steps.
+fn session_of(alloc: Global, steps: &str) -> Result<String, AllocError> {
+    format!(in alloc;
+        "{{\"format\":1,\"cores\":2,\"priorities\":5,\"slicing\":false,\"tick\":0,\"mutexes\":2,\"tasks\":[{{\"name\":\"A\",\"priority\":2,\"mask\":3}},{{\"name\":\"B\",\"priority\":1,\"mask\":3}}],\"steps\":[{steps}]}}"
+    )
+}
+
+/// What is written for that session, where this is written for its steps.
+fn written_of(alloc: Global, steps: &str) -> Result<String, AllocError> {
+    format!(in alloc;
+        "{{\"cores\":2,\"format\":1,\"mutexes\":2,\"priorities\":5,\"slicing\":false,\"steps\":[{steps}],\"tasks\":[{{\"mask\":3,\"name\":\"A\",\"priority\":2}},{{\"mask\":3,\"name\":\"B\",\"priority\":1}}],\"tick\":0}}"
+    )
+}
+
+#[test]
+fn steps_of_every_kind(rt: HostRuntime) -> Result<(), Fail> {
+    let alloc = rt.alloc();
+    for line in STEPS.trim().lines() {
+        let (step, written) = line.split_once(" | ").ok_or("a row has two parts")?;
+        let want = written_of(alloc, written)?;
+        for step in [step, written] {
+            let text = session_of(alloc, step)?;
+            check_written(&rt, alloc, text.as_str(), want.as_str())?;
+        }
+    }
+    Ok(())
+}
+
+#[test]
+fn steps_in_their_order(rt: HostRuntime) -> Result<(), Fail> {
+    let alloc = rt.alloc();
+    let mut steps = String::new(alloc);
+    let mut written = String::new(alloc);
+    for line in STEPS.trim().lines() {
+        let (one, other) = line.split_once(" | ").ok_or("a row has two parts")?;
+        let comma = if steps.is_empty() { "" } else { "," };
+        write!(steps, "{comma}{one}")?;
+        write!(written, "{comma}{other}")?;
+    }
+    let text = session_of(alloc, steps.as_str())?;
+    let want = written_of(alloc, written.as_str())?;
+    check_written(&rt, alloc, text.as_str(), want.as_str())
+}
+
+/// A session whose tasks' names have, one after another, every byte that a name may have, spelled by escapes; each
+/// task makes a call.
+fn session_of_all_bytes(alloc: Global) -> Result<String, Fail> {
+    let mut tasks = String::new(alloc);
+    let mut steps = String::new(alloc);
+    let mut name = String::new(alloc);
+    for byte in b'!'..=b'~' {
+        write!(name, "\\u00{byte:02x}")?;
+        if name.len() == 90 || byte == b'~' {
+            let comma = if tasks.is_empty() { "" } else { "," };
+            write!(
+                tasks,
+                "{comma}{{\"name\":\"{name}\",\"priority\":1,\"mask\":3}}"
+            )?;
+            write!(
+                steps,
+                "{comma}{{\"do\":\"yield\",\"core\":1,\"by\":\"{name}\"}}"
+            )?;
+            name.clear();
+        }
+    }
+    Ok(format!(in alloc;
+        "{{\"format\":1,\"cores\":2,\"priorities\":5,\"slicing\":false,\"tick\":0,\"mutexes\":0,\"tasks\":[{tasks}],\"steps\":[{steps}]}}"
+    )?)
+}
+
+/// The names of the tasks, one behind another.
+fn names(alloc: Global, header: &Header) -> Result<String, AllocError> {
+    let mut names = String::new(alloc);
+    for task in header.tasks.as_slice() {
+        names.push_str(task.name.as_str())?;
+    }
+    Ok(names)
+}
+
+#[test]
+fn names_of_every_byte(rt: HostRuntime) -> Result<(), Fail> {
+    let alloc = rt.alloc();
+    let text = session_of_all_bytes(alloc)?;
+    let (header, steps) = read(alloc, text.as_str())?;
+    assert_eq!(rt; header.tasks.as_slice().len(), 7);
+    let written = write_session(alloc, &header, &steps)?;
+    let Ok((same, again)) = read_session(alloc, &written) else {
+        return Err(Fail::from("what was written is a session"));
+    };
+    let names = names(alloc, &same)?;
+    assert!(rt; names.bytes().eq(b'!'..=b'~'), "{names}");
+    assert_eq!(rt; again.as_slice(), steps.as_slice());
+    Ok(())
+}

@@ -83,6 +83,27 @@ impl Cores {
                 && have_same_lists(&self.tasks, self.priorities, &self.ready, &other.ready))
     }
 
+    /// Whether there is such a core.
+    pub fn has_core(&self, core: u32) -> bool
+        ensures { result ≡ nat_lt core (length self.now.control.cores) }
+    {
+        (core as usize) < self.cores.len()
+    }
+
+    /// Whether there is such a task.
+    pub fn has_task(&self, task: u32) -> bool
+        ensures { result ≡ nat_lt task (length self.now.control.tasks) }
+    {
+        (task as usize) < self.tasks.len()
+    }
+
+    /// Whether there is such a priority.
+    pub fn has_priority(&self, priority: u32) -> bool
+        ensures { result ≡ nat_lt priority self.now.priorities }
+    {
+        priority < self.priorities
+    }
+
     /// The current task of the core.
     pub fn running(&self, core: u32) -> u32
         requires { core < length self.now.control.cores }

@@ -1,8 +1,8 @@
 -- Setting a priority in use changes no task's readiness, and not the number of tasks.
-use Rattle.std.proofs.Common.{◌≡◌, ℕ, Bool, true, false, cond, eqb, ◌||◌, List, length, refl, sym, ◌∙◌, arith}
+use Rattle.std.proofs.Common.{◌≡◌, ℕ, Bool, true, false, cond, eqb, ◌||◌, length, refl, sym, ◌∙◌, arith}
 use Rattle.std.proofs.lemmas.Bool.Decides.{nat_tests}
 use Rattle.std.proofs.lemmas.List.{length-set}
-use Rattle.bench_model.specs.Search.{placed, without, has}
+use Rattle.bench_model.specs.Search.{without, has}
 use Rattle.bench_model.specs.Control.{Control}
 use Rattle.bench_model.specs.Lists.{list_moves, outranks, make_ready}
 use Rattle.bench_model.specs.Changes.{with_in_use, in_use_set}

@@ -1,13 +1,10 @@
-ghost use Rattle.std.specs.Prelude.{◌≡◌, ◌<◌, length, Ok, Some, None, IsTrue};
-ghost use Rattle.std.specs.Option.{IsSome};
+ghost use Rattle.std.specs.Prelude.{◌≡◌, ◌<◌, length, Ok, IsTrue};
 ghost use Rattle.bench_types.specs.Header.{header_check};
-ghost use Rattle.bench_model.specs.State.{holder_at};
-ghost use Rattle.bench_model.specs.MutexParts.{wait_of};
 
 use super::Mutexes;
 use bench_types::{Config, Header, Items, Name, TaskArgs};
 use ready_core::Cores;
-use std::alloc::{AllocError, Global};
+use std::alloc::Global;
 use std::process::Abort;
 use std::test::Fail;
 
@@ -72,7 +69,9 @@ impl Bench {
         let header = header_of(alloc, priorities)?;
         assert!(rt; is_checked(&header));
         let cores = Cores::new(alloc, &header)?;
-        let mutexes = Mutexes::new(alloc, 2 + priorities.len() as u32, 2)?;
+        let users = priorities.len();
+        assert!(rt; users <= 64);
+        let mutexes = Mutexes::new(alloc, 2 + users as u32, 2)?;
         let mut bench = Bench { cores, mutexes };
         bench.select(rt, 0);
         bench.select(rt, 1);

@@ -1,4 +1,4 @@
-use Rattle.std.proofs.Common.{◌≡◌, ℕ, List, filter}
+use Rattle.std.proofs.Common.{◌≡◌, List, filter}
 use Rattle.std.specs.List.{All}
 use Rattle.std.proofs.lemmas.List.Elements.{All-from_recursion, recursion_from_All}
 use Rattle.bench_types.specs.declared.kernel_data.Waiter.{Waiter}

@@ -11,7 +11,8 @@ use Rattle.bench_model.specs.Changes.{with_task, with_in_use, in_use_set}
 use Rattle.bench_model.specs.Cores.{CoresView, cores_of, alone, on_cores}
 use Rattle.bench_model.proofs.Changes.{others_stay}
 use Rattle.bench_model.proofs.Ranks.{ranked-push, filter-ranked, list_any-ranked}
-use Rattle.bench_model.proofs.SeenMoves.{outranks-IsRank, without_absent}
+use Rattle.bench_model.proofs.Entries.{without_absent}
+use Rattle.bench_model.proofs.SeenMoves.{outranks-IsRank}
 use Rattle.ready_core.specs.Fields.{control_from, seen_of}
 
 pub ready-without : (control : Control) (task : ℕ) (queue : List ℕ) → ranked (outranks control) (without task queue) ≡ without task (ranked (outranks control) queue)

@@ -1,4 +1,4 @@
-ghost use Rattle.std.specs.Prelude.{◌≡◌, ℕ, ◌↔◌, ◌<◌, ◌≤◌, ◌&&◌, nat_lt, if◌then◌else◌, length, true, not, find, unwrap_or, IsTrue, IfOk, IfSome, Ok};
+ghost use Rattle.std.specs.Prelude.{◌≡◌, ℕ, ◌↔◌, ◌<◌, ◌≤◌, ◌==◌, ◌&&◌, nat_lt, if◌then◌else◌, length, true, not, find, unwrap_or, IsTrue, IfOk, IfSome, Ok};
 ghost use Rattle.std.specs.Option.{ForSome};
 ghost use Rattle.bench_types.specs.Header.{header_check};
 ghost use Rattle.bench_model.specs.Search.{placed, without, has};
@@ -7,6 +7,7 @@ ghost use Rattle.bench_model.specs.State.{switched};
 ghost use Rattle.bench_model.specs.Lists.{list_moves, outranks};
 ghost use Rattle.bench_model.specs.Start.{first_lists, unstarted};
 ghost use Rattle.bench_model.specs.Seek.{effective, is_running, gives_way, asked_for, seek, may_move, wake, switched_and_sought, ready_in, shares_its_time, sliced};
+ghost use Rattle.bench_model.specs.Sets.{runs_on, ask_its_core};
 ghost use Rattle.bench_model.specs.Changes.{with_base, with_affinity, with_preemption, in_use_set};
 ghost use Rattle.bench_model.specs.Cores.{cores_of, alone, on_cores, has_core};
 ghost use Rattle.ready_core.specs.Fields.{better_of, may_be_asked, stays_asked};
@@ -82,6 +83,27 @@ impl Cores {
                 && have_same_lists(&self.tasks, self.priorities, &self.ready, &other.ready))
     }
 
+    /// Whether there is such a core.
+    pub fn has_core(&self, core: u32) -> bool
+        ensures { result ≡ nat_lt core (length self.now.control.cores) }
+    {
+        (core as usize) < self.cores.len()
+    }
+
+    /// Whether there is such a task.
+    pub fn has_task(&self, task: u32) -> bool
+        ensures { result ≡ nat_lt task (length self.now.control.tasks) }
+    {
+        (task as usize) < self.tasks.len()
+    }
+
+    /// Whether there is such a priority.
+    pub fn has_priority(&self, priority: u32) -> bool
+        ensures { result ≡ nat_lt priority self.now.priorities }
+    {
+        priority < self.priorities
+    }
+
     /// The current task of the core.
     pub fn running(&self, core: u32) -> u32
         requires { core < length self.now.control.cores }
@@ -149,6 +171,16 @@ impl Cores {
             self.cores[core as usize].pend = true;
         } else {
             self.cores[core as usize].asked = true;
+        }
+    }
+
+    /// The core that the task runs on is asked, if there is one.
+    #[tactic(auto, unfolding(bench_model::specs::Sets::ask_its_core))]
+    pub fn ask_its_core(&mut self, acting: u32, task: u32)
+        ensures { self.new ≡ record self.old { control = ask_its_core acting task self.old.control } }
+    {
+        if let Some(core) = self.its_core(task) {
+            self.ask(acting, core);
         }
     }
 
@@ -293,6 +325,23 @@ impl Cores {
         ensures { result ≡ is_running self.now.control task }
     {
         self.core_numbers().any(|core| self.running(core) == task && !self.flags(core).asked)
+    }
+
+    // Whether the core has the task and no other core asked it to switch.
+    fn keeps_running(&self, core: u32, task: u32) -> bool
+        requires { core < length self.now.control.cores }
+        ensures { result ≡ (current self.now.control core == task && not (core_at self.now.control core).asked) }
+    {
+        self.running(core) == task && !self.flags(core).asked
+    }
+
+    // The core that the task runs on.
+    fn its_core(&self, task: u32) -> Option<u32>
+        ensures core { result ≡ runs_on self.now.control task }
+        ensures below { IfSome result (λ core. core < length self.now.control.cores) }
+    {
+        self.core_numbers()
+            .find(|core| self.keeps_running(*core, task))
     }
 
     // Whether the effective priority of one task is below that of the other.

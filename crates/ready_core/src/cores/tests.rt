@@ -1,4 +1,4 @@
-ghost use Rattle.std.specs.Prelude.{◌≡◌, ◌<◌, length, Ok, IsTrue};
+ghost use Rattle.std.specs.Prelude.{◌≡◌, Ok, IsTrue};
 ghost use Rattle.bench_types.specs.Header.{header_check};
 
 use super::Cores;
@@ -36,47 +36,29 @@ fn is_checked(header: &Header) -> bool
     header.check().is_ok()
 }
 
-fn has_task(cores: &Cores, task: u32) -> bool
-    ensures { IsTrue result → task < length cores.now.control.tasks }
-{
-    (task as usize) < cores.tasks.len()
-}
-
-fn has_core(cores: &Cores, core: u32) -> bool
-    ensures { IsTrue result → core < length cores.now.control.cores }
-{
-    (core as usize) < cores.cores.len()
-}
-
-fn has_priority(cores: &Cores, priority: u32) -> bool
-    ensures { IsTrue result → priority < cores.now.priorities }
-{
-    priority < cores.priorities
-}
-
 fn select(rt: &impl Abort, cores: &mut Cores, core: u32) {
-    assert!(rt; has_core(cores, core));
+    assert!(rt; cores.has_core(core));
     cores.select(core);
 }
 
 fn make_ready(rt: &impl Abort, cores: &mut Cores, task: u32) {
-    assert!(rt; has_task(cores, task));
+    assert!(rt; cores.has_task(task));
     cores.make_ready(0, task);
 }
 
 fn set_in_use(rt: &impl Abort, cores: &mut Cores, task: u32, priority: u32) {
-    assert!(rt; has_task(cores, task));
-    assert!(rt; has_priority(cores, priority));
+    assert!(rt; cores.has_task(task));
+    assert!(rt; cores.has_priority(priority));
     cores.set_in_use(task, priority);
 }
 
 fn set_mask(rt: &impl Abort, cores: &mut Cores, task: u32, mask: u32) {
-    assert!(rt; has_task(cores, task));
+    assert!(rt; cores.has_task(task));
     cores.set_mask(task, mask);
 }
 
 fn set_preempt(rt: &impl Abort, cores: &mut Cores, task: u32, on: bool) {
-    assert!(rt; has_task(cores, task));
+    assert!(rt; cores.has_task(task));
     cores.set_preempt(task, on);
 }
 
@@ -92,7 +74,7 @@ fn started(rt: &impl Abort, alloc: Global, args: &[(u32, u32)]) -> Result<Cores,
 
 // What is seen of a core: its task, and whether it asked itself or was asked.
 fn look(rt: &impl Abort, cores: &Cores, core: u32) -> (u32, bool, bool) {
-    assert!(rt; has_core(cores, core));
+    assert!(rt; cores.has_core(core));
     let look = cores.flags(core);
     assert_eq!(rt; cores.running(core), look.current);
     (look.current, look.pend, look.asked)
@@ -106,7 +88,7 @@ fn looks(rt: &impl Abort, cores: &Cores) -> [(u32, bool, bool); 2] {
 fn start(rt: HostRuntime) -> Result<(), Fail> {
     let cores = started(&rt, rt.alloc(), &[(2, 3), (1, 3), (1, 0xFFFF_FFFE)])?;
     assert_eq!(&rt; looks(&rt, &cores), [(2, false, false), (3, false, false)]);
-    assert!(&rt; has_task(&cores, 4));
+    assert!(&rt; cores.has_task(4));
     assert_eq!(&rt; (cores.base(4), cores.in_use(4), cores.mask(4)), (1, 1, 2));
     assert!(&rt; cores.preempt(4) && cores.ready(4));
     Ok(())
@@ -145,11 +127,11 @@ fn idle_is_below_priority_0(rt: HostRuntime) -> Result<(), Fail> {
 fn yields_for_a_task_among_cores(rt: HostRuntime) -> Result<(), Fail> {
     let mut cores = started(&rt, rt.alloc(), &[(1, 3), (1, 3), (1, 3)])?;
     set_in_use(&rt, &mut cores, 4, 3);
-    assert!(&rt; has_task(&cores, 4));
+    assert!(&rt; cores.has_task(4));
     assert!(&rt; cores.ready(4));
     cores.yield_for(1, 4, 0);
     assert_eq!(&rt; looks(&rt, &cores), [(2, false, false), (3, false, false)]);
-    assert!(&rt; has_task(&cores, 4));
+    assert!(&rt; cores.has_task(4));
     assert!(&rt; cores.ready(4));
     cores.yield_for(1, 4, 1);
     assert_eq!(&rt; looks(&rt, &cores), [(2, false, true), (3, false, false)]);
@@ -162,7 +144,7 @@ fn displaced_task_finds_another_core(rt: HostRuntime) -> Result<(), Fail> {
     cores.unready(2);
     select(&rt, &mut cores, 0);
     set_mask(&rt, &mut cores, 3, 0xFFFF_FFFF);
-    assert!(&rt; has_task(&cores, 3));
+    assert!(&rt; cores.has_task(3));
     assert_eq!(&rt; cores.mask(3), 3);
     make_ready(&rt, &mut cores, 2);
     assert_eq!(&rt; looks(&rt, &cores), [(3, true, false), (4, false, false)]);
@@ -177,7 +159,7 @@ fn displaced_task_finds_another_core(rt: HostRuntime) -> Result<(), Fail> {
 fn asked_cores_are_due(rt: HostRuntime) -> Result<(), Fail> {
     let mut cores = started(&rt, rt.alloc(), &[(1, 3), (1, 3), (1, 3)])?;
     for core in 0..2 {
-        assert!(&rt; has_core(&cores, core));
+        assert!(&rt; cores.has_core(core));
         cores.ask(1, core);
     }
     assert_eq!(&rt; looks(&rt, &cores), [(2, false, true), (3, true, false)]);
@@ -193,13 +175,38 @@ fn priority_in_use(rt: HostRuntime) -> Result<(), Fail> {
     set_in_use(&rt, &mut cores, 4, 1);
     select(&rt, &mut cores, 0);
     assert_eq!(&rt; look(&rt, &cores, 0), (5, false, false));
-    assert!(&rt; has_task(&cores, 4));
+    assert!(&rt; cores.has_task(4));
     cores.set_base(4, 3);
     set_in_use(&rt, &mut cores, 4, 3);
-    assert!(&rt; has_task(&cores, 4));
+    assert!(&rt; cores.has_task(4));
     assert_eq!(&rt; (cores.base(4), cores.in_use(4)), (3, 3));
     select(&rt, &mut cores, 0);
     assert_eq!(&rt; look(&rt, &cores, 0), (4, false, false));
+    Ok(())
+}
+
+#[test]
+fn core_of_a_running_task_is_asked(rt: HostRuntime) -> Result<(), Fail> {
+    let mut cores = started(&rt, rt.alloc(), &[(2, 3), (1, 3), (1, 3)])?;
+    // It runs on none.
+    cores.ask_its_core(0, 4);
+    assert_eq!(&rt; looks(&rt, &cores), [(2, false, false), (3, false, false)]);
+    cores.ask_its_core(0, 3);
+    assert_eq!(&rt; looks(&rt, &cores), [(2, false, false), (3, false, true)]);
+    // A core that another asked is asked no more.
+    cores.ask_its_core(1, 3);
+    assert_eq!(&rt; looks(&rt, &cores), [(2, false, false), (3, false, true)]);
+    cores.ask_its_core(0, 2);
+    assert_eq!(&rt; looks(&rt, &cores), [(2, true, false), (3, false, true)]);
+    Ok(())
+}
+
+#[test]
+fn what_there_is(rt: HostRuntime) -> Result<(), Fail> {
+    let cores = started(&rt, rt.alloc(), &[(2, 3), (1, 3)])?;
+    assert!(&rt; cores.has_core(1) && !cores.has_core(2));
+    assert!(&rt; cores.has_task(3) && !cores.has_task(4));
+    assert!(&rt; cores.has_priority(4) && !cores.has_priority(5));
     Ok(())
 }
 

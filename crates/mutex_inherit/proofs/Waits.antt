@@ -1,0 +1,104 @@
+-- What a list of waiters in the order of blocking shows when one comes and one goes, and what it says of a task.
+use Rattle.std.proofs.Common.{◌≡◌, ℕ, ◌<◌, ◌^◌, Bool, true, false, cond, not, eqb, ◌||◌, List, [], ◌∷◌, ◌++◌, map, replicate, Option, Some, None, refl, sym, ap, subst, ◌∙◌, arith}
+use Rattle.std.specs.Prelude.{option_map}
+use Rattle.std.specs.Option.{ForSome}
+use Rattle.std.specs.List.{filter, find, IsDistinct, AllByRecursion}
+use Rattle.std.proofs.lemmas.List.{length-replicate}
+use Rattle.std.proofs.lemmas.List.Elements.{All-nil, All-replicate, recursion_from_All}
+use Rattle.std.proofs.lemmas.Bool.Decides.{nat_tests}
+use Rattle.std.proofs.lemmas.Option.{same_Some}
+use Rattle.bench_types.specs.declared.kernel_data.Waiter.{Waiter}
+use Rattle.bench_model.specs.Search.{placed, ranked, without, has}
+use Rattle.bench_model.specs.Lists.{waits_first, without_waiter, first_of}
+use Rattle.bench_model.specs.MutexParts.{with_waiter, wait_of}
+use Rattle.bench_model.proofs.Filters.{filter-map, filter_none, find_filter}
+use Rattle.bench_model.proofs.Ranks.{ranked-push, filter-ranked, All-ranked}
+use Rattle.bench_model.proofs.SeenMoves.{waits_first-IsRank}
+use Rattle.ready_core.specs.Shape.{IsListing}
+use Rattle.mutex_inherit.specs.Parts.{MutexPart, seen_mutexes, free_mutexes}
+use Rattle.mutex_inherit.specs.Shape.{IsMutexShape}
+
+abbrev task_of : Waiter → ℕ
+task_of waiter = waiter.task
+
+abbrev part_from : ℕ → List (Option ℕ) → List Waiter → MutexPart
+part_from tasks holders waiters = record { tasks = tasks; holders = holders; waiters = waiters }
+
+abbrev the_none : Option ℕ
+the_none = None
+
+-- the start
+pub free_shape : (tasks mutexes places : ℕ) → mutexes < 2 ^ 32 → places ≡ tasks → IsMutexShape tasks (replicate mutexes None) [] places
+unfolding IsDistinct
+free_shape tasks mutexes places few room = record {
+  few_mutexes = omega (arith, length-replicate mutexes (the_none), few);
+  held_by_tasks = All-replicate (λ holder. ForSome holder (λ task. task < tasks)) mutexes None (λ task is. absurd (cc (is)));
+  waiting_tasks = record { below = All-nil (λ i. i < tasks); once = tt };
+  room = omega (arith, room);
+}
+
+pub seen_free_mutexes : (tasks mutexes : ℕ) → seen_mutexes tasks (replicate mutexes None) [] ≡ free_mutexes tasks mutexes
+unfolding ranked
+seen_free_mutexes tasks mutexes = refl
+
+-- a waiter comes, and one goes
+pub seen_enter : (tasks : ℕ) (holders : List (Option ℕ)) (waiters : List Waiter) (waiter : Waiter) (view : MutexPart) → seen_mutexes tasks holders waiters ≡ view → seen_mutexes tasks holders (waiters ++ waiter ∷ []) ≡ record view { waiters = with_waiter waiter view.waiters }
+seen_enter tasks holders waiters waiter view shows =
+    ap (part_from tasks holders) (ranked-push waits_first waiters waiter)
+    ∙ ap (λ (v : MutexPart). part_from v.tasks v.holders (with_waiter waiter v.waiters)) shows
+
+pub map-left : (task : ℕ) (waiters : List Waiter) → map task_of (without_waiter task waiters) ≡ without task (map task_of waiters)
+map-left task waiters = sym (filter-map (λ m. not (eqb m task)) task_of waiters)
+
+pub seen_leave : (tasks : ℕ) (holders : List (Option ℕ)) (waiters : List Waiter) (task : ℕ) (view : MutexPart) → seen_mutexes tasks holders waiters ≡ view → seen_mutexes tasks holders (without_waiter task waiters) ≡ record view { waiters = without_waiter task view.waiters }
+seen_leave tasks holders waiters task view shows =
+    ap (part_from tasks holders) (sym (filter-ranked waits_first waits_first-IsRank (λ waiter. not (eqb waiter.task task)) waiters))
+    ∙ ap (λ (v : MutexPart). part_from v.tasks v.holders (without_waiter task v.waiters)) shows
+
+-- what is so of each task in a list is so in each entry
+pub entries : (P Q : ℕ → Type 0) → ((m : ℕ) → P m → Q m) → (waiters : List Waiter) → AllByRecursion P (map task_of waiters) → AllByRecursion (λ (waiter : Waiter). Q waiter.task) waiters
+entries P Q weaker [] all = tt
+entries P Q weaker (waiter ∷ waiters) all = (weaker waiter.task all.0, entries P Q weaker waiters all.1)
+
+-- a list with one entry a task has none or one of a task, in any order
+alone : (task : ℕ) (waiters : List Waiter) → IsDistinct eqb (map task_of waiters) → ranked waits_first (filter (λ waiter. eqb waiter.task task) waiters) ≡ filter (λ waiter. eqb waiter.task task) waiters
+unfolding IsDistinct ranked placed
+alone task [] once = refl
+alone task (waiter ∷ waiters) once = at (eqb waiter.task task) refl (alone task waiters once.1)
+  where
+    none : eqb waiter.task task ≡ true → filter (λ w. eqb w.task task) waiters ≡ []
+    none its = filter_none (λ w. eqb w.task task) waiters (entries (λ m. eqb waiter.task m ≡ false) (λ m. eqb m task ≡ false) (λ m other. grind (arith, nat_tests, its, other)) waiters once.0)
+
+    at : (b : Bool) → eqb waiter.task task ≡ b → ranked waits_first (filter (λ w. eqb w.task task) waiters) ≡ filter (λ w. eqb w.task task) waiters → ranked waits_first (cond b (waiter ∷ filter (λ w. eqb w.task task) waiters) (filter (λ w. eqb w.task task) waiters)) ≡ cond b (waiter ∷ filter (λ w. eqb w.task task) waiters) (filter (λ w. eqb w.task task) waiters)
+    at true its rest = rw (none its) refl
+    at false is rest = rest
+
+-- what the task waits for
+pub seen_wait : (tasks : ℕ) (holders : List (Option ℕ)) (waiters : List Waiter) (task : ℕ) (view : MutexPart) → IsListing tasks (map task_of waiters) → seen_mutexes tasks holders waiters ≡ view → wait_of task waiters ≡ wait_of task view.waiters
+seen_wait tasks holders waiters task view listing shows =
+    let its = λ (waiter : Waiter). eqb waiter.task task in
+    ap (option_map (λ (waiter : Waiter). waiter.wait))
+    (find_filter its waiters ∙ ap (find (λ _. true)) (sym (alone task waiters listing.once) ∙ sym (filter-ranked waits_first waits_first-IsRank its waiters)) ∙ sym (find_filter its (ranked waits_first waiters)))
+    ∙ ap (λ (v : MutexPart). wait_of task v.waiters) shows
+
+no_entry : (task : ℕ) (waiters : List Waiter) → wait_of task waiters ≡ None → has task (map task_of waiters) ≡ false
+no_entry task [] none = refl
+no_entry task (waiter ∷ waiters) none = at (eqb waiter.task task) none (no_entry task waiters)
+  where
+    at : (b : Bool) → option_map (λ (waiter : Waiter). waiter.wait) (cond b (Some waiter) (find (λ w. eqb w.task task) waiters)) ≡ None → (wait_of task waiters ≡ None → has task (map task_of waiters) ≡ false) → (b || has task (map task_of waiters)) ≡ false
+    at true some rest = absurd (cc (some))
+    at false others rest = rest others
+
+-- a task that is not seen to wait has no entry
+pub seen_free : (tasks : ℕ) (holders : List (Option ℕ)) (waiters : List Waiter) (task : ℕ) (view : MutexPart) → IsListing tasks (map task_of waiters) → seen_mutexes tasks holders waiters ≡ view → wait_of task view.waiters ≡ None → has task (map task_of waiters) ≡ false
+seen_free tasks holders waiters task view listing shows free = no_entry task waiters (seen_wait tasks holders waiters task view listing shows ∙ free)
+
+found : (P : Waiter → Type 0) (p : Waiter → Bool) (waiters : List Waiter) → AllByRecursion P waiters → ForSome (find p waiters) P
+found P p [] all = λ waiter is. absurd (cc (is))
+found P p (first ∷ waiters) all = elim (p first) as (λ b. ForSome (cond b (Some first) (find p waiters)) P) [ true ↦ λ waiter is. subst P (same_Some _ _ is) all.0 | false ↦ found P p waiters all.1 ]
+
+-- the first waiter of a mutex is a task
+pub first_below : (n mutex : ℕ) (waiters : List Waiter) → IsListing n (map task_of waiters) → ForSome (first_of mutex (ranked waits_first waiters)) (λ waiter. waiter.task < n)
+first_below n mutex waiters listing =
+    found (λ waiter. waiter.task < n) (λ waiter. eqb waiter.wait.mutex mutex) (ranked waits_first waiters)
+    (All-ranked waits_first (λ waiter. waiter.task < n) waiters (entries (λ m. m < n) (λ m. m < n) (λ m low. low) waiters (recursion_from_All (λ i. i < n) (map task_of waiters) listing.below)))

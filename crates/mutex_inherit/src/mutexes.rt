@@ -1,0 +1,255 @@
+ghost use Rattle.std.specs.Prelude.{◌≡◌, ◌↔◌, ◌<◌, ◌^◌, ◌==◌, ◌&&◌, not, if◌then◌else◌, length, replicate, slice_set, is_none, option_map, Some, None, IsTrue, IfOk, IfSome};
+ghost use Rattle.std.specs.Option.{IsSome, ForSome};
+ghost use Rattle.bench_types.specs.declared.kernel_data.MutexWait.{MutexWait};
+ghost use Rattle.bench_types.specs.declared.kernel_data.Waiter.{Waiter};
+ghost use Rattle.bench_model.specs.Control.{task_at};
+ghost use Rattle.bench_model.specs.State.{holder_at};
+ghost use Rattle.bench_model.specs.Lists.{list_moves, without_waiter, first_of};
+ghost use Rattle.bench_model.specs.Mutexes.{held_by, is_marked, owed_to, inherited, lowered};
+ghost use Rattle.bench_model.specs.MutexParts.{with_waiter, wait_of};
+ghost use Rattle.bench_model.specs.Cores.{on_cores};
+ghost use Rattle.mutex_inherit.specs.Parts.{free_mutexes, holder_of};
+
+use crate::inheritance::{inherit, is_marked, lower, owed_to};
+use crate::waiters::{copy_with_room, first_of, have_same_order, remove_waiter, wait_of};
+use bench_types::{MutexWait, Waiter};
+use ready_core::Cores;
+use std::alloc::{AllocError, Global};
+use std::marker::Model;
+
+/// Who holds each mutex, and who waits for it.
+#[derive(Debug, Drop)]
+pub struct Mutexes {
+    tasks: u32,
+    /// Per mutex the task that holds it.
+    holders: Vec<Option<u32>>,
+    /// The longer a task has been waiting, the earlier it stands here.
+    waiters: Vec<Waiter>,
+}
+
+impl Model for Mutexes {
+    ghost use Rattle.std.specs.Vec.{vec_capacity};
+    ghost use Rattle.mutex_inherit.specs.Parts.{MutexPart, seen_mutexes};
+    ghost use Rattle.mutex_inherit.specs.Shape.{IsMutexShape};
+
+    ghost Value = { MutexPart };
+
+    ghost view = { λ part. seen_mutexes part.tasks part.holders.items part.waiters.items };
+
+    ghost invariant = { λ part. IsMutexShape part.tasks part.holders.items part.waiters.items (vec_capacity part.waiters) };
+}
+
+impl Mutexes {
+    /// No mutex is held, and no task waits. There is room for so many tasks to wait.
+    pub fn new(alloc: Global, tasks: u32, mutexes: u32) -> Result<Self, AllocError>
+        ensures { IfOk result (λ part. part ≡ free_mutexes tasks mutexes) }
+    {
+        Ok(Mutexes {
+            tasks,
+            holders: free_holders(alloc, mutexes)?,
+            waiters: Vec::with_capacity(alloc, tasks as usize)?,
+        })
+    }
+
+    /// A second value, equal to this one.
+    pub fn copy(&self, alloc: Global) -> Result<Self, AllocError>
+        ensures { IfOk result (λ copy. copy ≡ self.now) }
+    {
+        Ok(Mutexes {
+            tasks: self.tasks,
+            holders: Vec::from_slice(alloc, &self.holders)?,
+            waiters: copy_with_room(alloc, &self.waiters, self.tasks as usize)?,
+        })
+    }
+
+    /// Whether all that can be seen of the two is equal.
+    pub fn same(&self, other: &Self) -> bool
+        ensures { IsTrue result ↔ (self.now ≡ other.now) }
+    {
+        self.tasks == other.tasks
+            && (self.has_same_holders(other) && have_same_order(&self.waiters, &other.waiters))
+    }
+
+    /// The task that holds the mutex; none where it is free.
+    pub fn holder(&self, mutex: u32) -> Option<u32>
+        requires { mutex < length self.now.holders }
+        ensures holder { result ≡ holder_at self.now.holders mutex }
+        ensures task { IfSome result (λ holder. holder < self.now.tasks) }
+    {
+        self.holders[mutex as usize]
+    }
+
+    /// How many mutexes the task holds.
+    pub fn held(&self, task: u32) -> u32
+        ensures { result ≡ held_by self.now.holders task }
+    {
+        held_by(&self.holders, task)
+    }
+
+    /// The mutex that the task waits for; none where it waits for none.
+    pub fn waits_on(&self, task: u32) -> Option<u32>
+        ensures { result ≡ option_map (λ (wait : MutexWait). wait.mutex) (wait_of task self.now.waiters) }
+    {
+        self.wait(task).map(|wait| wait.mutex)
+    }
+
+    /// The task takes the mutex where it is free. Answers whether it was; where not, nothing changes.
+    pub fn try_take(&mut self, task: u32, mutex: u32) -> bool
+        requires task { task < self.old.tasks }
+        requires mutex { mutex < length self.old.holders }
+        ensures taken { result ≡ is_none (holder_at self.old.holders mutex) }
+        ensures holders { self.new ≡ (if result then record self.old { holders = slice_set self.old.holders mutex (Some task) } else self.old) }
+    {
+        let is_free = self.holder(mutex).is_none();
+        if is_free {
+            self.set_holder(mutex, Some(task));
+        }
+        is_free
+    }
+
+    /// The task waits for the mutex, which a task holds, behind those that wait with its priority in use or a greater one,
+    /// and the holder inherits that priority. Answers the mark of the wait.
+    pub fn wait_on(&mut self, cores: &mut Cores, acting: u32, task: u32, mutex: u32) -> bool
+        requires task { task < self.old.tasks }
+        requires tasks { length cores.old.control.tasks ≡ self.old.tasks }
+        requires mutex { mutex < length self.old.holders }
+        requires held { IsSome (holder_at self.old.holders mutex) }
+        requires free { wait_of task self.old.waiters ≡ None }
+        ensures mark { result ≡ is_marked cores.old.control task (holder_of self.old.holders mutex) }
+        ensures cores { cores.new ≡ on_cores (inherited list_moves acting (holder_of self.old.holders mutex) (task_at cores.old.control task).in_use) cores.old }
+        ensures waiters { self.new ≡ record self.old { waiters = with_waiter (record { task = task; wait = record { mutex = mutex; priority = (task_at cores.old.control task).in_use } }) self.old.waiters } }
+    {
+        let holder = self.holder_of(mutex);
+        let priority = cores.in_use(task);
+        let mark = is_marked(cores, task, holder);
+        inherit(cores, acting, holder, priority);
+        self.enter(task, mutex, priority);
+        mark
+    }
+
+    /// The task gives the mutex, which it holds; where it holds no other, its base priority is in use again. Answers the
+    /// first task that waits for the mutex, which waits on until it leaves.
+    pub fn give(&mut self, cores: &mut Cores, acting: u32, task: u32, mutex: u32) -> Option<u32>
+        requires task { task < self.old.tasks }
+        requires tasks { length cores.old.control.tasks ≡ self.old.tasks }
+        requires mutex { mutex < length self.old.holders }
+        requires held { holder_at self.old.holders mutex ≡ Some task }
+        requires base { (task_at cores.old.control task).base < cores.old.priorities }
+        ensures first { result ≡ option_map (λ (waiter : Waiter). waiter.task) (first_of mutex self.old.waiters) }
+        ensures task { IfSome result (λ waiter. waiter < self.old.tasks) }
+        ensures holders { self.new ≡ record self.old { holders = slice_set self.old.holders mutex None } }
+        ensures cores { cores.new ≡ (if held_by (slice_set self.old.holders mutex None) task == 0 then on_cores (lowered list_moves acting task (task_at cores.old.control task).base) cores.old else cores.old) }
+    {
+        self.set_holder(mutex, None);
+        if self.held(task) == 0 {
+            lower(cores, acting, task, cores.base(task));
+        }
+        self.first_task(mutex)
+    }
+
+    /// A wait with a mark has ended without the mutex, which another task may hold: where that task holds no other, it keeps
+    /// what it owes to those that still wait (V11 tasks.c, vTaskPriorityDisinheritAfterTimeout).
+    pub fn after_timeout(&self, cores: &mut Cores, acting: u32, task: u32, mutex: u32)
+        requires tasks { length cores.old.control.tasks ≡ self.now.tasks }
+        requires mutex { mutex < length self.now.holders }
+        requires held { IsSome (holder_at self.now.holders mutex) }
+        requires base { (task_at cores.old.control (holder_of self.now.holders mutex)).base < cores.old.priorities }
+        requires priority { ForSome (first_of mutex self.now.waiters) (λ waiter. waiter.wait.priority < cores.old.priorities) }
+        ensures { let holder = holder_of self.now.holders mutex in cores.new ≡ (if not (holder == task) && held_by self.now.holders holder == 1 then on_cores (lowered list_moves acting holder (owed_to (first_of mutex self.now.waiters) (task_at cores.old.control holder).base)) cores.old else cores.old) }
+    {
+        let holder = self.holder_of(mutex);
+        if holder != task && self.held(holder) == 1 {
+            let owed = owed_to(self.first_waiter(mutex), cores.base(holder));
+            lower(cores, acting, holder, owed);
+        }
+    }
+
+    /// The task waits for no mutex any more.
+    pub fn leave(&mut self, task: u32)
+        ensures { self.new ≡ record self.old { waiters = without_waiter task self.old.waiters } }
+    {
+        remove_waiter(&mut self.waiters, task);
+    }
+
+    fn has_same_holders(&self, other: &Self) -> bool
+        ensures { IsTrue result ↔ (self.now.holders ≡ other.now.holders) }
+    {
+        self.holders == other.holders
+    }
+
+    // The task that holds a mutex which is held.
+    fn holder_of(&self, mutex: u32) -> u32
+        requires mutex { mutex < length self.now.holders }
+        requires held { IsSome (holder_at self.now.holders mutex) }
+        ensures holder { result ≡ holder_of self.now.holders mutex }
+        ensures task { result < self.now.tasks }
+    {
+        self.holder(mutex).unwrap()
+    }
+
+    fn set_holder(&mut self, mutex: u32, holder: Option<u32>)
+        requires mutex { mutex < length self.old.holders }
+        requires holder { ForSome holder (λ task. task < self.old.tasks) }
+        ensures { self.new ≡ record self.old { holders = slice_set self.old.holders mutex holder } }
+    {
+        self.holders[mutex as usize] = holder;
+    }
+
+    fn wait(&self, task: u32) -> Option<MutexWait>
+        ensures { result ≡ wait_of task self.now.waiters }
+    {
+        wait_of(&self.waiters, task)
+    }
+
+    // The task waits for the mutex with the priority.
+    fn enter(&mut self, task: u32, mutex: u32, priority: u32)
+        requires task { task < self.old.tasks }
+        requires free { wait_of task self.old.waiters ≡ None }
+        ensures { self.new ≡ record self.old { waiters = with_waiter (record { task = task; wait = record { mutex = mutex; priority = priority } }) self.old.waiters } }
+    {
+        let wait = MutexWait { mutex, priority };
+        self.waiters.push_reserved(Waiter { task, wait });
+    }
+
+    // Of those that wait for the mutex the first.
+    fn first_waiter(&self, mutex: u32) -> Option<Waiter>
+        ensures first { result ≡ first_of mutex self.now.waiters }
+        ensures task { ForSome result (λ waiter. waiter.task < self.now.tasks) }
+    {
+        first_of(&self.waiters, mutex)
+    }
+
+    fn first_task(&self, mutex: u32) -> Option<u32>
+        ensures first { result ≡ option_map (λ (waiter : Waiter). waiter.task) (first_of mutex self.now.waiters) }
+        ensures task { IfSome result (λ task. task < self.now.tasks) }
+    {
+        self.first_waiter(mutex).map(|waiter| waiter.task)
+    }
+}
+
+fn free_holders(alloc: Global, mutexes: u32) -> Result<Vec<Option<u32>>, AllocError>
+    ensures { IfOk result (λ holders. holders.items ≡ replicate mutexes None) }
+{
+    let mut holders = Vec::with_capacity(alloc, mutexes as usize)?;
+    for _mutex in 0..mutexes {
+        holders.push(None)?;
+    }
+    Ok(holders)
+}
+
+// How many of the mutexes the task holds.
+fn held_by(holders: &[Option<u32>], task: u32) -> u32
+    requires { length holders.now < 2 ^ 32 }
+    ensures { result ≡ held_by holders.now task }
+{
+    let mut held = 0;
+    for holder in holders {
+        if *holder == Some(task) {
+            held += 1;
+        }
+    }
+    held
+}
+
+#[cfg(test)]
+mod tests;

@@ -2,6 +2,7 @@
 //! its own.
 
 use super::calls::{check_edits, check_steps, session_of};
+use super::row;
 use crate::{read_edit, read_session};
 use bench_types::{Action, Call, Edit, Note, Step};
 use std::test::Fail;

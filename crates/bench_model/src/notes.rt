@@ -1,8 +1,8 @@
 //! The parts of the rules of one notification, computed.
 ghost use Rattle.std.specs.Prelude.{◌≡◌};
-ghost use Rattle.bench_model.specs.Notes.{is_received, is_waiting, without_bits, passes, acted};
+ghost use Rattle.bench_model.specs.Notes.{is_received, is_waiting, without_bits, passes, acted, notified};
 
-use bench_types::{Action, NoteState};
+use bench_types::{Action, NoteState, Notification};
 
 /// Whether a notification has come that was not taken (`taskNOTIFICATION_RECEIVED`).
 pub fn is_received(state: NoteState) -> bool
@@ -53,6 +53,22 @@ pub fn acted(action: Action, value: u32) -> u32
     }
 }
 
+/// What a notification makes of a task's (`xTaskGenericNotify`).
+#[tactic(auto, unfolding(crate::specs::Notes::notified))]
+pub fn notified(action: Action, note: Notification) -> Notification
+    ensures { result ≡ notified action note }
+{
+    let value = if passes(action, note.state) {
+        acted(action, note.value)
+    } else {
+        note.value
+    };
+    Notification {
+        value,
+        state: NoteState::Received,
+    }
+}
+
 #[cfg(test)]
 mod tests {
     use super::*;
@@ -82,6 +98,10 @@ mod tests {
             (Action::SetNew(9), 5, 9),
         ] {
             assert_eq!(rt; acted(action, value), later, "at {action:?}");
+            let state = NoteState::Waiting;
+            let note = notified(action, Notification { value, state });
+            assert_eq!(rt; note.value, later, "at {action:?}");
+            assert_eq!(rt; note.state, NoteState::Received, "at {action:?}");
         }
         assert_eq!(rt; without_bits(5, 7), 2);
         assert_eq!(rt; without_bits(0, 7), 7);

@@ -2,7 +2,7 @@ ghost use Rattle.std.specs.Prelude.{◌≡◌, ◌↔◌, ◌<◌, length, repli
 ghost use Rattle.bench_types.specs.declared.note.NoteState.TheVariants.{NotWaiting};
 ghost use Rattle.bench_model.specs.Notes.{no_note, note_at, is_received, is_waiting, without_bits, passes, acted, notified, wait_begun, wait_ended, take_begun, take_ended, state_cleared, value_cleared, of_task};
 
-use bench_model::notes::{acted, is_received, is_waiting, passes, without_bits};
+use bench_model::notes::{is_received, is_waiting, notified, passes, without_bits};
 use bench_types::{Action, NoteState, Notification};
 use std::alloc::{AllocError, Global};
 use std::marker::Model;
@@ -180,21 +180,6 @@ fn at_rest(value: u32) -> Notification
     Notification {
         value,
         state: NoteState::NotWaiting,
-    }
-}
-
-#[tactic(auto, unfolding(bench_model::specs::Notes::notified))]
-fn notified(action: Action, note: Notification) -> Notification
-    ensures { result ≡ notified action note }
-{
-    let value = if passes(action, note.state) {
-        acted(action, note.value)
-    } else {
-        note.value
-    };
-    Notification {
-        value,
-        state: NoteState::Received,
     }
 }
 

@@ -6,7 +6,7 @@ ghost use Rattle.bench_model.specs.Notifying.{awaited_for, is_passed, state_forg
 ghost use Rattle.bench_model.specs.Table.{table_moves};
 
 use super::SlowTable;
-use crate::notes::{acted, is_received, is_waiting, passes, without_bits};
+use crate::notes::{is_received, is_waiting, notified, passes, without_bits};
 use bench_types::{Action, Call, Note, NoteState, Notification, Reply, Unfinished};
 
 impl SlowTable {
@@ -133,21 +133,6 @@ pub(super) fn awaited_for(ticks: u32) -> Option<u32>
     ensures { result ≡ awaited_for ticks }
 {
     (ticks != u32::MAX).then_some(ticks)
-}
-
-#[tactic(auto, unfolding(crate::specs::Notes::notified))]
-fn notified(action: Action, note: Notification) -> Notification
-    ensures { result ≡ notified action note }
-{
-    let value = if passes(action, note.state) {
-        acted(action, note.value)
-    } else {
-        note.value
-    };
-    Notification {
-        value,
-        state: NoteState::Received,
-    }
 }
 
 #[tactic(auto, unfolding(crate::specs::Notes::wait_begun))]

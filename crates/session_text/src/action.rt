@@ -18,6 +18,14 @@ pub(crate) enum ActionKind {
     SetNew,
 }
 
+#[tactic(auto, unfolding(crate::specs::Action::action_kind_at))]
+fn action_kind_at(node: &Node<'_, '_>) -> Result<ActionKind, Stop>
+    ensures { Gives (λ kind. kind) result
+        (action_kind_at (place_of node.now) (data_of node.now)) }
+{
+    node.found("action", ActionKind::of(node.text("action")?))
+}
+
 impl ActionKind {
     fn of(word: &str) -> Option<ActionKind>
         ensures { result ≡ action_kind_of word.now }
@@ -31,14 +39,6 @@ impl ActionKind {
             _ => None,
         }
     }
-}
-
-#[tactic(auto, unfolding(crate::specs::Action::action_kind_at))]
-fn action_kind_at(node: &Node<'_, '_>) -> Result<ActionKind, Stop>
-    ensures { Gives (λ kind. kind) result
-        (action_kind_at (place_of node.now) (data_of node.now)) }
-{
-    node.found("action", ActionKind::of(node.text("action")?))
 }
 
 #[tactic(auto, unfolding(crate::specs::Action::action_of_kind_at))]

@@ -247,23 +247,12 @@ fn wanted() -> [Step; 15] {
 }
 
 #[test]
-fn actions(rt: HostRuntime) -> Result<(), Fail> {
-    check_steps(&rt, rt.alloc(), ACTIONS)
-}
-
-#[test]
-fn shapes_of_notifications(rt: HostRuntime) -> Result<(), Fail> {
-    check_steps(&rt, rt.alloc(), SHAPES)
-}
-
-#[test]
-fn judged_notifications(rt: HostRuntime) -> Result<(), Fail> {
-    check_steps(&rt, rt.alloc(), JUDGED)
-}
-
-#[test]
-fn notifications_of_edits(rt: HostRuntime) -> Result<(), Fail> {
-    check_edits(&rt, rt.alloc(), EDITS)
+fn notifications_as_texts(rt: HostRuntime) -> Result<(), Fail> {
+    let alloc = rt.alloc();
+    for table in [ACTIONS, SHAPES, JUDGED] {
+        check_steps(&rt, alloc, table)?;
+    }
+    check_edits(&rt, alloc, EDITS)
 }
 
 #[test]

@@ -1,7 +1,5 @@
 //! Priority inheritance: how a holder takes over a priority in use, and gives it up.
-ghost use Rattle.std.specs.Prelude.{◌≡◌, ◌<◌, length, IfSome};
-ghost use Rattle.std.specs.Option.{ForSome};
-ghost use Rattle.bench_model.specs.Control.{task_at};
+ghost use Rattle.std.specs.Prelude.{◌≡◌, ◌<◌, length};
 ghost use Rattle.bench_model.specs.Lists.{list_moves};
 ghost use Rattle.bench_model.specs.Mutexes.{is_marked, owed_to, inherited, lowered};
 ghost use Rattle.bench_model.specs.Changes.{in_use_set};

@@ -29,6 +29,8 @@ pub enum Mix {
     Sets,
     /// Some set something of a task, and some notify a task, wait for that, or clear it.
     Notes,
+    /// Some set something of a task, and some take or give one of four mutexes.
+    Mutexes,
 }
 
 /// A session of so many steps, of which most are not refused.
@@ -48,8 +50,10 @@ pub fn random_session(
         if mix != Mix::Nothing {
             step = with_set(&kernel, step, number(&mut seed));
         }
-        if mix == Mix::Notes {
-            step = with_note(step, number(&mut seed));
+        match mix {
+            Mix::Nothing | Mix::Sets => {}
+            Mix::Notes => step = with_note(step, number(&mut seed)),
+            Mix::Mutexes => step = with_mutex(&kernel, step, number(&mut seed)),
         }
         assert_eq!(rt; step.check(&header), Ok(()));
         let reply = kernel.step(&mut meter, &step);
@@ -83,7 +87,7 @@ fn large_header(alloc: Global) -> Result<Header, Fail>
         priorities: 5,
         slicing: true,
         tick: 4_294_967_200,
-        mutexes: 0,
+        mutexes: 4,
     };
     let tasks = Items::new(tasks);
     Ok(Header { config, tasks })
@@ -187,6 +191,44 @@ fn is_set(call: Call) -> bool {
             | Call::PreemptOff(_)
             | Call::PreemptOn(_)
     )
+}
+
+// The step, or in place of a yield and of most calls that set something a call that takes a mutex or gives one, chosen by a
+// number of 16 bits.
+fn with_mutex(kernel: &Kernel, step: Step, choice: u32) -> Step
+    requires mutexes { kernel.now.settings.mutexes ≡ 4 }
+    requires choice { choice < 2 ^ 16 }
+{
+    match step {
+        Step::Call { core, task, call }
+            if call == Call::Yield || is_set(call) && choice % 16 < 13 =>
+        {
+            let call = some_mutex_call(kernel, task, choice);
+            Step::Call { core, task, call }
+        }
+        _ => step,
+    }
+}
+
+// Takes are for 0 ticks, for some, or without end. A task that holds mutexes mostly gives the first of them.
+fn some_mutex_call(kernel: &Kernel, task: u32, choice: u32) -> Call
+    requires mutexes { kernel.now.settings.mutexes ≡ 4 }
+    requires choice { choice < 2 ^ 16 }
+{
+    let mutex = choice / 16 % 4;
+    let ticks = match choice / 8192 {
+        0 => 4_294_967_295,
+        ticks => ticks - 1,
+    };
+    let held = (0..4).find(|mutex| kernel.holder(*mutex) == Some(task));
+    match choice / 64 % 8 {
+        0 => Call::MutexGive(mutex),
+        1..=4 => Call::MutexTake { mutex, ticks },
+        _ => match held {
+            Some(mutex) => Call::MutexGive(mutex),
+            None => Call::MutexTake { mutex, ticks },
+        },
+    }
 }
 
 fn interrupt(core: u32, choice: u32) -> Step

@@ -8,7 +8,7 @@ use Rattle.bench_types.specs.declared.header.Header.{Header}
 use Rattle.bench_types.specs.declared.reply.Reply.{Reply}
 use Rattle.bench_types.specs.declared.reply.Reply.TheVariants.{Done, Blocked, Flag, Value, Waited, Isr, Refused}
 use Rattle.bench_types.specs.declared.reply.Refusal.{Refusal}
-use Rattle.bench_types.specs.declared.reply.Refusal.TheVariants.{Displaced, SwitchDue, InCall, NotInCall, NotDue}
+use Rattle.bench_types.specs.declared.reply.Refusal.TheVariants.{Displaced, SwitchDue, InCall, NotInCall, NotHolder, NotDue}
 use Rattle.session_store.specs.declared.outcome.Outcome.{Outcome}
 
 -- the idle task of core c is IDLEc; a user task has its name in the header
@@ -29,6 +29,7 @@ refusal_text Displaced = codes "E2"
 refusal_text SwitchDue = codes "E3"
 refusal_text InCall = codes "E4"
 refusal_text NotInCall = codes "E5"
+refusal_text NotHolder = codes "E9"
 refusal_text NotDue = codes "E10"
 
 abbrev pub flag_text : Bool → List ℕ

@@ -13,6 +13,7 @@ fn refusal_text(why: Refusal) -> &'static str
         Refusal::SwitchDue => "E3",
         Refusal::InCall => "E4",
         Refusal::NotInCall => "E5",
+        Refusal::NotHolder => "E9",
         Refusal::NotDue => "E10",
     }
 }

@@ -1,77 +1,93 @@
--- No task is ready and waits, whatever move is made.
-use Rattle.std.proofs.Common.{◌≡◌, ℕ, Bool, true, false, cond, not, eqb, ◌&&◌, ◌||◌, List, [], ◌∷◌, map, refl, ap, ◌∙◌, arith}
+-- No ready task waits, whatever move is made.
+use Rattle.std.proofs.Common.{◌≡◌, ℕ, Bool, true, false, cond, not, eqb, ◌&&◌, ◌||◌, List, [], ◌∷◌, map, Option, Some, None, refl, ap, ◌∙◌, arith}
+use Rattle.std.specs.Option.{option_map_or}
+use Rattle.std.specs.List.{filter, find, list_any}
 use Rattle.std.proofs.lemmas.Bool.Decides.{nat_tests}
 use Rattle.bench_types.specs.declared.kernel_data.Delayed.{Delayed}
 use Rattle.bench_model.specs.Search.{placed, without, has}
 use Rattle.bench_model.specs.Control.{Control}
-use Rattle.bench_model.specs.Lists.{outranks, wakes_first}
+use Rattle.bench_model.specs.Lists.{outranks}
 use Rattle.bench_model.proofs.Filters.{has-filter}
 use Rattle.bench_model.proofs.Ranks.{list_any-placed}
-use Rattle.smp_kernel.specs.Parts.{DelayView, is_waiting, cancelled, aged, advanced}
-use Rattle.smp_kernel.specs.Kernel.{IsApart}
-
-waiting-cancelled : (t task : ℕ) (delayed : List Delayed) → is_waiting t (cancelled task delayed) ≡ (not (eqb t task) && is_waiting t delayed)
-waiting-cancelled t task [] = grind arith
-waiting-cancelled t task (entry ∷ delayed) = grind (arith, nat_tests, waiting-cancelled t task delayed)
-
-waiting-placed : (t : ℕ) (entry : Delayed) (delayed : List Delayed) → is_waiting t (placed wakes_first entry delayed) ≡ (eqb entry.task t || is_waiting t delayed)
-waiting-placed t entry delayed = list_any-placed wakes_first (λ e. eqb e.task t) entry delayed
+use Rattle.smp_kernel.specs.Parts.{DelayView, is_waiting, aged, advanced}
+use Rattle.smp_kernel.specs.Kernel.{IsApart, delayed_task}
 
 has-moved : (control : Control) (t task : ℕ) (ready : List ℕ) → has t (placed (outranks control) task (without task ready)) ≡ (eqb task t || (not (eqb t task) && has t ready))
 has-moved control t task ready = list_any-placed (outranks control) (λ m. eqb m t) task (without task ready) ∙ ap (λ b. eqb task t || b) (has-filter (λ m. not (eqb m task)) t ready)
-
--- what is not waiting stays as it is when it is cancelled
-pub cancelled_free : (task : ℕ) (delayed : List Delayed) → is_waiting task delayed ≡ false → cancelled task delayed ≡ delayed
-cancelled_free task [] free = refl
-cancelled_free task (entry ∷ delayed) free = grind (arith, free, cancelled_free task delayed (grind (arith, free)))
-
-pub apart_ready : (control : Control) (task : ℕ) (ready : List ℕ) (delayed : List Delayed) → IsApart ready delayed → IsApart (placed (outranks control) task (without task ready)) (cancelled task delayed)
-apart_ready control task ready delayed apart t found = at (has t ready) refl
-  where
-    at : (b : Bool) → has t ready ≡ b → is_waiting t (cancelled task delayed) ≡ false
-    at true before = grind (arith, waiting-cancelled t task delayed, apart t before)
-    at false before = grind (arith, nat_tests, waiting-cancelled t task delayed, found, before, has-moved control t task ready)
 
 and_false : (b : Bool) → (b && false) ≡ false
 and_false true = refl
 and_false false = refl
 
+-- what no entry passes is not found
+pub none_found : {E : Type 0} (test : E → Bool) (entries : List E) → list_any test entries ≡ false → find test entries ≡ None
+none_found test [] none = refl
+none_found test (entry ∷ entries) none = at (test entry) none (none_found test entries)
+  where
+    at : (b : Bool) → (b || list_any test entries) ≡ false → (list_any test entries ≡ false → find test entries ≡ None) → cond b (Some entry) (find test entries) ≡ None
+    at true none rest = absurd (cc (none))
+    at false none rest = rest none
+
+module _ {E : Type 0} (task_of : E → ℕ) where
+  abbrev waits : ℕ → List E → Bool
+  waits task entries = list_any (λ entry. eqb (task_of entry) task) entries
+
+  abbrev left : ℕ → List E → List E
+  left task entries = filter (λ entry. not (eqb (task_of entry) task)) entries
+
+  waits-left : (t task : ℕ) (entries : List E) → waits t (left task entries) ≡ (not (eqb t task) && waits t entries)
+  waits-left t task [] = grind arith
+  waits-left t task (entry ∷ entries) = grind (arith, nat_tests, waits-left t task entries)
+
+  -- where no entry is the task's, all stay that are not its
+  pub left_free : (task : ℕ) (entries : List E) → waits task entries ≡ false → left task entries ≡ entries
+  left_free task [] free = refl
+  left_free task (entry ∷ entries) free = grind (arith, free, left_free task entries (grind (arith, free)))
+
+  pub apart_ready : (control : Control) (task : ℕ) (ready : List ℕ) (entries : List E) → IsApart task_of ready entries → IsApart task_of (placed (outranks control) task (without task ready)) (left task entries)
+  apart_ready control task ready entries apart t found = at (has t ready) refl
+    where
+      at : (b : Bool) → has t ready ≡ b → waits t (left task entries) ≡ false
+      at true before = grind (arith, waits-left t task entries, apart t before)
+      at false before = grind (arith, nat_tests, waits-left t task entries, found, before, has-moved control t task ready)
+
+  -- a task that is ready no more
+  pub apart_unready : (task : ℕ) (ready : List ℕ) (entries : List E) → IsApart task_of ready entries → IsApart task_of (without task ready) entries
+  apart_unready task ready entries apart t found = at (has t ready) refl
+    where
+      at : (b : Bool) → has t ready ≡ b → waits t entries ≡ false
+      at true before = apart t before
+      at false before = absurd (cc (found, before, has-filter (λ m. not (eqb m task)) t ready, and_false (not (eqb t task))))
+
+  -- and waits
+  pub apart_waiting : (front : E → E → Bool) (entry : E) (ready : List ℕ) (entries : List E) → IsApart task_of ready entries → IsApart task_of (without (task_of entry) ready) (placed front entry entries)
+  apart_waiting front entry ready entries apart t found = at (has t ready) refl
+    where
+      at : (b : Bool) → has t ready ≡ b → waits t (placed front entry entries) ≡ false
+      at true before = grind (arith, nat_tests, found, before, apart t before, list_any-placed front (λ e. eqb (task_of e) t) entry entries, has-filter (λ m. not (eqb m (task_of entry))) t ready)
+      at false before = absurd (cc (found, before, has-filter (λ m. not (eqb m (task_of entry))) t ready, and_false (not (eqb t (task_of entry)))))
+
+  -- the ready lists where a task that is ready goes to the end of its list
+  pub apart_queued : (task : ℕ) (control : Control) (ready : List ℕ) (entries : List E) → IsApart task_of ready entries → IsApart task_of (cond (has task ready) (placed (outranks control) task (without task ready)) ready) entries
+  apart_queued task control ready entries apart = at (has task ready) refl
+    where
+      at : (b : Bool) → has task ready ≡ b → IsApart task_of (cond b (placed (outranks control) task (without task ready)) ready) entries
+      at true before t found = moved (has t ready) refl
+        where
+          moved : (b : Bool) → has t ready ≡ b → waits t entries ≡ false
+          moved true here = apart t here
+          moved false gone = absurd (grind (arith, nat_tests, found, before, gone, has-moved control t task ready))
+      at false before t found = apart t found
+
 waiting-aged : (t : ℕ) (delayed : List Delayed) → is_waiting t (map aged delayed) ≡ is_waiting t delayed
 waiting-aged t [] = refl
 waiting-aged t (entry ∷ delayed) = ap (λ b. eqb entry.task t || b) (waiting-aged t delayed)
 
-pub apart_advanced : (ready : List ℕ) (view : DelayView) → IsApart ready view.delayed → IsApart ready (advanced view).delayed
+pub apart_advanced : (ready : List ℕ) (view : DelayView) → IsApart delayed_task ready view.delayed → IsApart delayed_task ready (advanced view).delayed
 unfolding advanced
 apart_advanced ready view apart t found = waiting-aged t view.delayed ∙ apart t found
 
-pub apart_waiting : (entry : Delayed) (ready : List ℕ) (delayed : List Delayed) → IsApart ready delayed → IsApart (without entry.task ready) (placed wakes_first entry delayed)
-apart_waiting entry ready delayed apart t found = at (has t ready) refl
-  where
-    at : (b : Bool) → has t ready ≡ b → is_waiting t (placed wakes_first entry delayed) ≡ false
-    at true before = grind (arith, nat_tests, found, before, apart t before, waiting-placed t entry delayed, has-filter (λ m. not (eqb m entry.task)) t ready)
-    at false before = absurd (cc (found, before, has-filter (λ m. not (eqb m entry.task)) t ready, and_false (not (eqb t entry.task))))
-
--- a task that waits without end is ready no more, and stands in no other list
-pub apart_endless : (task : ℕ) (ready : List ℕ) (delayed : List Delayed) → IsApart ready delayed → IsApart (without task ready) delayed
-apart_endless task ready delayed apart t found = at (has t ready) refl
-  where
-    at : (b : Bool) → has t ready ≡ b → is_waiting t delayed ≡ false
-    at true before = apart t before
-    at false before = absurd (cc (found, before, has-filter (λ m. not (eqb m task)) t ready, and_false (not (eqb t task))))
-
--- the ready lists where a task that is ready goes to the end of its list
-pub apart_queued : (task : ℕ) (control : Control) (ready : List ℕ) (delayed : List Delayed) → IsApart ready delayed → IsApart (cond (has task ready) (placed (outranks control) task (without task ready)) ready) delayed
-apart_queued task control ready delayed apart = at (has task ready) refl
-  where
-    at : (b : Bool) → has task ready ≡ b → IsApart (cond b (placed (outranks control) task (without task ready)) ready) delayed
-    at true before t found = moved (has t ready) refl
-      where
-        moved : (b : Bool) → has t ready ≡ b → is_waiting t delayed ≡ false
-        moved true here = apart t here
-        moved false gone = absurd (grind (arith, nat_tests, found, before, gone, has-moved control t task ready))
-    at false before t found = apart t found
-
--- and it stays ready
+-- a task stays ready that goes to the end of its list
 pub ready_queued : (task : ℕ) (control : Control) (ready : List ℕ) → has task (cond (has task ready) (placed (outranks control) task (without task ready)) ready) ≡ has task ready
 ready_queued task control ready = at (has task ready) refl
   where

@@ -1,27 +1,38 @@
--- What the rules do to the cores and ready lists of a kernel, where no task is ready and waits: they read these alone.
-use Rattle.std.proofs.Common.{◌≡◌, ℕ, Bool, true, false, cond, not, eqb, ◌&&◌, List, [], ◌∷◌, length, Option, refl, sym, ap, ◌∙◌}
-use Rattle.std.specs.Prelude.{unwrap_or, slice_set}
+-- What the rules do to the cores and ready lists of a kernel, where no ready task waits: they read these alone.
+use Rattle.std.proofs.Common.{◌≡◌, ℕ, Bool, true, false, cond, not, eqb, ltb, ◌&&◌, List, [], ◌∷◌, length, refl, sym, ap, ◌∙◌}
+use Rattle.std.specs.Prelude.{unwrap_or, slice_set, Option, Some, None}
+use Rattle.std.specs.Option.{option_map_or}
 use Rattle.std.specs.List.{find}
 use Rattle.std.proofs.lemmas.List.{length-set}
-use Rattle.bench_types.specs.declared.kernel_data.Settings.{Settings}
 use Rattle.bench_types.specs.declared.note.Action.{Action}
-use Rattle.bench_types.specs.declared.note.Notification.{Notification}
-use Rattle.bench_types.specs.declared.step.Call.{Call}
 use Rattle.bench_model.specs.Search.{placed, without, has}
-use Rattle.bench_model.specs.Control.{Control, current, may_select, in_mask, run_on, ask_each}
+use Rattle.bench_model.specs.Control.{Control, task_at, current, may_select, in_mask, run_on, ask, ask_each}
 use Rattle.bench_model.specs.State.{switched}
 use Rattle.bench_model.specs.Seek.{seek, may_move, wake, resettled, switched_and_sought, shares_its_time, sliced}
+use Rattle.bench_model.specs.Sets.{runs_on, ask_its_core}
 use Rattle.bench_model.specs.Notes.{note_at, is_waiting, notified}
 use Rattle.bench_model.specs.Notifying.{notify}
+use Rattle.bench_model.specs.Mutexes.{inherited, lowered}
 use Rattle.bench_model.specs.Steps.{woken}
 use Rattle.bench_model.specs.Changes.{with_in_use, in_use_set}
 use Rattle.bench_model.specs.Cores.{CoresView, cores_of, alone, on_cores}
-use Rattle.bench_model.specs.Lists.{Lists, View, list_moves, outranks, pick, make_ready}
+use Rattle.bench_model.specs.Lists.{Lists, View, list_moves, outranks, pick, make_ready, without_waiter}
 use Rattle.bench_model.proofs.SoundSteps.{IsAskedMore}
 use Rattle.bench_model.proofs.Seeks.{seek_more, each_more}
-use Rattle.smp_kernel.specs.Parts.{DelayView, cancelled}
-use Rattle.smp_kernel.specs.Kernel.{IsApart, kernel_view}
-use Rattle.smp_kernel.proofs.Apart.{cancelled_free}
+use Rattle.smp_kernel.specs.Parts.{cancelled}
+use Rattle.smp_kernel.specs.Kernel.{IsApart, Parts, kernel_view, IsKernelShape, delayed_task, waiting_task}
+use Rattle.smp_kernel.proofs.Apart.{left_free, apart_ready, apart_queued}
+
+-- no ready task waits
+pub record NoneWaits (lists : Lists) : Type 0 where
+  pub undelayed : IsApart delayed_task lists.ready lists.delayed
+  pub unqueued : IsApart waiting_task lists.ready lists.waiters
+
+abbrev none_waits : (parts : Parts) → IsKernelShape parts → NoneWaits (kernel_view parts).orders
+none_waits parts shape = record { undelayed = shape.undelayed; unqueued = shape.unqueued }
+
+none_waits_alone : (cores : CoresView) → NoneWaits (alone cores).orders
+none_waits_alone cores = record { undelayed = λ task ready. refl; unqueued = λ task ready. refl }
 
 -- a view with other cores and ready lists
 abbrev with_part : View → Control → List ℕ → View
@@ -31,6 +42,20 @@ with_part view control ready = record view { control = control; orders = record 
 abbrev pub queue_of : ℕ → Control → List ℕ → List ℕ
 queue_of task control ready = cond (has task ready) (placed (outranks control) task (without task ready)) ready
 
+-- nothing else changes then
+requeued : (control : Control) (task : ℕ) (lists : Lists) → NoneWaits lists → cond (has task lists.ready) (make_ready control task lists) lists ≡ record lists { ready = queue_of task control lists.ready }
+unfolding make_ready
+requeued control task lists apart = at (has task lists.ready) refl
+  where
+    moved : List ℕ
+    moved = placed (outranks control) task (without task lists.ready)
+
+    at : (b : Bool) → has task lists.ready ≡ b → cond b (record lists { ready = moved; delayed = cancelled task lists.delayed; waiters = without_waiter task lists.waiters }) lists ≡ record lists { ready = cond b moved lists.ready }
+    at true here =
+        ap (λ delayed. record lists { ready = moved; delayed = delayed; waiters = without_waiter task lists.waiters }) (left_free delayed_task task lists.delayed (apart.undelayed task here))
+        ∙ ap (λ waiters. record lists { ready = moved; waiters = waiters }) (left_free waiting_task task lists.waiters (apart.unqueued task here))
+    at false gone = refl
+
 -- the cores when it has selected
 abbrev selected_by : ℕ → Control → List ℕ → Control
 selected_by core control ready = run_on core (unwrap_or (find (may_select control core) (queue_of (current control core) control ready)) (current control core)) control
@@ -39,22 +64,11 @@ selected_by core control ready = run_on core (unwrap_or (find (may_select contro
 abbrev settled_by : ℕ → ℕ → Control → List ℕ → Control
 settled_by core loser control ready = cond (not (eqb (current control core) loser) && has loser ready) (seek core loser (may_move control loser (current control core) core) control) control
 
-switch_part : (core : ℕ) (view : View) → IsApart view.orders.ready view.orders.delayed → switched list_moves core view ≡ with_part view (selected_by core view.control view.orders.ready) (queue_of (current view.control core) view.control view.orders.ready)
-unfolding switched pick make_ready
-switch_part core view apart = at (has left view.orders.ready) refl
-  where
-    left : ℕ
-    left = current view.control core
-
-    run : Lists → View
-    run orders = record view { control = run_on core (unwrap_or (find (may_select view.control core) orders.ready) left) view.control; orders = orders }
-
-    moved : List ℕ
-    moved = placed (outranks view.control) left (without left view.orders.ready)
-
-    at : (b : Bool) → has left view.orders.ready ≡ b → run (cond b (record view.orders { ready = moved; delayed = cancelled left view.orders.delayed }) view.orders) ≡ run (record view.orders { ready = cond b moved view.orders.ready })
-    at true here = ap (λ waiting. run (record view.orders { ready = moved; delayed = waiting })) (cancelled_free left view.orders.delayed (apart left here))
-    at false gone = refl
+switch_part : (core : ℕ) (view : View) → NoneWaits view.orders → switched list_moves core view ≡ with_part view (selected_by core view.control view.orders.ready) (queue_of (current view.control core) view.control view.orders.ready)
+unfolding switched pick
+switch_part core view apart =
+    let left = current view.control core in
+    ap (λ (orders : Lists). record view { control = run_on core (unwrap_or (find (may_select view.control core) orders.ready) left) view.control; orders = orders }) (requeued view.control left view.orders apart)
 
 resettle_part : (core loser : ℕ) (view : View) → resettled list_moves core loser view ≡ with_part view (settled_by core loser view.control view.orders.ready) view.orders.ready
 unfolding resettled
@@ -71,26 +85,49 @@ resettle_part core loser view = at (not (eqb (current view.control core) loser) 
 abbrev turned_by : ℕ → Control → List ℕ → Control
 turned_by core control ready = settled_by core (current control core) (selected_by core control ready) (queue_of (current control core) control ready)
 
-turn_part : (core : ℕ) (view : View) → IsApart view.orders.ready view.orders.delayed → switched_and_sought list_moves core view ≡ with_part view (turned_by core view.control view.orders.ready) (queue_of (current view.control core) view.control view.orders.ready)
+turn_part : (core : ℕ) (view : View) → NoneWaits view.orders → switched_and_sought list_moves core view ≡ with_part view (turned_by core view.control view.orders.ready) (queue_of (current view.control core) view.control view.orders.ready)
 unfolding switched_and_sought
 turn_part core view apart =
     ap (resettled list_moves core (current view.control core)) (switch_part core view apart)
     ∙ resettle_part core (current view.control core) (with_part view (selected_by core view.control view.orders.ready) (queue_of (current view.control core) view.control view.orders.ready))
 
-pub turned_cores : (core : ℕ) (cores : CoresView) → on_cores (switched_and_sought list_moves core) cores ≡ record cores { control = turned_by core cores.control cores.ready; ready = queue_of (current cores.control core) cores.control cores.ready }
-turned_cores core cores = ap cores_of (turn_part core (alone cores) (λ task ready. refl))
+turned_cores : (core : ℕ) (cores : CoresView) → on_cores (switched_and_sought list_moves core) cores ≡ record cores { control = turned_by core cores.control cores.ready; ready = queue_of (current cores.control core) cores.control cores.ready }
+turned_cores core cores = ap cores_of (turn_part core (alone cores) (none_waits_alone cores))
 
--- a switch of the core part is the switch of the kernel
-pub turn_seen : (settings : Settings) (cores : CoresView) (calls : List (Option Call)) (notes : List Notification) (delays : DelayView) (core : ℕ) → IsApart cores.ready delays.delayed → kernel_view settings (on_cores (switched_and_sought list_moves core) cores) calls notes delays ≡ switched_and_sought list_moves core (kernel_view settings cores calls notes delays)
-turn_seen settings cores calls notes delays core apart =
-    ap (λ part. kernel_view settings part calls notes delays) (turned_cores core cores) ∙ sym (turn_part core (kernel_view settings cores calls notes delays) apart)
-
--- a rule asks cores, and changes no control block and no setting of them
-pub record IsKept (before after : CoresView) : Type 0 where
+-- a rule asks cores, and changes no number of cores and tasks and no setting of them
+record IsKept (before after : CoresView) : Type 0 where
   pub priorities : after.priorities ≡ before.priorities
   pub slicing : after.slicing ≡ before.slicing
   pub cores : length after.control.cores ≡ length before.control.cores
   pub controls : length after.control.tasks ≡ length before.control.tasks
+
+-- a kernel with other cores, where no ready task waits
+abbrev pub with_cores : Parts → CoresView → Parts
+with_cores parts cores = record parts { cores = cores }
+
+cores_shape : (parts : Parts) (cores : CoresView) → IsKernelShape parts → IsKept parts.cores cores → NoneWaits (kernel_view (with_cores parts cores)).orders → IsKernelShape (with_cores parts cores)
+cores_shape parts cores shape kept apart = record {
+  priorities = kept.priorities ∙ shape.priorities;
+  slicing = kept.slicing ∙ shape.slicing;
+  few_cores = shape.few_cores;
+  some_priority = shape.some_priority;
+  cores = kept.cores ∙ shape.cores;
+  controls = kept.controls ∙ shape.controls;
+  calls = shape.calls;
+  notes = shape.notes;
+  mutexes = shape.mutexes;
+  holders = shape.holders;
+  delays = shape.delays;
+  deadlines = shape.deadlines;
+  undelayed = apart.undelayed;
+  unqueued = apart.unqueued;
+}
+
+queued_apart : (parts : Parts) (task : ℕ) (control : Control) → IsKernelShape parts → NoneWaits (record (kernel_view parts).orders { ready = queue_of task control parts.cores.ready })
+queued_apart parts task control shape = record {
+  undelayed = apart_queued delayed_task task control _ _ shape.undelayed;
+  unqueued = apart_queued waiting_task task control _ _ shape.unqueued;
+}
 
 settled_more : (core loser : ℕ) (control : Control) (ready : List ℕ) → IsAskedMore control (settled_by core loser control ready)
 settled_more core loser control ready = at (not (eqb (current control core) loser) && has loser ready)
@@ -102,76 +139,212 @@ settled_more core loser control ready = at (not (eqb (current control core) lose
     at true = seek_more core loser among control
     at false = record { cores = refl; tasks = refl; currents = λ c. refl; due = λ c is. is }
 
-pub turned_kept : (core : ℕ) (cores : CoresView) → IsKept cores (on_cores (switched_and_sought list_moves core) cores)
-unfolding switched_and_sought resettled switched
-turned_kept core cores =
-    let same = turned_cores core cores in
-    let more = settled_more core (current cores.control core) (selected_by core cores.control cores.ready) (queue_of (current cores.control core) cores.control cores.ready) in
-    record {
-      priorities = ap (λ (part : CoresView). part.priorities) same;
-      slicing = ap (λ (part : CoresView). part.slicing) same;
-      cores = ap (λ (part : CoresView). length part.control.cores) same ∙ more.cores ∙ length-set cores.control.cores core _;
-      controls = ap (λ (part : CoresView). length part.control.tasks) same ∙ ap length more.tasks;
-    }
+module _ (parts : Parts) (shape : IsKernelShape parts) where
+  -- a switch of the core part is the switch of the kernel
+  pub turn_seen : (core : ℕ) → kernel_view (with_cores parts (on_cores (switched_and_sought list_moves core) parts.cores)) ≡ switched_and_sought list_moves core (kernel_view parts)
+  turn_seen core = ap (λ cores. kernel_view (with_cores parts cores)) (turned_cores core parts.cores) ∙ sym (turn_part core (kernel_view parts) (none_waits parts shape))
 
-pub turned_ready : (core : ℕ) (cores : CoresView) → (on_cores (switched_and_sought list_moves core) cores).ready ≡ queue_of (current cores.control core) cores.control cores.ready
-turned_ready core cores = ap (λ (part : CoresView). part.ready) (turned_cores core cores)
+  pub turn_shape : (core : ℕ) → IsKernelShape (with_cores parts (on_cores (switched_and_sought list_moves core) parts.cores))
+  turn_shape core =
+      let control = parts.cores.control in
+      let ready = parts.cores.ready in
+      let more = settled_more core (current control core) (selected_by core control ready) (queue_of (current control core) control ready) in
+      let kept : IsKept parts.cores (record parts.cores { control = turned_by core control ready; ready = queue_of (current control core) control ready }) = record {
+        priorities = refl;
+        slicing = refl;
+        cores = more.cores ∙ length-set control.cores core _;
+        controls = ap length more.tasks;
+      } in
+      rw (turned_cores core parts.cores) (cores_shape parts _ shape kept (queued_apart parts (current control core) control shape))
 
--- waking a task
-pub wake_seen : (settings : Settings) (cores : CoresView) (calls : List (Option Call)) (notes : List Notification) (delays : DelayView) (acting task : ℕ) → kernel_view settings (on_cores (wake list_moves acting task) cores) calls notes (record delays { delayed = cancelled task delays.delayed }) ≡ wake list_moves acting task (kernel_view settings cores calls notes delays)
-unfolding wake make_ready
-wake_seen settings cores calls notes delays acting task = refl
+-- a core is sought
+pub seek_shape : (parts : Parts) → IsKernelShape parts → (acting task : ℕ) (among : ℕ → Bool) → IsKernelShape (with_cores parts (record parts.cores { control = seek acting task among parts.cores.control }))
+seek_shape parts shape acting task among =
+    let more = seek_more acting task among parts.cores.control in
+    let kept : IsKept parts.cores (record parts.cores { control = seek acting task among parts.cores.control }) = record {
+      priorities = refl;
+      slicing = refl;
+      cores = more.cores;
+      controls = ap length more.tasks;
+    } in
+    cores_shape parts _ shape kept (none_waits parts shape)
 
-pub wake_kept : (acting task : ℕ) (cores : CoresView) → IsKept cores (on_cores (wake list_moves acting task) cores)
-unfolding wake
-wake_kept acting task cores =
-    let more = seek_more acting task (in_mask cores.control task) cores.control in
-    record { priorities = refl; slicing = refl; cores = more.cores; controls = ap length more.tasks }
+-- waking a task, which then waits no more
+abbrev pub woken_parts : ℕ → Parts → CoresView → Parts
+woken_parts task parts cores = record parts {
+  cores = cores;
+  mutexes = record parts.mutexes { waiters = without_waiter task parts.mutexes.waiters };
+  delays = record parts.delays { delayed = cancelled task parts.delays.delayed };
+}
 
-pub wake_ready : (acting task : ℕ) (cores : CoresView) → (on_cores (wake list_moves acting task) cores).ready ≡ placed (outranks cores.control) task (without task cores.ready)
-unfolding wake make_ready
-wake_ready acting task cores = refl
+module _ (parts : Parts) (shape : IsKernelShape parts) (acting task : ℕ) where
+  pub wake_seen : kernel_view (woken_parts task parts (on_cores (wake list_moves acting task) parts.cores)) ≡ wake list_moves acting task (kernel_view parts)
+  unfolding wake make_ready
+  wake_seen = refl
+
+  pub wake_shape : IsKernelShape (woken_parts task parts (on_cores (wake list_moves acting task) parts.cores))
+  unfolding wake make_ready
+  wake_shape =
+      let control = parts.cores.control in
+      let more = seek_more acting task (in_mask control task) control in
+      record {
+        priorities = shape.priorities;
+        slicing = shape.slicing;
+        few_cores = shape.few_cores;
+        some_priority = shape.some_priority;
+        cores = more.cores ∙ shape.cores;
+        controls = ap length more.tasks ∙ shape.controls;
+        calls = shape.calls;
+        notes = shape.notes;
+        mutexes = shape.mutexes;
+        holders = shape.holders;
+        delays = shape.delays;
+        deadlines = shape.deadlines;
+        undelayed = apart_ready delayed_task control task _ _ shape.undelayed;
+        unqueued = apart_ready waiting_task control task _ _ shape.unqueued;
+      }
 
 -- setting a priority in use
-in_use_part : (task priority : ℕ) (view : View) → IsApart view.orders.ready view.orders.delayed → in_use_set list_moves task priority view ≡ with_part view (with_in_use task priority view.control) (queue_of task (with_in_use task priority view.control) view.orders.ready)
-unfolding in_use_set make_ready
-in_use_part task priority view apart = at (has task view.orders.ready) refl
+in_use_part : (task priority : ℕ) (view : View) → NoneWaits view.orders → in_use_set list_moves task priority view ≡ with_part view (with_in_use task priority view.control) (queue_of task (with_in_use task priority view.control) view.orders.ready)
+unfolding in_use_set
+in_use_part task priority view apart =
+    let later = with_in_use task priority view.control in
+    ap (λ orders. record view { control = later; orders = orders }) (requeued later task view.orders apart)
+
+pub in_use_cores : (task priority : ℕ) (cores : CoresView) → on_cores (in_use_set list_moves task priority) cores ≡ record cores { control = with_in_use task priority cores.control; ready = queue_of task (with_in_use task priority cores.control) cores.ready }
+in_use_cores task priority cores = ap cores_of (in_use_part task priority (alone cores) (none_waits_alone cores))
+
+module _ (parts : Parts) (shape : IsKernelShape parts) where
+  pub in_use_seen : (task priority : ℕ) → kernel_view (with_cores parts (on_cores (in_use_set list_moves task priority) parts.cores)) ≡ in_use_set list_moves task priority (kernel_view parts)
+  in_use_seen task priority =
+      ap (λ cores. kernel_view (with_cores parts cores)) (in_use_cores task priority parts.cores) ∙ sym (in_use_part task priority (kernel_view parts) (none_waits parts shape))
+
+  pub in_use_shape : (task priority : ℕ) → IsKernelShape (with_cores parts (on_cores (in_use_set list_moves task priority) parts.cores))
+  in_use_shape task priority =
+      let later = with_in_use task priority parts.cores.control in
+      let kept : IsKept parts.cores (record parts.cores { control = later; ready = queue_of task later parts.cores.ready }) = record {
+        priorities = refl;
+        slicing = refl;
+        cores = refl;
+        controls = length-set parts.cores.control.tasks task _;
+      } in
+      rw (in_use_cores task priority parts.cores) (cores_shape parts _ shape kept (queued_apart parts task later shape))
+
+-- who is asked for a holder that inherited
+abbrev sought_by : ℕ → ℕ → List ℕ → Control → Control
+sought_by acting holder ready control = cond (has holder ready) (seek acting holder (in_mask control holder) control) control
+
+-- the cores and ready lists behind a change of a priority in use, where there is one, and behind who is asked then
+abbrev changed_part : Bool → ℕ → Control → Control → CoresView → CoresView
+changed_part changes task later asked cores = record cores { control = cond changes asked cores.control; ready = cond changes (queue_of task later cores.ready) cores.ready }
+
+abbrev raised_cores : ℕ → ℕ → ℕ → CoresView → CoresView
+raised_cores acting holder priority cores =
+    let later = with_in_use holder priority cores.control in
+    changed_part (ltb (task_at cores.control holder).in_use priority) holder later (sought_by acting holder cores.ready later) cores
+
+abbrev lowered_cores : ℕ → ℕ → ℕ → CoresView → CoresView
+lowered_cores acting task priority cores =
+    let later = with_in_use task priority cores.control in
+    changed_part (not (eqb (task_at cores.control task).in_use priority)) task later (ask_its_core acting task later) cores
+
+inherited_part : (acting holder priority : ℕ) (view : View) → NoneWaits view.orders → inherited list_moves acting holder priority view ≡ with_part view (raised_cores acting holder priority (cores_of view)).control (raised_cores acting holder priority (cores_of view)).ready
+unfolding inherited
+inherited_part acting holder priority view apart =
+    ap (λ later. cond raises (cond (has holder view.orders.ready) (sought later) later) view) (in_use_part holder priority view apart) ∙ at raises (has holder view.orders.ready)
   where
+    raises : Bool
+    raises = ltb (task_at view.control holder).in_use priority
+
+    later : Control
+    later = with_in_use holder priority view.control
+
+    raised : View
+    raised = with_part view later (queue_of holder later view.orders.ready)
+
+    sought : View → View
+    sought of = record of { control = seek acting holder (in_mask of.control holder) of.control }
+
+    at : (b d : Bool) → cond b (cond d (sought raised) raised) view ≡ with_part view (cond b (cond d (seek acting holder (in_mask later holder) later) later) view.control) (cond b (queue_of holder later view.orders.ready) view.orders.ready)
+    at true true = refl
+    at true false = refl
+    at false d = refl
+
+lowered_part : (acting task priority : ℕ) (view : View) → NoneWaits view.orders → lowered list_moves acting task priority view ≡ with_part view (lowered_cores acting task priority (cores_of view)).control (lowered_cores acting task priority (cores_of view)).ready
+unfolding lowered
+lowered_part acting task priority view apart =
+    ap (λ (later : View). cond stays view (record later { control = ask_its_core acting task later.control })) (in_use_part task priority view apart) ∙ at stays
+  where
+    stays : Bool
+    stays = eqb (task_at view.control task).in_use priority
+
     later : Control
     later = with_in_use task priority view.control
 
-    with_orders : Lists → View
-    with_orders orders = record view { control = later; orders = orders }
+    queue : List ℕ
+    queue = queue_of task later view.orders.ready
 
-    moved : List ℕ
-    moved = placed (outranks later) task (without task view.orders.ready)
+    at : (b : Bool) → cond b view (with_part view (ask_its_core acting task later) queue) ≡ with_part view (cond (not b) (ask_its_core acting task later) view.control) (cond (not b) queue view.orders.ready)
+    at true = refl
+    at false = refl
 
-    at : (b : Bool) → has task view.orders.ready ≡ b → with_orders (cond b (record view.orders { ready = moved; delayed = cancelled task view.orders.delayed }) view.orders) ≡ with_orders (record view.orders { ready = cond b moved view.orders.ready })
-    at true here = ap (λ waiting. with_orders (record view.orders { ready = moved; delayed = waiting })) (cancelled_free task view.orders.delayed (apart task here))
-    at false gone = refl
+inherited_cores : (acting holder priority : ℕ) (cores : CoresView) → on_cores (inherited list_moves acting holder priority) cores ≡ raised_cores acting holder priority cores
+inherited_cores acting holder priority cores = ap cores_of (inherited_part acting holder priority (alone cores) (none_waits_alone cores))
 
-pub in_use_cores : (task priority : ℕ) (cores : CoresView) → on_cores (in_use_set list_moves task priority) cores ≡ record cores { control = with_in_use task priority cores.control; ready = queue_of task (with_in_use task priority cores.control) cores.ready }
-in_use_cores task priority cores = ap cores_of (in_use_part task priority (alone cores) (λ task ready. refl))
+given_back_cores : (acting task priority : ℕ) (cores : CoresView) → on_cores (lowered list_moves acting task priority) cores ≡ lowered_cores acting task priority cores
+given_back_cores acting task priority cores = ap cores_of (lowered_part acting task priority (alone cores) (none_waits_alone cores))
 
-pub in_use_seen : (settings : Settings) (cores : CoresView) (calls : List (Option Call)) (notes : List Notification) (delays : DelayView) (task priority : ℕ) → IsApart cores.ready delays.delayed → kernel_view settings (on_cores (in_use_set list_moves task priority) cores) calls notes delays ≡ in_use_set list_moves task priority (kernel_view settings cores calls notes delays)
-in_use_seen settings cores calls notes delays task priority apart =
-    ap (λ part. kernel_view settings part calls notes delays) (in_use_cores task priority cores) ∙ sym (in_use_part task priority (kernel_view settings cores calls notes delays) apart)
+-- the core of a task is asked, and no number of cores and tasks changes
+record HasSameSizes (control other : Control) : Type 0 where
+  pub cores : length other.cores ≡ length control.cores
+  pub tasks : length other.tasks ≡ length control.tasks
+
+its_core_sizes : (acting task : ℕ) (control : Control) → HasSameSizes control (ask_its_core acting task control)
+unfolding ask_its_core
+its_core_sizes acting task control = at (runs_on control task)
+  where
+    at : (o : Option ℕ) → HasSameSizes control (option_map_or (λ core. ask acting core control) o control)
+    at None = record { cores = refl; tasks = refl }
+    at (Some core) = record { cores = length-set control.cores core _; tasks = refl }
+
+sought_sizes : (acting holder : ℕ) (ready : List ℕ) (control : Control) → HasSameSizes control (sought_by acting holder ready control)
+sought_sizes acting holder ready control = at (has holder ready)
+  where
+    at : (b : Bool) → HasSameSizes control (cond b (seek acting holder (in_mask control holder) control) control)
+    at true = let more = seek_more acting holder (in_mask control holder) control in record { cores = more.cores; tasks = ap length more.tasks }
+    at false = record { cores = refl; tasks = refl }
+
+changed_shape : (parts : Parts) (changes : Bool) (task priority : ℕ) (asked : Control) → IsKernelShape parts → HasSameSizes (with_in_use task priority parts.cores.control) asked → IsKernelShape (with_cores parts (changed_part changes task (with_in_use task priority parts.cores.control) asked parts.cores))
+changed_shape parts true task priority asked shape same =
+    let later = with_in_use task priority parts.cores.control in
+    let kept : IsKept parts.cores (changed_part true task later asked parts.cores) = record {
+      priorities = refl;
+      slicing = refl;
+      cores = same.cores;
+      controls = same.tasks ∙ length-set parts.cores.control.tasks task _;
+    } in
+    cores_shape parts _ shape kept (queued_apart parts task later shape)
+changed_shape parts false task priority asked shape same = shape
+
+module _ (parts : Parts) (shape : IsKernelShape parts) where
+  pub inherit_seen : (acting holder priority : ℕ) → kernel_view (with_cores parts (on_cores (inherited list_moves acting holder priority) parts.cores)) ≡ inherited list_moves acting holder priority (kernel_view parts)
+  inherit_seen acting holder priority =
+      ap (λ cores. kernel_view (with_cores parts cores)) (inherited_cores acting holder priority parts.cores) ∙ sym (inherited_part acting holder priority (kernel_view parts) (none_waits parts shape))
+
+  pub inherit_shape : (acting holder priority : ℕ) → IsKernelShape (with_cores parts (on_cores (inherited list_moves acting holder priority) parts.cores))
+  inherit_shape acting holder priority =
+      rw (inherited_cores acting holder priority parts.cores) (changed_shape parts _ holder priority _ shape (sought_sizes acting holder parts.cores.ready (with_in_use holder priority parts.cores.control)))
+
+  pub lower_seen : (acting task priority : ℕ) → kernel_view (with_cores parts (on_cores (lowered list_moves acting task priority) parts.cores)) ≡ lowered list_moves acting task priority (kernel_view parts)
+  lower_seen acting task priority =
+      ap (λ cores. kernel_view (with_cores parts cores)) (given_back_cores acting task priority parts.cores) ∙ sym (lowered_part acting task priority (kernel_view parts) (none_waits parts shape))
+
+  pub lower_shape : (acting task priority : ℕ) → IsKernelShape (with_cores parts (on_cores (lowered list_moves acting task priority) parts.cores))
+  lower_shape acting task priority =
+      rw (given_back_cores acting task priority parts.cores) (changed_shape parts _ task priority _ shape (its_core_sizes acting task (with_in_use task priority parts.cores.control)))
 
 -- the end of time slices
-pub slice_seen : (settings : Settings) (cores : CoresView) (calls : List (Option Call)) (notes : List Notification) (delays : DelayView) → cores.slicing ≡ settings.slicing → kernel_view settings (on_cores (sliced list_moves) cores) calls notes delays ≡ sliced list_moves (kernel_view settings cores calls notes delays)
-unfolding sliced
-slice_seen settings cores calls notes delays same = at cores.slicing settings.slicing same
-  where
-    whole : View
-    whole = kernel_view settings cores calls notes delays
-
-    at : (b d : Bool) → b ≡ d → kernel_view settings (cores_of (cond b (record (alone cores) { control = ask_each 0 (shares_its_time list_moves (alone cores)) cores.control }) (alone cores))) calls notes delays ≡ cond d (record whole { control = ask_each 0 (shares_its_time list_moves whole) cores.control }) whole
-    at true true is = refl
-    at false false is = refl
-    at true false is = absurd (cc (is))
-    at false true is = absurd (cc (is))
-
-pub slice_kept : (cores : CoresView) → IsKept cores (on_cores (sliced list_moves) cores)
+slice_kept : (cores : CoresView) → IsKept cores (on_cores (sliced list_moves) cores)
 unfolding sliced
 slice_kept cores = at cores.slicing
   where
@@ -182,9 +355,32 @@ slice_kept cores = at cores.slicing
     at true = record { priorities = refl; slicing = refl; cores = more.cores; controls = ap length more.tasks }
     at false = record { priorities = refl; slicing = refl; cores = refl; controls = refl }
 
-pub slice_ready : (cores : CoresView) → (on_cores (sliced list_moves) cores).ready ≡ cores.ready
+slice_ready : (cores : CoresView) → (on_cores (sliced list_moves) cores).ready ≡ cores.ready
 unfolding sliced
 slice_ready cores = elim cores.slicing as (λ b. (cores_of (cond b (record (alone cores) { control = ask_each 0 (shares_its_time list_moves (alone cores)) cores.control }) (alone cores))).ready ≡ cores.ready) [ true ↦ refl | false ↦ refl ]
+
+module _ (parts : Parts) (shape : IsKernelShape parts) where
+  pub slice_seen : kernel_view (with_cores parts (on_cores (sliced list_moves) parts.cores)) ≡ sliced list_moves (kernel_view parts)
+  unfolding sliced
+  slice_seen = at parts.cores.slicing parts.settings.slicing shape.slicing
+    where
+      whole : View
+      whole = kernel_view parts
+
+      alone_cores : View
+      alone_cores = alone parts.cores
+
+      at : (b d : Bool) → b ≡ d → kernel_view (with_cores parts (cores_of (cond b (record alone_cores { control = ask_each 0 (shares_its_time list_moves alone_cores) parts.cores.control }) alone_cores))) ≡ cond d (record whole { control = ask_each 0 (shares_its_time list_moves whole) parts.cores.control }) whole
+      at true true is = refl
+      at false false is = refl
+      at true false is = absurd (cc (is))
+      at false true is = absurd (cc (is))
+
+  pub slice_shape : IsKernelShape (with_cores parts (on_cores (sliced list_moves) parts.cores))
+  slice_shape =
+      let sliced_cores = on_cores (sliced list_moves) parts.cores in
+      let apart : NoneWaits (kernel_view (with_cores parts sliced_cores)).orders = rw (slice_ready parts.cores) (none_waits parts shape) in
+      cores_shape parts sliced_cores shape (slice_kept parts.cores) apart
 
 -- no rule changes the settings
 pub turned_settings : (core : ℕ) (view : View) → (switched_and_sought list_moves core view).settings ≡ view.settings

@@ -16,9 +16,10 @@ use Rattle.bench_model.specs.Seek.{switched_and_sought}
 use Rattle.bench_model.specs.Start.{first_look, first_lists, unstarted, started, start_seen}
 use Rattle.bench_model.proofs.Filters.{fold-append}
 use Rattle.bench_model.proofs.Starts.{first_tasks}
+use Rattle.mutex_inherit.specs.Parts.{free_mutexes}
 use Rattle.ready_core.proofs.Firsts.{numbers_more}
 use Rattle.smp_kernel.specs.Parts.{seen_delays, no_delays}
-use Rattle.smp_kernel.specs.Kernel.{kernel_view, IsKernelShape}
+use Rattle.smp_kernel.specs.Kernel.{Parts, kernel_view, IsKernelShape}
 use Rattle.smp_kernel.specs.Shape.{IsDelayShape}
 use Rattle.smp_kernel.proofs.CoreMoves.{turned_settings}
 
@@ -54,26 +55,42 @@ pub in_turn_settings : (header : Header) (core : ℕ) → (in_turn (unstarted (f
 unfolding in_turn unstarted
 in_turn_settings header core = in_turn_settings_at (numbers core) (unstarted (first_lists header) header)
 
--- the parts of a start show the start over lists, before any core has selected
-pub seen_unstarted : (header : Header) → header.config.tick < 2 ^ 32 → kernel_view (settings_of header) (cores_of (unstarted (first_lists header) header)) (replicate (header.config.cores + length header.tasks) None) (replicate (header.config.cores + length header.tasks) no_note) (no_delays (header.config.cores + length header.tasks) header.config.tick) ≡ unstarted (first_lists header) header
+-- the parts of a start
+abbrev pub first_parts : Header → Parts
+first_parts header = let tasks = header.config.cores + length header.tasks in record {
+  settings = settings_of header;
+  cores = cores_of (unstarted (first_lists header) header);
+  calls = replicate tasks None;
+  notes = replicate tasks no_note;
+  mutexes = free_mutexes tasks header.config.mutexes;
+  delays = no_delays tasks header.config.tick;
+  deadlines = replicate tasks None;
+}
+
+-- they show the start over lists, before any core has selected
+pub seen_unstarted : (header : Header) → header.config.tick < 2 ^ 32 → kernel_view (first_parts header) ≡ unstarted (first_lists header) header
 unfolding unstarted first_lists
 seen_unstarted header low =
     let cut : header.config.tick ≡ header.config.tick % 2 ^ 32 = omega (arith, low) in
-    ap (λ tick. kernel_view (settings_of header) (cores_of (unstarted (first_lists header) header)) (replicate (header.config.cores + length header.tasks) None) (replicate (header.config.cores + length header.tasks) no_note) (no_delays (header.config.cores + length header.tasks) tick)) cut
+    ap (λ tick. kernel_view (record (first_parts header) { delays = no_delays (header.config.cores + length header.tasks) tick })) cut
 
-pub first_kernel_shape : (header : Header) → header_check header ≡ Ok tt → IsKernelShape (settings_of header) (cores_of (unstarted (first_lists header) header)) (replicate (header.config.cores + length header.tasks) None) (replicate (header.config.cores + length header.tasks) no_note) (no_delays (header.config.cores + length header.tasks) header.config.tick)
+pub first_kernel_shape : (header : Header) → header_check header ≡ Ok tt → IsKernelShape (first_parts header)
 unfolding unstarted
-first_kernel_shape header passes = record {
+first_kernel_shape header passes = let tasks = header.config.cores + length header.tasks in record {
   priorities = refl;
   slicing = refl;
   few_cores = (checked_header header passes).few_cores;
   some_priority = (checked_header header passes).some_priority;
   cores = length-map (numbers header.config.cores) first_look ∙ length-range_with_len 0 header.config.cores;
   controls = first_tasks header;
-  calls = length-replicate (header.config.cores + length header.tasks) None;
-  notes = length-replicate (header.config.cores + length header.tasks) no_note;
+  calls = length-replicate tasks None;
+  notes = length-replicate tasks no_note;
+  mutexes = refl;
+  holders = length-replicate header.config.mutexes None;
   delays = refl;
-  apart = λ task found. refl;
+  deadlines = length-replicate tasks None;
+  undelayed = λ task found. refl;
+  unqueued = λ task found. refl;
 }
 
 pub start_settings : (header : Header) → (start_seen header).settings ≡ settings_of header

@@ -1,6 +1,8 @@
 pub mod Waits
 pub mod Apart
 pub mod CoreMoves
+pub mod Blocks
+pub mod Owing
 pub mod Ticks
 pub mod Accepted
 pub mod Stands

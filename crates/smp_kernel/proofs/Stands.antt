@@ -1,43 +1,49 @@
 -- What a kernel that stands for a sound table keeps, and what it stands for after a step.
-use Rattle.std.proofs.Common.{◌≡◌, ℕ, ◌<◌, ◌%◌, ◌^◌, Bool, true, false, cond, eqb, ltb, ◌&&◌, List, [], length, Some, None, Ok, refl, sym, ap, subst, ◌∙◌, arith}
+use Rattle.std.proofs.Common.{◌≡◌, ℕ, ◌<◌, ◌%◌, ◌^◌, Bool, true, false, cond, eqb, not, ltb, ◌&&◌, List, [], length, Option, Some, None, Ok, refl, sym, ap, subst, ◌∙◌, arith}
 use Rattle.std.specs.Prelude.{slice_set}
 use Rattle.std.specs.Option.{option_map_or}
 use Rattle.std.proofs.lemmas.Bool.{true_from_ne_false}
 use Rattle.std.proofs.lemmas.Bool.Decides.{nat_tests}
 use Rattle.bench_types.specs.declared.note.Notification.{Notification}
 use Rattle.bench_types.specs.declared.reply.Reply.{Reply}
-use Rattle.bench_types.specs.declared.reply.Reply.TheVariants.{Done, Blocked, Refused}
+use Rattle.bench_types.specs.declared.reply.Reply.TheVariants.{Done, Blocked, Flag, Refused}
 use Rattle.bench_types.specs.declared.step.Step.{Step}
 use Rattle.bench_types.specs.declared.step.Step.TheVariants.{Tick, Switch, Interrupt}
 use Rattle.bench_types.specs.declared.step.Step.TheVariants as steps
 use Rattle.bench_types.specs.declared.step.Call.{Call}
-use Rattle.bench_types.specs.declared.step.Call.TheVariants.{Yield, Delay, Finish, PrioritySet, AffinitySet, PreemptOff, PreemptOn, Notify, NotifyWait, NotifyTake, StateClear, ValueClear}
+use Rattle.bench_types.specs.declared.step.Unfinished.{Unfinished}
+use Rattle.bench_types.specs.declared.step.Unfinished.TheVariants.{Made, Take}
+use Rattle.bench_types.specs.declared.kernel_data.Waiter.{Waiter}
+use Rattle.bench_types.specs.declared.step.Call.TheVariants.{Yield, Delay, Finish, PrioritySet, AffinitySet, PreemptOff, PreemptOn, Notify, NotifyWait, NotifyTake, StateClear, ValueClear, MutexTake, MutexGive}
 use Rattle.bench_types.specs.Step.{step_check, IsStepOfWords, IsCheckedStep}
 use Rattle.bench_model.specs.declared.row.Standing.{Standing}
 use Rattle.bench_model.specs.declared.row.Standing.TheVariants as standing
 use Rattle.bench_model.specs.Search.{numbers, has}
-use Rattle.bench_model.specs.Control.{core_at, task_at, current}
-use Rattle.bench_model.specs.State.{call_at, refusal, yielded, blocked}
+use Rattle.bench_model.specs.Control.{core_at, task_at, current, in_mask}
+use Rattle.bench_model.specs.State.{call_at, holder_at, refusal, yielded, blocked}
+use Rattle.bench_model.specs.Seek.{seek, wake}
 use Rattle.bench_model.specs.Notes.{wait_begun, take_begun, of_task}
-use Rattle.bench_model.specs.Notifying.{interrupted, state_forgotten, bits_cleared, completed, finished, awaited, awaited_for}
+use Rattle.bench_model.specs.Notifying.{interrupted, state_forgotten, bits_cleared, completed, awaited, awaited_for}
+use Rattle.bench_model.specs.Mutexes.{held_by, taken, inherited, waited_at, mutex_take, owed, lowered, timed_out, ended, take_finished, finished, disinherited, first_woken, mutex_give}
 use Rattle.bench_model.specs.Changes.{with_base, in_use_set}
-use Rattle.bench_model.specs.Sets.{capped, in_use_behind, ranked_anew, priority_set, affinity_set, preemption_off, preemption_on}
+use Rattle.bench_model.specs.Sets.{ask_its_core, capped, in_use_behind, ranked_anew, priority_set, affinity_set, preemption_off, preemption_on}
 use Rattle.bench_model.specs.Looks.{task_look, look_in}
 use Rattle.bench_model.specs.Steps.{woken, ticked, called, performed, after}
-use Rattle.bench_model.specs.Table.{Stamps, Table, row_at, stamp_of, is_ready, wakes_at, due}
+use Rattle.bench_model.specs.Table.{Stamps, Table, row_at, stamp_of, is_ready, wake_in, wakes_at, due}
 use Rattle.bench_model.specs.Lists as seen
-use Rattle.bench_model.specs.Lists.{Lists, View, list_moves, lists_of, image}
+use Rattle.bench_model.specs.Lists.{Lists, View, list_moves, lists_of, image, first_of}
 use Rattle.bench_model.specs.Laws.{seen_of}
 use Rattle.bench_model.specs.Sound.{IsSound, WakesInTime}
 use Rattle.bench_model.specs.Session.{step_of}
 use Rattle.bench_model.specs.Equal.{StandsFor}
 use Rattle.bench_model.proofs.Filters.{All-weaker}
+use Rattle.bench_model.proofs.FirstWaiters.{first_waiter_seen, first_waiter_waits}
 use Rattle.bench_model.proofs.Stamped.{numbers_below, by_stamp_none}
 use Rattle.bench_model.proofs.SeenMoves.{is_ready_seen, due_seen}
 use Rattle.bench_model.proofs.Looks.{look_seen}
 use Rattle.bench_model.proofs.Steps.{after_seen, after_sound}
 use Rattle.smp_kernel.specs.Parts.{due_tasks}
-use Rattle.smp_kernel.specs.Kernel.{IsSettled, StandsForSome}
+use Rattle.smp_kernel.specs.Kernel.{HasPriorities, IsSettled, StandsForSome}
 use Rattle.smp_kernel.proofs.CoreMoves.{turned_settings, notify_settings, woken_settings, sliced_settings}
 
 not_yet : (stamps : Stamps) → WakesInTime stamps → (i : ℕ) → i < length stamps.rows → wakes_at stamps.tick (row_at stamps i).standing ≡ false
@@ -45,8 +51,8 @@ not_yet stamps in_time i low = at (row_at stamps i).standing refl
   where
     at : (s : Standing) → (row_at stamps i).standing ≡ s → wakes_at stamps.tick s ≡ false
     at standing.Ready ready = refl
-    at (standing.Blocked None) waits = refl
-    at (standing.Blocked (Some wake)) waits = grind (arith, nat_tests, (in_time i wake low waits).0)
+    at (standing.Blocked None wait) waits = refl
+    at (standing.Blocked (Some wake) wait) waits = grind (arith, nat_tests, (in_time i wake low (ap wake_in waits)).0)
 
 none_due : (stamps : Stamps) → WakesInTime stamps → due stamps ≡ []
 unfolding due
@@ -58,6 +64,19 @@ due_of : (lists : Lists) → seen.due lists ≡ due_tasks lists.delayed
 unfolding seen.due due_tasks
 due_of lists = refl
 
+-- the first waiter of a mutex in a list
+first_of_seen : (mutex : ℕ) (lists : Lists) → first_of mutex lists.waiters ≡ seen.first_waiter mutex lists
+unfolding seen.first_waiter
+first_of_seen mutex lists = refl
+
+image_priorities : (table : Table) → IsSound table → HasPriorities (image table)
+image_priorities table sound = record {
+  bases = λ task low. (sound.priorities task low).1;
+  waits = λ mutex waiter first.
+      let waits = first_waiter_waits mutex table.orders waiter (sym (first_waiter_seen mutex table.orders table.control sound.stamped) ∙ sym (first_of_seen mutex (lists_of table.control table.orders)) ∙ first) in
+      (sound.mutexes.waits waiter.task waiter.wait waits.0 waits.1).1;
+}
+
 image_settled : (table : Table) → IsSound table → IsSettled (image table)
 image_settled table sound = record {
   none_due = sym (due_of (lists_of table.control table.orders)) ∙ due_seen table.control table.orders (λ i wake low waits. omega (arith, (sound.in_time i wake low waits).0)) ∙ none_due table.orders sound.in_time;
@@ -65,6 +84,8 @@ image_settled table sound = record {
       let place : core < length table.control.cores = omega (arith, sound.sized.cores, low) in
       is_ready_seen table.control table.orders (current table.control core) sound.stamped.given (sound.in_place.is_task core place)
       ∙ true_from_ne_false (is_ready (current table.control core) table.orders) (λ gone. cc (sound.in_place.blocked_is_due core place gone, idle));
+  priorities = image_priorities table sound;
+  mutexes = λ task mutex mark is. sound.calls task (Take mutex mark) is;
 }
 
 pub settled_of : (view : View) → StandsForSome view → IsSettled view
@@ -115,24 +136,108 @@ completed_settings task (NotifyWait entry exit ticks) view = refl
 completed_settings task (NotifyTake clear ticks) view = refl
 completed_settings task (StateClear other) view = refl
 completed_settings task (ValueClear other bits) view = refl
+completed_settings task (MutexTake mutex ticks) view = refl
+completed_settings task (MutexGive mutex) view = refl
 
-finished_settings : (task : ℕ) (view : View) → (finished task view).1.settings ≡ view.settings
+inherited_settings : (acting holder priority : ℕ) (view : View) → (inherited list_moves acting holder priority view).settings ≡ view.settings
+unfolding inherited in_use_set
+inherited_settings acting holder priority view = at (ltb (task_at view.control holder).in_use priority) (has holder view.orders.ready)
+  where
+    later : View
+    later = in_use_set list_moves holder priority view
+
+    sought : View
+    sought = record later { control = seek acting holder (in_mask later.control holder) later.control }
+
+    at : (b d : Bool) → (cond b (cond d sought later) view).settings ≡ view.settings
+    at true true = refl
+    at true false = refl
+    at false d = refl
+
+lowered_settings : (acting task priority : ℕ) (view : View) → (lowered list_moves acting task priority view).settings ≡ view.settings
+unfolding lowered in_use_set
+lowered_settings acting task priority view =
+    let later = in_use_set list_moves task priority view in
+    elim (eqb (task_at view.control task).in_use priority) as (λ b. (cond b view (record later { control = ask_its_core acting task later.control })).settings ≡ view.settings) [ true ↦ refl | false ↦ refl ]
+
+waited_settings : (core task mutex holder : ℕ) (ticks : Option ℕ) (view : View) → (waited_at list_moves core task mutex holder ticks view).settings ≡ view.settings
+unfolding waited_at blocked
+waited_settings core task mutex holder ticks view = inherited_settings core holder (task_at view.control task).in_use view
+
+taken_settings : (core task mutex ticks : ℕ) (view : View) → (mutex_take list_moves core task mutex ticks view).1.settings ≡ view.settings
+unfolding mutex_take taken
+taken_settings core task mutex ticks view = at (holder_at view.holders mutex) (eqb ticks 0)
+  where
+    at : (holder : Option ℕ) (b : Bool) → (option_map_or (λ holder. cond b (outcome (Flag false) view) (outcome Blocked (waited_at list_moves core task mutex holder (awaited_for ticks) view))) holder (outcome (Flag true) (taken task mutex view))).1.settings ≡ view.settings
+    at None b = refl
+    at (Some holder) true = refl
+    at (Some holder) false = waited_settings core task mutex holder (awaited_for ticks) view
+
+timed_out_settings : (core task mutex : ℕ) (mark : Bool) (holder : ℕ) (view : View) → (timed_out list_moves core task mutex mark holder view).settings ≡ view.settings
+unfolding timed_out
+timed_out_settings core task mutex mark holder view = at (mark && not (eqb holder task) && eqb (held_by view.holders holder) 1)
+  where
+    at : (b : Bool) → (cond b (lowered list_moves core holder (owed list_moves holder mutex view) view) view).settings ≡ view.settings
+    at true = lowered_settings core holder (owed list_moves holder mutex view) view
+    at false = refl
+
+take_finished_settings : (core task mutex : ℕ) (mark : Bool) (view : View) → (take_finished list_moves core task mutex mark view).1.settings ≡ view.settings
+unfolding take_finished taken
+take_finished_settings core task mutex mark view = at (holder_at view.holders mutex) (option_map_or (λ ticks. eqb ticks 0) left false)
+  where
+    left : Option ℕ
+    left = seen.deadline_left task view.orders
+
+    over : View
+    over = ended list_moves task view
+
+    at : (holder : Option ℕ) (b : Bool) → (option_map_or (λ holder. cond b (outcome (Flag false) (timed_out list_moves core task mutex mark holder over)) (outcome Blocked (waited_at list_moves core task mutex holder left view))) holder (outcome (Flag true) (taken task mutex over))).1.settings ≡ view.settings
+    at None b = refl
+    at (Some holder) true = timed_out_settings core task mutex mark holder over
+    at (Some holder) false = waited_settings core task mutex holder left view
+
+finished_settings : (core task : ℕ) (call : Unfinished) (view : View) → (finished list_moves core task call view).1.settings ≡ view.settings
 unfolding finished
-finished_settings task view =
-    let ended = record view { calls = slice_set view.calls task None } in
-    elim (call_at view.calls task) as (λ call. (option_map_or (λ call. completed task call ended) call (outcome Done view)).1.settings ≡ view.settings) [ None ↦ refl | Some call ↦ completed_settings task call ended ]
+finished_settings core task (Made call) view = completed_settings task call (ended list_moves task view)
+finished_settings core task (Take mutex mark) view = take_finished_settings core task mutex mark view
+
+finish_settings : (core task : ℕ) (view : View) → (option_map_or (λ call. finished list_moves core task call view) (call_at view.calls task) (outcome Done view)).1.settings ≡ view.settings
+finish_settings core task view = elim (call_at view.calls task) as (λ call. (option_map_or (λ call. finished list_moves core task call view) call (outcome Done view)).1.settings ≡ view.settings) [ None ↦ refl | Some call ↦ finished_settings core task call view ]
+
+disinherited_settings : (core task : ℕ) (view : View) → (disinherited list_moves core task view).settings ≡ view.settings
+unfolding disinherited
+disinherited_settings core task view = at (eqb (held_by view.holders task) 0)
+  where
+    base : ℕ
+    base = (task_at view.control task).base
+
+    at : (b : Bool) → (cond b (lowered list_moves core task base view) view).settings ≡ view.settings
+    at true = lowered_settings core task base view
+    at false = refl
+
+given_settings : (core task mutex : ℕ) (view : View) → (mutex_give list_moves core task mutex view).1.settings ≡ view.settings
+unfolding mutex_give first_woken wake
+given_settings core task mutex view = at (holder_at view.holders mutex) (seen.first_waiter mutex left.orders)
+  where
+    left : View
+    left = disinherited list_moves core task (record view { holders = slice_set view.holders mutex None })
+
+    at : (holder : Option ℕ) (waiter : Option Waiter) → (option_map_or (λ holder. outcome (Flag true) (option_map_or (λ (waiter : Waiter). wake list_moves core waiter.task left) waiter left)) holder (outcome (Flag false) view)).1.settings ≡ view.settings
+    at None waiter = refl
+    at (Some holder) None = disinherited_settings core task (record view { holders = slice_set view.holders mutex None })
+    at (Some holder) (Some waiter) = disinherited_settings core task (record view { holders = slice_set view.holders mutex None })
 
 awaited_settings : (core task : ℕ) (call : Call) (ticks : ℕ) (begun : Bool × List Notification) (view : View) → (awaited list_moves core task call ticks begun view).1.settings ≡ view.settings
 unfolding awaited blocked
 awaited_settings core task call ticks begun view =
     let waiting = record view { notes = begun.1 } in
-    elim (begun.0 && ltb 0 ticks) as (λ b. (cond b (outcome Blocked (blocked list_moves core task call (awaited_for ticks) waiting)) (completed task call waiting)).1.settings ≡ view.settings) [ true ↦ refl | false ↦ completed_settings task call waiting ]
+    elim (begun.0 && ltb 0 ticks) as (λ b. (cond b (outcome Blocked (blocked list_moves core task (Made call) (awaited_for ticks) None waiting)) (completed task call waiting)).1.settings ≡ view.settings) [ true ↦ refl | false ↦ completed_settings task call waiting ]
 
 called_settings : (core task : ℕ) (call : Call) (view : View) → (called list_moves core task call view).1.settings ≡ view.settings
 unfolding called yielded blocked affinity_set preemption_off preemption_on state_forgotten bits_cleared
 called_settings core task Yield view = refl
-called_settings core task (Delay ticks) view = elim (eqb ticks 0) as (λ b. (cond b (outcome Done (yielded list_moves core view)) (outcome Blocked (blocked list_moves core task (Delay ticks) (Some ticks) view))).1.settings ≡ view.settings) [ true ↦ refl | false ↦ refl ]
-called_settings core task Finish view = finished_settings task view
+called_settings core task (Delay ticks) view = elim (eqb ticks 0) as (λ b. (cond b (outcome Done (yielded list_moves core view)) (outcome Blocked (blocked list_moves core task (Made (Delay ticks)) (Some ticks) None view))).1.settings ≡ view.settings) [ true ↦ refl | false ↦ refl ]
+called_settings core task Finish view = finish_settings core task view
 called_settings core task (PrioritySet other priority) view = priority_settings core other priority view
 called_settings core task (AffinitySet other mask) view = refl
 called_settings core task (PreemptOff other) view = refl
@@ -142,6 +247,8 @@ called_settings core task (NotifyWait entry exit ticks) view = awaited_settings 
 called_settings core task (NotifyTake clear ticks) view = awaited_settings core task (NotifyTake clear ticks) ticks (of_task task take_begun view.notes) view
 called_settings core task (StateClear other) view = refl
 called_settings core task (ValueClear other bits) view = refl
+called_settings core task (MutexTake mutex ticks) view = taken_settings core task mutex ticks view
+called_settings core task (MutexGive mutex) view = given_settings core task mutex view
 
 performed_settings : (step : Step) (view : View) → (performed list_moves step view).1.settings ≡ view.settings
 unfolding performed ticked interrupted
@@ -154,7 +261,7 @@ performed_settings (Interrupt core note) view = notify_settings core note.task n
 
 after_settings : (step : Step) (view : View) → (after list_moves step view).1.settings ≡ view.settings
 unfolding after
-after_settings step view = elim (refusal view.control view.calls step) as (λ why. (option_map_or (λ why. outcome (Refused why) view) why (performed list_moves step view)).1.settings ≡ view.settings) [ None ↦ performed_settings step view | Some why ↦ refl ]
+after_settings step view = elim (refusal view.control view.calls view.holders step) as (λ why. (option_map_or (λ why. outcome (Refused why) view) why (performed list_moves step view)).1.settings ≡ view.settings) [ None ↦ performed_settings step view | Some why ↦ refl ]
 
 -- a step leaves the settings as they are
 pub settings_after : (view later : View) (step : Step) (reply : Reply) → outcome reply later ≡ after list_moves step view → later.settings ≡ view.settings
@@ -162,6 +269,9 @@ settings_after view later step reply made = ap (λ (r : Reply × View). r.1.sett
 
 pub look_of : (view : View) (table : Table) (core : ℕ) → StandsFor view table → core_at view.control core ≡ core_at table.control core
 look_of view table core stands = ap (λ (v : View). core_at v.control core) (sym stands.shows)
+
+pub holder_seen : (view : View) (table : Table) (mutex : ℕ) → StandsFor view table → holder_at view.holders mutex ≡ holder_at table.holders mutex
+holder_seen view table mutex stands = ap (λ (v : View). holder_at v.holders mutex) (sym stands.shows)
 
 pub task_look_of : (view : View) (table : Table) (task : ℕ) → task < view.settings.tasks → StandsFor view table → look_in view task ≡ task_look table task
 task_look_of view table task low stands =

@@ -1,22 +1,47 @@
 -- The tasks that are due are woken one after another, and then time slices end.
-use Rattle.std.proofs.Common.{◌≡◌, ℕ, ◌<◌, List, [], ◌∷◌, length, Option, sym, ap, arith}
-use Rattle.bench_types.specs.declared.kernel_data.Settings.{Settings}
-use Rattle.bench_types.specs.declared.note.Notification.{Notification}
-use Rattle.bench_types.specs.declared.step.Call.{Call}
+use Rattle.std.proofs.Common.{◌≡◌, ℕ, ◌<◌, List, [], ◌∷◌, length, map, refl, sym, ap, ◌∙◌, arith}
+use Rattle.std.proofs.lemmas.List.{length-map}
 use Rattle.bench_model.specs.Steps.{ticked, woken}
 use Rattle.bench_model.specs.Seek.{wake, sliced}
-use Rattle.bench_model.specs.Cores.{CoresView}
 use Rattle.bench_model.specs.Lists.{View, list_moves, advance, due, make_ready}
-use Rattle.smp_kernel.specs.Parts.{DelayView, cancelled, advanced, due_tasks}
-use Rattle.smp_kernel.specs.Kernel.{kernel_view}
+use Rattle.smp_kernel.specs.Parts.{cancelled, advanced, one_less, due_tasks}
+use Rattle.smp_kernel.specs.Kernel.{Parts, kernel_view, IsKernelShape}
+use Rattle.smp_kernel.proofs.Apart.{apart_advanced}
+
+-- a kernel one tick later, before a task is woken
+abbrev pub advanced_parts : Parts → Parts
+advanced_parts parts = record parts { delays = advanced parts.delays; deadlines = map one_less parts.deadlines }
+
+pub advance_seen : (parts : Parts) → IsKernelShape parts → kernel_view (advanced_parts parts) ≡ record (kernel_view parts) { orders = advance (kernel_view parts).orders }
+unfolding advance advanced
+advance_seen parts shape = refl
+
+pub advance_shape : (parts : Parts) → IsKernelShape parts → IsKernelShape (advanced_parts parts)
+unfolding advanced
+advance_shape parts shape = record {
+  priorities = shape.priorities;
+  slicing = shape.slicing;
+  few_cores = shape.few_cores;
+  some_priority = shape.some_priority;
+  cores = shape.cores;
+  controls = shape.controls;
+  calls = shape.calls;
+  notes = shape.notes;
+  mutexes = shape.mutexes;
+  holders = shape.holders;
+  delays = shape.delays;
+  deadlines = length-map parts.deadlines one_less ∙ shape.deadlines;
+  undelayed = apart_advanced parts.cores.ready parts.delays shape.undelayed;
+  unqueued = shape.unqueued;
+}
 
 -- the kernel when all tasks that are due were woken, and time slices have ended
 abbrev pub settled_from : View → View
 settled_from view = sliced list_moves (woken list_moves (due_tasks view.orders.delayed) view)
 
-pub ticked_first : (settings : Settings) (cores : CoresView) (calls : List (Option Call)) (notes : List Notification) (delays : DelayView) (view : View) → kernel_view settings cores calls notes delays ≡ view → settled_from (kernel_view settings cores calls notes (advanced delays)) ≡ ticked list_moves view
-unfolding ticked due due_tasks advance advanced
-ticked_first settings cores calls notes delays view shows = ap (ticked list_moves) shows
+pub ticked_first : (view later : View) → later ≡ record view { orders = advance view.orders } → settled_from later ≡ ticked list_moves view
+unfolding ticked due due_tasks
+ticked_first view later is = ap settled_from is
 
 pub ticked_more : (view : View) (task : ℕ) → due_tasks view.orders.delayed ≡ task ∷ due_tasks (cancelled task view.orders.delayed) → settled_from (wake list_moves 0 task view) ≡ settled_from view
 unfolding wake make_ready

@@ -1,58 +1,115 @@
 -- A kernel's parts together, and what a step needs of them.
-use Rattle.std.specs.Prelude.{◌≡◌, ℕ, ◌<◌, ◌≤◌, List, [], length, true, false, Option, Ok}
+use Rattle.std.specs.Prelude.{◌≡◌, ℕ, ◌<◌, ◌≤◌, ◌==◌, List, [], length, Bool, true, false, Option, Some, None, Ok}
+use Rattle.std.specs.List.{list_any}
+use Rattle.std.specs.Option.{ForSome}
 use Rattle.bench_types.specs.declared.kernel_data.Delayed.{Delayed}
 use Rattle.bench_types.specs.declared.kernel_data.Settings.{Settings}
+use Rattle.bench_types.specs.declared.kernel_data.Waiter.{Waiter}
 use Rattle.bench_types.specs.declared.note.Notification.{Notification}
 use Rattle.bench_types.specs.declared.step.Call.{Call}
 use Rattle.bench_types.specs.declared.step.Step.{Step}
 use Rattle.bench_types.specs.declared.step.Step.TheVariants as step
+use Rattle.bench_types.specs.declared.step.Unfinished.{Unfinished}
+use Rattle.bench_types.specs.declared.step.Unfinished.TheVariants.{Take}
 use Rattle.bench_types.specs.Step.{call_check}
 use Rattle.bench_model.specs.Search.{has}
-use Rattle.bench_model.specs.Control.{current, is_due}
+use Rattle.bench_model.specs.Control.{current, is_due, task_at}
+use Rattle.bench_model.specs.State.{call_at, give_refusal}
 use Rattle.bench_model.specs.Table.{Table}
-use Rattle.bench_model.specs.Lists.{View}
+use Rattle.bench_model.specs.Lists.{View, first_of}
 use Rattle.bench_model.specs.Equal.{StandsFor}
 use Rattle.bench_model.specs.Cores.{CoresView}
-use Rattle.smp_kernel.specs.Parts.{DelayView, is_waiting, due_tasks}
+use Rattle.mutex_inherit.specs.Parts.{MutexPart}
+use Rattle.smp_kernel.specs.Parts.{DelayView, due_tasks}
+
+pub record Parts : Type 0 where
+  pub settings : Settings
+  pub cores : CoresView
+  -- per task its unfinished call
+  pub calls : List (Option Unfinished)
+  -- per task its notification
+  pub notes : List Notification
+  pub mutexes : MutexPart
+  pub delays : DelayView
+  -- per task the ticks left to the end of its unfinished wait for a mutex
+  pub deadlines : List (Option ℕ)
 
 -- what a kernel of these parts shows
-abbrev pub kernel_view : Settings → CoresView → List (Option Call) → List Notification → DelayView → View
-kernel_view settings cores calls notes delays = record {
-  settings = settings;
-  control = cores.control;
-  calls = calls;
-  notes = notes;
-  orders = record { ready = cores.ready; tick = delays.tick; delayed = delays.delayed };
+abbrev pub kernel_view : Parts → View
+kernel_view parts = record {
+  settings = parts.settings;
+  control = parts.cores.control;
+  calls = parts.calls;
+  notes = parts.notes;
+  holders = parts.mutexes.holders;
+  orders = record {
+    ready = parts.cores.ready;
+    tick = parts.delays.tick;
+    delayed = parts.delays.delayed;
+    waiters = parts.mutexes.waiters;
+    deadlines = parts.deadlines;
+  };
 }
 
--- no task is ready and waits
-abbrev pub IsApart : List ℕ → List Delayed → Type 0
-IsApart ready delayed = (task : ℕ) → has task ready ≡ true → is_waiting task delayed ≡ false
+-- no entry is that of a ready task
+abbrev pub IsApart : {E : Type 0} → (E → ℕ) → List ℕ → List E → Type 0
+IsApart task_of ready entries = (task : ℕ) → has task ready ≡ true → list_any (λ entry. task_of entry == task) entries ≡ false
 
--- the parts are of the settings, and no task is ready and waits
-pub record IsKernelShape (settings : Settings) (core_part : CoresView) (call_part : List (Option Call)) (note_part : List Notification) (delay_part : DelayView) : Type 0 where
-  pub priorities : core_part.priorities ≡ settings.priorities
-  pub slicing : core_part.slicing ≡ settings.slicing
-  pub few_cores : settings.cores ≤ 8
-  pub some_priority : 0 < settings.priorities
-  pub cores : length core_part.control.cores ≡ settings.cores
-  pub controls : length core_part.control.tasks ≡ settings.tasks
-  pub calls : length call_part ≡ settings.tasks
-  pub notes : length note_part ≡ settings.tasks
-  pub delays : delay_part.tasks ≡ settings.tasks
-  pub apart : IsApart core_part.ready delay_part.delayed
+abbrev pub delayed_task : Delayed → ℕ
+delayed_task entry = entry.task
 
--- between steps no task has waited long enough, and a core that is not due runs a ready task
+abbrev pub waiting_task : Waiter → ℕ
+waiting_task waiter = waiter.task
+
+-- the parts are of the settings, and no ready task waits
+pub record IsKernelShape (parts : Parts) : Type 0 where
+  pub priorities : parts.cores.priorities ≡ parts.settings.priorities
+  pub slicing : parts.cores.slicing ≡ parts.settings.slicing
+  pub few_cores : parts.settings.cores ≤ 8
+  pub some_priority : 0 < parts.settings.priorities
+  pub cores : length parts.cores.control.cores ≡ parts.settings.cores
+  pub controls : length parts.cores.control.tasks ≡ parts.settings.tasks
+  pub calls : length parts.calls ≡ parts.settings.tasks
+  pub notes : length parts.notes ≡ parts.settings.tasks
+  pub mutexes : parts.mutexes.tasks ≡ parts.settings.tasks
+  pub holders : length parts.mutexes.holders ≡ parts.settings.mutexes
+  pub delays : parts.delays.tasks ≡ parts.settings.tasks
+  pub deadlines : length parts.deadlines ≡ parts.settings.tasks
+  pub undelayed : IsApart delayed_task parts.cores.ready parts.delays.delayed
+  pub unqueued : IsApart waiting_task parts.cores.ready parts.mutexes.waiters
+
+-- the base priority of each task and the waiting priority of the first waiter of each mutex are below the number of priorities
+pub record HasPriorities (view : View) : Type 0 where
+  pub bases : (task : ℕ) → task < view.settings.tasks → (task_at view.control task).base < view.settings.priorities
+  pub waits : (mutex : ℕ) → ForSome (first_of mutex view.orders.waiters) (λ waiter. waiter.wait.priority < view.settings.priorities)
+
+-- each unfinished wait is for a mutex that there is
+abbrev pub HasTheirMutexes : View → Type 0
+HasTheirMutexes view = (task mutex : ℕ) (mark : Bool) → call_at view.calls task ≡ Some (Take mutex mark) → mutex < view.settings.mutexes
+
+-- between steps no task has waited long enough, a core that is not due runs a ready task, and priorities and mutexes are in range
 pub record IsSettled (view : View) : Type 0 where
   pub none_due : due_tasks view.orders.delayed ≡ []
   pub runs_ready : (core : ℕ) → core < view.settings.cores → is_due view.control core ≡ false → has (current view.control core) view.orders.ready ≡ true
+  pub priorities : HasPriorities view
+  pub mutexes : HasTheirMutexes view
 
--- what a step finds that is not refused: no task that is due, its core, for a call its ready task and what it is for, and for
--- an interrupt the task that it notifies
+-- what a call finds that is not refused: its core, its ready task and what it is for; it gives no mutex that another task holds
+pub record FindsItsTask (view : View) (core task : ℕ) (call : Call) : Type 0 where
+  pub core_below : core < view.settings.cores
+  pub task_below : task < view.settings.tasks
+  pub ready : has task view.orders.ready ≡ true
+  pub checked : call_check view.settings call ≡ Ok tt
+  pub own : give_refusal view.holders task call ≡ None
+  pub priorities : HasPriorities view
+  pub mutexes : HasTheirMutexes view
+
+-- what a step finds that is not refused: no task that is due, its core, for a call its task, and for an interrupt the task that it
+-- notifies
 abbrev pub FindsItsPlace : View → Step → Type 0
 FindsItsPlace view step.Tick = due_tasks view.orders.delayed ≡ []
 FindsItsPlace view (step.Switch core) = core < view.settings.cores
-FindsItsPlace view (step.Call core task call) = (core < view.settings.cores) × (task < view.settings.tasks) × (has task view.orders.ready ≡ true) × (call_check view.settings call ≡ Ok tt)
+FindsItsPlace view (step.Call core task call) = FindsItsTask view core task call
 FindsItsPlace view (step.Interrupt core note) = (core < view.settings.cores) × (note.task < view.settings.tasks)
 
 -- there is a sound table that a kernel of which this can be seen stands for

@@ -1,5 +1,5 @@
 -- What can be seen of the tick count and the tasks that wait.
-use Rattle.std.specs.Prelude.{◌+◌, ◌-◌, ◌%◌, ◌^◌, ◌==◌, map, filter, ℕ, List, [], Bool, not}
+use Rattle.std.specs.Prelude.{◌+◌, ◌-◌, ◌%◌, ◌^◌, ◌==◌, map, filter, Option, option_map, ℕ, List, [], Bool, not}
 use Rattle.std.specs.List.{list_any}
 use Rattle.bench_types.specs.declared.kernel_data.Delayed.{Delayed}
 use Rattle.bench_model.specs.Search.{ranked}
@@ -37,3 +37,7 @@ advanced view = record view { tick = (view.tick + 1) % 2 ^ 32; delayed = map age
 -- the tasks that have waited long enough, in the order in which they began to wait
 unfoldable pub due_tasks : List Delayed → List ℕ
 due_tasks delayed = map (λ entry. entry.task) (filter (λ entry. entry.left == 0) delayed)
+
+-- one tick less is left to a deadline, and none to one that is reached
+abbrev pub one_less : Option ℕ → Option ℕ
+one_less left = option_map (λ left. left - 1) left

@@ -1,4 +1,5 @@
 ghost use Rattle.std.specs.Prelude.{◌≡◌, ◌^◌, ◌<◌, ◌==◌, [], ◌∷◌, map, find, option_map, false, MatchOption, IfSome, IfOk};
+ghost use Rattle.std.specs.Option.{option_map_or};
 ghost use Rattle.std.specs.Vec.{vec_capacity};
 ghost use Rattle.bench_types.specs.declared.kernel_data.Delayed.{Delayed};
 ghost use Rattle.bench_model.specs.Search.{placed};
@@ -52,8 +53,19 @@ impl Delays {
         self.tick
     }
 
-    /// The task waits for so many ticks, behind those that wait as long or shorter.
-    pub fn delay(&mut self, task: u32, ticks: u32)
+    /// The task waits for so many ticks, or without end, where it has no place among those that wait for some ticks.
+    pub fn wait(&mut self, task: u32, ticks: Option<u32>)
+        requires task { task < self.old.tasks }
+        requires free { is_waiting task self.old.delayed ≡ false }
+        ensures { self.new ≡ record self.old { delayed = option_map_or (λ left. placed wakes_first (record { task = task; left = left }) self.old.delayed) ticks self.old.delayed } }
+    {
+        if let Some(ticks) = ticks {
+            self.delay(task, ticks);
+        }
+    }
+
+    // The task waits for so many ticks, behind those that wait as long or shorter.
+    fn delay(&mut self, task: u32, ticks: u32)
         requires task { task < self.old.tasks }
         requires free { is_waiting task self.old.delayed ≡ false }
         ensures { self.new ≡ record self.old { delayed = placed wakes_first (record { task = task; left = ticks }) self.old.delayed } }

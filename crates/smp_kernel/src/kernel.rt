@@ -1,7 +1,8 @@
-ghost use Rattle.std.specs.Prelude.{◌≡◌, ◌+◌, ◌-◌, ◌<◌, ◌%◌, ◌^◌, ◌↔◌, IsErr, IfOk, Ok, Err, min};
+ghost use Rattle.std.specs.Prelude.{◌≡◌, ◌+◌, ◌-◌, ◌<◌, ◌%◌, ◌^◌, ◌↔◌, IsErr, IfOk, IfSome, Ok, Err, min};
 ghost use Rattle.bench_types.specs.Header.{header_check};
 ghost use Rattle.bench_types.specs.Step.{settings_of, step_check};
 ghost use Rattle.bench_model.specs.Control.{core_at, current};
+ghost use Rattle.bench_model.specs.State.{holder_at};
 ghost use Rattle.bench_model.specs.Table.{Table};
 ghost use Rattle.bench_model.specs.Start.{start};
 ghost use Rattle.bench_model.specs.Looks.{task_look};
@@ -103,6 +104,15 @@ impl Kernel {
         ensures { (table : Table) → StandsFor self.now table → result ≡ task_look table task }
     {
         self.scheduler.look(task)
+    }
+
+    /// The task that holds the mutex, if there is one (`xSemaphoreGetMutexHolder`).
+    pub fn holder(&self, mutex: u32) -> Option<u32>
+        requires { mutex < self.now.settings.mutexes }
+        ensures holder { (table : Table) → StandsFor self.now table → result ≡ holder_at table.holders mutex }
+        ensures task { IfSome result (λ holder. holder < self.now.settings.tasks) }
+    {
+        self.scheduler.holder(mutex)
     }
 
     /// The tick count, in ticks, as a number of 32 bits.

@@ -1,6 +1,7 @@
 //! The kernel, step by step: what it starts from, what each step answers and does, and what can be seen of it.
 #![tactic(auto)]
 
+mod deadlines;
 mod delays;
 mod kernel;
 mod meter;

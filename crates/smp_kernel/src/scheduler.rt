@@ -1,23 +1,27 @@
-ghost use Rattle.std.specs.Prelude.{◌≡◌, ◌<◌, ◌≤◌, length, [], true, IfOk, Ok, Some, None, replicate};
+ghost use Rattle.std.specs.Prelude.{◌≡◌, ◌<◌, ◌≤◌, length, [], true, IfOk, IfSome, Ok, Some, None, replicate};
 ghost use Rattle.bench_types.specs.Header.{header_check};
 ghost use Rattle.bench_types.specs.Step.{call_check, step_check, IsStepOfWords};
 ghost use Rattle.bench_types.specs.declared.step.Call.TheVariants.{Delay};
+ghost use Rattle.bench_types.specs.declared.step.Unfinished.TheVariants.{Made};
 ghost use Rattle.bench_model.specs.Search.{has};
 ghost use Rattle.bench_model.specs.Control.{core_at, current, is_due};
 ghost use Rattle.bench_model.specs.Start.{first_lists, unstarted, start_seen};
-ghost use Rattle.bench_model.specs.State.{call_refusal, refusal, yielded, blocked};
+ghost use Rattle.bench_model.specs.State.{call_at, holder_at, call_refusal, give_refusal, refusal, yielded, blocked};
 ghost use Rattle.bench_model.specs.Seek.{wake, switched_and_sought, sliced};
 ghost use Rattle.bench_model.specs.Steps.{ticked, called, performed, after};
-ghost use Rattle.bench_model.specs.Lists.{list_moves};
+ghost use Rattle.bench_model.specs.Lists.{list_moves, advance};
 ghost use Rattle.bench_model.specs.Looks.{look_in};
 ghost use Rattle.smp_kernel.specs.Parts.{due_tasks};
-ghost use Rattle.smp_kernel.specs.Kernel.{IsSettled, FindsItsPlace};
+ghost use Rattle.smp_kernel.specs.Kernel.{HasPriorities, HasTheirMutexes, IsSettled, FindsItsPlace};
 
+mod mutexes;
 mod notes;
 mod sets;
 
+use crate::deadlines::Deadlines;
 use crate::delays::Delays;
-use bench_types::{Call, CoreLook, Header, Refusal, Reply, Settings, Step, TaskLook};
+use bench_types::{Call, CoreLook, Header, Refusal, Reply, Settings, Step, TaskLook, Unfinished};
+use mutex_inherit::Mutexes;
 use notify_core::Notes;
 use ready_core::Cores;
 use std::alloc::{AllocError, Global};
@@ -30,9 +34,11 @@ pub struct Scheduler {
     settings: Settings,
     cores: Cores,
     /// Per task its unfinished call.
-    calls: Vec<Option<Call>>,
+    calls: Vec<Option<Unfinished>>,
     notes: Notes,
+    mutexes: Mutexes,
     delays: Delays,
+    deadlines: Deadlines,
 }
 
 impl Model for Scheduler {
@@ -41,9 +47,9 @@ impl Model for Scheduler {
 
     ghost Value = { View };
 
-    ghost view = { λ kernel. kernel_view kernel.settings kernel.cores kernel.calls.items kernel.notes kernel.delays };
+    ghost view = { λ kernel. kernel_view (record { settings = kernel.settings; cores = kernel.cores; calls = kernel.calls.items; notes = kernel.notes; mutexes = kernel.mutexes; delays = kernel.delays; deadlines = kernel.deadlines }) };
 
-    ghost invariant = { λ kernel. IsKernelShape kernel.settings kernel.cores kernel.calls.items kernel.notes kernel.delays };
+    ghost invariant = { λ kernel. IsKernelShape (record { settings = kernel.settings; cores = kernel.cores; calls = kernel.calls.items; notes = kernel.notes; mutexes = kernel.mutexes; delays = kernel.delays; deadlines = kernel.deadlines }) };
 }
 
 impl Scheduler {
@@ -79,7 +85,9 @@ impl Scheduler {
             cores: Cores::new(alloc, header)?,
             calls: no_calls(alloc, tasks)?,
             notes: Notes::new(alloc, tasks)?,
+            mutexes: Mutexes::new(alloc, tasks, config.mutexes)?,
             delays: Delays::new(alloc, tasks, config.tick)?,
+            deadlines: Deadlines::new(alloc, tasks)?,
         })
     }
 
@@ -113,10 +121,20 @@ impl Scheduler {
             preempt: self.cores.preempt(task),
             ready: self.cores.ready(task),
             left: self.delays.left(task),
+            held: self.mutexes.held(task),
             in_call: self.calls[task as usize].is_some(),
             value: self.notes.value(task),
             state: self.notes.state(task),
         }
+    }
+
+    /// The task that holds the mutex, if there is one.
+    pub fn holder(&self, mutex: u32) -> Option<u32>
+        requires { mutex < self.now.settings.mutexes }
+        ensures holder { result ≡ holder_at self.now.holders mutex }
+        ensures task { IfSome result (λ holder. holder < self.now.settings.tasks) }
+    {
+        self.mutexes.holder(mutex)
     }
 
     /// The tick count, in ticks.
@@ -160,7 +178,7 @@ impl Scheduler {
     #[tactic(auto, unfolding(bench_model::specs::State::refusal))]
     fn refusal(&self, step: Step) -> Option<Refusal>
         requires { step_check self.now.settings step ≡ Ok tt }
-        ensures reason { result ≡ refusal self.now.control self.now.calls step }
+        ensures reason { result ≡ refusal self.now.control self.now.calls self.now.holders step }
         ensures words { IsStepOfWords step }
     {
         match step {
@@ -174,14 +192,29 @@ impl Scheduler {
             }
             Step::Call { core, task, call } => {
                 let unfinished = unfinished_refusal(self.calls[task as usize], call);
+                let given = self.give_refusal(task, call);
                 if self.cores.running(core) != task {
                     Some(Refusal::Displaced)
                 } else if self.is_due(core) {
                     Some(Refusal::SwitchDue)
                 } else {
-                    unfinished
+                    unfinished.or(given)
                 }
             }
+        }
+    }
+
+    // A task can't give a mutex that another task holds.
+    fn give_refusal(&self, task: u32, call: Call) -> Option<Refusal>
+        requires { call_check self.now.settings call ≡ Ok tt }
+        ensures { result ≡ give_refusal self.now.holders task call }
+    {
+        let Call::MutexGive(mutex) = call else {
+            return None;
+        };
+        match self.mutexes.holder(mutex) {
+            Some(holder) if holder != task => Some(Refusal::NotHolder),
+            _ => None,
         }
     }
 
@@ -210,11 +243,20 @@ impl Scheduler {
         requires { due_tasks self.old.orders.delayed ≡ [] }
         ensures { self.new ≡ ticked list_moves self.old }
     {
-        self.delays.advance();
+        self.advance();
         while let Some(task) = self.delays.first_due() {
             self.wake(0, task);
         }
         self.slice();
+    }
+
+    // The tick count wraps, and each task that waits has one tick less left.
+    fn advance(&mut self)
+        requires { due_tasks self.old.orders.delayed ≡ [] }
+        ensures { self.new ≡ record self.old { orders = advance self.old.orders } }
+    {
+        self.delays.advance();
+        self.deadlines.age();
     }
 
     // The task waits no more, goes to the end of its ready list, and the acting core seeks a core for it.
@@ -224,6 +266,7 @@ impl Scheduler {
     {
         self.cores.make_ready(acting, task);
         self.delays.cancel(task);
+        self.mutexes.leave(task);
     }
 
     // The end of time slices.
@@ -248,6 +291,9 @@ impl Scheduler {
         requires task { task < self.old.settings.tasks }
         requires ready { has task self.old.orders.ready ≡ true }
         requires checked { call_check self.old.settings call ≡ Ok tt }
+        requires own { give_refusal self.old.holders task call ≡ None }
+        requires priorities { HasPriorities self.old }
+        requires mutexes { HasTheirMutexes self.old }
         ensures { (result, self.new) ≡ called list_moves core task call self.old }
     {
         match call {
@@ -262,9 +308,11 @@ impl Scheduler {
                 core, task, call, entry, ticks,
             ),
             Call::NotifyTake { ticks, .. } => return self.take(core, task, call, ticks),
+            Call::MutexTake { mutex, ticks } => return self.take_mutex(core, task, mutex, ticks),
+            Call::MutexGive(mutex) => return self.give_mutex(core, task, mutex),
             Call::StateClear(task) => return self.clear_state(task),
             Call::ValueClear { task, bits } => return self.clear_value(task, bits),
-            Call::Finish => return self.finish(task),
+            Call::Finish => return self.finish(core, task),
         }
         Reply::Done
     }
@@ -294,24 +342,23 @@ impl Scheduler {
         self.cores.ask(core, core);
     }
 
-    // The task waits in its call, for so many ticks or without end, and its core asks itself to switch.
+    // The task waits in its call, for so many ticks or without end, at no mutex, and its core asks itself to switch.
     #[tactic(auto, unfolding(bench_model::specs::State::blocked, bench_model::specs::Lists::delay))]
     fn block(&mut self, core: u32, task: u32, call: Call, ticks: Option<u32>)
         requires core { core < self.old.settings.cores }
         requires task { task < self.old.settings.tasks }
         requires ready { has task self.old.orders.ready ≡ true }
-        ensures { self.new ≡ blocked list_moves core task call ticks self.old }
+        ensures { self.new ≡ blocked list_moves core task (Made call) ticks None self.old }
     {
         self.cores.ask(core, core);
-        self.calls[task as usize] = Some(call);
         self.cores.unready(task);
-        if let Some(ticks) = ticks {
-            self.delays.delay(task, ticks);
-        }
+        self.calls[task as usize] = Some(Unfinished::Made(call));
+        self.delays.wait(task, ticks);
+        self.deadlines.set(task, None);
     }
 }
 
-fn no_calls(alloc: Global, tasks: u32) -> Result<Vec<Option<Call>>, AllocError>
+fn no_calls(alloc: Global, tasks: u32) -> Result<Vec<Option<Unfinished>>, AllocError>
     ensures { IfOk result (λ calls. calls.items ≡ replicate tasks None) }
 {
     let mut calls = Vec::with_capacity(alloc, tasks as usize)?;
@@ -322,7 +369,7 @@ fn no_calls(alloc: Global, tasks: u32) -> Result<Vec<Option<Call>>, AllocError>
 }
 
 // A task with an unfinished call can only finish it, and without one it can't finish.
-fn unfinished_refusal(unfinished: Option<Call>, call: Call) -> Option<Refusal>
+fn unfinished_refusal(unfinished: Option<Unfinished>, call: Call) -> Option<Refusal>
     ensures { result ≡ call_refusal unfinished call }
 {
     let is_finish = matches!(call, Call::Finish);

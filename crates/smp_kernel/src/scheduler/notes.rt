@@ -2,7 +2,7 @@
 ghost use Rattle.std.specs.Prelude.{◌≡◌, ◌<◌, true};
 ghost use Rattle.bench_model.specs.Search.{has};
 ghost use Rattle.bench_model.specs.Notes.{of_task, wait_begun, take_begun};
-ghost use Rattle.bench_model.specs.Notifying.{notify, is_passed, interrupted, state_forgotten, bits_cleared, completed, finished, awaited, awaited_for};
+ghost use Rattle.bench_model.specs.Notifying.{notify, is_passed, interrupted, state_forgotten, bits_cleared, completed, awaited, awaited_for};
 ghost use Rattle.bench_model.specs.Lists.{list_moves};
 
 use super::Scheduler;
@@ -56,7 +56,7 @@ impl Scheduler {
 
     // A call completes: one that waited for a notification answers with that, every other is done.
     #[tactic(auto, unfolding(bench_model::specs::Notifying::completed))]
-    fn complete(&mut self, task: u32, call: Call) -> Reply
+    pub(super) fn complete(&mut self, task: u32, call: Call) -> Reply
         requires { task < self.old.settings.tasks }
         ensures { (result, self.new) ≡ completed task call self.old }
     {
@@ -68,19 +68,6 @@ impl Scheduler {
             Call::NotifyTake { clear, .. } => Reply::Value(self.notes.end_take(task, clear)),
             _ => Reply::Done,
         }
-    }
-
-    // The unfinished call of the task ends.
-    #[tactic(auto, unfolding(bench_model::specs::Notifying::finished))]
-    pub(super) fn finish(&mut self, task: u32) -> Reply
-        requires { task < self.old.settings.tasks }
-        ensures { (result, self.new) ≡ finished task self.old }
-    {
-        let Some(call) = self.calls[task as usize] else {
-            return Reply::Done;
-        };
-        self.calls[task as usize] = None;
-        self.complete(task, call)
     }
 
     // The task waits for a notification, or for a value that is not 0, in a call that has begun: where that found nothing to
@@ -122,8 +109,8 @@ impl Scheduler {
     }
 }
 
-// A notification is awaited for so many ticks; the greatest number is without end (FreeRTOS Reference Manual, portMAX_DELAY).
-fn awaited_for(ticks: u32) -> Option<u32>
+// A notification or a mutex is awaited for so many ticks; the greatest number is without end (FreeRTOS Reference Manual, portMAX_DELAY).
+pub(super) fn awaited_for(ticks: u32) -> Option<u32>
     ensures { result ≡ awaited_for ticks }
 {
     (ticks != u32::MAX).then_some(ticks)

@@ -1,0 +1,104 @@
+-- A task that begins to wait.
+use Rattle.std.proofs.Common.{◌≡◌, ℕ, true, cond, eqb, List, length, Option, Some, None, refl, ap, ◌∙◌}
+use Rattle.std.specs.Prelude.{is_some, option_map, slice_set}
+use Rattle.std.specs.Option.{option_map_or}
+use Rattle.std.proofs.lemmas.List.{length-set}
+use Rattle.bench_types.specs.declared.kernel_data.Delayed.{Delayed}
+use Rattle.bench_types.specs.declared.kernel_data.MutexWait.{MutexWait}
+use Rattle.bench_types.specs.declared.kernel_data.Waiter.{Waiter}
+use Rattle.bench_types.specs.declared.step.Unfinished.{Unfinished}
+use Rattle.bench_types.specs.declared.step.Unfinished.TheVariants.{Take}
+use Rattle.bench_model.specs.Search.{placed, without, has}
+use Rattle.bench_model.specs.Control.{task_at, ask}
+use Rattle.bench_model.specs.State.{blocked}
+use Rattle.bench_model.specs.Lists.{list_moves, wakes_first, waits_first, delay}
+use Rattle.bench_model.specs.Cores.{on_cores}
+use Rattle.bench_model.specs.Mutexes.{is_marked, inherited, waited_at}
+use Rattle.bench_model.specs.MutexParts.{wait_of}
+use Rattle.smp_kernel.specs.Kernel.{IsApart, Parts, kernel_view, IsKernelShape, delayed_task, waiting_task}
+use Rattle.smp_kernel.proofs.CoreMoves.{with_cores, inherit_seen, inherit_shape}
+use Rattle.smp_kernel.proofs.Apart.{none_found, apart_unready, apart_waiting}
+
+abbrev delayed_more : ℕ → Option ℕ → List Delayed → List Delayed
+delayed_more task ticks delayed = option_map_or (λ left. placed wakes_first (record { task = task; left = left }) delayed) ticks delayed
+
+abbrev waiters_more : ℕ → Option MutexWait → List Waiter → List Waiter
+waiters_more task wait waiters = option_map_or (λ wait. placed waits_first (record { task = task; wait = wait }) waiters) wait waiters
+
+-- a ready task waits at no mutex
+pub not_waiting : (parts : Parts) → IsKernelShape parts → (task : ℕ) → has task parts.cores.ready ≡ true → wait_of task parts.mutexes.waiters ≡ None
+not_waiting parts shape task ready = ap (option_map (λ (waiter : Waiter). waiter.wait)) (none_found (λ (waiter : Waiter). eqb waiter.task task) parts.mutexes.waiters (shape.unqueued task ready))
+
+-- a kernel whose task begins to wait
+abbrev pub blocked_parts : ℕ → ℕ → Unfinished → Option ℕ → Option MutexWait → Parts → Parts
+blocked_parts core task call ticks wait parts = record parts {
+  cores = record parts.cores { control = ask core core parts.cores.control; ready = without task parts.cores.ready };
+  calls = slice_set parts.calls task (Some call);
+  mutexes = record parts.mutexes { waiters = waiters_more task wait parts.mutexes.waiters };
+  delays = record parts.delays { delayed = delayed_more task ticks parts.delays.delayed };
+  deadlines = slice_set parts.deadlines task (cond (is_some wait) ticks None);
+}
+
+apart_delayed : (task : ℕ) (ticks : Option ℕ) (ready : List ℕ) (delayed : List Delayed) → IsApart delayed_task ready delayed → IsApart delayed_task (without task ready) (delayed_more task ticks delayed)
+apart_delayed task None ready delayed apart = apart_unready delayed_task task ready delayed apart
+apart_delayed task (Some left) ready delayed apart = apart_waiting delayed_task wakes_first (record { task = task; left = left }) ready delayed apart
+
+apart_queued : (task : ℕ) (wait : Option MutexWait) (ready : List ℕ) (waiters : List Waiter) → IsApart waiting_task ready waiters → IsApart waiting_task (without task ready) (waiters_more task wait waiters)
+apart_queued task None ready waiters apart = apart_unready waiting_task task ready waiters apart
+apart_queued task (Some wait) ready waiters apart = apart_waiting waiting_task waits_first (record { task = task; wait = wait }) ready waiters apart
+
+module _ (parts : Parts) (shape : IsKernelShape parts) where
+  pub block_seen : (core task : ℕ) (call : Unfinished) (ticks : Option ℕ) (wait : Option MutexWait) → kernel_view (blocked_parts core task call ticks wait parts) ≡ blocked list_moves core task call ticks wait (kernel_view parts)
+  unfolding blocked delay
+  block_seen core task call ticks wait = refl
+
+  pub block_shape : (core task : ℕ) (call : Unfinished) (ticks : Option ℕ) (wait : Option MutexWait) → IsKernelShape (blocked_parts core task call ticks wait parts)
+  block_shape core task call ticks wait = record {
+    priorities = shape.priorities;
+    slicing = shape.slicing;
+    few_cores = shape.few_cores;
+    some_priority = shape.some_priority;
+    cores = length-set parts.cores.control.cores core _ ∙ shape.cores;
+    controls = shape.controls;
+    calls = length-set parts.calls task _ ∙ shape.calls;
+    notes = shape.notes;
+    mutexes = shape.mutexes;
+    holders = shape.holders;
+    delays = shape.delays;
+    deadlines = length-set parts.deadlines task _ ∙ shape.deadlines;
+    undelayed = apart_delayed task ticks _ _ shape.undelayed;
+    unqueued = apart_queued task wait _ _ shape.unqueued;
+  }
+
+-- a kernel whose task begins to wait for a mutex, when the holder has inherited
+abbrev pub waited_parts : ℕ → ℕ → ℕ → ℕ → Option ℕ → Parts → Parts
+waited_parts core task mutex holder ticks parts =
+    let priority = (task_at parts.cores.control task).in_use in
+    blocked_parts core task (Take mutex (is_marked parts.cores.control task holder)) ticks (Some (record { mutex = mutex; priority = priority }))
+    (with_cores parts (on_cores (inherited list_moves core holder priority) parts.cores))
+
+module _ (parts : Parts) (shape : IsKernelShape parts) (core task mutex holder : ℕ) (ticks : Option ℕ) where
+  abbrev priority : ℕ
+  priority = (task_at parts.cores.control task).in_use
+
+  abbrev call : Unfinished
+  call = Take mutex (is_marked parts.cores.control task holder)
+
+  abbrev wait : Option MutexWait
+  wait = Some (record { mutex = mutex; priority = priority })
+
+  abbrev raised : Parts
+  raised = with_cores parts (on_cores (inherited list_moves core holder priority) parts.cores)
+
+  pub wait_seen : kernel_view (waited_parts core task mutex holder ticks parts) ≡ waited_at list_moves core task mutex holder ticks (kernel_view parts)
+  unfolding waited_at
+  wait_seen =
+      block_seen raised (inherit_shape parts shape core holder priority) core task call ticks wait
+      ∙ ap (blocked list_moves core task call ticks wait) (inherit_seen parts shape core holder priority)
+
+  pub wait_shape : IsKernelShape (waited_parts core task mutex holder ticks parts)
+  wait_shape = block_shape raised (inherit_shape parts shape core holder priority) core task call ticks wait
+
+  -- there are as many cores when the holder has inherited
+  pub raised_cores : length raised.cores.control.cores ≡ parts.settings.cores
+  raised_cores = (inherit_shape parts shape core holder priority).cores

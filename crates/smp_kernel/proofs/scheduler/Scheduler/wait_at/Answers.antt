@@ -1,0 +1,29 @@
+use Rattle.std.proofs.Common.{length, ap, ◌∙◌, arith}
+use Rattle.bench_model.specs.Search.{has}
+use Rattle.bench_model.specs.Cores.{CoresView}
+use Rattle.bench_model.specs.Lists.{View, list_moves}
+use Rattle.bench_model.specs.Mutexes.{waited_at}
+use Rattle.mutex_inherit.specs.Parts.{holder_of}
+use Rattle.smp_kernel.proofs.Blocks.{not_waiting, raised_cores, wait_seen, wait_shape}
+use Rattle.smp_kernel.proofs.scheduler.Scheduler.wait_at.Goals as goal
+
+pub wait_on-mark-requires-clause-free : goal.wait_on-mark-requires-clause-free
+wait_on-mark-requires-clause-free c = not_waiting _ c.self.invariant c.args.task (ap (λ (view : View). has c.args.task view.orders.ready) c.self.view_is ∙ c.requires.ready)
+
+pub ask-requires : goal.ask-requires
+ask-requires c =
+    let holder = holder_of c.self.inside.mutexes.holders c.args.mutex in
+    omega (arith, c.requires.core, ap (λ (view : View). view.settings.cores) c.self.view_is, ap (λ (cores : CoresView). length cores.control.cores) c.wait_on-mark.ensures.cores, raised_cores _ c.self.invariant c.args.core c.args.task c.args.mutex holder c.args.ticks)
+
+pub invariant_of-self : goal.invariant_of-self
+invariant_of-self c =
+    let holder = holder_of c.self.inside.mutexes.holders c.args.mutex in
+    rw (c.set.ensures, c.wait.ensures, c.unready.ensures, c.ask.ensures, c.wait_on-mark.ensures.cores, c.wait_on-mark.ensures.waiters, c.wait_on-mark.ensures.mark)
+    (wait_shape _ c.self.invariant c.args.core c.args.task c.args.mutex holder c.args.ticks)
+
+pub returns : goal.returns
+returns c =
+    let holder = holder_of c.self.inside.mutexes.holders c.args.mutex in
+    rw (c.set.ensures, c.wait.ensures, c.unready.ensures, c.ask.ensures, c.wait_on-mark.ensures.cores, c.wait_on-mark.ensures.waiters, c.wait_on-mark.ensures.mark)
+    (wait_seen _ c.self.invariant c.args.core c.args.task c.args.mutex holder c.args.ticks
+    ∙ ap (λ (view : View). waited_at list_moves c.args.core c.args.task c.args.mutex (holder_of view.holders c.args.mutex) c.args.ticks view) c.self.view_is)

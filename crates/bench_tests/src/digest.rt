@@ -10,6 +10,7 @@ fn code_of(why: Refusal) -> u32 {
         Refusal::SwitchDue => 3,
         Refusal::InCall => 4,
         Refusal::NotInCall => 5,
+        Refusal::NotHolder => 9,
         Refusal::NotDue => 10,
     }
 }

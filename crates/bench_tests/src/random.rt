@@ -71,7 +71,7 @@ pub fn random_session(
 
 // A header of 8 cores and 64 tasks with time slicing, with the last 96 ticks before the tick count wraps.
 fn large_header(alloc: Global) -> Result<Header, Fail>
-    ensures { IfOk result (λ header. header.config.cores ≡ 8) }
+    ensures { IfOk result (λ header. (header.config.cores ≡ 8) × (header.config.mutexes ≡ 4)) }
 {
     let mut tasks = Vec::with_capacity(alloc, 64)?;
     for task in 0..64 {
@@ -201,8 +201,7 @@ fn with_mutex(kernel: &Kernel, step: Step, choice: u32) -> Step
 {
     match step {
         Step::Call { core, task, call }
-            if call == Call::Yield || is_set(call) && choice % 16 < 13 =>
-        {
+            if call == Call::Yield || is_set(call) && choice % 16 < 13 => {
             let call = some_mutex_call(kernel, task, choice);
             Step::Call { core, task, call }
         }

@@ -6,4 +6,5 @@ abbrev pub invariant-loop : goal.invariant-loop
 invariant-loop g l = record {
   settings : l.kernel.settings ≡ settings_of l.header;
   cores : l.header.config.cores ≡ 8;
+  mutexes : l.header.config.mutexes ≡ 4;
 }

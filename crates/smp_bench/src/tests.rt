@@ -211,6 +211,22 @@ fn replayed_notifications(rt: HostRuntime) -> Result<(), Fail> {
     expect(&rt, rt.alloc(), &input, Status::Fine, NOTIFIED)
 }
 
+// A holder that inherits, a wait that runs out, and gives of a mutex that another task holds, of its own and of a free one.
+const CONTENDED: &str =
+    r#"{"format":1,"cores":2,"priorities":5,"slicing":false,"tick":0,"mutexes":2,"tasks":[
+{"name":"L","priority":1,"mask":3},{"name":"H","priority":3,"mask":3}],"steps":[
+{"do":"mutex_take","core":1,"by":"L","mutex":0,"ticks":0},{"do":"mutex_take","core":0,"by":"H","mutex":0,"ticks":1},
+{"do":"tick"},{"do":"switch","core":0},{"do":"finish","core":0,"by":"H"},
+{"do":"mutex_give","core":0,"by":"H","mutex":0},{"do":"switch","core":1},
+{"do":"mutex_give","core":1,"by":"L","mutex":0},{"do":"mutex_give","core":1,"by":"L","mutex":1}]}"#;
+
+#[test]
+fn replayed_mutexes(rt: HostRuntime) -> Result<(), Fail> {
+    let output =
+        "start H L\n0 true H L\n1 blocked H L\n2 done H L\n3 done H L\n4 false H L\n5 refused E9 H L\n6 done H L\n7 true H L\n8 false H L\n";
+    expect(&rt, rt.alloc(), CONTENDED, Status::Fine, output)
+}
+
 /// A session of three tasks and two steps as a program would write it.
 fn written(
     alloc: Global,

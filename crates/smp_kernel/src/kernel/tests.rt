@@ -5,6 +5,7 @@ ghost use Rattle.bench_model.specs.Session.{step_of};
 ghost use Rattle.bench_model.specs.Equal.{StandsFor};
 
 mod looks;
+mod mutexes;
 mod notes;
 mod sets;
 
@@ -108,6 +109,11 @@ impl<'a, R: Runtime + AllocGlobal + Abort> Started<'a, R> {
         let users = self.header.tasks.as_slice().len();
         assert!(self.rt; task < cores || ((task - cores) as usize) < users);
         self.kernel.look(task)
+    }
+
+    fn holder(&self, mutex: u32) -> Option<u32> {
+        assert!(self.rt; mutex < self.header.config.mutexes);
+        self.kernel.holder(mutex)
     }
 }
 

@@ -13,6 +13,7 @@ fn looks_of_tasks(rt: HostRuntime) -> Result<(), Fail> {
         preempt: true,
         ready: true,
         left: None,
+        held: 0,
         in_call: false,
         value: 0,
         state: NoteState::NotWaiting,

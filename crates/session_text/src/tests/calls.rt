@@ -1,16 +1,12 @@
 //! Calls that set a task's priority, affinity and preemption, as texts. What reading gives was worked out by hand from
 //! the format's description, and by a program of its own.
 
-use super::{Document, changed, row, told};
+use super::{Document, changed_by, row, told};
 use crate::{read_edit, read_session};
 use bench_types::{Call, Edit, Step};
 use std::alloc::{AllocError, Global};
 use std::process::Abort;
 use std::test::Fail;
-
-// A session up to its steps.
-const FRONT: &str =
-    "{\"format\":1,\"cores\":2,\"priorities\":5,\"slicing\":false,\"tick\":0,\"mutexes\":0,\"tasks\":[{\"name\":\"A\",\"priority\":2,\"mask\":3},{\"name\":\"B\",\"priority\":1,\"mask\":3}],\"steps\":[";
 
 // Steps, and what reading the session of them gives: each member is missing, ill-typed or joined by an unknown one.
 const SHAPES: &str = r#"
@@ -149,6 +145,16 @@ const EDITS: &str = r#"
 {"do":"affinity_set","core":0,"by":"A","to":"B","mask":4} | F5 edits[0]
 "#;
 
+// An edit, and its changes with what reading gives.
+const REPLACE: &str =
+    "{\"edit\":\"replace\",\"at\":7,\"step\":{\"do\":\"affinity_set\",\"core\":1,\"by\":\"A\",\"to\":\"B\",\"mask\":1}}";
+
+const REPLACES: &str = r#"
+"mask":1 => "mask":4 | F5 top
+"to":"B" => "to":"X" | F3 top
+"to":"B" => "to":0 | H2 step.to
+"#;
+
 // Steps, and a session of them whose members stand in another order.
 const STEPS: &str =
     "{\"do\":\"priority_set\",\"core\":0,\"by\":\"A\",\"to\":\"B\",\"priority\":4294967295},{\"do\":\"affinity_set\",\"core\":1,\"by\":\"B\",\"to\":\"A\",\"mask\":6},{\"do\":\"preempt_off\",\"core\":0,\"by\":\"A\",\"to\":\"A\"},{\"do\":\"preempt_on\",\"core\":1,\"by\":\"A\",\"to\":\"B\"}";
@@ -156,22 +162,36 @@ const STEPS: &str =
 const SORTED: &str =
     "{\"cores\":2,\"format\":1,\"mutexes\":0,\"priorities\":5,\"slicing\":false,\"steps\":[{\"by\":\"A\",\"core\":0,\"do\":\"priority_set\",\"priority\":4294967295,\"to\":\"B\"},{\"by\":\"B\",\"core\":1,\"do\":\"affinity_set\",\"mask\":6,\"to\":\"A\"},{\"by\":\"A\",\"core\":0,\"do\":\"preempt_off\",\"to\":\"A\"},{\"by\":\"A\",\"core\":1,\"do\":\"preempt_on\",\"to\":\"B\"}],\"tasks\":[{\"mask\":3,\"name\":\"A\",\"priority\":2},{\"mask\":3,\"name\":\"B\",\"priority\":1}],\"tick\":0}";
 
-pub(super) fn session_of(alloc: Global, steps: &str) -> Result<String, AllocError> {
-    format!(in alloc; "{FRONT}{steps}]}}")
+/// A session with so many mutexes and these steps.
+fn session_of(alloc: Global, mutexes: u32, steps: &str) -> Result<String, AllocError> {
+    format!(in alloc;
+        "{{\"format\":1,\"cores\":2,\"priorities\":5,\"slicing\":false,\"tick\":0,\"mutexes\":{mutexes},\"tasks\":[{{\"name\":\"A\",\"priority\":2,\"mask\":3}},{{\"name\":\"B\",\"priority\":1,\"mask\":3}}],\"steps\":[{steps}]}}"
+    )
 }
 
-pub(super) fn check_steps(rt: &impl Abort, alloc: Global, table: &str) -> Result<(), Fail> {
+/// Checks the outcome of each row's steps, as those of a session with so many mutexes.
+pub(super) fn check_steps(
+    rt: &impl Abort,
+    alloc: Global,
+    mutexes: u32,
+    table: &str,
+) -> Result<(), Fail> {
     for line in table.trim().lines() {
         let (steps, want) = row(line)?;
-        let text = session_of(alloc, steps)?;
+        let text = session_of(alloc, mutexes, steps)?;
         Document::Session.check(rt, alloc, text.as_str(), want)?;
     }
     Ok(())
 }
 
 /// Checks each step of the table as an insertion at the start of a session without steps.
-pub(super) fn check_edits(rt: &impl Abort, alloc: Global, table: &str) -> Result<(), Fail> {
-    let session = session_of(alloc, "")?;
+pub(super) fn check_edits(
+    rt: &impl Abort,
+    alloc: Global,
+    mutexes: u32,
+    table: &str,
+) -> Result<(), Fail> {
+    let session = session_of(alloc, mutexes, "")?;
     for line in table.trim().lines() {
         let (step, want) = row(line)?;
         let text = format!(in alloc;
@@ -182,56 +202,91 @@ pub(super) fn check_edits(rt: &impl Abort, alloc: Global, table: &str) -> Result
     Ok(())
 }
 
-#[test]
-fn shapes_of_setting_calls(rt: HostRuntime) -> Result<(), Fail> {
-    check_steps(&rt, rt.alloc(), SHAPES)
-}
-
-#[test]
-fn judged_setting_calls(rt: HostRuntime) -> Result<(), Fail> {
-    check_steps(&rt, rt.alloc(), JUDGED)
-}
-
-#[test]
-fn setting_calls_of_edits(rt: HostRuntime) -> Result<(), Fail> {
-    check_edits(&rt, rt.alloc(), EDITS)
-}
-
-#[test]
-fn replace_by_a_setting_call(rt: HostRuntime) -> Result<(), Fail> {
-    let alloc = rt.alloc();
-    let session = session_of(alloc, "")?;
+/// Checks that the text is read as the edit that replaces the step at place 7 by this one, and the outcomes of the table,
+/// each after the changes of its row.
+pub(super) fn check_replaced(
+    rt: &impl Abort,
+    alloc: Global,
+    mutexes: u32,
+    text: &str,
+    step: Step,
+    table: &str,
+) -> Result<(), Fail> {
+    let session = session_of(alloc, mutexes, "")?;
     let Ok((header, _)) = read_session(alloc, session.as_bytes()) else {
         return Err(Fail::from("the text is a session"));
     };
-    let text =
-        "{\"edit\":\"replace\",\"at\":7,\"step\":{\"do\":\"affinity_set\",\"core\":1,\"by\":\"A\",\"to\":\"B\",\"mask\":1}}";
     let edit = read_edit(alloc, text.as_bytes(), &header)
         .ok()
         .ok_or("the text is an edit")?;
-    let call = Call::AffinitySet { task: 3, mask: 1 };
-    let step = Step::Call {
-        core: 1,
-        task: 2,
-        call,
-    };
     assert_eq!(rt; edit, Edit::Replace { at: 7, step });
-    for (member, none, want) in [
-        ("\"mask\":1", "\"mask\":4", "F5 top"),
-        ("\"to\":\"B\"", "\"to\":\"X\"", "F3 top"),
-        ("\"to\":\"B\"", "\"to\":0", "H2 step.to"),
-    ] {
-        let text = changed(alloc, text, member, none)?;
+    for line in table.trim().lines() {
+        let (changes, want) = row(line)?;
+        let text = changed_by(alloc, text, changes)?;
         let got = told(alloc, read_edit(alloc, text.as_bytes(), &header))?;
         assert_eq!(rt; got.as_str(), want, "{text}");
     }
     Ok(())
 }
 
+/// The text is a session of these steps.
+fn check_read(rt: &impl Abort, alloc: Global, text: &str, wanted: &[Step]) -> Result<(), Fail> {
+    let Ok((_, steps)) = read_session(alloc, text.as_bytes()) else {
+        return Err(Fail::from("the text is a session"));
+    };
+    assert_eq!(rt; steps.as_slice(), wanted, "{text}");
+    Ok(())
+}
+
+/// Checks that each row, a step with its members in two orders, is read as the step that is wanted.
+pub(super) fn check_orders(
+    rt: &impl Abort,
+    alloc: Global,
+    mutexes: u32,
+    table: &str,
+    wanted: &[Step],
+) -> Result<(), Fail> {
+    assert_eq!(rt; table.trim().lines().count(), wanted.len());
+    for (line, want) in table.trim().lines().zip(wanted) {
+        let (step, sorted) = row(line)?;
+        for step in [step, sorted] {
+            let text = session_of(alloc, mutexes, step)?;
+            check_read(rt, alloc, text.as_str(), &[*want])?;
+        }
+    }
+    Ok(())
+}
+
+#[test]
+fn shapes_of_setting_calls(rt: HostRuntime) -> Result<(), Fail> {
+    check_steps(&rt, rt.alloc(), 0, SHAPES)
+}
+
+#[test]
+fn judged_setting_calls(rt: HostRuntime) -> Result<(), Fail> {
+    check_steps(&rt, rt.alloc(), 0, JUDGED)
+}
+
+#[test]
+fn setting_calls_of_edits(rt: HostRuntime) -> Result<(), Fail> {
+    check_edits(&rt, rt.alloc(), 0, EDITS)
+}
+
+#[test]
+fn replace_by_a_setting_call(rt: HostRuntime) -> Result<(), Fail> {
+    let call = Call::AffinitySet { task: 3, mask: 1 };
+    let step = Step::Call {
+        core: 1,
+        task: 2,
+        call,
+    };
+    check_replaced(&rt, rt.alloc(), 0, REPLACE, step, REPLACES)
+}
+
 #[test]
 fn setting_calls(rt: HostRuntime) -> Result<(), Fail> {
     let alloc = rt.alloc();
-    let text = session_of(alloc, STEPS)?;
+    let text = session_of(alloc, 0, STEPS)?;
     let call = |core, task, call| Step::Call { core, task, call };
     let wanted = [
         call(
@@ -247,10 +302,7 @@ fn setting_calls(rt: HostRuntime) -> Result<(), Fail> {
         call(1, 2, Call::PreemptOn(3)),
     ];
     for text in [text.as_str(), SORTED] {
-        let Ok((_, steps)) = read_session(alloc, text.as_bytes()) else {
-            return Err(Fail::from("the text is a session"));
-        };
-        assert_eq!(rt; steps.as_slice(), wanted.as_slice(), "{text}");
+        check_read(&rt, alloc, text, &wanted)?;
     }
     Ok(())
 }

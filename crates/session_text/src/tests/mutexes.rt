@@ -1,11 +1,8 @@
 //! Calls that take and give mutexes, as texts. What reading gives was worked out by hand from the format's description.
 
-use super::calls::session_of;
-use super::{Document, changed, row, told};
-use crate::{read_edit, read_session};
-use bench_types::{Call, Edit, Step};
-use std::alloc::Global;
-use std::process::Abort;
+use super::Document;
+use super::calls::{check_edits, check_orders, check_replaced, check_steps};
+use bench_types::{Call, Step};
 use std::test::Fail;
 
 // Steps, and what reading the session of them gives, which has two mutexes: each member is missing, ill-typed, out of its
@@ -110,6 +107,16 @@ const EDITS: &str = r#"
 {"do":"mutex_give","core":0,"by":"A","mutex":2} | F4 edits[0]
 "#;
 
+// An edit, and its changes with what reading gives.
+const REPLACE: &str =
+    "{\"edit\":\"replace\",\"at\":7,\"step\":{\"do\":\"mutex_take\",\"core\":1,\"by\":\"B\",\"mutex\":1,\"ticks\":6}}";
+
+const REPLACES: &str = r#"
+"mutex":1 => "mutex":2 | F4 top
+"mutex":1 => "mutex":null | H2 step.mutex
+,"ticks":6 =>  | H2 step.ticks
+"#;
+
 // Steps, each with its members in two orders.
 const ORDERS: &str = r#"
 {"do":"mutex_take","core":0,"by":"A","mutex":1,"ticks":5} | {"by":"A","core":0,"do":"mutex_take","mutex":1,"ticks":5}
@@ -130,29 +137,13 @@ fn wanted() -> [Step; 4] {
     ]
 }
 
-/// The session of these steps, with two mutexes.
-fn session_with_mutexes(alloc: Global, steps: &str) -> Result<String, Fail> {
-    let session = session_of(alloc, steps)?;
-    changed(alloc, session.as_str(), "\"mutexes\":0", "\"mutexes\":2")
-}
-
-fn check_steps(rt: &impl Abort, alloc: Global, table: &str) -> Result<(), Fail> {
-    for line in table.trim().lines() {
-        let (steps, want) = row(line)?;
-        let text = session_with_mutexes(alloc, steps)?;
-        Document::Session.check(rt, alloc, text.as_str(), want)?;
+#[test]
+fn mutex_calls_as_texts(rt: HostRuntime) -> Result<(), Fail> {
+    let alloc = rt.alloc();
+    for table in [SHAPES, JUDGED] {
+        check_steps(&rt, alloc, 2, table)?;
     }
-    Ok(())
-}
-
-#[test]
-fn shapes_of_mutex_calls(rt: HostRuntime) -> Result<(), Fail> {
-    check_steps(&rt, rt.alloc(), SHAPES)
-}
-
-#[test]
-fn judged_mutex_calls(rt: HostRuntime) -> Result<(), Fail> {
-    check_steps(&rt, rt.alloc(), JUDGED)
+    check_edits(&rt, alloc, 2, EDITS)
 }
 
 #[test]
@@ -162,64 +153,17 @@ fn numbers_of_mutexes(rt: HostRuntime) -> Result<(), Fail> {
 }
 
 #[test]
-fn mutex_calls_of_edits(rt: HostRuntime) -> Result<(), Fail> {
-    let alloc = rt.alloc();
-    let session = session_with_mutexes(alloc, "")?;
-    for line in EDITS.trim().lines() {
-        let (step, want) = row(line)?;
-        let text = format!(in alloc;
-            "{{\"session\":{session},\"edits\":[{{\"edit\":\"insert\",\"at\":0,\"step\":{step}}}]}}"
-        )?;
-        Document::Bench.check(&rt, alloc, text.as_str(), want)?;
-    }
-    Ok(())
-}
-
-#[test]
 fn replace_by_a_take(rt: HostRuntime) -> Result<(), Fail> {
-    let alloc = rt.alloc();
-    let session = session_with_mutexes(alloc, "")?;
-    let Ok((header, _)) = read_session(alloc, session.as_bytes()) else {
-        return Err(Fail::from("the text is a session"));
-    };
-    let text =
-        "{\"edit\":\"replace\",\"at\":7,\"step\":{\"do\":\"mutex_take\",\"core\":1,\"by\":\"B\",\"mutex\":1,\"ticks\":6}}";
-    let edit = read_edit(alloc, text.as_bytes(), &header)
-        .ok()
-        .ok_or("the text is an edit")?;
     let call = Call::MutexTake { mutex: 1, ticks: 6 };
     let step = Step::Call {
         core: 1,
         task: 3,
         call,
     };
-    assert_eq!(rt; edit, Edit::Replace { at: 7, step });
-    for (member, new, want) in [
-        ("\"mutex\":1", "\"mutex\":2", "F4 top"),
-        ("\"mutex\":1", "\"mutex\":null", "H2 step.mutex"),
-        (",\"ticks\":6", "", "H2 step.ticks"),
-    ] {
-        let text = changed(alloc, text, member, new)?;
-        let got = told(alloc, read_edit(alloc, text.as_bytes(), &header))?;
-        assert_eq!(rt; got.as_str(), want, "{text}");
-    }
-    Ok(())
+    check_replaced(&rt, rt.alloc(), 2, REPLACE, step, REPLACES)
 }
 
 #[test]
 fn mutex_calls(rt: HostRuntime) -> Result<(), Fail> {
-    let alloc = rt.alloc();
-    let wanted = wanted();
-    assert_eq!(rt; ORDERS.trim().lines().count(), wanted.len());
-    for (line, want) in ORDERS.trim().lines().zip(wanted) {
-        let (step, sorted) = row(line)?;
-        for step in [step, sorted] {
-            let text = session_with_mutexes(alloc, step)?;
-            let Ok((_, steps)) = read_session(alloc, text.as_bytes()) else {
-                return Err(Fail::from("the text is a session"));
-            };
-            assert_eq!(rt; steps.as_slice(), [want].as_slice(), "{text}");
-        }
-    }
-    Ok(())
+    check_orders(&rt, rt.alloc(), 2, ORDERS, &wanted())
 }

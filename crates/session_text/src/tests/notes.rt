@@ -1,10 +1,8 @@
 //! Notifications as texts. What reading gives was worked out by hand from the format's description, and by a program of
 //! its own.
 
-use super::calls::{check_edits, check_steps, session_of};
-use super::row;
-use crate::{read_edit, read_session};
-use bench_types::{Action, Call, Edit, Note, Step};
+use super::calls::{check_edits, check_orders, check_replaced, check_steps};
+use bench_types::{Action, Call, Note, Step};
 use std::test::Fail;
 
 // Steps, and what reading the session of them gives.
@@ -181,6 +179,16 @@ const EDITS: &str = r#"
 {"do":"state_clear","core":0,"by":"A","to":"X"} | F3 edits[0]
 "#;
 
+// An edit, and its changes with what reading gives.
+const REPLACE: &str =
+    "{\"edit\":\"replace\",\"at\":7,\"step\":{\"do\":\"isr_notify\",\"core\":1,\"to\":\"B\",\"action\":\"set\",\"value\":4}}";
+
+const REPLACES: &str = r#"
+"core":1 => "core":2 | F2 top
+"to":"B" => "to":"X" | F3 top
+,"value":4 =>  | H2 step.value
+"#;
+
 // Steps, each with its members in two orders.
 const ORDERS: &str = r#"
 {"do":"notify","core":0,"by":"A","to":"B","action":"none"} | {"action":"none","by":"A","core":0,"do":"notify","to":"B"}
@@ -250,46 +258,22 @@ fn wanted() -> [Step; 15] {
 fn notifications_as_texts(rt: HostRuntime) -> Result<(), Fail> {
     let alloc = rt.alloc();
     for table in [ACTIONS, SHAPES, JUDGED] {
-        check_steps(&rt, alloc, table)?;
+        check_steps(&rt, alloc, 0, table)?;
     }
-    check_edits(&rt, alloc, EDITS)
+    check_edits(&rt, alloc, 0, EDITS)
 }
 
 #[test]
 fn replace_by_an_interrupt(rt: HostRuntime) -> Result<(), Fail> {
-    let alloc = rt.alloc();
-    let session = session_of(alloc, "")?;
-    let Ok((header, _)) = read_session(alloc, session.as_bytes()) else {
-        return Err(Fail::from("the text is a session"));
-    };
-    let text =
-        "{\"edit\":\"replace\",\"at\":7,\"step\":{\"do\":\"isr_notify\",\"core\":1,\"to\":\"B\",\"action\":\"set\",\"value\":4}}";
-    let edit = read_edit(alloc, text.as_bytes(), &header)
-        .ok()
-        .ok_or("the text is an edit")?;
     let note = Note {
         task: 3,
         action: Action::Set(4),
     };
     let step = Step::Interrupt { core: 1, note };
-    assert_eq!(rt; edit, Edit::Replace { at: 7, step });
-    Ok(())
+    check_replaced(&rt, rt.alloc(), 0, REPLACE, step, REPLACES)
 }
 
 #[test]
 fn notifications(rt: HostRuntime) -> Result<(), Fail> {
-    let alloc = rt.alloc();
-    let wanted = wanted();
-    assert_eq!(rt; ORDERS.trim().lines().count(), wanted.len());
-    for (line, want) in ORDERS.trim().lines().zip(wanted) {
-        let (step, sorted) = row(line)?;
-        for step in [step, sorted] {
-            let text = session_of(alloc, step)?;
-            let Ok((_, steps)) = read_session(alloc, text.as_bytes()) else {
-                return Err(Fail::from("the text is a session"));
-            };
-            assert_eq!(rt; steps.as_slice(), [want].as_slice(), "{text}");
-        }
-    }
-    Ok(())
+    check_orders(&rt, rt.alloc(), 0, ORDERS, &wanted())
 }

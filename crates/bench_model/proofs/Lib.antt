@@ -25,6 +25,7 @@ pub mod Sets
 pub mod SlowRuns
 pub mod SlowSlices
 pub mod SlowTicks
+pub mod SoleEntries
 pub mod SoundMutexes
 pub mod SoundSteps
 pub mod Stamped

@@ -2,18 +2,18 @@
 use Rattle.std.proofs.Common.{◌≡◌, ℕ, ◌<◌, ◌^◌, Bool, true, false, cond, not, eqb, ◌||◌, List, [], ◌∷◌, ◌++◌, map, replicate, Option, Some, None, refl, sym, ap, subst, ◌∙◌, arith}
 use Rattle.std.specs.Prelude.{option_map}
 use Rattle.std.specs.Option.{ForSome}
-use Rattle.std.specs.List.{filter, find, IsDistinct, AllByRecursion}
+use Rattle.std.specs.List.{find, IsDistinct, AllByRecursion}
 use Rattle.std.proofs.lemmas.List.{length-replicate}
 use Rattle.std.proofs.lemmas.List.Elements.{All-nil, All-replicate, recursion_from_All}
-use Rattle.std.proofs.lemmas.Bool.Decides.{nat_tests}
 use Rattle.std.proofs.lemmas.Option.{same_Some}
 use Rattle.bench_types.specs.declared.kernel_data.Waiter.{Waiter}
-use Rattle.bench_model.specs.Search.{placed, ranked, without, has}
+use Rattle.bench_model.specs.Search.{ranked, without, has}
 use Rattle.bench_model.specs.Lists.{waits_first, without_waiter, first_of}
 use Rattle.bench_model.specs.MutexParts.{with_waiter, wait_of}
-use Rattle.bench_model.proofs.Filters.{filter-map, filter_none, find_filter}
+use Rattle.bench_model.proofs.Filters.{filter-map}
 use Rattle.bench_model.proofs.Ranks.{ranked-push, filter-ranked, All-ranked}
 use Rattle.bench_model.proofs.SeenMoves.{waits_first-IsRank}
+use Rattle.bench_model.proofs.SoleEntries.{each_entry, find-ranked}
 use Rattle.ready_core.specs.Shape.{IsListing}
 use Rattle.mutex_inherit.specs.Parts.{MutexPart, seen_mutexes, free_mutexes}
 use Rattle.mutex_inherit.specs.Shape.{IsMutexShape}
@@ -55,30 +55,10 @@ seen_leave tasks holders waiters task view shows =
     ap (part_from tasks holders) (sym (filter-ranked waits_first waits_first-IsRank (λ waiter. not (eqb waiter.task task)) waiters))
     ∙ ap (λ (v : MutexPart). part_from v.tasks v.holders (without_waiter task v.waiters)) shows
 
--- what is so of each task in a list is so in each entry
-pub entries : (P Q : ℕ → Type 0) → ((m : ℕ) → P m → Q m) → (waiters : List Waiter) → AllByRecursion P (map task_of waiters) → AllByRecursion (λ (waiter : Waiter). Q waiter.task) waiters
-entries P Q weaker [] all = tt
-entries P Q weaker (waiter ∷ waiters) all = (weaker waiter.task all.0, entries P Q weaker waiters all.1)
-
--- a list with one entry a task has none or one of a task, in any order
-alone : (task : ℕ) (waiters : List Waiter) → IsDistinct eqb (map task_of waiters) → ranked waits_first (filter (λ waiter. eqb waiter.task task) waiters) ≡ filter (λ waiter. eqb waiter.task task) waiters
-unfolding IsDistinct ranked placed
-alone task [] once = refl
-alone task (waiter ∷ waiters) once = at (eqb waiter.task task) refl (alone task waiters once.1)
-  where
-    none : eqb waiter.task task ≡ true → filter (λ w. eqb w.task task) waiters ≡ []
-    none its = filter_none (λ w. eqb w.task task) waiters (entries (λ m. eqb waiter.task m ≡ false) (λ m. eqb m task ≡ false) (λ m other. grind (arith, nat_tests, its, other)) waiters once.0)
-
-    at : (b : Bool) → eqb waiter.task task ≡ b → ranked waits_first (filter (λ w. eqb w.task task) waiters) ≡ filter (λ w. eqb w.task task) waiters → ranked waits_first (cond b (waiter ∷ filter (λ w. eqb w.task task) waiters) (filter (λ w. eqb w.task task) waiters)) ≡ cond b (waiter ∷ filter (λ w. eqb w.task task) waiters) (filter (λ w. eqb w.task task) waiters)
-    at true its rest = rw (none its) refl
-    at false is rest = rest
-
 -- what the task waits for
 pub seen_wait : (tasks : ℕ) (holders : List (Option ℕ)) (waiters : List Waiter) (task : ℕ) (view : MutexPart) → IsListing tasks (map task_of waiters) → seen_mutexes tasks holders waiters ≡ view → wait_of task waiters ≡ wait_of task view.waiters
 seen_wait tasks holders waiters task view listing shows =
-    let its = λ (waiter : Waiter). eqb waiter.task task in
-    ap (option_map (λ (waiter : Waiter). waiter.wait))
-    (find_filter its waiters ∙ ap (find (λ _. true)) (sym (alone task waiters listing.once) ∙ sym (filter-ranked waits_first waits_first-IsRank its waiters)) ∙ sym (find_filter its (ranked waits_first waiters)))
+    ap (option_map (λ (waiter : Waiter). waiter.wait)) (find-ranked task_of waits_first waits_first-IsRank task waiters listing.once)
     ∙ ap (λ (v : MutexPart). wait_of task v.waiters) shows
 
 no_entry : (task : ℕ) (waiters : List Waiter) → wait_of task waiters ≡ None → has task (map task_of waiters) ≡ false
@@ -101,4 +81,4 @@ found P p (first ∷ waiters) all = elim (p first) as (λ b. ForSome (cond b (So
 pub first_below : (n mutex : ℕ) (waiters : List Waiter) → IsListing n (map task_of waiters) → ForSome (first_of mutex (ranked waits_first waiters)) (λ waiter. waiter.task < n)
 first_below n mutex waiters listing =
     found (λ waiter. waiter.task < n) (λ waiter. eqb waiter.wait.mutex mutex) (ranked waits_first waiters)
-    (All-ranked waits_first (λ waiter. waiter.task < n) waiters (entries (λ m. m < n) (λ m. m < n) (λ m low. low) waiters (recursion_from_All (λ i. i < n) (map task_of waiters) listing.below)))
+    (All-ranked waits_first (λ waiter. waiter.task < n) waiters (each_entry task_of (λ m. m < n) (λ m. m < n) (λ m low. low) waiters (recursion_from_All (λ i. i < n) (map task_of waiters) listing.below)))

@@ -9,9 +9,10 @@ use Rattle.bench_types.specs.declared.kernel_data.Delayed.{Delayed}
 use Rattle.bench_model.specs.Search.{placed, ranked, without, has}
 use Rattle.bench_model.specs.Lists.{wakes_first}
 use Rattle.bench_model.specs.Looks.{left_in}
-use Rattle.bench_model.proofs.Filters.{filter-filter, filter-map, filter_all, filter_none, find_filter, All-filter_passes, All-weaker}
+use Rattle.bench_model.proofs.Filters.{filter-filter, filter-map, filter_all, find_filter, All-filter_passes, All-weaker}
 use Rattle.bench_model.proofs.Ranks.{ranked-push, filter-ranked, list_any-ranked, map-ranked, ranked_same}
 use Rattle.bench_model.proofs.SeenMoves.{wakes_first-IsRank}
+use Rattle.bench_model.proofs.SoleEntries.{find-ranked}
 use Rattle.smp_kernel.specs.Parts.{DelayView, seen_delays, is_waiting, cancelled, aged, advanced, due_tasks}
 use Rattle.ready_core.specs.Shape.{IsListing}
 
@@ -78,29 +79,10 @@ seen_advance tasks tick waiting view shows none =
     ap (delays_from tasks ((tick + 1) % 2 ^ 32)) (aged-ranked waiting left)
     ∙ ap (λ (v : DelayView). delays_from v.tasks ((v.tick + 1) % 2 ^ 32) (map aged v.delayed)) shows
 
-others : (P Q : ℕ → Type 0) → ((m : ℕ) → P m → Q m) → (waiting : List Delayed) → AllByRecursion P (map task_of waiting) → AllByRecursion (λ (entry : Delayed). Q entry.task) waiting
-others P Q weaker [] all = tt
-others P Q weaker (entry ∷ waiting) all = (weaker entry.task all.0, others P Q weaker waiting all.1)
-
--- a list with one entry a task has none or one of a task, in any order
-alone : (task : ℕ) (waiting : List Delayed) → IsDistinct eqb (map task_of waiting) → ranked wakes_first (filter (λ entry. eqb entry.task task) waiting) ≡ filter (λ entry. eqb entry.task task) waiting
-unfolding IsDistinct ranked placed
-alone task [] once = refl
-alone task (entry ∷ waiting) once = at (eqb entry.task task) refl (alone task waiting once.1)
-  where
-    none : eqb entry.task task ≡ true → filter (λ e. eqb e.task task) waiting ≡ []
-    none its = filter_none (λ e. eqb e.task task) waiting (others (λ m. eqb entry.task m ≡ false) (λ m. eqb m task ≡ false) (λ m other. grind (arith, nat_tests, its, other)) waiting once.0)
-
-    at : (b : Bool) → eqb entry.task task ≡ b → ranked wakes_first (filter (λ e. eqb e.task task) waiting) ≡ filter (λ e. eqb e.task task) waiting → ranked wakes_first (cond b (entry ∷ filter (λ e. eqb e.task task) waiting) (filter (λ e. eqb e.task task) waiting)) ≡ cond b (entry ∷ filter (λ e. eqb e.task task) waiting) (filter (λ e. eqb e.task task) waiting)
-    at true its rest = rw (none its) refl
-    at false is rest = rest
-
 -- the ticks left of a task
 pub seen_left : (tasks tick : ℕ) (waiting : List Delayed) (task : ℕ) (view : DelayView) → IsListing tasks (map task_of waiting) → seen_delays tasks tick waiting ≡ view → left_in task waiting ≡ left_in task view.delayed
 seen_left tasks tick waiting task view listing shows =
-    let its = λ (entry : Delayed). eqb entry.task task in
-    ap (option_map (λ (entry : Delayed). entry.left))
-    (find_filter its waiting ∙ ap (find (λ _. true)) (sym (alone task waiting listing.once) ∙ sym (filter-ranked wakes_first wakes_first-IsRank its waiting)) ∙ sym (find_filter its (ranked wakes_first waiting)))
+    ap (option_map (λ (entry : Delayed). entry.left)) (find-ranked task_of wakes_first wakes_first-IsRank task waiting listing.once)
     ∙ ap (λ (v : DelayView). left_in task v.delayed) shows
 
 pub map-aged : (waiting : List Delayed) → map task_of (map aged waiting) ≡ map task_of waiting

@@ -1,5 +1,5 @@
 -- The tasks that are due are woken one after another, and then time slices end.
-use Rattle.std.proofs.Common.{◌≡◌, ℕ, ◌<◌, List, [], ◌∷◌, length, map, refl, sym, ap, ◌∙◌, arith}
+use Rattle.std.proofs.Common.{◌≡◌, ℕ, ◌<◌, [], ◌∷◌, length, map, refl, sym, ap, ◌∙◌, arith}
 use Rattle.std.proofs.lemmas.List.{length-map}
 use Rattle.bench_model.specs.Steps.{ticked, woken}
 use Rattle.bench_model.specs.Seek.{wake, sliced}

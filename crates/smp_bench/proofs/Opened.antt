@@ -1,8 +1,7 @@
 -- A session that was read is opened, unless it has too many steps.
-use Rattle.std.proofs.Common.{◌≡◌, ℕ, zero, suc, ◌+◌, ◌≤◌, Bool, true, false, List, [], ◌∷◌, length, nat_le, nat_lt, if◌then◌else◌, Result, Ok, Err, refl, ap, ◌∙◌, arith}
+use Rattle.std.proofs.Common.{◌≡◌, ℕ, suc, ◌+◌, true, List, [], ◌∷◌, length, nat_le, Result, Ok, refl, ap, ◌∙◌, arith}
 use Rattle.std.specs.Prelude.{All, IsTrue, Some}
 use Rattle.std.specs.Result.{result_map_both}
-use Rattle.std.proofs.lemmas.Bool.Decides.{nat_tests}
 use Rattle.bench_types.specs.declared.edit.TheConstants.{MOST_STEPS}
 use Rattle.bench_types.specs.declared.fault.Fault.{Fault}
 use Rattle.bench_types.specs.declared.header.Header.{Header}
@@ -11,9 +10,9 @@ use Rattle.bench_types.specs.declared.step.Step.{Step}
 use Rattle.bench_types.specs.Header.{header_check, is_header}
 use Rattle.bench_types.specs.Name.{is_within}
 use Rattle.bench_types.specs.Step.{settings_of, step_check, ◌>>◌}
-use Rattle.session_store.specs.declared.fault.OpenRefusal.TheVariants.{Bench, BadSpan, TooLong}
+use Rattle.session_store.specs.declared.fault.OpenRefusal.TheVariants.{Bench}
 use Rattle.session_store.specs.declared.store.TheConstants.{MOST_SPAN}
-use Rattle.session_store.specs.Opening.{at_no_step, steps_check, open_check}
+use Rattle.session_store.specs.Opening.{steps_check, open_check}
 
 -- no step is at fault
 steps_fit : (settings : Settings) (at : ℕ) (steps : List Step) → All (λ step. step_check settings step ≡ Ok tt) steps → steps_check settings at steps ≡ Ok tt

@@ -1,5 +1,5 @@
-use Rattle.std.proofs.Common.{◌≡◌, Result, Ok, Err, sym, ap, subst, ◌∙◌}
-use Rattle.std.specs.Prelude.{IfOk, IfErr}
+use Rattle.std.proofs.Common.{◌≡◌, Ok, sym, ap, subst}
+use Rattle.std.specs.Prelude.{IfOk}
 use Rattle.session_store.specs.Opening.{open_check}
 use Rattle.smp_bench.specs.Answer.{Output}
 use Rattle.smp_bench.proofs.Refused.{too_long_output}

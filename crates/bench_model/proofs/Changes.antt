@@ -14,7 +14,7 @@ use Rattle.bench_model.specs.Changes.{with_task, with_in_use, in_use_set}
 use Rattle.bench_model.specs.Table.{Stamps, Table, table_moves, stands_ready, is_ready, make_ready}
 use Rattle.bench_model.specs.Lists as seen
 use Rattle.bench_model.specs.Lists.{Lists, list_moves, lists_of, outranks, image}
-use Rattle.bench_model.specs.Sound.{IsBelow, IsSound}
+use Rattle.bench_model.specs.Sound.{IsBelow, IsConsistent}
 use Rattle.bench_model.proofs.Entries.{without_absent}
 use Rattle.bench_model.proofs.Filters.{All-filter_passes}
 use Rattle.bench_model.proofs.Ranks.{map-ranked, filter-ranked}
@@ -72,7 +72,7 @@ pub change_apart : (control : Control) (stamps : Stamps) (task : ℕ) (block : T
 change_apart control stamps task block kept =
     lists_of_by (with_task task block control) stamps ∙ ap (λ front. lists_by front stamps) (outranks_kept control task block kept) ∙ sym (lists_of_by control stamps)
 
-pub change_sound : (table : Table) (task : ℕ) (block : TaskControl) → IsSound table → IsBelow table.settings.priorities block → IsSound (record table { control = with_task task block table.control })
+pub change_sound : (table : Table) (task : ℕ) (block : TaskControl) → IsConsistent table → IsBelow table.settings.priorities block → IsConsistent (record table { control = with_task task block table.control })
 change_sound table task block sound low = record {
   sized = record {
     cores = sound.sized.cores;
@@ -112,7 +112,7 @@ unfolding lists_of
 has_ready control task stamps = refl
 
 -- a blocked task has no place that its priority in use decides
-blocked_apart : (table : Table) (task priority : ℕ) → IsSound table → task < table.settings.tasks → is_ready task table.orders ≡ false → lists_of (with_in_use task priority table.control) table.orders ≡ lists_of table.control table.orders
+blocked_apart : (table : Table) (task priority : ℕ) → IsConsistent table → task < table.settings.tasks → is_ready task table.orders ≡ false → lists_of (with_in_use task priority table.control) table.orders ≡ lists_of table.control table.orders
 unfolding lists_by lists_of
 blocked_apart table task priority sound low blocked =
     lists_of_by changed table.orders ∙ ap (λ ready. record (lists_of table.control table.orders) { ready = ready }) same ∙ sym (lists_of_by table.control table.orders)
@@ -129,7 +129,7 @@ blocked_apart table task priority sound low blocked =
     same : ranked (outranks changed) queue ≡ ranked (outranks table.control) queue
     same = sym (absent changed) ∙ others_stay table.control task _ queue ∙ absent table.control
 
-pub in_use_seen : (table : Table) (task priority : ℕ) → IsSound table → task < table.settings.tasks → image (in_use_set table_moves task priority table) ≡ in_use_set list_moves task priority (image table)
+pub in_use_seen : (table : Table) (task priority : ℕ) → IsConsistent table → task < table.settings.tasks → image (in_use_set table_moves task priority table) ≡ in_use_set list_moves task priority (image table)
 unfolding in_use_set
 in_use_seen table task priority sound low = at (is_ready task table.orders) refl (has task (lists_of table.control table.orders).ready) (is_ready_seen table.control table.orders task sound.stamped.given below)
   where
@@ -140,21 +140,21 @@ in_use_seen table task priority sound low = at (is_ready task table.orders) refl
     below = omega (arith, sound.sized.rows)
 
     at : (b : Bool) → is_ready task table.orders ≡ b → (d : Bool) → d ≡ is_ready task table.orders → image (record table { control = changed; orders = cond b (make_ready task table.orders) table.orders }) ≡ record (image table) { control = changed; orders = cond d (seen.make_ready changed task (lists_of table.control table.orders)) (lists_of table.control table.orders) }
-    at true is true same = same_state table.settings changed changed table.calls table.notes table.holders _ _ refl (make_ready_seen changed table.orders task sound.stamped.given below ∙ moved_last table.control changed task table.orders (others_stay table.control task _ (standing_so stands_ready table.orders)))
-    at false is false same = same_state table.settings changed changed table.calls table.notes table.holders _ _ refl (blocked_apart table task priority sound low is)
+    at true is true same = same_state table.settings changed changed table.calls table.notes table.holders table.hold _ _ refl (make_ready_seen changed table.orders task sound.stamped.given below ∙ moved_last table.control changed task table.orders (others_stay table.control task _ (standing_so stands_ready table.orders)))
+    at false is false same = same_state table.settings changed changed table.calls table.notes table.holders table.hold _ _ refl (blocked_apart table task priority sound low is)
     at true is false same = absurd (cc (is, same))
     at false is true same = absurd (cc (is, same))
 
-pub in_use_sound : (table : Table) (task priority : ℕ) → IsSound table → task < table.settings.tasks → priority < table.settings.priorities → IsSound (in_use_set table_moves task priority table)
+pub in_use_sound : (table : Table) (task priority : ℕ) → IsConsistent table → task < table.settings.tasks → priority < table.settings.priorities → IsConsistent (in_use_set table_moves task priority table)
 unfolding in_use_set
 in_use_sound table task priority sound low below = at (is_ready task table.orders)
   where
     changed : Table
     changed = record table { control = with_in_use task priority table.control }
 
-    still : IsSound changed
+    still : IsConsistent changed
     still = change_sound table task _ sound (below, (sound.priorities task low).1)
 
-    at : (b : Bool) → IsSound (record changed { orders = cond b (make_ready task changed.orders) changed.orders })
+    at : (b : Bool) → IsConsistent (record changed { orders = cond b (make_ready task changed.orders) changed.orders })
     at true = ready_sound changed task still low
     at false = still

@@ -1,5 +1,5 @@
 -- What a search finds in an ordered list is the best of all.
-use Rattle.std.proofs.Common.{◌≡◌, ℕ, zero, suc, ◌<◌, Bool, true, false, cond, not, eqb, ltb, leb, ◌&&◌, ◌||◌, List, [], ◌∷◌, ◌++◌, sym, arith, inl, inr}
+use Rattle.std.proofs.Common.{◌≡◌, ℕ, zero, suc, ◌<◌, Bool, true, false, cond, not, eqb, ltb, leb, ◌&&◌, ◌||◌, List, [], ◌∷◌, ◌++◌, refl, sym, arith, inl, inr}
 use Rattle.std.specs.Prelude.{◌⊎◌}
 use Rattle.std.specs.List.{filter, fold, find, list_all, AllByRecursion}
 use Rattle.std.proofs.lemmas.Bool.{cases_Bool}
@@ -26,6 +26,41 @@ module _ {X : Type 0} (goes_before : X → X → Bool) where
     | false ↦ IsOrdered-filter p xs ordered.1
   ]
 
+  pub IsOrdered-weaker : (other : X → X → Bool) (P : X → Type 0) → ((x y : X) → P x → P y → goes_before x y ≡ true → other x y ≡ true) → (xs : List X) → AllByRecursion P xs → IsOrdered goes_before xs → IsOrdered other xs
+  IsOrdered-weaker other P weaker [] all ordered = tt
+  IsOrdered-weaker other P weaker (x ∷ xs) all ordered =
+      (All-weaker (λ y. P y × (goes_before x y ≡ true)) (λ y. other x y ≡ true) (λ y h. weaker x y all.0 h.0 h.1) xs (All-both P (λ y. goes_before x y ≡ true) xs all.1 ordered.0), IsOrdered-weaker other P weaker xs all.1 ordered.1)
+
+-- Items in the order of a rank, and in one rank in another order.
+module _ {X : Type 0} (front order : X → X → Bool) where
+  abbrev pub ranked_order : X → X → Bool
+  ranked_order x y = not (front y x) || (front x y && order x y)
+
+  placed_ordered : IsRank front → (x : X) (done : List X) → IsOrdered ranked_order done → AllByRecursion (λ y. order y x ≡ true) done → IsOrdered ranked_order (placed front x done)
+  unfolding placed
+  placed_ordered rank x done ordered earlier =
+      let before = filter (λ y. front y x) done in
+      let after = filter (λ y. not (front y x)) done in
+      let high : AllByRecursion (λ y. (front y x ≡ true) × (order y x ≡ true)) before = All-both (λ y. front y x ≡ true) (λ y. order y x ≡ true) before (All-filter_passes (λ y. front y x) done) (All-filter (λ y. order y x ≡ true) (λ y. front y x) done earlier) in
+      let low = All-filter_passes (λ y. not (front y x)) done in
+      IsOrdered-append ranked_order before (x ∷ after) (IsOrdered-filter ranked_order (λ y. front y x) done ordered)
+      (All-weaker (λ y. not (front y x) ≡ true) (λ y. ranked_order x y ≡ true) (λ y h. grind (arith, h)) after low, IsOrdered-filter ranked_order (λ y. not (front y x)) done ordered)
+      (All-weaker (λ y. (front y x ≡ true) × (order y x ≡ true)) (λ y. AllByRecursion (λ z. ranked_order y z ≡ true) (x ∷ after)) (λ y h. (grind (arith, h.0, h.1), All-weaker (λ z. not (front z x) ≡ true) (λ z. ranked_order y z ≡ true) (λ z k. across rank x y z h.0 k (front z y) refl) after low)) before high)
+    where
+      across : IsRank front → (x y z : X) → front y x ≡ true → not (front z x) ≡ true → (b : Bool) → front z y ≡ b → ranked_order y z ≡ true
+      across rank x y z ahead behind true first = absurd (grind (arith, behind, rank.chain z y x first ahead))
+      across rank x y z ahead behind false last = grind (arith, last)
+
+  ordered-fold : IsRank front → (done xs : List X) → IsOrdered ranked_order done → AllByRecursion (λ x. AllByRecursion (λ y. order y x ≡ true) done) xs → IsOrdered order xs → IsOrdered ranked_order (fold (λ done x. placed front x done) done xs)
+  ordered-fold rank done [] ordered earlier rising = ordered
+  ordered-fold rank done (x ∷ xs) ordered earlier rising =
+      let next = All-weaker (λ z. AllByRecursion (λ y. order y z ≡ true) done × (order x z ≡ true)) (λ z. AllByRecursion (λ y. order y z ≡ true) (placed front x done)) (λ z h. All-placed front (λ y. order y z ≡ true) x done h.1 h.0) xs (All-both (λ z. AllByRecursion (λ y. order y z ≡ true) done) (λ z. order x z ≡ true) xs earlier.1 rising.0) in
+      ordered-fold rank (placed front x done) xs (placed_ordered rank x done ordered earlier.0) next rising.1
+
+  pub ranked_in_order : IsRank front → (xs : List X) → IsOrdered order xs → IsOrdered ranked_order (ranked front xs)
+  unfolding ranked
+  ranked_in_order rank xs rising = ordered-fold rank [] xs tt (All_each (λ x. AllByRecursion (λ y. order y x ≡ true) []) (λ x. tt) xs) rising
+
 -- the numbers by stamp are ordered by stamp
 pub by_stamp_early : (stamp : ℕ → ℕ) (test : ℕ → Bool) (ids : List ℕ) (bound : ℕ) → AllByRecursion (λ i. stamp i < bound) (by_stamp stamp test ids bound)
 unfolding by_stamp
@@ -36,6 +71,12 @@ by_stamp_early stamp test ids (suc b) =
     (All-weaker (λ i. stamp i < b) (λ i. stamp i < suc b) (λ i h. omega arith) (by_stamp stamp test ids b) (by_stamp_early stamp test ids b))
     (All-weaker (λ i. (test i && eqb (stamp i) b) ≡ true) (λ i. stamp i < suc b) (λ i h. grind (arith, nat_tests, h)) last (All-filter_passes (λ i. test i && eqb (stamp i) b) ids))
 
+-- those of one stamp
+pub stamped_so : (stamp : ℕ → ℕ) (test : ℕ → Bool) (b : ℕ) (ids : List ℕ) → AllByRecursion (λ i. stamp i ≡ b) (filter (λ i. test i && eqb (stamp i) b) ids)
+stamped_so stamp test b ids =
+    let last = filter (λ i. test i && eqb (stamp i) b) ids in
+    All-weaker (λ i. (test i && eqb (stamp i) b) ≡ true) (λ i. stamp i ≡ b) (λ i h. grind (arith, nat_tests, h)) last (All-filter_passes (λ i. test i && eqb (stamp i) b) ids)
+
 abbrev stamp_order : (ℕ → ℕ) → ℕ → ℕ → Bool
 stamp_order stamp i j = leb (stamp i) (stamp j)
 
@@ -43,14 +84,18 @@ ordered_at_once : (stamp : ℕ → ℕ) (b : ℕ) (ids : List ℕ) → AllByRecu
 ordered_at_once stamp b [] all = tt
 ordered_at_once stamp b (i ∷ ids) all = (All-weaker (λ j. stamp j ≡ b) (λ j. leb (stamp i) (stamp j) ≡ true) (λ j h. grind (arith, nat_tests, h, all.0)) ids all.1, ordered_at_once stamp b ids all.1)
 
-pub by_stamp_ordered : (stamp : ℕ → ℕ) (test : ℕ → Bool) (ids : List ℕ) (bound : ℕ) → IsOrdered (stamp_order stamp) (by_stamp stamp test ids bound)
+-- an order that goes by stamps, and is one among numbers of one stamp, is one of the numbers by stamp
+pub by_stamp_in_order : (order : ℕ → ℕ → Bool) (stamp : ℕ → ℕ) (test : ℕ → Bool) (ids : List ℕ) → ((i j : ℕ) → stamp i < stamp j → order i j ≡ true) → ((b : ℕ) → IsOrdered order (filter (λ i. test i && eqb (stamp i) b) ids)) → (bound : ℕ) → IsOrdered order (by_stamp stamp test ids bound)
 unfolding by_stamp
-by_stamp_ordered stamp test ids zero = tt
-by_stamp_ordered stamp test ids (suc b) =
+by_stamp_in_order order stamp test ids rises at_once zero = tt
+by_stamp_in_order order stamp test ids rises at_once (suc b) =
     let last = filter (λ i. test i && eqb (stamp i) b) ids in
-    let at : AllByRecursion (λ i. stamp i ≡ b) last = All-weaker (λ i. (test i && eqb (stamp i) b) ≡ true) (λ i. stamp i ≡ b) (λ i h. grind (arith, nat_tests, h)) last (All-filter_passes (λ i. test i && eqb (stamp i) b) ids) in
-    IsOrdered-append (stamp_order stamp) (by_stamp stamp test ids b) last (by_stamp_ordered stamp test ids b) (ordered_at_once stamp b last at)
-    (All-weaker (λ i. stamp i < b) (λ i. AllByRecursion (λ j. leb (stamp i) (stamp j) ≡ true) last) (λ i h. All-weaker (λ j. stamp j ≡ b) (λ j. leb (stamp i) (stamp j) ≡ true) (λ j e. grind (arith, nat_tests, h, e)) last at) (by_stamp stamp test ids b) (by_stamp_early stamp test ids b))
+    IsOrdered-append order (by_stamp stamp test ids b) last (by_stamp_in_order order stamp test ids rises at_once b) (at_once b)
+    (All-weaker (λ i. stamp i < b) (λ i. AllByRecursion (λ j. order i j ≡ true) last) (λ i h. All-weaker (λ j. stamp j ≡ b) (λ j. order i j ≡ true) (λ j e. rises i j (omega (arith, h, e))) last (stamped_so stamp test b ids)) (by_stamp stamp test ids b) (by_stamp_early stamp test ids b))
+
+pub by_stamp_ordered : (stamp : ℕ → ℕ) (test : ℕ → Bool) (ids : List ℕ) (bound : ℕ) → IsOrdered (stamp_order stamp) (by_stamp stamp test ids bound)
+by_stamp_ordered stamp test ids bound =
+    by_stamp_in_order (stamp_order stamp) stamp test ids (λ i j h. grind (arith, nat_tests, h)) (λ b. ordered_at_once stamp b (filter (λ i. test i && eqb (stamp i) b) ids) (stamped_so stamp test b ids)) bound
 
 -- Numbers of a greater rank before those of a smaller, and in one rank by stamp.
 module _ (rank stamp : ℕ → ℕ) where
@@ -63,26 +108,10 @@ module _ (rank stamp : ℕ → ℕ) where
   pub rank_front-IsRank : IsRank rank_front
   rank_front-IsRank = record { total = λ a b h. grind (arith, nat_tests, h); chain = λ a b c h k. grind (arith, nat_tests, h, k) }
 
-  placed_ordered : (x : ℕ) (done : List ℕ) → IsOrdered rank_order done → AllByRecursion (λ y. leb (stamp y) (stamp x) ≡ true) done → IsOrdered rank_order (placed rank_front x done)
-  unfolding placed
-  placed_ordered x done ordered earlier =
-      let before = filter (λ y. rank_front y x) done in
-      let after = filter (λ y. not (rank_front y x)) done in
-      let high : AllByRecursion (λ y. (rank_front y x ≡ true) × (leb (stamp y) (stamp x) ≡ true)) before = All-both (λ y. rank_front y x ≡ true) (λ y. leb (stamp y) (stamp x) ≡ true) before (All-filter_passes (λ y. rank_front y x) done) (All-filter (λ y. leb (stamp y) (stamp x) ≡ true) (λ y. rank_front y x) done earlier) in
-      let low = All-filter_passes (λ y. not (rank_front y x)) done in
-      IsOrdered-append rank_order before (x ∷ after) (IsOrdered-filter rank_order (λ y. rank_front y x) done ordered)
-      (All-weaker (λ y. not (rank_front y x) ≡ true) (λ y. rank_order x y ≡ true) (λ y h. grind (arith, nat_tests, h)) after low, IsOrdered-filter rank_order (λ y. not (rank_front y x)) done ordered)
-      (All-weaker (λ y. (rank_front y x ≡ true) × (leb (stamp y) (stamp x) ≡ true)) (λ y. AllByRecursion (λ z. rank_order y z ≡ true) (x ∷ after)) (λ y h. (grind (arith, nat_tests, h.0, h.1), All-weaker (λ z. not (rank_front z x) ≡ true) (λ z. rank_order y z ≡ true) (λ z k. grind (arith, nat_tests, h.0, k)) after low)) before high)
-
-  ordered-fold : (done xs : List ℕ) → IsOrdered rank_order done → AllByRecursion (λ x. AllByRecursion (λ y. leb (stamp y) (stamp x) ≡ true) done) xs → IsOrdered (stamp_order stamp) xs → IsOrdered rank_order (fold (λ done x. placed rank_front x done) done xs)
-  ordered-fold done [] ordered earlier rising = ordered
-  ordered-fold done (x ∷ xs) ordered earlier rising =
-      let next = All-weaker (λ z. AllByRecursion (λ y. leb (stamp y) (stamp z) ≡ true) done × (leb (stamp x) (stamp z) ≡ true)) (λ z. AllByRecursion (λ y. leb (stamp y) (stamp z) ≡ true) (placed rank_front x done)) (λ z h. All-placed rank_front (λ y. leb (stamp y) (stamp z) ≡ true) x done h.1 h.0) xs (All-both (λ z. AllByRecursion (λ y. leb (stamp y) (stamp z) ≡ true) done) (λ z. leb (stamp x) (stamp z) ≡ true) xs earlier.1 rising.0) in
-      ordered-fold (placed rank_front x done) xs (placed_ordered x done ordered earlier.0) next rising.1
-
   pub ranked_ordered : (xs : List ℕ) → IsOrdered (stamp_order stamp) xs → IsOrdered rank_order (ranked rank_front xs)
-  unfolding ranked
-  ranked_ordered xs rising = ordered-fold [] xs tt (All_each (λ x. AllByRecursion (λ y. leb (stamp y) (stamp x) ≡ true) []) (λ x. tt) xs) rising
+  ranked_ordered xs rising =
+      IsOrdered-weaker (ranked_order rank_front (stamp_order stamp)) rank_order (λ _. Unit {0}) (λ i j _ _ h. grind (arith, nat_tests, h))
+      (ranked rank_front xs) (All_each (λ _. Unit {0}) (λ _. tt) (ranked rank_front xs)) (ranked_in_order rank_front (stamp_order stamp) rank_front-IsRank xs rising)
 
   leads_at : (test : ℕ → Bool) (x : ℕ) (xs : List ℕ) → AllByRecursion (λ y. rank_order x y ≡ true) xs → (j : ℕ) → has j (x ∷ xs) ≡ test j → (not (test j) || rank_order x j) ≡ true
   leads_at test x xs before j same = at (cases_Bool (eqb x j)) (cases_Bool (has j xs))

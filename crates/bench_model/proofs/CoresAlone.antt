@@ -15,7 +15,7 @@ use Rattle.bench_model.specs.SeekLaws.{sought}
 use Rattle.bench_model.specs.Changes.{with_in_use, in_use_set}
 use Rattle.bench_model.specs.Cores.{cores_of, alone, on_cores}
 use Rattle.bench_model.specs.CoresLaws.{cores_seen}
-use Rattle.bench_model.specs.Sound.{IsStamped, IsSound}
+use Rattle.bench_model.specs.Sound.{IsStamped, IsConsistent}
 use Rattle.bench_model.proofs.Changes.{in_use_seen}
 use Rattle.bench_model.proofs.SeenMoves.{delay_seen}
 use Rattle.bench_model.proofs.Mutexes.{inherited_seen, lowered_seen}
@@ -85,13 +85,13 @@ seek_on table acting task among = ap cores_of (seek_seen table acting task among
 pub wake_on : (table : Table) (acting task : ℕ) → IsStamped table.orders → task < length table.orders.rows → cores_seen (wake table_moves acting task table) ≡ on_cores (wake list_moves acting task) (cores_seen table)
 wake_on table acting task stamped below = ap cores_of (wake_seen table acting task stamped.given below) ∙ wake_alone acting task (image table)
 
-pub switch_on : (table : Table) (core : ℕ) → IsSound table → core < table.settings.cores → cores_seen (switched_and_sought table_moves core table) ≡ on_cores (switched_and_sought list_moves core) (cores_seen table)
+pub switch_on : (table : Table) (core : ℕ) → IsConsistent table → core < table.settings.cores → cores_seen (switched_and_sought table_moves core table) ≡ on_cores (switched_and_sought list_moves core) (cores_seen table)
 switch_on table core sound low = ap cores_of (sought_switch_seen table core sound low) ∙ switch_alone core (image table)
 
-pub slices_on : (table : Table) → IsSound table → cores_seen (sliced table_moves table) ≡ on_cores (sliced list_moves) (cores_seen table)
+pub slices_on : (table : Table) → IsConsistent table → cores_seen (sliced table_moves table) ≡ on_cores (sliced list_moves) (cores_seen table)
 slices_on table sound = ap cores_of (sliced_seen table sound) ∙ sliced_alone (image table)
 
-pub in_use_on : (table : Table) (task priority : ℕ) → IsSound table → task < table.settings.tasks → cores_seen (in_use_set table_moves task priority table) ≡ on_cores (in_use_set list_moves task priority) (cores_seen table)
+pub in_use_on : (table : Table) (task priority : ℕ) → IsConsistent table → task < table.settings.tasks → cores_seen (in_use_set table_moves task priority table) ≡ on_cores (in_use_set list_moves task priority) (cores_seen table)
 in_use_on table task priority sound low = ap cores_of (in_use_seen table task priority sound low) ∙ in_use_alone task priority (image table)
 
 pub ask_on : (table : Table) (acting core : ℕ) → cores_seen (record table { control = ask acting core table.control }) ≡ record (cores_seen table) { control = ask acting core table.control }
@@ -102,7 +102,7 @@ delay_ready : (task : ℕ) (ticks : Option ℕ) (wait : Option MutexWait) (lists
 unfolding seen.delay
 delay_ready task ticks wait lists = refl
 
-pub wait_on : (table : Table) (task : ℕ) (ticks : Option ℕ) (wait : Option MutexWait) → IsSound table → task < table.settings.tasks → is_ready task table.orders ≡ true → cores_seen (record table { orders = delay task ticks wait table.orders }) ≡ record (cores_seen table) { ready = without task (cores_seen table).ready }
+pub wait_on : (table : Table) (task : ℕ) (ticks : Option ℕ) (wait : Option MutexWait) → IsConsistent table → task < table.settings.tasks → is_ready task table.orders ≡ true → cores_seen (record table { orders = delay task ticks wait table.orders }) ≡ record (cores_seen table) { ready = without task (cores_seen table).ready }
 wait_on table task ticks wait sound low ready =
     let below : task < length table.orders.rows = omega (arith, sound.sized.rows) in
     ap (λ (lists : Lists). record (cores_seen table) { ready = lists.ready }) (delay_seen table.control table.orders task ticks wait sound.stamped.given below ready)
@@ -144,8 +144,8 @@ lowered_alone acting task priority view = at (eqb (task_at view.control task).in
     at false true = refl
     at false false = refl
 
-pub inherited_on : (table : Table) (acting holder priority : ℕ) → IsSound table → holder < table.settings.tasks → cores_seen (inherited table_moves acting holder priority table) ≡ on_cores (inherited list_moves acting holder priority) (cores_seen table)
+pub inherited_on : (table : Table) (acting holder priority : ℕ) → IsConsistent table → holder < table.settings.tasks → cores_seen (inherited table_moves acting holder priority table) ≡ on_cores (inherited list_moves acting holder priority) (cores_seen table)
 inherited_on table acting holder priority sound low = ap cores_of (inherited_seen table acting holder priority sound low) ∙ inherited_alone acting holder priority (image table)
 
-pub lowered_on : (table : Table) (acting task priority : ℕ) → IsSound table → task < table.settings.tasks → cores_seen (lowered table_moves acting task priority table) ≡ on_cores (lowered list_moves acting task priority) (cores_seen table)
+pub lowered_on : (table : Table) (acting task priority : ℕ) → IsConsistent table → task < table.settings.tasks → cores_seen (lowered table_moves acting task priority table) ≡ on_cores (lowered list_moves acting task priority) (cores_seen table)
 lowered_on table acting task priority sound low = ap cores_of (lowered_seen table acting task priority sound low) ∙ lowered_alone acting task priority (image table)

@@ -1,15 +1,16 @@
 -- The entries of the tasks whose standing passes a test, in the order of a rank: what one more standing does to them.
-use Rattle.std.proofs.Common.{◌≡◌, ℕ, ◌<◌, Bool, true, false, cond, not, eqb, List, [], ◌∷◌, ◌++◌, length, map, refl, sym, ap, ◌∙◌, arith}
+use Rattle.std.proofs.Common.{◌≡◌, ℕ, ◌<◌, Bool, true, false, cond, not, eqb, List, [], ◌∷◌, ◌++◌, length, map, Some, None, refl, sym, ap, ◌∙◌, arith}
 use Rattle.std.proofs.Math.Path.{fun_ext}
-use Rattle.std.specs.List.{filter}
+use Rattle.std.specs.List.{filter, find, list_any}
 use Rattle.std.proofs.lemmas.List.{append-nil, map-append}
+use Rattle.std.proofs.lemmas.Bool.{eqb-true}
 use Rattle.std.proofs.lemmas.Bool.Decides.{nat_tests}
 use Rattle.bench_model.specs.declared.row.Standing.{Standing}
 use Rattle.bench_model.specs.declared.row.TaskRow.{TaskRow}
 use Rattle.bench_model.specs.Search.{placed, ranked, without, has}
 use Rattle.bench_model.specs.Table.{Stamps, row_at, restamped}
-use Rattle.bench_model.proofs.Filters.{filter-map, map_agrees, All-filter_passes, All-weaker}
-use Rattle.bench_model.proofs.Ranks.{IsRank, ranked-push, filter-ranked}
+use Rattle.bench_model.proofs.Filters.{filter-map, map_agrees, list_any-map, find_sole, All-map, All_each, All-filter_passes, All-weaker}
+use Rattle.bench_model.proofs.Ranks.{IsRank, ranked-push, filter-ranked, list_any-ranked, All-ranked}
 use Rattle.bench_model.proofs.Restamps.{IsGiven, standing_so, has-standing_so, standing_so_moved, row_same, row_other}
 
 pub without_absent : (n : ℕ) (ns : List ℕ) → has n ns ≡ false → without n ns ≡ ns
@@ -22,6 +23,19 @@ module _ {E : Type 0} (front : E → E → Bool) (test : Standing → Bool) (ent
 
   abbrev pub entries : Stamps → List E
   entries stamps = ranked front (map (entry_at stamps) (standing_so test stamps))
+
+  -- the entry of a task is what a search for the task finds, where its standing passes the test
+  pub entry_found : (task_of : E → ℕ) → ((i : ℕ) (s : Standing) → task_of (entry i s) ≡ i) → (stamps : Stamps) (task : ℕ) → IsGiven stamps → task < length stamps.rows →
+      find (λ e. eqb (task_of e) task) (entries stamps) ≡ cond (test (row_at stamps task).standing) (Some (entry_at stamps task)) None
+  entry_found task_of named stamps task given below =
+      let ids = standing_so test stamps in
+      let is_its = λ (e : E). eqb (task_of e) task in
+      let named_so : (λ i. is_its (entry_at stamps i)) ≡ (λ i. eqb i task) = fun_ext (λ i. ap (λ t. eqb t task) (named i (row_at stamps i).standing)) in
+      let sole = All-map (λ e. is_its e ≡ true → e ≡ entry_at stamps task) (entry_at stamps) ids
+      (All_each (λ i. is_its (entry_at stamps i) ≡ true → entry_at stamps i ≡ entry_at stamps task) (λ i is. ap (entry_at stamps) (sym (named i (row_at stamps i).standing) ∙ eqb-true (task_of (entry_at stamps i)) task is)) ids) in
+      find_sole is_its (entry_at stamps task) (entries stamps) (All-ranked front (λ e. is_its e ≡ true → e ≡ entry_at stamps task) (map (entry_at stamps) ids) sole)
+      ∙ ap (λ b. cond b (Some (entry_at stamps task)) None)
+      (list_any-ranked front is_its (map (entry_at stamps) ids) ∙ list_any-map is_its (entry_at stamps) ids ∙ ap (λ p. list_any p ids) named_so ∙ has-standing_so test stamps task given below)
 
   module _ (stamps : Stamps) (task : ℕ) (standing : Standing) (below : task < length stamps.rows) where
     abbrev moved : Stamps

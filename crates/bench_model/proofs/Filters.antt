@@ -102,6 +102,10 @@ module _ {X Y : Type 0} where
   filter-map p f [] = refl
   filter-map p f (x ∷ xs) = grind (arith, filter-map p f xs)
 
+  pub list_any-map : (p : Y → Bool) (f : X → Y) (xs : List X) → list_any p (map f xs) ≡ list_any (λ x. p (f x)) xs
+  list_any-map p f [] = refl
+  list_any-map p f (x ∷ xs) = ap (λ b. p (f x) || b) (list_any-map p f xs)
+
   pub All-map : (P : Y → Type 0) (f : X → Y) (xs : List X) → AllByRecursion (λ x. P (f x)) xs → AllByRecursion P (map f xs)
   All-map P f [] all = tt
   All-map P f (x ∷ xs) all = (all.0, All-map P f xs all.1)

@@ -20,7 +20,7 @@ use Rattle.bench_model.proofs.Restamps.{standing_so}
 use Rattle.bench_model.proofs.SeenMoves.{queues, waits_first-IsRank}
 use Rattle.bench_model.proofs.Stamped.{numbers_below, numbers_have, has-by_stamp, All-by_stamp, All-by_stamp_passes, filter-by_stamp, by_stamp_agrees}
 
-abbrev no_wait : MutexWait
+abbrev pub no_wait : MutexWait
 no_wait = record { mutex = 0; priority = 0 }
 
 abbrev is_at : ℕ → Option MutexWait → Bool

@@ -1,3 +1,4 @@
+pub mod Alike
 pub mod Awaiting
 pub mod Bests
 pub mod Changes
@@ -8,14 +9,19 @@ pub mod Entries
 pub mod Examples
 pub mod Filters
 pub mod FirstWaiters
+pub mod HoldExamples
+pub mod Holds
 pub mod Looks
 pub mod MutexExamples
 pub mod Mutexes
 pub mod NoteExamples
+pub mod Nears
 pub mod Notifying
+pub mod Orders
 pub mod Ranks
 pub mod Restamps
 pub mod SeekExamples
+pub mod SameOrders
 pub mod Seeks
 pub mod SeenMoves
 pub mod SeenSteps
@@ -32,4 +38,8 @@ pub mod Stamped
 pub mod StartFlags
 pub mod Starts
 pub mod Steps
+pub mod Tallies
+pub mod TallyExamples
 pub mod Ticks
+pub mod Undisturbed
+pub mod Untils

@@ -21,7 +21,7 @@ use Rattle.bench_model.specs.Seek.{seek, wake}
 use Rattle.bench_model.specs.SeekLaws.{sought}
 use Rattle.bench_model.specs.SetLaws.{on_control}
 use Rattle.bench_model.specs.Sets.{ask_its_core}
-use Rattle.bench_model.specs.Sound.{IsCaller, IsSound, IsWait}
+use Rattle.bench_model.specs.Sound.{IsCaller, IsConsistent, IsWait}
 use Rattle.bench_model.specs.State.{State, holder_at, blocked}
 use Rattle.bench_model.specs.Table.{Stamps, Table, table_moves, is_ready, make_ready, deadline_at, deadline_left, forget_deadline, first_waiter}
 use Rattle.bench_model.proofs.Awaiting.{waits_on, completed_seen, completed_sound}
@@ -41,7 +41,7 @@ unfolding taken
 taken_seen table task mutex = refl
 
 -- a mutex that a task holds from now on, or none
-given_sound : (table : Table) (mutex : ℕ) (given : Option ℕ) → IsSound table → mutex < table.settings.mutexes → ((task : ℕ) → given ≡ Some task → task < table.settings.tasks) → IsSound (record table { holders = slice_set table.holders mutex given })
+given_sound : (table : Table) (mutex : ℕ) (given : Option ℕ) → IsConsistent table → mutex < table.settings.mutexes → ((task : ℕ) → given ≡ Some task → task < table.settings.tasks) → IsConsistent (record table { holders = slice_set table.holders mutex given })
 given_sound table mutex given sound low one = record {
   sized = record {
     cores = sound.sized.cores;
@@ -66,13 +66,13 @@ given_sound table mutex given sound low one = record {
 some_same : (task other : ℕ) → Some task ≡ Some other → other ≡ task
 some_same task other same = cc (same)
 
-pub taken_sound : (table : Table) (task mutex : ℕ) → IsSound table → task < table.settings.tasks → mutex < table.settings.mutexes → IsSound (taken task mutex table)
+pub taken_sound : (table : Table) (task mutex : ℕ) → IsConsistent table → task < table.settings.tasks → mutex < table.settings.mutexes → IsConsistent (taken task mutex table)
 unfolding taken
 taken_sound table task mutex sound low below = given_sound table mutex (Some task) sound below (λ other same. subst (λ i. i < table.settings.tasks) (sym (some_same task other same)) low)
 
 -- ---- inheriting
 
-module _ (table : Table) (acting holder priority : ℕ) (sound : IsSound table) (low : holder < table.settings.tasks) where
+module _ (table : Table) (acting holder priority : ℕ) (sound : IsConsistent table) (low : holder < table.settings.tasks) where
   abbrev later : Table
   later = in_use_set table_moves holder priority table
 
@@ -95,7 +95,7 @@ module _ (table : Table) (acting holder priority : ℕ) (sound : IsSound table) 
       refl
       ∙ ap (λ ready. cond is_below (cond ready (sought_for later_view) later_view) (image table)) (ready_seen table holder sound low)
 
-  pub inherited_sound : priority < table.settings.priorities → IsSound (inherited table_moves acting holder priority table)
+  pub inherited_sound : priority < table.settings.priorities → IsConsistent (inherited table_moves acting holder priority table)
   unfolding inherited
   inherited_sound below =
       let raised = in_use_sound table holder priority sound low below in
@@ -118,7 +118,7 @@ either_kept : (b : Bool) (table one other : Table) → IsKept table one → IsKe
 either_kept true table one other first second = first
 either_kept false table one other first second = second
 
-in_use_kept : (table : Table) (task priority : ℕ) → IsSound table → task < table.settings.tasks → IsKept table (in_use_set table_moves task priority table)
+in_use_kept : (table : Table) (task priority : ℕ) → IsConsistent table → task < table.settings.tasks → IsKept table (in_use_set table_moves task priority table)
 unfolding in_use_set
 in_use_kept table task priority sound low = record {
   cores = refl;
@@ -135,7 +135,7 @@ sought_kept table other acting task among kept =
     let more = seek_more acting task among other.control in
     record { cores = more.cores ∙ kept.cores; currents = λ core. more.currents core ∙ kept.currents core; ready = kept.ready }
 
-inherited_kept : (table : Table) (acting holder priority : ℕ) → IsSound table → holder < table.settings.tasks → IsKept table (inherited table_moves acting holder priority table)
+inherited_kept : (table : Table) (acting holder priority : ℕ) → IsConsistent table → holder < table.settings.tasks → IsKept table (inherited table_moves acting holder priority table)
 unfolding inherited
 inherited_kept table acting holder priority sound low =
     let later = in_use_set table_moves holder priority table in
@@ -162,7 +162,7 @@ inherited_settings table acting holder priority = at (ltb (task_at table.control
 abbrev outcome : Reply → View → Reply × View
 outcome reply view = (reply, view)
 
-module _ (table : Table) (core task mutex holder : ℕ) (ticks : Option ℕ) (sound : IsSound table) (place : IsCaller table core task) (low : holder < table.settings.tasks) where
+module _ (table : Table) (core task mutex holder : ℕ) (ticks : Option ℕ) (sound : IsConsistent table) (place : IsCaller table core task) (low : holder < table.settings.tasks) where
   abbrev mine : ℕ
   mine = (task_at table.control task).in_use
 
@@ -178,7 +178,7 @@ module _ (table : Table) (core task mutex holder : ℕ) (ticks : Option ℕ) (so
   caller_low : task < table.settings.tasks
   caller_low = omega (arith, sound.sized.rows, place.2)
 
-  raised_sound : IsSound raised
+  raised_sound : IsConsistent raised
   raised_sound = inherited_sound table core holder mine sound low (sound.priorities task caller_low).0
 
   raised_place : IsCaller raised core task
@@ -192,7 +192,7 @@ module _ (table : Table) (core task mutex holder : ℕ) (ticks : Option ℕ) (so
   unfolding waited_at
   waited_seen = blocked_seen core task marked ticks wait raised raised_sound.stamped.given raised_place.2 raised_place.3 ∙ ap (blocked list_moves core task marked ticks wait) (inherited_seen table core holder mine sound low)
 
-  pub waited_sound : length table.control.cores ≤ task → IsWait ticks → mutex < table.settings.mutexes → IsSound (waited_at table_moves core task mutex holder ticks table)
+  pub waited_sound : length table.control.cores ≤ task → IsWait ticks → mutex < table.settings.mutexes → IsConsistent (waited_at table_moves core task mutex holder ticks table)
   unfolding waited_at
   waited_sound user fits below =
       let same = sym (inherited_settings table core holder mine) in
@@ -202,7 +202,7 @@ module _ (table : Table) (core task mutex holder : ℕ) (ticks : Option ℕ) (so
 
 -- ---- taking
 
-module _ (table : Table) (core task mutex ticks : ℕ) (sound : IsSound table) (place : IsCaller table core task) where
+module _ (table : Table) (core task mutex ticks : ℕ) (sound : IsConsistent table) (place : IsCaller table core task) where
   pub take_seen : seen_of (mutex_take table_moves core task mutex ticks table) ≡ mutex_take list_moves core task mutex ticks (image table)
   unfolding mutex_take
   take_seen = from (holder_at table.holders mutex) refl
@@ -215,15 +215,15 @@ module _ (table : Table) (core task mutex ticks : ℕ) (sound : IsSound table) (
       from None free = ap (outcome (Flag true)) (taken_seen table task mutex)
       from (Some holder) held = either (eqb ticks 0) holder (sound.mutexes.held_by_tasks mutex holder held)
 
-  pub take_sound : length table.control.cores ≤ task → ticks < 2 ^ 32 → mutex < table.settings.mutexes → IsSound (mutex_take table_moves core task mutex ticks table).1
+  pub take_sound : length table.control.cores ≤ task → ticks < 2 ^ 32 → mutex < table.settings.mutexes → IsConsistent (mutex_take table_moves core task mutex ticks table).1
   unfolding mutex_take
   take_sound user few below = from (holder_at table.holders mutex) refl
     where
-      either : (b : Bool) → eqb ticks 0 ≡ b → (holder : ℕ) → holder < table.settings.tasks → IsSound (cond {A = Reply × Table} b (Flag false, table) (Blocked, waited_at table_moves core task mutex holder (awaited_for ticks) table)).1
+      either : (b : Bool) → eqb ticks 0 ≡ b → (holder : ℕ) → holder < table.settings.tasks → IsConsistent (cond {A = Reply × Table} b (Flag false, table) (Blocked, waited_at table_moves core task mutex holder (awaited_for ticks) table)).1
       either true none holder low = sound
       either false some holder low = waited_sound table core task mutex holder (awaited_for ticks) sound place low user (waits_on ticks (grind (arith, nat_tests, some)) few) below
 
-      from : (held : Option ℕ) → holder_at table.holders mutex ≡ held → IsSound (option_map_or {U = Reply × Table} (λ holder. cond (eqb ticks 0) (Flag false, table) (Blocked, waited_at table_moves core task mutex holder (awaited_for ticks) table)) held (Flag true, taken task mutex table)).1
+      from : (held : Option ℕ) → holder_at table.holders mutex ≡ held → IsConsistent (option_map_or {U = Reply × Table} (λ holder. cond (eqb ticks 0) (Flag false, table) (Blocked, waited_at table_moves core task mutex holder (awaited_for ticks) table)) held (Flag true, taken task mutex table)).1
       from None free = taken_sound table task mutex sound (omega (arith, sound.sized.rows, place.2)) below
       from (Some holder) held = either (eqb ticks 0) refl holder (sound.mutexes.held_by_tasks mutex holder held)
 
@@ -237,7 +237,7 @@ unfolding forget_deadline
 forgotten_length stamps task = length-set stamps.deadlines task None
 
 -- a table with a forgotten deadline is otherwise as it was
-forgotten_sound : (table : Table) (task : ℕ) → IsSound table → task < table.settings.tasks → IsSound (ended table_moves task table)
+forgotten_sound : (table : Table) (task : ℕ) → IsConsistent table → task < table.settings.tasks → IsConsistent (ended table_moves task table)
 unfolding forget_deadline
 forgotten_sound table task sound low = record {
   sized = record {
@@ -267,7 +267,7 @@ forgotten_sound table task sound low = record {
 
 -- ---- disinheriting
 
-module _ (table : Table) (acting task priority : ℕ) (sound : IsSound table) (low : task < table.settings.tasks) where
+module _ (table : Table) (acting task priority : ℕ) (sound : IsConsistent table) (low : task < table.settings.tasks) where
   pub lowered_seen : image (lowered table_moves acting task priority table) ≡ lowered list_moves acting task priority (image table)
   unfolding lowered
   lowered_seen =
@@ -276,14 +276,14 @@ module _ (table : Table) (acting task priority : ℕ) (sound : IsSound table) (l
       refl
       (its_core_seen now acting task ∙ ap (on_control (ask_its_core acting task)) (in_use_seen table task priority sound low))
 
-  pub lowered_sound : priority < table.settings.priorities → IsSound (lowered table_moves acting task priority table)
+  pub lowered_sound : priority < table.settings.priorities → IsConsistent (lowered table_moves acting task priority table)
   unfolding lowered
   lowered_sound below =
       let now = in_use_set table_moves task priority table in
       either_sound (eqb (task_at table.control task).in_use priority) table (on_control (ask_its_core acting task) now) sound
       (its_core_sound now acting task (in_use_sound table task priority sound low below))
 
-owed_seen : (table : Table) (task mutex : ℕ) → IsSound table → owed list_moves task mutex (image table) ≡ owed table_moves task mutex table
+owed_seen : (table : Table) (task mutex : ℕ) → IsConsistent table → owed list_moves task mutex (image table) ≡ owed table_moves task mutex table
 owed_seen table task mutex sound = ap (λ first. owed_to first (task_at table.control task).base) (first_waiter_seen mutex table.orders table.control sound.stamped)
 
 greater_below : (base rank bound : ℕ) → base < bound → rank < bound → cond (ltb base rank) rank base < bound
@@ -293,7 +293,7 @@ greater_below base rank bound low high = at (ltb base rank)
     at true = high
     at false = low
 
-owed_below : (table : Table) (task mutex : ℕ) → IsSound table → task < table.settings.tasks → owed table_moves task mutex table < table.settings.priorities
+owed_below : (table : Table) (task mutex : ℕ) → IsConsistent table → task < table.settings.tasks → owed table_moves task mutex table < table.settings.priorities
 owed_below table task mutex sound low = from (first_waiter mutex table.orders) refl
   where
     base : ℕ
@@ -305,7 +305,7 @@ owed_below table task mutex sound low = from (first_waiter mutex table.orders) r
         let waits = first_waiter_waits mutex table.orders waiter some in
         greater_below base waiter.wait.priority table.settings.priorities (sound.priorities task low).1 (sound.mutexes.waits waiter.task waiter.wait waits.0 waits.1).1
 
-module _ (table : Table) (acting task mutex : ℕ) (mark : Bool) (holder : ℕ) (sound : IsSound table) (low : holder < table.settings.tasks) where
+module _ (table : Table) (acting task mutex : ℕ) (mark : Bool) (holder : ℕ) (sound : IsConsistent table) (low : holder < table.settings.tasks) where
   abbrev gives_back : Bool
   gives_back = mark && not (eqb holder task) && eqb (held_by table.holders holder) 1
 
@@ -317,7 +317,7 @@ module _ (table : Table) (acting task mutex : ℕ) (mark : Bool) (holder : ℕ) 
       (lowered_seen table acting holder (owed table_moves holder mutex table) sound low) refl
       ∙ ap (λ rank. cond gives_back (lowered list_moves acting holder rank (image table)) (image table)) (sym (owed_seen table holder mutex sound))
 
-  pub timed_out_sound : IsSound (timed_out table_moves acting task mutex mark holder table)
+  pub timed_out_sound : IsConsistent (timed_out table_moves acting task mutex mark holder table)
   unfolding timed_out
   timed_out_sound =
       either_sound gives_back (lowered table_moves acting holder (owed table_moves holder mutex table) table) table
@@ -333,18 +333,18 @@ goes_on : (tick : ℕ) (deadline : Option ℕ) → ((at : ℕ) → deadline ≡ 
 goes_on tick None near on = tt
 goes_on tick (Some at) near on = (grind (arith, nat_tests, on), omega (arith, near at refl))
 
-still_waits : (table : Table) (task : ℕ) → IsSound table → is_over (deadline_left task table.orders) ≡ false → IsWait (deadline_left task table.orders)
+still_waits : (table : Table) (task : ℕ) → IsConsistent table → is_over (deadline_left task table.orders) ≡ false → IsWait (deadline_left task table.orders)
 unfolding deadline_left
 still_waits table task sound on = goes_on table.orders.tick (deadline_at table.orders task) (λ at is. (sound.mutexes.deadlines task at is).0) on
 
-module _ (table : Table) (core task mutex : ℕ) (mark : Bool) (sound : IsSound table) (place : IsCaller table core task) where
+module _ (table : Table) (core task mutex : ℕ) (mark : Bool) (sound : IsConsistent table) (place : IsCaller table core task) where
   abbrev over : Table
   over = ended table_moves task table
 
   over_low : task < table.settings.tasks
   over_low = omega (arith, sound.sized.rows, place.2)
 
-  over_sound : IsSound over
+  over_sound : IsConsistent over
   over_sound = forgotten_sound table task sound over_low
 
   abbrev finished_by : Option ℕ → Option ℕ → Reply × Table
@@ -378,27 +378,27 @@ module _ (table : Table) (core task mutex : ℕ) (mark : Bool) (sound : IsSound 
       from None free = ap (outcome (Flag true)) (taken_seen over task mutex ∙ ap (taken task mutex) (ended_seen table task))
       from (Some holder) held = either (is_over left) holder (sound.mutexes.held_by_tasks mutex holder held)
 
-  finish_sound : length table.control.cores ≤ task → mutex < table.settings.mutexes → IsSound (take_finished table_moves core task mutex mark table).1
+  finish_sound : length table.control.cores ≤ task → mutex < table.settings.mutexes → IsConsistent (take_finished table_moves core task mutex mark table).1
   unfolding take_finished
   finish_sound user below = from (holder_at table.holders mutex) refl
     where
       left : Option ℕ
       left = deadline_left task table.orders
 
-      either : (b : Bool) → is_over left ≡ b → (holder : ℕ) → holder < table.settings.tasks → IsSound (cond {A = Reply × Table} b (Flag false, timed_out table_moves core task mutex mark holder over) (Blocked, waited_at table_moves core task mutex holder left table)).1
+      either : (b : Bool) → is_over left ≡ b → (holder : ℕ) → holder < table.settings.tasks → IsConsistent (cond {A = Reply × Table} b (Flag false, timed_out table_moves core task mutex mark holder over) (Blocked, waited_at table_moves core task mutex holder left table)).1
       either true is holder low = timed_out_sound over core task mutex mark holder over_sound low
       either false on holder low = waited_sound table core task mutex holder left sound place low user (still_waits table task sound on) below
 
-      from : (held : Option ℕ) → holder_at table.holders mutex ≡ held → IsSound (finished_by left held).1
+      from : (held : Option ℕ) → holder_at table.holders mutex ≡ held → IsConsistent (finished_by left held).1
       from None free = taken_sound over task mutex over_sound over_low below
       from (Some holder) held = either (is_over left) refl holder (sound.mutexes.held_by_tasks mutex holder held)
 
-pub finished_seen : (table : Table) (core task : ℕ) (call : Unfinished) → IsSound table → IsCaller table core task → seen_of (finished table_moves core task call table) ≡ finished list_moves core task call (image table)
+pub finished_seen : (table : Table) (core task : ℕ) (call : Unfinished) → IsConsistent table → IsCaller table core task → seen_of (finished table_moves core task call table) ≡ finished list_moves core task call (image table)
 unfolding finished
 finished_seen table core task (Made call) sound place = completed_seen (ended table_moves task table) task call ∙ ap (completed task call) (ended_seen table task)
 finished_seen table core task (Take mutex mark) sound place = finish_seen table core task mutex mark sound place
 
-pub finished_sound : (table : Table) (core task : ℕ) (call : Unfinished) → IsSound table → IsCaller table core task → IsCheckedUnfinished table.settings call → length table.control.cores ≤ task → IsSound (finished table_moves core task call table).1
+pub finished_sound : (table : Table) (core task : ℕ) (call : Unfinished) → IsConsistent table → IsCaller table core task → IsCheckedUnfinished table.settings call → length table.control.cores ≤ task → IsConsistent (finished table_moves core task call table).1
 unfolding finished
 finished_sound table core task (Made call) sound place checked user =
     let low : task < table.settings.tasks = omega (arith, sound.sized.rows, place.2) in
@@ -407,7 +407,7 @@ finished_sound table core task (Take mutex mark) sound place checked user = fini
 
 -- ---- giving
 
-module _ (table : Table) (acting mutex : ℕ) (sound : IsSound table) where
+module _ (table : Table) (acting mutex : ℕ) (sound : IsConsistent table) where
   pub woken_seen : image (first_woken table_moves acting mutex table) ≡ first_woken list_moves acting mutex (image table)
   unfolding first_woken
   woken_seen = from (first_waiter mutex table.orders) refl ∙ ap (λ first. option_map_or (λ (waiter : Waiter). wake list_moves acting waiter.task (image table)) first (image table)) (sym (first_waiter_seen mutex table.orders table.control sound.stamped))
@@ -416,15 +416,15 @@ module _ (table : Table) (acting mutex : ℕ) (sound : IsSound table) where
       from None none = refl
       from (Some waiter) some = wake_seen table acting waiter.task sound.stamped.given (first_waiter_waits mutex table.orders waiter some).0
 
-  pub woken_sound : IsSound (first_woken table_moves acting mutex table)
+  pub woken_sound : IsConsistent (first_woken table_moves acting mutex table)
   unfolding first_woken
   woken_sound = from (first_waiter mutex table.orders) refl
     where
-      from : (first : Option Waiter) → first_waiter mutex table.orders ≡ first → IsSound (option_map_or (λ (waiter : Waiter). wake table_moves acting waiter.task table) first table)
+      from : (first : Option Waiter) → first_waiter mutex table.orders ≡ first → IsConsistent (option_map_or (λ (waiter : Waiter). wake table_moves acting waiter.task table) first table)
       from None none = sound
       from (Some waiter) some = wake_sound table acting waiter.task sound (omega (arith, sound.sized.rows, (first_waiter_waits mutex table.orders waiter some).0))
 
-module _ (table : Table) (core task : ℕ) (sound : IsSound table) (low : task < table.settings.tasks) where
+module _ (table : Table) (core task : ℕ) (sound : IsConsistent table) (low : task < table.settings.tasks) where
   pub disinherited_seen : image (disinherited table_moves core task table) ≡ disinherited list_moves core task (image table)
   unfolding disinherited
   disinherited_seen =
@@ -432,18 +432,18 @@ module _ (table : Table) (core task : ℕ) (sound : IsSound table) (low : task <
       either_seen (eqb (held_by table.holders task) 0) (lowered table_moves core task base table) table (lowered list_moves core task base (image table)) (image table)
       (lowered_seen table core task base sound low) refl
 
-  pub disinherited_sound : IsSound (disinherited table_moves core task table)
+  pub disinherited_sound : IsConsistent (disinherited table_moves core task table)
   unfolding disinherited
   disinherited_sound =
       let base = (task_at table.control task).base in
       either_sound (eqb (held_by table.holders task) 0) (lowered table_moves core task base table) table
       (lowered_sound table core task base sound low (sound.priorities task low).1) sound
 
-module _ (table : Table) (core task mutex : ℕ) (sound : IsSound table) (low : task < table.settings.tasks) (below : mutex < table.settings.mutexes) where
+module _ (table : Table) (core task mutex : ℕ) (sound : IsConsistent table) (low : task < table.settings.tasks) (below : mutex < table.settings.mutexes) where
   abbrev freed : Table
   freed = record table { holders = slice_set table.holders mutex None }
 
-  freed_sound : IsSound freed
+  freed_sound : IsConsistent freed
   freed_sound = given_sound table mutex None sound below (λ other same. absurd (cc (same)))
 
   pub give_seen : seen_of (mutex_give table_moves core task mutex table) ≡ mutex_give list_moves core task mutex (image table)
@@ -456,10 +456,10 @@ module _ (table : Table) (core task mutex : ℕ) (sound : IsSound table) (low : 
           (woken_seen (disinherited table_moves core task freed) core mutex (disinherited_sound freed core task freed_sound low)
           ∙ ap (first_woken list_moves core mutex) (disinherited_seen freed core task freed_sound low))
 
-  pub give_sound : IsSound (mutex_give table_moves core task mutex table).1
+  pub give_sound : IsConsistent (mutex_give table_moves core task mutex table).1
   unfolding mutex_give
   give_sound = from (holder_at table.holders mutex)
     where
-      from : (held : Option ℕ) → IsSound (option_map_or {U = Reply × Table} (λ holder. (Flag true, first_woken table_moves core mutex (disinherited table_moves core task freed))) held (Flag false, table)).1
+      from : (held : Option ℕ) → IsConsistent (option_map_or {U = Reply × Table} (λ holder. (Flag true, first_woken table_moves core mutex (disinherited table_moves core task freed))) held (Flag false, table)).1
       from None = sound
       from (Some holder) = woken_sound (disinherited table_moves core task freed) core mutex (disinherited_sound freed core task freed_sound low)

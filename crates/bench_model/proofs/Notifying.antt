@@ -13,13 +13,13 @@ use Rattle.bench_model.specs.Notifying.{notify}
 use Rattle.bench_model.specs.Seek.{wake}
 use Rattle.bench_model.specs.Table.{Table, table_moves}
 use Rattle.bench_model.specs.Lists.{list_moves, image}
-use Rattle.bench_model.specs.Sound.{HasWords, IsSound}
+use Rattle.bench_model.specs.Sound.{HasWords, IsConsistent}
 use Rattle.bench_model.proofs.Seeks.{wake_seen, wake_sound}
 
 pub notes_apart : (table : Table) (notes : List Notification) → image (record table { notes = notes }) ≡ record (image table) { notes = notes }
 notes_apart table notes = refl
 
-pub notes_sound : (table : Table) (notes : List Notification) → IsSound table → length notes ≡ table.settings.tasks → HasWords notes → IsSound (record table { notes = notes })
+pub notes_sound : (table : Table) (notes : List Notification) → IsConsistent table → length notes ≡ table.settings.tasks → HasWords notes → IsConsistent (record table { notes = notes })
 notes_sound table notes sound each words = record {
   sized = record {
     cores = sound.sized.cores;
@@ -69,15 +69,15 @@ module _ {A : Type 0} (task : ℕ) (rule : Notification → A × Notification) w
         | inr away ↦ subst (λ (n : Notification). n.value < 2 ^ 32) (sym (get_or-set_other notes task i new no_note away)) (words i (omega (arith, length-set notes task new)))
       ]
 
-  pub ruled_sound : (table : Table) → IsSound table → task < table.settings.tasks → ((note : Notification) → note.value < 2 ^ 32 → (rule note).1.value < 2 ^ 32) → IsSound (record table { notes = ruled table.notes })
+  pub ruled_sound : (table : Table) → IsConsistent table → task < table.settings.tasks → ((note : Notification) → note.value < 2 ^ 32 → (rule note).1.value < 2 ^ 32) → IsConsistent (record table { notes = ruled table.notes })
   ruled_sound table sound low keeps =
       notes_sound table (ruled table.notes) sound (length-set table.notes task _ ∙ sound.sized.notes) (ruled_words table.notes (omega (arith, sound.sized.notes)) keeps sound.notes)
 
-module _ (table : Table) (acting task : ℕ) (action : Action) (sound : IsSound table) (low : task < table.settings.tasks) where
+module _ (table : Table) (acting task : ℕ) (action : Action) (sound : IsConsistent table) (low : task < table.settings.tasks) where
   abbrev told : Table
   told = record table { notes = slice_set table.notes task (notified action (note_at table.notes task)) }
 
-  told_sound : IsActionOfWord action → IsSound told
+  told_sound : IsActionOfWord action → IsConsistent told
   told_sound word = ruled_sound task (λ note. (note, notified action note)) table sound low (λ note. notified_word action note word)
 
   pub notify_seen : image (notify table_moves acting task action table) ≡ notify list_moves acting task action (image table)
@@ -88,10 +88,10 @@ module _ (table : Table) (acting task : ℕ) (action : Action) (sound : IsSound 
       at true = wake_seen told acting task sound.stamped.given (omega (arith, sound.sized.rows))
       at false = refl
 
-  pub notify_sound : IsActionOfWord action → IsSound (notify table_moves acting task action table)
+  pub notify_sound : IsActionOfWord action → IsConsistent (notify table_moves acting task action table)
   unfolding notify
   notify_sound word = at (is_waiting (note_at table.notes task).state)
     where
-      at : (b : Bool) → IsSound (cond b (wake table_moves acting task told) told)
+      at : (b : Bool) → IsConsistent (cond b (wake table_moves acting task told) told)
       at true = wake_sound told acting task (told_sound word) low
       at false = told_sound word

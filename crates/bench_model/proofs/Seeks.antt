@@ -14,7 +14,7 @@ use Rattle.bench_model.specs.Lists as seen
 use Rattle.bench_model.specs.Lists.{list_moves, lists_of, image}
 use Rattle.bench_model.specs.Seek.{is_running, gives_way, is_asked_before, asked_for, seek, may_move, wake, resettled, switched_and_sought, ready_in, shares_its_time, sliced}
 use Rattle.bench_model.specs.SeekLaws.{IsAnswer, sought}
-use Rattle.bench_model.specs.Sound.{IsSound}
+use Rattle.bench_model.specs.Sound.{IsConsistent}
 use Rattle.bench_model.proofs.Bests.{best_found, best_none}
 use Rattle.bench_model.proofs.Filters.{All-has, All-weaker, filter_agrees, map_agrees}
 use Rattle.bench_model.proofs.Ranks.{IsRank}
@@ -56,12 +56,12 @@ seek_apart acting task among control stamps = at (is_running control task) (aske
     at false (Some core) = lists_of_cores control _ stamps
 
 pub seek_seen : (table : Table) (acting task : ℕ) (among : ℕ → Bool) → image (sought acting task among table) ≡ sought acting task among (image table)
-seek_seen table acting task among = same_state table.settings _ _ table.calls table.notes table.holders _ _ refl (seek_apart acting task among table.control table.orders)
+seek_seen table acting task among = same_state table.settings _ _ table.calls table.notes table.holders table.hold _ _ refl (seek_apart acting task among table.control table.orders)
 
 pub wake_seen : (table : Table) (acting task : ℕ) → IsGiven table.orders → task < length table.orders.rows → image (wake table_moves acting task table) ≡ wake list_moves acting task (image table)
 unfolding wake
 wake_seen table acting task given below =
-    same_state table.settings _ _ table.calls table.notes table.holders _ _ refl
+    same_state table.settings _ _ table.calls table.notes table.holders table.hold _ _ refl
     (seek_apart acting task (in_mask table.control task) table.control (make_ready task table.orders) ∙ make_ready_seen table.control table.orders task given below)
 
 resettled_seen : (table : Table) (core loser : ℕ) → IsGiven table.orders → loser < length table.orders.rows → image (resettled table_moves core loser table) ≡ resettled list_moves core loser (image table)
@@ -78,11 +78,11 @@ resettled_seen table core loser given below =
     at true false same = absurd (cc (same))
     at false true same = absurd (cc (same))
 
-pub switched_rows : (table : Table) (core : ℕ) → IsSound table → core < length table.control.cores → length (switched table_moves core table).orders.rows ≡ length table.orders.rows
+pub switched_rows : (table : Table) (core : ℕ) → IsConsistent table → core < length table.control.cores → length (switched table_moves core table).orders.rows ≡ length table.orders.rows
 unfolding switched
 switched_rows table core sound below = queued_length table.orders (current table.control core) (sound.in_place.is_task core below)
 
-pub sought_switch_seen : (table : Table) (core : ℕ) → IsSound table → core < table.settings.cores → image (switched_and_sought table_moves core table) ≡ switched_and_sought list_moves core (image table)
+pub sought_switch_seen : (table : Table) (core : ℕ) → IsConsistent table → core < table.settings.cores → image (switched_and_sought table_moves core table) ≡ switched_and_sought list_moves core (image table)
 unfolding switched_and_sought
 sought_switch_seen table core sound low =
     let below : core < length table.control.cores = omega (arith, sound.sized.cores) in
@@ -93,32 +93,32 @@ sought_switch_seen table core sound low =
     ∙ ap (resettled list_moves core loser) (switched_seen core table sound.stamped on)
 
 -- the tasks of a ready list
-ready_in_seen : (table : Table) (priority : ℕ) → IsSound table → ready_in table_moves priority table ≡ ready_in list_moves priority (image table)
+ready_in_seen : (table : Table) (priority : ℕ) → IsConsistent table → ready_in table_moves priority table ≡ ready_in list_moves priority (image table)
 ready_in_seen table priority sound =
     let tasks = length table.control.tasks in
     filter_agrees (λ task. is_ready task table.orders && eqb (task_at table.control task).in_use priority) (λ task. seen.is_ready task (lists_of table.control table.orders) && eqb (task_at table.control task).in_use priority) (numbers tasks)
     (All-weaker (λ task. task < tasks) _ (λ task below. ap (λ b. b && eqb (task_at table.control task).in_use priority) (sym (is_ready_seen table.control table.orders task sound.stamped.given (omega (arith, sound.sized.controls, sound.sized.rows))))) (numbers tasks) (numbers_below tasks))
 
-shares_seen : (table : Table) (core : ℕ) → IsSound table → core < length table.control.cores → shares_its_time table_moves table core ≡ shares_its_time list_moves (image table) core
+shares_seen : (table : Table) (core : ℕ) → IsConsistent table → core < length table.control.cores → shares_its_time table_moves table core ≡ shares_its_time list_moves (image table) core
 shares_seen table core sound below =
     let runs = current table.control core in
     let ready = is_ready_seen table.control table.orders runs sound.stamped.given (sound.in_place.is_task core below) in
     let list = ready_in_seen table (task_at table.control runs).in_use sound in
     cc (ready, list)
 
-sliced_control : (table : Table) → IsSound table → ask_each 0 (shares_its_time table_moves table) table.control ≡ ask_each 0 (shares_its_time list_moves (image table)) table.control
+sliced_control : (table : Table) → IsConsistent table → ask_each 0 (shares_its_time table_moves table) table.control ≡ ask_each 0 (shares_its_time list_moves (image table)) table.control
 sliced_control table sound =
     let cores = length table.control.cores in
     ap (λ (looks : List CoreLook). record table.control { cores = looks })
     (map_agrees (asked_where 0 (shares_its_time table_moves table) table.control) (asked_where 0 (shares_its_time list_moves (image table)) table.control) (numbers cores)
     (All-weaker (λ core. core < cores) _ (λ core below. ap (λ b. cond b (asked_by 0 core (core_at table.control core)) (core_at table.control core)) (shares_seen table core sound below)) (numbers cores) (numbers_below cores)))
 
-pub sliced_seen : (table : Table) → IsSound table → image (sliced table_moves table) ≡ sliced list_moves (image table)
+pub sliced_seen : (table : Table) → IsConsistent table → image (sliced table_moves table) ≡ sliced list_moves (image table)
 unfolding sliced
 sliced_seen table sound = at table.settings.slicing
   where
     at : (b : Bool) → image (cond b (record table { control = ask_each 0 (shares_its_time table_moves table) table.control }) table) ≡ cond b (record (image table) { control = ask_each 0 (shares_its_time list_moves (image table)) table.control }) (image table)
-    at true = same_state table.settings _ _ table.calls table.notes table.holders _ _ (sliced_control table sound) (lists_of_cores table.control _ table.orders)
+    at true = same_state table.settings _ _ table.calls table.notes table.holders table.hold _ _ (sliced_control table sound) (lists_of_cores table.control _ table.orders)
     at false = refl
 
 -- seeking asks one core, or none
@@ -134,30 +134,30 @@ seek_more acting task among control = at (is_running control task) (asked_for co
     at false None same = none
     at false (Some core) same = asked_more control acting core (subst (IsAnswer control task among) same (best_core control task among)).0.0
 
-pub ask_sound : (table : Table) (acting core : ℕ) → IsSound table → core < table.settings.cores → IsSound (record table { control = ask acting core table.control })
+pub ask_sound : (table : Table) (acting core : ℕ) → IsConsistent table → core < table.settings.cores → IsConsistent (record table { control = ask acting core table.control })
 ask_sound table acting core sound low = more_sound table (ask acting core table.control) (asked_more table.control acting core (omega (arith, sound.sized.cores))) sound
 
-pub seek_sound : (table : Table) (acting task : ℕ) (among : ℕ → Bool) → IsSound table → IsSound (sought acting task among table)
+pub seek_sound : (table : Table) (acting task : ℕ) (among : ℕ → Bool) → IsConsistent table → IsConsistent (sought acting task among table)
 seek_sound table acting task among sound = more_sound table (seek acting task among table.control) (seek_more acting task among table.control) sound
 
-pub wake_sound : (table : Table) (acting task : ℕ) → IsSound table → task < table.settings.tasks → IsSound (wake table_moves acting task table)
+pub wake_sound : (table : Table) (acting task : ℕ) → IsConsistent table → task < table.settings.tasks → IsConsistent (wake table_moves acting task table)
 unfolding wake
 wake_sound table acting task sound low =
     let readied = ready_sound table task sound low in
     more_sound (record table { orders = make_ready task table.orders }) (seek acting task (in_mask table.control task) table.control) (seek_more acting task (in_mask table.control task) table.control) readied
 
-resettled_sound : (table : Table) (core loser : ℕ) → IsSound table → IsSound (resettled table_moves core loser table)
+resettled_sound : (table : Table) (core loser : ℕ) → IsConsistent table → IsConsistent (resettled table_moves core loser table)
 unfolding resettled
 resettled_sound table core loser sound = at (not (eqb (current table.control core) loser) && is_ready loser table.orders)
   where
     among : ℕ → Bool
     among = may_move table.control loser (current table.control core) core
 
-    at : (b : Bool) → IsSound (cond b (record table { control = seek core loser among table.control }) table)
+    at : (b : Bool) → IsConsistent (cond b (record table { control = seek core loser among table.control }) table)
     at true = seek_sound table core loser among sound
     at false = sound
 
-pub sought_switch_sound : (table : Table) (core : ℕ) → IsSound table → core < table.settings.cores → IsSound (switched_and_sought table_moves core table)
+pub sought_switch_sound : (table : Table) (core : ℕ) → IsConsistent table → core < table.settings.cores → IsConsistent (switched_and_sought table_moves core table)
 unfolding switched_and_sought
 sought_switch_sound table core sound low = resettled_sound (switched table_moves core table) core (current table.control core) (switched_sound core table sound (omega (arith, sound.sized.cores)))
 
@@ -219,10 +219,10 @@ each_more acting test control = record {
   ];
 }
 
-pub sliced_sound : (table : Table) → IsSound table → IsSound (sliced table_moves table)
+pub sliced_sound : (table : Table) → IsConsistent table → IsConsistent (sliced table_moves table)
 unfolding sliced
 sliced_sound table sound = at table.settings.slicing
   where
-    at : (b : Bool) → IsSound (cond b (record table { control = ask_each 0 (shares_its_time table_moves table) table.control }) table)
+    at : (b : Bool) → IsConsistent (cond b (record table { control = ask_each 0 (shares_its_time table_moves table) table.control }) table)
     at true = more_sound table (ask_each 0 (shares_its_time table_moves table) table.control) (each_more 0 (shares_its_time table_moves table) table.control) sound
     at false = sound

@@ -1,37 +1,30 @@
 -- The rules that seek no core: each of a table, seen as lists, is that of what was seen of the table before.
-use Rattle.std.proofs.Common.{◌≡◌, ℕ, ◌<◌, Bool, true, false, cond, eqb, List, length, Option, Some, None, Ok, refl, sym, ap, subst, ◌∙◌, arith}
+use Rattle.std.proofs.Common.{◌≡◌, ℕ, ◌<◌, Bool, true, false, cond, List, length, Option, Some, refl, sym, ap, ◌∙◌, arith}
 use Rattle.std.specs.Prelude.{unwrap_or, slice_set}
 use Rattle.std.specs.List.{AllByRecursion}
-use Rattle.std.proofs.lemmas.Bool.{true_from_ne_false}
-use Rattle.std.proofs.lemmas.Bool.Decides.{nat_tests}
-use Rattle.bench_types.specs.declared.step.Step.{Step}
-use Rattle.bench_types.specs.declared.step.Step.TheVariants.{Tick, Switch}
-use Rattle.bench_types.specs.declared.step.Step.TheVariants as steps
-use Rattle.bench_types.specs.declared.step.Call.{Call}
 use Rattle.bench_types.specs.declared.step.Unfinished.{Unfinished}
+use Rattle.bench_types.specs.declared.kernel_data.Hold.{Hold}
 use Rattle.bench_types.specs.declared.kernel_data.MutexWait.{MutexWait}
 use Rattle.bench_types.specs.declared.kernel_data.Settings.{Settings}
 use Rattle.bench_types.specs.declared.kernel_data.CoreLook.{CoreLook}
 use Rattle.bench_types.specs.declared.note.Notification.{Notification}
-use Rattle.bench_types.proofs.Passes.{both_pass, checked_core, checked_task}
-use Rattle.bench_types.specs.Step.{step_check, core_check, task_check, call_check, ◌>>◌}
 use Rattle.bench_model.specs.declared.row.Standing.TheVariants.{Ready}
 use Rattle.bench_model.specs.Search.{numbers}
-use Rattle.bench_model.specs.Control.{Control, current, run_on, is_due}
-use Rattle.bench_model.specs.State.{State, refusal, switched, yielded, blocked}
+use Rattle.bench_model.specs.Control.{Control, current, run_on}
+use Rattle.bench_model.specs.State.{State, switched, yielded, blocked}
 use Rattle.bench_model.specs.Table.{Stamps, Table, table_moves, wakes_at, is_ready, row_at, stamp_of, pick, make_ready, delay, advance, due}
 use Rattle.bench_model.specs.Lists as seen
 use Rattle.bench_model.specs.Lists.{Lists, View, list_moves, lists_of, image}
-use Rattle.bench_model.specs.Sound.{IsInPlace, IsStamped, IsSound, WakesInTime}
+use Rattle.bench_model.specs.Sound.{IsStamped, WakesInTime}
 use Rattle.bench_model.proofs.Stamped.{numbers_below, All-by_stamp}
 use Rattle.bench_model.proofs.Restamps.{IsGiven, moved_length, moved_given, moved_once}
 use Rattle.bench_model.proofs.SeenMoves.{is_ready_seen, pick_seen, make_ready_seen, delay_seen, advance_seen, due_seen, IsAhead, IsNotPast}
 
-abbrev pub state_from : {Orders : Type 0} → Settings → Control → List (Option Unfinished) → List Notification → List (Option ℕ) → Orders → State Orders
-state_from settings control calls notes holders orders = record { settings = settings; control = control; calls = calls; notes = notes; holders = holders; orders = orders }
+abbrev pub state_from : {Orders : Type 0} → Settings → Control → List (Option Unfinished) → List Notification → List (Option ℕ) → Option Hold → Orders → State Orders
+state_from settings control calls notes holders hold orders = record { settings = settings; control = control; calls = calls; notes = notes; holders = holders; hold = hold; orders = orders }
 
-pub same_state : (settings : Settings) (control other : Control) (calls : List (Option Unfinished)) (notes : List Notification) (holders : List (Option ℕ)) (orders others : Lists) → control ≡ other → orders ≡ others → state_from settings control calls notes holders orders ≡ state_from settings other calls notes holders others
-same_state settings control other calls notes holders orders others a b = cc
+pub same_state : (settings : Settings) (control other : Control) (calls : List (Option Unfinished)) (notes : List Notification) (holders : List (Option ℕ)) (hold : Option Hold) (orders others : Lists) → control ≡ other → orders ≡ others → state_from settings control calls notes holders hold orders ≡ state_from settings other calls notes holders hold others
+same_state settings control other calls notes holders hold orders others a b = cc
 
 -- the orders do not read the cores
 pub lists_of_cores : (control : Control) (cores : List CoreLook) (stamps : Stamps) → lists_of (record control { cores = cores }) stamps ≡ lists_of control stamps
@@ -74,7 +67,7 @@ switched_seen core table stamped below =
     let lists = queued_seen table.control table.orders left stamped.given below in
     let picked = pick_seen table.control core orders (queued_once table.orders left stamped below) in
     let chosen = ap (λ l. seen.pick table.control core l) lists in
-    same_state table.settings (run_on core (unwrap_or (pick table.control core orders) left) table.control) (run_on core (unwrap_or (seen.pick table.control core (seen_queue table.control table.orders left)) left) table.control) table.calls table.notes table.holders _ _
+    same_state table.settings (run_on core (unwrap_or (pick table.control core orders) left) table.control) (run_on core (unwrap_or (seen.pick table.control core (seen_queue table.control table.orders left)) left) table.control) table.calls table.notes table.holders table.hold _ _
     (ap (λ o. run_on core (unwrap_or o left) table.control) (sym picked ∙ chosen))
     (lists_of_cores table.control _ orders ∙ lists)
 
@@ -103,34 +96,12 @@ due_below stamps = All-by_stamp (stamp_of stamps) (λ task. wakes_at stamps.tick
 
 pub yielded_seen : (core : ℕ) (table : Table) → image (yielded table_moves core table) ≡ yielded list_moves core (image table)
 unfolding yielded
-yielded_seen core table = same_state table.settings _ _ table.calls table.notes table.holders _ _ refl (lists_of_cores table.control _ table.orders)
+yielded_seen core table = same_state table.settings _ _ table.calls table.notes table.holders table.hold _ _ refl (lists_of_cores table.control _ table.orders)
 
 pub blocked_seen : (core task : ℕ) (call : Unfinished) (ticks : Option ℕ) (wait : Option MutexWait) (table : Table) → IsGiven table.orders → task < length table.orders.rows → is_ready task table.orders ≡ true → image (blocked table_moves core task call ticks wait table) ≡ blocked list_moves core task call ticks wait (image table)
 unfolding blocked
 blocked_seen core task call ticks wait table given below ready =
-    same_state table.settings _ _ (slice_set table.calls task (Some call)) table.notes table.holders _ _ refl (lists_of_cores table.control _ (delay task ticks wait table.orders) ∙ delay_seen table.control table.orders task ticks wait given below ready)
-
-pub not_displaced : (control : Control) (calls : List (Option Unfinished)) (holders : List (Option ℕ)) (core task : ℕ) (call : Call) → refusal control calls holders (steps.Call core task call) ≡ None → (current control core ≡ task) × (is_due control core ≡ false)
-unfolding refusal
-not_displaced control calls holders core task call accepted = at (eqb (current control core) task) refl (is_due control core) refl
-  where
-    at : (b : Bool) → eqb (current control core) task ≡ b → (d : Bool) → is_due control core ≡ d → (current control core ≡ task) × (is_due control core ≡ false)
-    at false other d due = absurd (cc (accepted, other))
-    at true same true due = absurd (cc (accepted, same, due))
-    at true same false due = (grind (arith, nat_tests, same), due)
-
--- of a checked step that is not refused
-pub in_place : (step : Step) (table : Table) → IsSound table → step_check table.settings step ≡ Ok tt → refusal table.control table.calls table.holders step ≡ None → IsInPlace table step
-in_place Tick table sound checked accepted = tt
-in_place (Switch core) table sound checked accepted = omega (arith, sound.sized.cores, checked_core table.settings core checked)
-in_place (steps.Interrupt core note) table sound checked accepted =
-    let both = both_pass (core_check table.settings core) (task_check table.settings note.task) checked in
-    (omega (arith, sound.sized.cores, checked_core table.settings core both.0), (checked_task table.settings note.task both.1).1)
-in_place (steps.Call core task call) table sound checked accepted =
-    let low : core < length table.control.cores = omega (arith, sound.sized.cores, checked_core table.settings core (both_pass (core_check table.settings core) (task_check table.settings task) (both_pass (core_check table.settings core >> task_check table.settings task) (call_check table.settings call) checked).0).0) in
-    let found = not_displaced table.control table.calls table.holders core task call accepted in
-    let ready : is_ready (current table.control core) table.orders ≡ true = true_from_ne_false (is_ready (current table.control core) table.orders) (λ h. cc (sound.in_place.blocked_is_due core low h, found.1)) in
-    (low, found.0, subst (λ i. i < length table.orders.rows) found.0 (sound.in_place.is_task core low), subst (λ i. is_ready i table.orders ≡ true) found.0 ready)
+    same_state table.settings _ _ (slice_set table.calls task (Some call)) table.notes table.holders table.hold _ _ refl (lists_of_cores table.control _ (delay task ticks wait table.orders) ∙ delay_seen table.control table.orders task ticks wait given below ready)
 
 -- one tick more, and the tasks whose wake it is
 pub advance_seen_lem : (control : Control) (stamps : Stamps) → WakesInTime stamps → (lists_of control (advance stamps) ≡ seen.advance (lists_of control stamps)) × (seen.due (lists_of control (advance stamps)) ≡ due (advance stamps))

@@ -14,7 +14,7 @@ use Rattle.bench_model.specs.Seek.{is_running, seek}
 use Rattle.bench_model.specs.Changes.{with_task, with_base, with_affinity, with_preemption, in_use_set}
 use Rattle.bench_model.specs.Sets.{runs_on, ask_its_core, capped, in_use_behind, ranked_anew, masked_anew, priority_set, affinity_set, preemption_off, preemption_on}
 use Rattle.bench_model.specs.SetLaws.{on_control}
-use Rattle.bench_model.specs.Sound.{IsSound}
+use Rattle.bench_model.specs.Sound.{IsConsistent}
 use Rattle.bench_model.proofs.Bests.{found}
 use Rattle.bench_model.proofs.Changes.{change_apart, change_sound, in_use_seen, in_use_sound}
 use Rattle.bench_model.proofs.Filters.{All-has}
@@ -53,7 +53,7 @@ either_more : (control one other : Control) (b : Bool) → IsAskedMore control o
 either_more control one other true here there = here
 either_more control one other false here there = there
 
-its_core_more : (acting task : ℕ) (control : Control) → IsAskedMore control (ask_its_core acting task control)
+pub its_core_more : (acting task : ℕ) (control : Control) → IsAskedMore control (ask_its_core acting task control)
 unfolding ask_its_core
 its_core_more acting task control = at (runs_on control task) refl
   where
@@ -61,7 +61,7 @@ its_core_more acting task control = at (runs_on control task) refl
     at None same = none_more control
     at (Some core) same = asked_more control acting core (runs_below control task core same)
 
-ranked_more : (acting task old new : ℕ) (ready : Bool) (control : Control) → IsAskedMore control (ranked_anew acting task old new ready control)
+pub ranked_more : (acting task old new : ℕ) (ready : Bool) (control : Control) → IsAskedMore control (ranked_anew acting task old new ready control)
 unfolding ranked_anew
 ranked_more acting task old new ready control =
     let asked = ask_its_core acting task control in
@@ -69,7 +69,7 @@ ranked_more acting task old new ready control =
     either_more control (seek acting task (in_mask control task) control) (cond lowered asked control) (ltb old new && ready) (seek_more acting task (in_mask control task) control)
     (either_more control asked control lowered (its_core_more acting task control) (none_more control))
 
-masked_more : (acting task : ℕ) (ready : Bool) (control : Control) → IsAskedMore control (masked_anew acting task ready control)
+pub masked_more : (acting task : ℕ) (ready : Bool) (control : Control) → IsAskedMore control (masked_anew acting task ready control)
 unfolding masked_anew
 masked_more acting task ready control = at (runs_on control task) refl
   where
@@ -86,7 +86,7 @@ more_apart control other stamps more =
     ap (λ (tasks : List TaskControl). lists_of (record { cores = other.cores; tasks = tasks }) stamps) more.tasks ∙ lists_of_cores control other.cores stamps
 
 more_seen : (table : Table) (other : Control) → IsAskedMore table.control other → image (with_control table other) ≡ record (image table) { control = other }
-more_seen table other more = same_state table.settings other other table.calls table.notes table.holders _ _ refl (more_apart table.control other table.orders more)
+more_seen table other more = same_state table.settings other other table.calls table.notes table.holders table.hold _ _ refl (more_apart table.control other table.orders more)
 
 pub its_core_seen : (table : Table) (acting task : ℕ) → image (on_control (ask_its_core acting task) table) ≡ on_control (ask_its_core acting task) (image table)
 its_core_seen table acting task = more_seen table (ask_its_core acting task table.control) (its_core_more acting task table.control)
@@ -97,24 +97,24 @@ ranked_seen table acting task old new ready = more_seen table (ranked_anew actin
 pub masked_seen : (table : Table) (acting task : ℕ) (ready : Bool) → image (on_control (masked_anew acting task ready) table) ≡ on_control (masked_anew acting task ready) (image table)
 masked_seen table acting task ready = more_seen table (masked_anew acting task ready table.control) (masked_more acting task ready table.control)
 
-pub its_core_sound : (table : Table) (acting task : ℕ) → IsSound table → IsSound (on_control (ask_its_core acting task) table)
+pub its_core_sound : (table : Table) (acting task : ℕ) → IsConsistent table → IsConsistent (on_control (ask_its_core acting task) table)
 its_core_sound table acting task sound = more_sound table (ask_its_core acting task table.control) (its_core_more acting task table.control) sound
 
-pub ranked_sound : (table : Table) (acting task old new : ℕ) (ready : Bool) → IsSound table → IsSound (on_control (ranked_anew acting task old new ready) table)
+pub ranked_sound : (table : Table) (acting task old new : ℕ) (ready : Bool) → IsConsistent table → IsConsistent (on_control (ranked_anew acting task old new ready) table)
 ranked_sound table acting task old new ready sound = more_sound table (ranked_anew acting task old new ready table.control) (ranked_more acting task old new ready table.control) sound
 
-pub masked_sound : (table : Table) (acting task : ℕ) (ready : Bool) → IsSound table → IsSound (on_control (masked_anew acting task ready) table)
+pub masked_sound : (table : Table) (acting task : ℕ) (ready : Bool) → IsConsistent table → IsConsistent (on_control (masked_anew acting task ready) table)
 masked_sound table acting task ready sound = more_sound table (masked_anew acting task ready table.control) (masked_more acting task ready table.control) sound
 
 -- a control block that keeps its priority in use
 change_seen : (table : Table) (task : ℕ) (block : TaskControl) → block.in_use ≡ (task_at table.control task).in_use → image (with_control table (with_task task block table.control)) ≡ record (image table) { control = with_task task block table.control }
-change_seen table task block kept = same_state table.settings _ _ table.calls table.notes table.holders _ _ refl (change_apart table.control table.orders task block kept)
+change_seen table task block kept = same_state table.settings _ _ table.calls table.notes table.holders table.hold _ _ refl (change_apart table.control table.orders task block kept)
 
 pub off_seen : (table : Table) (task : ℕ) → image (preemption_off table_moves task table) ≡ preemption_off list_moves task (image table)
 unfolding preemption_off
 off_seen table task = change_seen table task (record (task_at table.control task) { preempt = false }) refl
 
-pub off_sound : (table : Table) (task : ℕ) → IsSound table → task < table.settings.tasks → IsSound (preemption_off table_moves task table)
+pub off_sound : (table : Table) (task : ℕ) → IsConsistent table → task < table.settings.tasks → IsConsistent (preemption_off table_moves task table)
 unfolding preemption_off
 off_sound table task sound low = change_sound table task (record (task_at table.control task) { preempt = false }) sound (sound.priorities task low)
 
@@ -124,15 +124,15 @@ on_seen table acting task =
     its_core_seen (with_control table (with_preemption task true table.control)) acting task
     ∙ ap (on_control (ask_its_core acting task)) (change_seen table task (record (task_at table.control task) { preempt = true }) refl)
 
-pub on_sound : (table : Table) (acting task : ℕ) → IsSound table → task < table.settings.tasks → IsSound (preemption_on table_moves acting task table)
+pub on_sound : (table : Table) (acting task : ℕ) → IsConsistent table → task < table.settings.tasks → IsConsistent (preemption_on table_moves acting task table)
 unfolding preemption_on
 on_sound table acting task sound low =
     its_core_sound (with_control table (with_preemption task true table.control)) acting task (change_sound table task (record (task_at table.control task) { preempt = true }) sound (sound.priorities task low))
 
-pub ready_seen : (table : Table) (task : ℕ) → IsSound table → task < table.settings.tasks → is_ready task table.orders ≡ seen.is_ready task (lists_of table.control table.orders)
+pub ready_seen : (table : Table) (task : ℕ) → IsConsistent table → task < table.settings.tasks → is_ready task table.orders ≡ seen.is_ready task (lists_of table.control table.orders)
 ready_seen table task sound low = sym (is_ready_seen table.control table.orders task sound.stamped.given (omega (arith, sound.sized.rows)))
 
-pub affinity_seen : (table : Table) (acting task mask : ℕ) → IsSound table → task < table.settings.tasks → image (affinity_set table_moves acting task mask table) ≡ affinity_set list_moves acting task mask (image table)
+pub affinity_seen : (table : Table) (acting task mask : ℕ) → IsConsistent table → task < table.settings.tasks → image (affinity_set table_moves acting task mask table) ≡ affinity_set list_moves acting task mask (image table)
 unfolding affinity_set
 affinity_seen table acting task mask sound low =
     let changed = with_affinity task mask table.control in
@@ -140,7 +140,7 @@ affinity_seen table acting task mask sound low =
     ∙ ap (on_control (masked_anew acting task (is_ready task table.orders))) (change_seen table task _ refl)
     ∙ ap (λ ready. record (image table) { control = masked_anew acting task ready changed }) (ready_seen table task sound low)
 
-pub affinity_sound : (table : Table) (acting task mask : ℕ) → IsSound table → task < table.settings.tasks → IsSound (affinity_set table_moves acting task mask table)
+pub affinity_sound : (table : Table) (acting task mask : ℕ) → IsConsistent table → task < table.settings.tasks → IsConsistent (affinity_set table_moves acting task mask table)
 unfolding affinity_set
 affinity_sound table acting task mask sound low =
     masked_sound (with_control table (with_affinity task mask table.control)) acting task (is_ready task table.orders) (change_sound table task _ sound (sound.priorities task low))
@@ -160,12 +160,12 @@ pub either_seen : (b : Bool) (x y : Table) (v w : View) → image x ≡ v → im
 either_seen true x y v w here there = here
 either_seen false x y v w here there = there
 
-pub either_sound : (b : Bool) (x y : Table) → IsSound x → IsSound y → IsSound (cond b x y)
+pub either_sound : (b : Bool) (x y : Table) → IsConsistent x → IsConsistent y → IsConsistent (cond b x y)
 either_sound true x y here there = here
 either_sound false x y here there = there
 
 -- a priority that is set
-module _ (table : Table) (task priority : ℕ) (sound : IsSound table) (low : task < table.settings.tasks) where
+module _ (table : Table) (task priority : ℕ) (sound : IsConsistent table) (low : task < table.settings.tasks) where
   abbrev block : TaskControl
   block = task_at table.control task
 
@@ -181,7 +181,7 @@ module _ (table : Table) (task priority : ℕ) (sound : IsSound table) (low : ta
   new_below : new < table.settings.priorities
   new_below = capped_below table.settings.priorities priority (omega (arith, (sound.priorities task low).0))
 
-  based_sound : IsSound based
+  based_sound : IsConsistent based
   based_sound = change_sound table task (record block { base = new }) sound ((sound.priorities task low).0, new_below)
 
   later_seen : image (in_use_set table_moves task (in_use_behind block new) based) ≡ in_use_set list_moves task (in_use_behind block new) based_view
@@ -189,10 +189,10 @@ module _ (table : Table) (task priority : ℕ) (sound : IsSound table) (low : ta
       in_use_seen based task (in_use_behind block new) based_sound low
       ∙ ap (in_use_set list_moves task (in_use_behind block new)) (change_seen table task (record block { base = new }) refl)
 
-  later_sound : IsSound (in_use_set table_moves task (in_use_behind block new) based)
+  later_sound : IsConsistent (in_use_set table_moves task (in_use_behind block new) based)
   later_sound = in_use_sound based task (in_use_behind block new) based_sound low (either_below new block.in_use table.settings.priorities (eqb block.in_use block.base || ltb block.in_use new) new_below (sound.priorities task low).0)
 
-pub priority_seen : (table : Table) (acting task priority : ℕ) → IsSound table → task < table.settings.tasks → image (priority_set table_moves acting task priority table) ≡ priority_set list_moves acting task priority (image table)
+pub priority_seen : (table : Table) (acting task priority : ℕ) → IsConsistent table → task < table.settings.tasks → image (priority_set table_moves acting task priority table) ≡ priority_set list_moves acting task priority (image table)
 unfolding priority_set
 priority_seen table acting task priority sound low =
     let rule = ranked_anew acting task (block table task priority sound low).base (new table task priority sound low) in
@@ -203,7 +203,7 @@ priority_seen table acting task priority sound low =
     ∙ ap (on_control (rule (is_ready task table.orders))) (later_seen table task priority sound low)
     ∙ ap (λ ready. on_control (rule ready) later_view) (ready_seen table task sound low))
 
-pub priority_sound : (table : Table) (acting task priority : ℕ) → IsSound table → task < table.settings.tasks → IsSound (priority_set table_moves acting task priority table)
+pub priority_sound : (table : Table) (acting task priority : ℕ) → IsConsistent table → task < table.settings.tasks → IsConsistent (priority_set table_moves acting task priority table)
 unfolding priority_set
 priority_sound table acting task priority sound low =
     either_sound (eqb (capped table.settings.priorities priority) (task_at table.control task).base) table _ sound

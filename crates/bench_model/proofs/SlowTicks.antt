@@ -10,7 +10,7 @@ use Rattle.bench_model.specs.SlowDue.{first_due}
 use Rattle.bench_model.specs.Steps.{woken, ticked}
 use Rattle.bench_model.specs.Seek.{wake, sliced}
 use Rattle.bench_model.specs.Table.{Stamps, Table, table_moves, advance, row_at, stamp_of, tasks_of, wakes_at, make_ready, due}
-use Rattle.bench_model.specs.Sound.{IsStamped, IsSound}
+use Rattle.bench_model.specs.Sound.{IsStamped, IsConsistent}
 use Rattle.bench_model.proofs.Filters.{All-weaker, All-filter_passes, filter_all}
 use Rattle.bench_model.proofs.Stamped.{numbers_below, numbers_have, range_all, All-by_stamp, has-by_stamp}
 use Rattle.bench_model.proofs.Choices.{IsOrdered, IsOrdered-append, IsOrdered-filter, by_stamp_ordered, by_stamp_early, first_is_best}
@@ -101,7 +101,7 @@ pub advance_next : (stamps : Stamps) → ((advance stamps).next ≡ stamps.next)
 unfolding advance
 advance_next stamps = (refl, refl)
 
-pub waking_starts : (old now : Table) → IsSound old → now ≡ record old { orders = advance old.orders } → IsWaking old now
+pub waking_starts : (old now : Table) → IsConsistent old → now ≡ record old { orders = advance old.orders } → IsWaking old now
 unfolding ticked
 waking_starts old now sound starts =
     let later : Table = record old { orders = advance old.orders } in

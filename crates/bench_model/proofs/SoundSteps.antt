@@ -18,7 +18,7 @@ use Rattle.bench_model.specs.Search.{numbers, has}
 use Rattle.bench_model.specs.Control.{Control, core_at, task_at, with_core, current, is_due, may_select, asked_by, ask, run_on}
 use Rattle.bench_model.specs.State.{selected, call_at, switched, yielded, blocked}
 use Rattle.bench_model.specs.Table.{Stamps, Table, table_moves, row_at, stamp_of, is_ready, stands_ready, wake_in, ahead, wakes_at, tasks_of, restamped, pick, make_ready, delay, advance, due}
-use Rattle.bench_model.specs.Sound.{IsCaller, IsStamped, IsPlaced, IsWait, IsMutexWait, WakesInTime, IsBelow, HasMutexes, IsSound, takes_mutex}
+use Rattle.bench_model.specs.Sound.{IsCaller, IsStamped, IsPlaced, IsWait, IsMutexWait, WakesInTime, IsBelow, HasMutexes, IsConsistent, takes_mutex}
 use Rattle.bench_model.proofs.Filters.{All-weaker}
 use Rattle.bench_model.proofs.Stamped.{numbers_have, has-by_stamp}
 use Rattle.bench_model.proofs.Restamps.{moved_length, moved_once}
@@ -55,7 +55,7 @@ make_ready_keeps stamps task i below ready = elim (cases_eq i task) [
   | inr away ↦ ready_other stamps task Ready below i away ∙ ready
 ]
 
-make_ready_length : (stamps : Stamps) (task : ℕ) → task < length stamps.rows → length (make_ready task stamps).rows ≡ length stamps.rows
+pub make_ready_length : (stamps : Stamps) (task : ℕ) → task < length stamps.rows → length (make_ready task stamps).rows ≡ length stamps.rows
 unfolding make_ready
 make_ready_length stamps task below = moved_length stamps task Ready below
 
@@ -126,7 +126,7 @@ run_placed control core task stamps place below low ready may = record {
         absurd (grind (arith, seen, may))
 
 -- making a task ready keeps a table sound
-pub ready_sound : (table : Table) (task : ℕ) → IsSound table → task < table.settings.tasks → IsSound (record table { orders = make_ready task table.orders })
+pub ready_sound : (table : Table) (task : ℕ) → IsConsistent table → task < table.settings.tasks → IsConsistent (record table { orders = make_ready task table.orders })
 ready_sound table task sound low =
     let below : task < length table.orders.rows = omega (arith, sound.sized.rows) in
     record {
@@ -185,7 +185,7 @@ queued_mutexes table task below kept = either (is_ready task table.orders)
     either true = readied_mutexes table.settings table.calls table.holders table.orders kept task below
     either false = kept
 
-pub switched_sound : (core : ℕ) (table : Table) → IsSound table → core < length table.control.cores → IsSound (switched table_moves core table)
+pub switched_sound : (core : ℕ) (table : Table) → IsConsistent table → core < length table.control.cores → IsConsistent (switched table_moves core table)
 unfolding switched
 switched_sound core table sound below =
     let control = table.control in
@@ -301,7 +301,7 @@ all_readied_mutexes table (task ∷ tasks) stamps all kept =
     all_readied_mutexes table tasks (make_ready task stamps) (readied_low stamps task tasks all.0 all.1) (readied_mutexes table.settings table.calls table.holders stamps kept task all.0)
 
 -- when a tick has passed, and the tasks that are due are ready
-pub readied_sound : (table : Table) → IsSound table → IsSound (record table { orders = readied (advance table.orders) (due (advance table.orders)) })
+pub readied_sound : (table : Table) → IsConsistent table → IsConsistent (record table { orders = readied (advance table.orders) (due (advance table.orders)) })
 readied_sound table sound =
     let later = advance table.orders in
     let low = due_below later in
@@ -345,7 +345,7 @@ abbrev pub with_control : Table → Control → Table
 with_control table control = record table { control = control }
 
 -- asking cores keeps a table sound
-pub more_sound : (table : Table) (other : Control) → IsAskedMore table.control other → IsSound table → IsSound (with_control table other)
+pub more_sound : (table : Table) (other : Control) → IsAskedMore table.control other → IsConsistent table → IsConsistent (with_control table other)
 more_sound table other more sound = record {
   sized = record {
     cores = more.cores ∙ sound.sized.cores;
@@ -420,7 +420,7 @@ module _ (control : Control) (acting core : ℕ) (below : core < length control.
     idle_is_ready = λ i h. ready_other stamps task standing low i (λ same. absurd (omega (arith, asked_length))) ∙ place.idle_is_ready i (omega (arith, asked_length));
   }
 
-pub yielded_sound : (core : ℕ) (table : Table) → IsSound table → core < length table.control.cores → IsSound (yielded table_moves core table)
+pub yielded_sound : (core : ℕ) (table : Table) → IsConsistent table → core < length table.control.cores → IsConsistent (yielded table_moves core table)
 unfolding yielded
 yielded_sound core table sound below = more_sound table (ask core core table.control) (asked_more table.control core core below) sound
 
@@ -472,7 +472,7 @@ module _ (stamps : Stamps) (task : ℕ) (ticks : Option ℕ) (wait : Option Mute
       let moved = waiting_placed control core core low stamps task (waiting_for stamps ticks wait) below here user place in
       record { is_task = moved.is_task; on_one_core = moved.on_one_core; blocked_is_due = moved.blocked_is_due; idle_is_ready = moved.idle_is_ready }
 
-pub blocked_sound : (core task : ℕ) (call : Unfinished) (ticks : Option ℕ) (wait : Option MutexWait) (table : Table) → IsSound table → IsCaller table core task → IsCheckedUnfinished table.settings call → length table.control.cores ≤ task → IsWait ticks → IfSome wait (IsMutexWait table.settings) → (is_some wait ≡ true → takes_mutex (Some call) ≡ true) → IsSound (blocked table_moves core task call ticks wait table)
+pub blocked_sound : (core task : ℕ) (call : Unfinished) (ticks : Option ℕ) (wait : Option MutexWait) (table : Table) → IsConsistent table → IsCaller table core task → IsCheckedUnfinished table.settings call → length table.control.cores ≤ task → IsWait ticks → IfSome wait (IsMutexWait table.settings) → (is_some wait ≡ true → takes_mutex (Some call) ≡ true) → IsConsistent (blocked table_moves core task call ticks wait table)
 unfolding blocked
 blocked_sound core task call ticks wait table sound place checked user fits there takes =
     let low : task < table.settings.tasks = omega (arith, sound.sized.rows, place.2) in
@@ -502,7 +502,7 @@ blocked_sound core task call ticks wait table sound place checked user fits ther
     call_of one other same = cc
 
 -- a switch of a sound table selects a task
-pub switch_selects : (table : Table) (core : ℕ) → IsSound table → core < table.settings.cores → IsSome (selected table_moves core table)
+pub switch_selects : (table : Table) (core : ℕ) → IsConsistent table → core < table.settings.cores → IsSome (selected table_moves core table)
 switch_selects table core sound low =
     let below : core < length table.control.cores = omega (arith, sound.sized.cores) in
     let left = current table.control core in

@@ -26,9 +26,10 @@ use Rattle.bench_model.specs.State.{call_at}
 use Rattle.bench_model.specs.Seek.{switched_and_sought}
 use Rattle.bench_model.specs.Table.{Stamps, Table, table_moves, row_at, stamp_of, is_ready, stands_ready, wake_in, wait_in, deadline_at, waiter_of}
 use Rattle.bench_model.specs.Lists.{list_moves, lists_of, delayed_of, outranks, wakes_first, waits_first, image}
-use Rattle.bench_model.specs.Sound.{IsStamped, IsPlaced, WakesInTime, IsBelow, HasWords, HasMutexes, IsSound}
+use Rattle.bench_model.specs.Sound.{IsStamped, IsPlaced, WakesInTime, IsBelow, HasWords, HasMutexes, IsConsistent, IsSound}
 use Rattle.bench_model.specs.Start.{idle_control, user_control, first_look, first_control, ready_row, first_stamps, first_lists, unstarted, started, start, start_seen}
 use Rattle.bench_model.proofs.Filters.{All-weaker}
+use Rattle.bench_model.proofs.Nears.{turned_hold}
 use Rattle.bench_model.proofs.Stamped.{numbers_below, by_stamp_listed, by_stamp_none, range_parts}
 use Rattle.bench_model.proofs.Restamps.{standing_so, waits}
 use Rattle.bench_model.proofs.SeenMoves.{same_seen, deadline_from, queues}
@@ -225,7 +226,7 @@ module _ (header : Header) where
       let at = get_or-replicate (cores + users) i no_note no_note (omega (arith, length-replicate (cores + users) no_note)) in
       omega (arith, ap (λ (n : Notification). n.value) at)
 
-  pub first_sound : IsCheckedHeader header → IsSound (unstarted first header)
+  pub first_sound : IsCheckedHeader header → IsConsistent (unstarted first header)
   unfolding unstarted
   first_sound valid = record {
     sized = record {
@@ -252,12 +253,12 @@ module _ (header : Header) where
 in_turn_rest : (core : ℕ) (cores : List ℕ) (table : Table) → AllByRecursion (λ c. c < length table.control.cores) cores → AllByRecursion (λ c. c < length (switched_and_sought table_moves core table).control.cores) cores
 in_turn_rest core cores table all = All-weaker (λ c. c < length table.control.cores) (λ c. c < length (switched_and_sought table_moves core table).control.cores) (λ c h. omega (arith, sought_switch_length core table)) cores all
 
-in_turn_sound : (cores : List ℕ) (table : Table) → AllByRecursion (λ c. c < length table.control.cores) cores → IsSound table → IsSound (fold (λ table core. switched_and_sought table_moves core table) table cores)
+in_turn_sound : (cores : List ℕ) (table : Table) → AllByRecursion (λ c. c < length table.control.cores) cores → IsConsistent table → IsConsistent (fold (λ table core. switched_and_sought table_moves core table) table cores)
 in_turn_sound [] table all sound = sound
 in_turn_sound (core ∷ cores) table all sound =
     in_turn_sound cores (switched_and_sought table_moves core table) (in_turn_rest core cores table all.1) (sought_switch_sound table core sound (omega (arith, sound.sized.cores, all.0)))
 
-in_turn_seen : (cores : List ℕ) (table : Table) → AllByRecursion (λ c. c < length table.control.cores) cores → IsSound table → image (fold (λ table core. switched_and_sought table_moves core table) table cores) ≡ fold (λ view core. switched_and_sought list_moves core view) (image table) cores
+in_turn_seen : (cores : List ℕ) (table : Table) → AllByRecursion (λ c. c < length table.control.cores) cores → IsConsistent table → image (fold (λ table core. switched_and_sought table_moves core table) table cores) ≡ fold (λ view core. switched_and_sought list_moves core view) (image table) cores
 in_turn_seen [] table all sound = refl
 in_turn_seen (core ∷ cores) table all sound =
     let low : core < table.settings.cores = omega (arith, sound.sized.cores, all.0) in
@@ -272,16 +273,32 @@ first_turns : (header : Header) → AllByRecursion (λ c. c < length (unstarted 
 unfolding unstarted
 first_turns header = All-weaker (λ c. c < header.config.cores) (λ c. c < length (first_control header).cores) (λ c h. omega (arith, first_cores header)) (numbers header.config.cores) (numbers_below header.config.cores)
 
-pub start_sound : (header : Header) → header_check header ≡ Ok tt → IsSound (start header)
+pub start_consistent : (header : Header) → header_check header ≡ Ok tt → IsConsistent (start header)
 unfolding started
-start_sound header passes = in_turn_sound (numbers header.config.cores) (unstarted (first_stamps header) header) (first_turns header) (first_sound header (checked_header header passes))
+start_consistent header passes = in_turn_sound (numbers header.config.cores) (unstarted (first_stamps header) header) (first_turns header) (first_sound header (checked_header header passes))
 
 unstarted_seen : (header : Header) → image (unstarted (first_stamps header) header) ≡ unstarted (first_lists header) header
 unfolding unstarted
-unstarted_seen header = same_state (settings_of header) (first_control header) (first_control header) (replicate (header.config.cores + length header.tasks) None) (replicate (header.config.cores + length header.tasks) no_note) (replicate header.config.mutexes None) _ _ refl (first_seen header)
+unstarted_seen header = same_state (settings_of header) (first_control header) (first_control header) (replicate (header.config.cores + length header.tasks) None) (replicate (header.config.cores + length header.tasks) no_note) (replicate header.config.mutexes None) None _ _ refl (first_seen header)
 
 pub start_seen_lem : (header : Header) → header_check header ≡ Ok tt → image (start header) ≡ start_seen header
 unfolding started
 start_seen_lem header passes =
     in_turn_seen (numbers header.config.cores) (unstarted (first_stamps header) header) (first_turns header) (first_sound header (checked_header header passes))
     ∙ ap (λ view. fold (λ view core. switched_and_sought list_moves core view) view (numbers header.config.cores)) (unstarted_seen header)
+
+-- and no hold is open
+in_turn_hold : (cores : List ℕ) (table : Table) → (fold (λ table core. switched_and_sought table_moves core table) table cores).hold ≡ table.hold
+in_turn_hold [] table = refl
+in_turn_hold (core ∷ cores) table = in_turn_hold cores (switched_and_sought table_moves core table) ∙ turned_hold core table
+
+unstarted_hold : (header : Header) → (unstarted (first_stamps header) header).hold ≡ None
+unfolding unstarted
+unstarted_hold header = refl
+
+pub start_sound : (header : Header) → header_check header ≡ Ok tt → IsSound (start header)
+unfolding started
+start_sound header passes = record {
+  consistent = start_consistent header passes;
+  held = λ hold is. absurd (cc (in_turn_hold (numbers header.config.cores) (unstarted (first_stamps header) header), unstarted_hold header, is));
+}

@@ -8,7 +8,7 @@ use Rattle.bench_model.specs.Table.{Table, table_moves, advance, due}
 use Rattle.bench_model.specs.Lists as seen
 use Rattle.bench_model.specs.Lists.{Lists, View, list_moves, lists_of, image}
 use Rattle.bench_model.specs.Seek.{seek, wake, sliced}
-use Rattle.bench_model.specs.Sound.{WakesInTime, IsSound}
+use Rattle.bench_model.specs.Sound.{WakesInTime, IsConsistent}
 use Rattle.bench_model.proofs.Filters.{All-weaker}
 use Rattle.bench_model.proofs.Restamps.{IsGiven}
 use Rattle.bench_model.proofs.SeenMoves.{advance_seen, due_seen}
@@ -63,25 +63,25 @@ woken_parts (task ∷ tasks) table = woken_parts tasks (wake table_moves 0 task 
 abbrev pub behind_wakes : Table → Table
 behind_wakes table = let later = advance table.orders in woken table_moves (due later) (with_orders table later)
 
-pub wakes_sound : (table : Table) → IsSound table → IsSound (behind_wakes table)
+pub wakes_sound : (table : Table) → IsConsistent table → IsConsistent (behind_wakes table)
 wakes_sound table sound =
     let later = advance table.orders in
     let tasks = due later in
-    subst IsSound (sym (woken_parts tasks (with_orders table later)))
+    subst IsConsistent (sym (woken_parts tasks (with_orders table later)))
     (more_sound (with_orders table (readied later tasks)) (sought_each tasks table.control) (sought_more tasks table.control) (readied_sound table sound))
 
-pub ticked_sound : (table : Table) → IsSound table → IsSound (ticked table_moves table)
+pub ticked_sound : (table : Table) → IsConsistent table → IsConsistent (ticked table_moves table)
 unfolding ticked
 ticked_sound table sound = sliced_sound (behind_wakes table) (wakes_sound table sound)
 
 advanced_image : (table : Table) → WakesInTime table.orders → image (with_orders table (advance table.orders)) ≡ with_orders (image table) (seen.advance (image table).orders)
-advanced_image table in_time = same_state table.settings table.control table.control table.calls table.notes table.holders _ _ refl (advance_seen table.control table.orders (in_time_ahead table.orders in_time))
+advanced_image table in_time = same_state table.settings table.control table.control table.calls table.notes table.holders table.hold _ _ refl (advance_seen table.control table.orders (in_time_ahead table.orders in_time))
 
 due_seen_later : (table : Table) → WakesInTime table.orders → due (advance table.orders) ≡ seen.due (seen.advance (image table).orders)
 due_seen_later table in_time =
     sym (due_seen table.control (advance table.orders) (advanced_near table.orders in_time)) ∙ ap seen.due (advance_seen table.control table.orders (in_time_ahead table.orders in_time))
 
-pub ticked_seen : (table : Table) → IsSound table → image (ticked table_moves table) ≡ ticked list_moves (image table)
+pub ticked_seen : (table : Table) → IsConsistent table → image (ticked table_moves table) ≡ ticked list_moves (image table)
 unfolding ticked
 ticked_seen table sound =
     let later = advance table.orders in

@@ -1,6 +1,6 @@
 -- The cores, the control blocks and the ready lists: the part of what can be seen of a kernel that its choices of cores and of
 -- tasks read and change.
-use Rattle.std.specs.Prelude.{ℕ, List, [], length, Bool, ◌==◌}
+use Rattle.std.specs.Prelude.{ℕ, List, [], length, Bool, ◌==◌, None}
 use Rattle.std.specs.Int.{bit_at}
 use Rattle.bench_model.specs.Control.{Control}
 use Rattle.bench_model.specs.Lists.{View}
@@ -30,6 +30,7 @@ alone cores = record {
   calls = [];
   notes = [];
   holders = [];
+  hold = None;
   orders = record { ready = cores.ready; tick = 0; delayed = []; waiters = []; deadlines = [] };
 }
 

@@ -10,7 +10,7 @@ use Rattle.bench_model.specs.Seek.{seek, wake, switched_and_sought, sliced}
 use Rattle.bench_model.specs.SeekLaws.{sought}
 use Rattle.bench_model.specs.Changes.{with_task, with_base, with_affinity, in_use_set}
 use Rattle.bench_model.specs.Cores.{CoresView, cores_of, on_cores}
-use Rattle.bench_model.specs.Sound.{IsStamped, IsBelow, IsSound}
+use Rattle.bench_model.specs.Sound.{IsStamped, IsBelow, IsConsistent}
 use Rattle.bench_model.specs.Start.{start}
 use Rattle.bench_model.specs.Examples.{three_tasks, waiting}
 
@@ -24,18 +24,18 @@ ChangeIsApart = (control : Control) (stamps : Stamps) (task : ℕ) (block : Task
     lists_of (with_task task block control) stamps ≡ lists_of control stamps
 
 -- and it keeps a table sound where both its priorities are below their number
-abbrev pub ChangeKeepsSound : Type 0
-ChangeKeepsSound = (table : Table) (task : ℕ) (block : TaskControl) → IsSound table → IsBelow table.settings.priorities block →
-    IsSound (record table { control = with_task task block table.control })
+abbrev pub ChangeKeepsConsistent : Type 0
+ChangeKeepsConsistent = (table : Table) (task : ℕ) (block : TaskControl) → IsConsistent table → IsBelow table.settings.priorities block →
+    IsConsistent (record table { control = with_task task block table.control })
 
 -- seen as lists, setting the priority in use in a table is setting it over lists
 abbrev pub InUseIsSeen : Type 0
-InUseIsSeen = (table : Table) (task priority : ℕ) → IsSound table → task < table.settings.tasks →
+InUseIsSeen = (table : Table) (task priority : ℕ) → IsConsistent table → task < table.settings.tasks →
     image (in_use_set table_moves task priority table) ≡ in_use_set list_moves task priority (image table)
 
-abbrev pub InUseKeepsSound : Type 0
-InUseKeepsSound = (table : Table) (task priority : ℕ) → IsSound table → task < table.settings.tasks → priority < table.settings.priorities →
-    IsSound (in_use_set table_moves task priority table)
+abbrev pub InUseKeepsConsistent : Type 0
+InUseKeepsConsistent = (table : Table) (task priority : ℕ) → IsConsistent table → task < table.settings.tasks → priority < table.settings.priorities →
+    IsConsistent (in_use_set table_moves task priority table)
 
 -- what each rule does to the cores and ready lists that are seen of a table depends on them alone
 
@@ -52,18 +52,18 @@ WakeOnCores = (table : Table) (acting task : ℕ) → IsStamped table.orders →
     cores_seen (wake table_moves acting task table) ≡ on_cores (wake list_moves acting task) (cores_seen table)
 
 abbrev pub WaitOnCores : Type 0
-WaitOnCores = (table : Table) (task : ℕ) (ticks : Option ℕ) (wait : Option MutexWait) → IsSound table → task < table.settings.tasks → is_ready task table.orders ≡ true →
+WaitOnCores = (table : Table) (task : ℕ) (ticks : Option ℕ) (wait : Option MutexWait) → IsConsistent table → task < table.settings.tasks → is_ready task table.orders ≡ true →
     cores_seen (record table { orders = delay task ticks wait table.orders }) ≡ record (cores_seen table) { ready = without task (cores_seen table).ready }
 
 abbrev pub SwitchOnCores : Type 0
-SwitchOnCores = (table : Table) (core : ℕ) → IsSound table → core < table.settings.cores →
+SwitchOnCores = (table : Table) (core : ℕ) → IsConsistent table → core < table.settings.cores →
     cores_seen (switched_and_sought table_moves core table) ≡ on_cores (switched_and_sought list_moves core) (cores_seen table)
 
 abbrev pub SlicesOnCores : Type 0
-SlicesOnCores = (table : Table) → IsSound table → cores_seen (sliced table_moves table) ≡ on_cores (sliced list_moves) (cores_seen table)
+SlicesOnCores = (table : Table) → IsConsistent table → cores_seen (sliced table_moves table) ≡ on_cores (sliced list_moves) (cores_seen table)
 
 abbrev pub InUseOnCores : Type 0
-InUseOnCores = (table : Table) (task priority : ℕ) → IsSound table → task < table.settings.tasks →
+InUseOnCores = (table : Table) (task priority : ℕ) → IsConsistent table → task < table.settings.tasks →
     cores_seen (in_use_set table_moves task priority table) ≡ on_cores (in_use_set list_moves task priority) (cores_seen table)
 
 -- the ready tasks behind setting a priority in use, in the start of tasks 2, 3 and 4 with priorities 2, 1 and 1

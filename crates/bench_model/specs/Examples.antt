@@ -3,6 +3,7 @@ use Rattle.std.specs.Prelude.{◌≡◌, ℕ, ◌+◌, ◌*◌, ◌^◌, List, B
 use Rattle.bench_types.specs.declared.header.Header.{Header}
 use Rattle.bench_types.specs.declared.header.TaskArgs.{TaskArgs}
 use Rattle.bench_types.specs.declared.kernel_data.Delayed.{Delayed}
+use Rattle.bench_types.specs.declared.kernel_data.MutexWait.{MutexWait}
 use Rattle.bench_types.specs.declared.reply.Reply.{Reply}
 use Rattle.bench_types.specs.declared.reply.Reply.TheVariants.{Done, Refused}
 use Rattle.bench_types.specs.declared.reply.Reply.TheVariants as reply
@@ -13,6 +14,7 @@ use Rattle.bench_types.specs.declared.step.Call.TheVariants.{Yield, Delay, Finis
 use Rattle.bench_model.specs.declared.row.TaskRow.{TaskRow}
 use Rattle.bench_model.specs.declared.row.Standing.{Standing}
 use Rattle.bench_model.specs.declared.row.Standing.TheVariants.{Ready, Blocked}
+use Rattle.bench_model.specs.Alike.{AreAlike}
 use Rattle.bench_model.specs.Search.{numbers}
 use Rattle.bench_model.specs.Control.{running}
 use Rattle.bench_model.specs.Steps.{ticked}
@@ -110,3 +112,13 @@ exchanged i j table = let stamps = table.orders in record table { orders = recor
 pub record EqualTables : Type 0 where
   pub other_stamps : Same waiting (later waiting)
   pub other_order : ¬ Same waiting (exchanged 3 4 waiting)
+
+-- the tasks 3 and 4, of one priority, wait in turn
+abbrev pub both_wait : Option ℕ → Option MutexWait → Table
+both_wait ticks wait = let table = start three_tasks in record table { orders = delay 4 ticks wait (delay 3 ticks wait table.orders) }
+
+pub record AlikeTables : Type 0 where
+  pub other_stamps : (table : Table) → AreAlike table (later table)
+  pub other_ready_order : ¬ AreAlike waiting (exchanged 3 4 waiting)
+  pub other_delay_order : ¬ AreAlike (both_wait (Some 1) None) (exchanged 3 4 (both_wait (Some 1) None))
+  pub other_queue_order : let table = both_wait None (Some (record { mutex = 0; priority = 1 })) in ¬ AreAlike table (exchanged 3 4 table)

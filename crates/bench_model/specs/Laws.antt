@@ -16,7 +16,7 @@ use Rattle.bench_model.specs.Table.{Stamps, Table, table_moves, is_ready, pick, 
 use Rattle.bench_model.specs.Lists as seen
 use Rattle.bench_model.specs.Lists.{Lists, View, list_moves, lists_of, image}
 use Rattle.bench_model.specs.Looks.{task_look, look_in}
-use Rattle.bench_model.specs.Sound.{IsStamped, IsWait, IsMutexWait, WakesInTime, IsCaller, IsSound, takes_mutex}
+use Rattle.bench_model.specs.Sound.{IsStamped, IsWait, IsMutexWait, WakesInTime, IsCaller, IsConsistent, IsSound, takes_mutex}
 use Rattle.bench_model.specs.Start.{start, start_seen}
 use Rattle.bench_model.specs.Session.{step_of}
 use Rattle.bench_model.specs.Edits.{Session, IsSession, accepted, edited}
@@ -36,7 +36,7 @@ StepKeepsSound = (table : Table) (step : Step) → IsSound table → IsCheckedSt
 
 -- a switch of a core always finds a task
 abbrev pub SwitchFindsTask : Type 0
-SwitchFindsTask = (table : Table) (core : ℕ) → IsSound table → core < table.settings.cores → IsSome (selected table_moves core table)
+SwitchFindsTask = (table : Table) (core : ℕ) → IsConsistent table → core < table.settings.cores → IsSome (selected table_moves core table)
 
 -- seen as lists, the start of a table is the start over lists
 abbrev pub StartIsSeen : Type 0
@@ -67,7 +67,7 @@ ReadyIsSeen = (control : Control) (stamps : Stamps) (task : ℕ) → IsStamped s
 
 -- what the lists of a table show of a task is what the table shows of it
 abbrev pub LookIsSeen : Type 0
-LookIsSeen = (table : Table) (task : ℕ) → IsSound table → task < table.settings.tasks → look_in (image table) task ≡ task_look table task
+LookIsSeen = (table : Table) (task : ℕ) → IsConsistent table → task < table.settings.tasks → look_in (image table) task ≡ task_look table task
 
 abbrev pub ReadyAtEndIsSeen : Type 0
 ReadyAtEndIsSeen = (control : Control) (stamps : Stamps) (task : ℕ) → IsStamped stamps → task < length stamps.rows →
@@ -93,14 +93,14 @@ abbrev pub CoresAreApart : Type 0
 CoresAreApart = (control : Control) (acting core : ℕ) (stamps : Stamps) → lists_of (ask acting core control) stamps ≡ lists_of control stamps
 
 abbrev pub SwitchIsSeen : Type 0
-SwitchIsSeen = (table : Table) (core : ℕ) → IsSound table → core < table.settings.cores → image (switched table_moves core table) ≡ switched list_moves core (image table)
+SwitchIsSeen = (table : Table) (core : ℕ) → IsConsistent table → core < table.settings.cores → image (switched table_moves core table) ≡ switched list_moves core (image table)
 
 abbrev pub BlockIsSeen : Type 0
-BlockIsSeen = (table : Table) (core task : ℕ) (call : Unfinished) (ticks : Option ℕ) (wait : Option MutexWait) → IsSound table → IsCaller table core task →
+BlockIsSeen = (table : Table) (core task : ℕ) (call : Unfinished) (ticks : Option ℕ) (wait : Option MutexWait) → IsConsistent table → IsCaller table core task →
     image (blocked table_moves core task call ticks wait table) ≡ blocked list_moves core task call ticks wait (image table)
 
 -- a user task that a call blocks leaves a sound table sound
-abbrev pub BlockKeepsSound : Type 0
-BlockKeepsSound = (table : Table) (core task : ℕ) (call : Unfinished) (ticks : Option ℕ) (wait : Option MutexWait) → IsSound table → IsCaller table core task →
+abbrev pub BlockKeepsConsistent : Type 0
+BlockKeepsConsistent = (table : Table) (core task : ℕ) (call : Unfinished) (ticks : Option ℕ) (wait : Option MutexWait) → IsConsistent table → IsCaller table core task →
     IsCheckedUnfinished table.settings call → table.settings.cores ≤ task → IsWait ticks → IfSome wait (IsMutexWait table.settings) →
-    (is_some wait ≡ true → takes_mutex (Some call) ≡ true) → IsSound (blocked table_moves core task call ticks wait table)
+    (is_some wait ≡ true → takes_mutex (Some call) ≡ true) → IsConsistent (blocked table_moves core task call ticks wait table)

@@ -1,9 +1,14 @@
+pub mod Alike
+pub mod AlikeLaws
 pub mod Changes
 pub mod Control
 pub mod Cores
 pub mod CoresLaws
 pub mod Edits
 pub mod Equal
+pub mod HoldExamples
+pub mod HoldLaws
+pub mod Holds
 pub mod Examples
 pub mod Laws
 pub mod Lists
@@ -16,6 +21,7 @@ pub mod NoteExamples
 pub mod NoteLaws
 pub mod Notes
 pub mod Notifying
+pub mod Refusals
 pub mod Search
 pub mod Seek
 pub mod SeekExamples
@@ -32,3 +38,8 @@ pub mod SlowTable
 pub mod State
 pub mod Steps
 pub mod Table
+pub mod Tallied
+pub mod Tally
+pub mod TallyExamples
+pub mod TallyLaws
+pub mod Until

@@ -63,6 +63,9 @@ delay task ticks wait lists = record lists {
   deadlines = slice_set lists.deadlines task (if is_some wait then ticks else None);
 }
 
+abbrev pub tick_count : Lists → ℕ
+tick_count lists = lists.tick
+
 -- the tick count wraps, and each waiting task has one tick less left; a deadline that is reached stays so
 unfoldable pub advance : Lists → Lists
 advance lists = record lists {
@@ -93,6 +96,7 @@ list_moves = record {
   pick = pick;
   make_ready = make_ready;
   delay = delay;
+  tick_count = tick_count;
   advance = advance;
   due = due;
   first_waiter = first_waiter;
@@ -122,5 +126,6 @@ image table = record {
   calls = table.calls;
   notes = table.notes;
   holders = table.holders;
+  hold = table.hold;
   orders = lists_of table.control table.orders;
 }

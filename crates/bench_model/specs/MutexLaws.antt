@@ -10,7 +10,7 @@ use Rattle.bench_model.specs.CoresLaws.{cores_seen}
 use Rattle.bench_model.specs.Lists as seen
 use Rattle.bench_model.specs.Lists.{list_moves, lists_of, image}
 use Rattle.bench_model.specs.Mutexes.{inherited, lowered, mutex_take, finished, mutex_give}
-use Rattle.bench_model.specs.Sound.{IsStamped, IsCaller, IsSound}
+use Rattle.bench_model.specs.Sound.{IsStamped, IsCaller, IsConsistent}
 
 -- the first waiter of a list is the best of all that wait
 abbrev pub FirstWaiterIsSeen : Type 0
@@ -23,57 +23,57 @@ abbrev pub ForgettingIsSeen : Type 0
 ForgettingIsSeen = (control : Control) (task : ℕ) (stamps : Stamps) → lists_of control (forget_deadline task stamps) ≡ seen.forget_deadline task (lists_of control stamps)
 
 abbrev pub InheritIsSeen : Type 0
-InheritIsSeen = (table : Table) (acting holder priority : ℕ) → IsSound table → holder < table.settings.tasks →
+InheritIsSeen = (table : Table) (acting holder priority : ℕ) → IsConsistent table → holder < table.settings.tasks →
     image (inherited table_moves acting holder priority table) ≡ inherited list_moves acting holder priority (image table)
 
-abbrev pub InheritKeepsSound : Type 0
-InheritKeepsSound = (table : Table) (acting holder priority : ℕ) → IsSound table → holder < table.settings.tasks → priority < table.settings.priorities →
-    IsSound (inherited table_moves acting holder priority table)
+abbrev pub InheritKeepsConsistent : Type 0
+InheritKeepsConsistent = (table : Table) (acting holder priority : ℕ) → IsConsistent table → holder < table.settings.tasks → priority < table.settings.priorities →
+    IsConsistent (inherited table_moves acting holder priority table)
 
 -- seen as lists, each rule of a table is the rule over lists, with the same reply
 
 abbrev pub TakeIsSeen : Type 0
-TakeIsSeen = (table : Table) (core task mutex ticks : ℕ) → IsSound table → IsCaller table core task →
+TakeIsSeen = (table : Table) (core task mutex ticks : ℕ) → IsConsistent table → IsCaller table core task →
     seen_of (mutex_take table_moves core task mutex ticks table) ≡ mutex_take list_moves core task mutex ticks (image table)
 
 abbrev pub FinishIsSeen : Type 0
-FinishIsSeen = (table : Table) (core task : ℕ) (call : Unfinished) → IsSound table → IsCaller table core task →
+FinishIsSeen = (table : Table) (core task : ℕ) (call : Unfinished) → IsConsistent table → IsCaller table core task →
     seen_of (finished table_moves core task call table) ≡ finished list_moves core task call (image table)
 
 abbrev pub GiveIsSeen : Type 0
-GiveIsSeen = (table : Table) (core task mutex : ℕ) → IsSound table → task < table.settings.tasks → mutex < table.settings.mutexes →
+GiveIsSeen = (table : Table) (core task mutex : ℕ) → IsConsistent table → task < table.settings.tasks → mutex < table.settings.mutexes →
     seen_of (mutex_give table_moves core task mutex table) ≡ mutex_give list_moves core task mutex (image table)
 
 -- each rule keeps a table sound, for a user task and a mutex that there is
 
-abbrev pub TakeKeepsSound : Type 0
-TakeKeepsSound = (table : Table) (core task mutex ticks : ℕ) → IsSound table → IsCaller table core task → table.settings.cores ≤ task → ticks < 2 ^ 32 →
-    mutex < table.settings.mutexes → IsSound (mutex_take table_moves core task mutex ticks table).1
+abbrev pub TakeKeepsConsistent : Type 0
+TakeKeepsConsistent = (table : Table) (core task mutex ticks : ℕ) → IsConsistent table → IsCaller table core task → table.settings.cores ≤ task → ticks < 2 ^ 32 →
+    mutex < table.settings.mutexes → IsConsistent (mutex_take table_moves core task mutex ticks table).1
 
-abbrev pub FinishKeepsSound : Type 0
-FinishKeepsSound = (table : Table) (core task : ℕ) (call : Unfinished) → IsSound table → IsCaller table core task → IsCheckedUnfinished table.settings call →
-    table.settings.cores ≤ task → IsSound (finished table_moves core task call table).1
+abbrev pub FinishKeepsConsistent : Type 0
+FinishKeepsConsistent = (table : Table) (core task : ℕ) (call : Unfinished) → IsConsistent table → IsCaller table core task → IsCheckedUnfinished table.settings call →
+    table.settings.cores ≤ task → IsConsistent (finished table_moves core task call table).1
 
-abbrev pub GiveKeepsSound : Type 0
-GiveKeepsSound = (table : Table) (core task mutex : ℕ) → IsSound table → task < table.settings.tasks → mutex < table.settings.mutexes →
-    IsSound (mutex_give table_moves core task mutex table).1
+abbrev pub GiveKeepsConsistent : Type 0
+GiveKeepsConsistent = (table : Table) (core task mutex : ℕ) → IsConsistent table → task < table.settings.tasks → mutex < table.settings.mutexes →
+    IsConsistent (mutex_give table_moves core task mutex table).1
 
 -- seen as lists, giving up an inherited priority is so, and it keeps a table sound
 
 abbrev pub LowerIsSeen : Type 0
-LowerIsSeen = (table : Table) (acting task priority : ℕ) → IsSound table → task < table.settings.tasks →
+LowerIsSeen = (table : Table) (acting task priority : ℕ) → IsConsistent table → task < table.settings.tasks →
     image (lowered table_moves acting task priority table) ≡ lowered list_moves acting task priority (image table)
 
-abbrev pub LowerKeepsSound : Type 0
-LowerKeepsSound = (table : Table) (acting task priority : ℕ) → IsSound table → task < table.settings.tasks → priority < table.settings.priorities →
-    IsSound (lowered table_moves acting task priority table)
+abbrev pub LowerKeepsConsistent : Type 0
+LowerKeepsConsistent = (table : Table) (acting task priority : ℕ) → IsConsistent table → task < table.settings.tasks → priority < table.settings.priorities →
+    IsConsistent (lowered table_moves acting task priority table)
 
 -- what each does to the cores and ready lists that are seen of a table depends on them alone
 
 abbrev pub InheritOnCores : Type 0
-InheritOnCores = (table : Table) (acting holder priority : ℕ) → IsSound table → holder < table.settings.tasks →
+InheritOnCores = (table : Table) (acting holder priority : ℕ) → IsConsistent table → holder < table.settings.tasks →
     cores_seen (inherited table_moves acting holder priority table) ≡ on_cores (inherited list_moves acting holder priority) (cores_seen table)
 
 abbrev pub LowerOnCores : Type 0
-LowerOnCores = (table : Table) (acting task priority : ℕ) → IsSound table → task < table.settings.tasks →
+LowerOnCores = (table : Table) (acting task priority : ℕ) → IsConsistent table → task < table.settings.tasks →
     cores_seen (lowered table_moves acting task priority table) ≡ on_cores (lowered list_moves acting task priority) (cores_seen table)

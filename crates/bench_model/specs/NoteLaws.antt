@@ -6,22 +6,22 @@ use Rattle.bench_types.specs.Step.{IsActionOfWord}
 use Rattle.bench_model.specs.Notifying.{notify}
 use Rattle.bench_model.specs.Table.{Table, table_moves}
 use Rattle.bench_model.specs.Lists.{list_moves, image}
-use Rattle.bench_model.specs.Sound.{HasWords, IsSound}
+use Rattle.bench_model.specs.Sound.{HasWords, IsConsistent}
 
 -- seen as lists, notifying a task in a table is notifying it over lists
 abbrev pub NotifyIsSeen : Type 0
-NotifyIsSeen = (table : Table) (acting task : ℕ) (action : Action) → IsSound table → task < table.settings.tasks →
+NotifyIsSeen = (table : Table) (acting task : ℕ) (action : Action) → IsConsistent table → task < table.settings.tasks →
     image (notify table_moves acting task action table) ≡ notify list_moves acting task action (image table)
 
-abbrev pub NotifyKeepsSound : Type 0
-NotifyKeepsSound = (table : Table) (acting task : ℕ) (action : Action) → IsSound table → task < table.settings.tasks → IsActionOfWord action →
-    IsSound (notify table_moves acting task action table)
+abbrev pub NotifyKeepsConsistent : Type 0
+NotifyKeepsConsistent = (table : Table) (acting task : ℕ) (action : Action) → IsConsistent table → task < table.settings.tasks → IsActionOfWord action →
+    IsConsistent (notify table_moves acting task action table)
 
 -- other notifications are seen as they are, and change nothing else that is seen
 abbrev pub NotesAreApart : Type 0
 NotesAreApart = (table : Table) (notes : List Notification) → image (record table { notes = notes }) ≡ record (image table) { notes = notes }
 
 -- and they keep a table sound where there is one for each task, with a value of 32 bits
-abbrev pub NotesKeepSound : Type 0
-NotesKeepSound = (table : Table) (notes : List Notification) → IsSound table → length notes ≡ table.settings.tasks → HasWords notes →
-    IsSound (record table { notes = notes })
+abbrev pub NotesKeepConsistent : Type 0
+NotesKeepConsistent = (table : Table) (notes : List Notification) → IsConsistent table → length notes ≡ table.settings.tasks → HasWords notes →
+    IsConsistent (record table { notes = notes })

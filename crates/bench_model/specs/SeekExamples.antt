@@ -8,7 +8,8 @@ use Rattle.bench_types.specs.declared.step.Step.TheVariants.{Switch, Call}
 use Rattle.bench_types.specs.declared.step.Call.TheVariants.{Delay}
 use Rattle.bench_model.specs.Search.{numbers}
 use Rattle.bench_model.specs.Control.{Control, core_at, with_core, task_at, running}
-use Rattle.bench_model.specs.State.{refusal, yielded}
+use Rattle.bench_model.specs.Refusals.{refusal}
+use Rattle.bench_model.specs.State.{yielded}
 use Rattle.bench_model.specs.Table.{Table, table_moves, advance}
 use Rattle.bench_model.specs.Seek.{asked_for, seek, may_move, wake, switched_and_sought, sliced}
 use Rattle.bench_model.specs.Start.{start}
@@ -98,7 +99,7 @@ evicted = switched_and_sought table_moves 0 (woken_by_tick 2 (record (delayed_on
 
 pub record WorkedChoices : Type 0 where
   pub start_asks_none : flags (start (timed three_tasks)).control ≡ (false, false) ∷ (false, false) ∷ []
-  pub start_has_none_due : refusal (start (timed three_tasks)).control (start (timed three_tasks)).calls (start (timed three_tasks)).holders (Switch 0) ≡ Some NotDue
+  pub start_has_none_due : refusal table_moves (Switch 0) (start (timed three_tasks)) ≡ Some NotDue
   pub shared_time : flags (sliced table_moves (start (timed three_tasks))).control ≡ (false, false) ∷ (false, true) ∷ []
   pub next_in_turn : running (switched_and_sought table_moves 1 (sliced table_moves (start (timed three_tasks)))).control ≡ 2 ∷ 4 ∷ []
   pub idle_share_too : flags (sliced table_moves (start (timed one_task))).control ≡ (false, false) ∷ (false, true) ∷ []

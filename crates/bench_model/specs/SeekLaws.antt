@@ -5,7 +5,7 @@ use Rattle.bench_model.specs.State.{State}
 use Rattle.bench_model.specs.Table.{Table, table_moves}
 use Rattle.bench_model.specs.Lists.{list_moves, image}
 use Rattle.bench_model.specs.Seek.{gives_way, is_asked_before, asked_for, seek, wake, switched_and_sought, sliced}
-use Rattle.bench_model.specs.Sound.{IsStamped, IsSound}
+use Rattle.bench_model.specs.Sound.{IsStamped, IsConsistent}
 
 -- a core among these that gives way to the task
 abbrev pub IsCandidate : Control → ℕ → (ℕ → Bool) → ℕ → Type 0
@@ -33,25 +33,25 @@ WakeIsSeen = (table : Table) (acting task : ℕ) → IsStamped table.orders → 
     image (wake table_moves acting task table) ≡ wake list_moves acting task (image table)
 
 abbrev pub SoughtSwitchIsSeen : Type 0
-SoughtSwitchIsSeen = (table : Table) (core : ℕ) → IsSound table → core < table.settings.cores →
+SoughtSwitchIsSeen = (table : Table) (core : ℕ) → IsConsistent table → core < table.settings.cores →
     image (switched_and_sought table_moves core table) ≡ switched_and_sought list_moves core (image table)
 
 abbrev pub SlicesAreSeen : Type 0
-SlicesAreSeen = (table : Table) → IsSound table → image (sliced table_moves table) ≡ sliced list_moves (image table)
+SlicesAreSeen = (table : Table) → IsConsistent table → image (sliced table_moves table) ≡ sliced list_moves (image table)
 
 -- each rule keeps a table sound
 
-abbrev pub AskKeepsSound : Type 0
-AskKeepsSound = (table : Table) (acting core : ℕ) → IsSound table → core < table.settings.cores → IsSound (record table { control = ask acting core table.control })
+abbrev pub AskKeepsConsistent : Type 0
+AskKeepsConsistent = (table : Table) (acting core : ℕ) → IsConsistent table → core < table.settings.cores → IsConsistent (record table { control = ask acting core table.control })
 
-abbrev pub SeekKeepsSound : Type 0
-SeekKeepsSound = (table : Table) (acting task : ℕ) (among : ℕ → Bool) → IsSound table → IsSound (sought acting task among table)
+abbrev pub SeekKeepsConsistent : Type 0
+SeekKeepsConsistent = (table : Table) (acting task : ℕ) (among : ℕ → Bool) → IsConsistent table → IsConsistent (sought acting task among table)
 
-abbrev pub WakeKeepsSound : Type 0
-WakeKeepsSound = (table : Table) (acting task : ℕ) → IsSound table → task < table.settings.tasks → IsSound (wake table_moves acting task table)
+abbrev pub WakeKeepsConsistent : Type 0
+WakeKeepsConsistent = (table : Table) (acting task : ℕ) → IsConsistent table → task < table.settings.tasks → IsConsistent (wake table_moves acting task table)
 
-abbrev pub SoughtSwitchKeepsSound : Type 0
-SoughtSwitchKeepsSound = (table : Table) (core : ℕ) → IsSound table → core < table.settings.cores → IsSound (switched_and_sought table_moves core table)
+abbrev pub SoughtSwitchKeepsConsistent : Type 0
+SoughtSwitchKeepsConsistent = (table : Table) (core : ℕ) → IsConsistent table → core < table.settings.cores → IsConsistent (switched_and_sought table_moves core table)
 
-abbrev pub SlicesKeepSound : Type 0
-SlicesKeepSound = (table : Table) → IsSound table → IsSound (sliced table_moves table)
+abbrev pub SlicesKeepConsistent : Type 0
+SlicesKeepConsistent = (table : Table) → IsConsistent table → IsConsistent (sliced table_moves table)

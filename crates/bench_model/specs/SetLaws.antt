@@ -6,7 +6,7 @@ use Rattle.bench_model.specs.Table.{Table, table_moves}
 use Rattle.bench_model.specs.Lists.{list_moves, image}
 use Rattle.bench_model.specs.Seek.{is_running}
 use Rattle.bench_model.specs.Sets.{runs_on, ask_its_core, ranked_anew, masked_anew, priority_set, affinity_set, preemption_off, preemption_on}
-use Rattle.bench_model.specs.Sound.{IsSound}
+use Rattle.bench_model.specs.Sound.{IsConsistent}
 
 -- a task runs where there is a core that it runs on
 abbrev pub RunsOnSomeCore : Type 0
@@ -30,11 +30,11 @@ MaskedAnewIsSeen = (table : Table) (acting task : ℕ) (ready : Bool) →
     image (on_control (masked_anew acting task ready) table) ≡ on_control (masked_anew acting task ready) (image table)
 
 abbrev pub PrioritySetIsSeen : Type 0
-PrioritySetIsSeen = (table : Table) (acting task priority : ℕ) → IsSound table → task < table.settings.tasks →
+PrioritySetIsSeen = (table : Table) (acting task priority : ℕ) → IsConsistent table → task < table.settings.tasks →
     image (priority_set table_moves acting task priority table) ≡ priority_set list_moves acting task priority (image table)
 
 abbrev pub AffinitySetIsSeen : Type 0
-AffinitySetIsSeen = (table : Table) (acting task mask : ℕ) → IsSound table → task < table.settings.tasks →
+AffinitySetIsSeen = (table : Table) (acting task mask : ℕ) → IsConsistent table → task < table.settings.tasks →
     image (affinity_set table_moves acting task mask table) ≡ affinity_set list_moves acting task mask (image table)
 
 abbrev pub PreemptionOffIsSeen : Type 0
@@ -45,23 +45,23 @@ PreemptionOnIsSeen = (table : Table) (acting task : ℕ) → image (preemption_o
 
 -- each rule keeps a table sound
 
-abbrev pub AskItsCoreKeepsSound : Type 0
-AskItsCoreKeepsSound = (table : Table) (acting task : ℕ) → IsSound table → IsSound (on_control (ask_its_core acting task) table)
+abbrev pub AskItsCoreKeepsConsistent : Type 0
+AskItsCoreKeepsConsistent = (table : Table) (acting task : ℕ) → IsConsistent table → IsConsistent (on_control (ask_its_core acting task) table)
 
-abbrev pub RankedAnewKeepsSound : Type 0
-RankedAnewKeepsSound = (table : Table) (acting task old new : ℕ) (ready : Bool) → IsSound table → IsSound (on_control (ranked_anew acting task old new ready) table)
+abbrev pub RankedAnewKeepsConsistent : Type 0
+RankedAnewKeepsConsistent = (table : Table) (acting task old new : ℕ) (ready : Bool) → IsConsistent table → IsConsistent (on_control (ranked_anew acting task old new ready) table)
 
-abbrev pub MaskedAnewKeepsSound : Type 0
-MaskedAnewKeepsSound = (table : Table) (acting task : ℕ) (ready : Bool) → IsSound table → IsSound (on_control (masked_anew acting task ready) table)
+abbrev pub MaskedAnewKeepsConsistent : Type 0
+MaskedAnewKeepsConsistent = (table : Table) (acting task : ℕ) (ready : Bool) → IsConsistent table → IsConsistent (on_control (masked_anew acting task ready) table)
 
-abbrev pub PrioritySetKeepsSound : Type 0
-PrioritySetKeepsSound = (table : Table) (acting task priority : ℕ) → IsSound table → task < table.settings.tasks → IsSound (priority_set table_moves acting task priority table)
+abbrev pub PrioritySetKeepsConsistent : Type 0
+PrioritySetKeepsConsistent = (table : Table) (acting task priority : ℕ) → IsConsistent table → task < table.settings.tasks → IsConsistent (priority_set table_moves acting task priority table)
 
-abbrev pub AffinitySetKeepsSound : Type 0
-AffinitySetKeepsSound = (table : Table) (acting task mask : ℕ) → IsSound table → task < table.settings.tasks → IsSound (affinity_set table_moves acting task mask table)
+abbrev pub AffinitySetKeepsConsistent : Type 0
+AffinitySetKeepsConsistent = (table : Table) (acting task mask : ℕ) → IsConsistent table → task < table.settings.tasks → IsConsistent (affinity_set table_moves acting task mask table)
 
-abbrev pub PreemptionOffKeepsSound : Type 0
-PreemptionOffKeepsSound = (table : Table) (task : ℕ) → IsSound table → task < table.settings.tasks → IsSound (preemption_off table_moves task table)
+abbrev pub PreemptionOffKeepsConsistent : Type 0
+PreemptionOffKeepsConsistent = (table : Table) (task : ℕ) → IsConsistent table → task < table.settings.tasks → IsConsistent (preemption_off table_moves task table)
 
-abbrev pub PreemptionOnKeepsSound : Type 0
-PreemptionOnKeepsSound = (table : Table) (acting task : ℕ) → IsSound table → task < table.settings.tasks → IsSound (preemption_on table_moves acting task table)
+abbrev pub PreemptionOnKeepsConsistent : Type 0
+PreemptionOnKeepsConsistent = (table : Table) (acting task : ℕ) → IsConsistent table → task < table.settings.tasks → IsConsistent (preemption_on table_moves acting task table)

@@ -1,5 +1,7 @@
--- What the table of every kernel keeps.
-use Rattle.std.specs.Prelude.{◌≡◌, ℕ, ◌+◌, ◌<◌, ◌≤◌, ◌^◌, List, length, Bool, true, false, Option, Some, IfSome}
+-- What the table of every kernel keeps: that it is sound.
+use Rattle.std.specs.Prelude.{◌≡◌, ℕ, ◌+◌, ◌<◌, ◌≤◌, ◌^◌, List, length, Bool, true, false, Option, Some, None, IfSome}
+use Rattle.std.specs.Option.{ForSome}
+use Rattle.bench_types.specs.declared.kernel_data.Hold.{Hold}
 use Rattle.bench_types.specs.declared.kernel_data.TaskControl.{TaskControl}
 use Rattle.bench_types.specs.declared.note.Notification.{Notification}
 use Rattle.bench_types.specs.declared.step.Step.{Step}
@@ -71,7 +73,8 @@ pub record HasMutexes (settings : Settings) (calls : List (Option Unfinished)) (
   pub waits : (i : ℕ) (wait : MutexWait) → i < length stamps.rows → wait_in (row_at stamps i).standing ≡ Some wait → IsMutexWait settings wait
   pub deadlines : (i deadline : ℕ) → deadline_at stamps i ≡ Some deadline → (deadline < stamps.tick + 2 ^ 32) × (takes_mutex (call_at calls i) ≡ true)
 
-pub record IsSound (table : Table) : Type 0 where
+-- all of it that says nothing of a hold
+pub record IsConsistent (table : Table) : Type 0 where
   pub sized : IsSized table
   pub stamped : IsStamped table.orders
   pub in_place : IsPlaced table.control table.orders
@@ -80,6 +83,18 @@ pub record IsSound (table : Table) : Type 0 where
   pub calls : (i : ℕ) (call : Unfinished) → call_at table.calls i ≡ Some call → IsCheckedUnfinished table.settings call
   pub notes : HasWords table.notes
   pub mutexes : HasMutexes table.settings table.calls table.holders table.orders
+
+-- an open hold is open 1 to 255 times over, and the current task of its core is a ready user task without an unfinished call
+pub record IsHeldWell (table : Table) (hold : Hold) : Type 0 where
+  pub core_below : hold.core < table.settings.cores
+  pub depth : (0 < hold.depth) × (hold.depth ≤ 255)
+  pub user : table.settings.cores ≤ current table.control hold.core
+  pub ready : is_ready (current table.control hold.core) table.orders ≡ true
+  pub no_call : call_at table.calls (current table.control hold.core) ≡ None
+
+pub record IsSound (table : Table) : Type 0 where
+  pub consistent : IsConsistent table
+  pub held : ForSome table.hold (IsHeldWell table)
 
 -- the ready task that a core runs
 abbrev pub IsCaller : Table → ℕ → ℕ → Type 0

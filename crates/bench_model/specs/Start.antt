@@ -65,6 +65,7 @@ module _ {Orders : Type 0} where
     calls = replicate (header.config.cores + length header.tasks) None;
     notes = replicate (header.config.cores + length header.tasks) no_note;
     holders = replicate header.config.mutexes None;
+    hold = None;
     orders = orders;
   }
 

@@ -1,20 +1,13 @@
--- The state of a kernel, what it refuses, and the rules that seek no core, over orders of tasks that are kept in one way or
+-- The state of a kernel, and the rules that seek no core, over orders of tasks that are kept in one way or
 -- another: as stamps and wakes (Table), or as lists (Lists).
-use Rattle.std.specs.Prelude.{ℕ, List, Bool, not, ◌==◌, Option, Some, None, unwrap_or, if◌then◌else◌, slice_index_or, slice_set}
-use Rattle.std.specs.Option.{option_or, option_map_or}
+use Rattle.std.specs.Prelude.{ℕ, List, Bool, Option, Some, None, unwrap_or, if◌then◌else◌, slice_index_or, slice_set}
+use Rattle.bench_types.specs.declared.kernel_data.Hold.{Hold}
 use Rattle.bench_types.specs.declared.kernel_data.MutexWait.{MutexWait}
 use Rattle.bench_types.specs.declared.kernel_data.Settings.{Settings}
 use Rattle.bench_types.specs.declared.kernel_data.Waiter.{Waiter}
 use Rattle.bench_types.specs.declared.note.Notification.{Notification}
-use Rattle.bench_types.specs.declared.reply.Refusal.{Refusal}
-use Rattle.bench_types.specs.declared.reply.Refusal.TheVariants.{Displaced, SwitchDue, InCall, NotInCall, NotHolder, NotDue}
-use Rattle.bench_types.specs.declared.step.Step.{Step}
-use Rattle.bench_types.specs.declared.step.Step.TheVariants.{Tick, Switch, Interrupt}
-use Rattle.bench_types.specs.declared.step.Step.TheVariants as steps
-use Rattle.bench_types.specs.declared.step.Call.{Call}
-use Rattle.bench_types.specs.declared.step.Call.TheVariants.{Finish, MutexGive}
 use Rattle.bench_types.specs.declared.step.Unfinished.{Unfinished}
-use Rattle.bench_model.specs.Control.{Control, current, is_due, ask, run_on}
+use Rattle.bench_model.specs.Control.{Control, current, ask, run_on}
 
 pub record State (Orders : Type 0) : Type 0 where
   pub settings : Settings
@@ -25,6 +18,8 @@ pub record State (Orders : Type 0) : Type 0 where
   pub notes : List Notification
   -- per mutex the task that holds it, if there is one
   pub holders : List (Option ℕ)
+  -- the open hold, if there is one
+  pub hold : Option Hold
   -- which tasks are ready and which wait, how long, and in which order
   pub orders : Orders
 
@@ -37,6 +32,8 @@ pub record Moves (Orders : Type 0) : Type 0 where
   pub make_ready : Control → ℕ → Orders → Orders
   -- the task leaves the ready lists and waits, for so many ticks or without end, at a mutex or at none
   pub delay : ℕ → Option ℕ → Option MutexWait → Orders → Orders
+  -- the tick count, as a number of 32 bits
+  pub tick_count : Orders → ℕ
   -- one tick more, and the tasks that have waited long enough then, in the order in which they began to wait
   pub advance : Orders → Orders
   pub due : Orders → List ℕ
@@ -53,27 +50,6 @@ holder_at holders mutex = slice_index_or holders mutex None
 
 abbrev pub call_at : List (Option Unfinished) → ℕ → Option Unfinished
 call_at calls task = slice_index_or calls task None
-
--- a task with an unfinished call can only finish it, and without one it can't finish
-abbrev pub call_refusal : Option Unfinished → Call → Option Refusal
-call_refusal None Finish = Some NotInCall
-call_refusal None _ = None
-call_refusal (Some unfinished) Finish = None
-call_refusal (Some unfinished) _ = Some InCall
-
--- a task can't give a mutex that another task holds
-abbrev pub give_refusal : List (Option ℕ) → ℕ → Call → Option Refusal
-give_refusal holders task (MutexGive mutex) = option_map_or (λ holder. if holder == task then None else Some NotHolder) (holder_at holders mutex) None
-give_refusal holders task call = None
-
--- Why a step is refused, the first reason that applies.
-unfoldable pub refusal : Control → List (Option Unfinished) → List (Option ℕ) → Step → Option Refusal
-refusal control calls holders Tick = None
-refusal control calls holders (Interrupt core note) = None
-refusal control calls holders (Switch core) = if is_due control core then None else Some NotDue
-refusal control calls holders (steps.Call core task call) =
-    if not (current control core == task) then Some Displaced
-    else (if is_due control core then Some SwitchDue else option_or (call_refusal (call_at calls task) call) (give_refusal holders task call))
 
 module _ {Orders : Type 0} (moves : Moves Orders) where
   -- the orders at a core's choice: its ready current task is at the end of its list

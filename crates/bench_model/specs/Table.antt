@@ -1,5 +1,5 @@
 -- The kernel as a flat table: one row a task, whose stamps and absolute wakes give every order.
-use Rattle.std.specs.Prelude.{ℕ, suc, ◌+◌, ◌-◌, List, length, Bool, true, false, ◌&&◌, ◌||◌, ◌==◌, nat_lt, nat_le, Option, None, option_map, is_some, unwrap_or, if◌then◌else◌, slice_index_or, slice_set}
+use Rattle.std.specs.Prelude.{ℕ, suc, ◌+◌, ◌-◌, ◌%◌, ◌^◌, List, length, Bool, true, false, ◌&&◌, ◌||◌, ◌==◌, nat_lt, nat_le, Option, None, option_map, is_some, unwrap_or, if◌then◌else◌, slice_index_or, slice_set}
 use Rattle.std.specs.Option.{option_map_or}
 use Rattle.bench_types.specs.declared.kernel_data.MutexWait.{MutexWait}
 use Rattle.bench_types.specs.declared.kernel_data.Waiter.{Waiter}
@@ -116,6 +116,9 @@ unfoldable pub first_waiter : ℕ → Stamps → Option Waiter
 first_waiter mutex stamps =
     option_map (waiter_of stamps) (best (λ task. waits_at mutex (row_at stamps task).standing) (waits_before stamps) (tasks_of stamps))
 
+abbrev pub tick_count : Stamps → ℕ
+tick_count stamps = stamps.tick % 2 ^ 32
+
 unfoldable pub advance : Stamps → Stamps
 advance stamps = record stamps { tick = suc stamps.tick }
 
@@ -133,6 +136,7 @@ table_moves = record {
   pick = pick;
   make_ready = λ control. make_ready;
   delay = delay;
+  tick_count = tick_count;
   advance = advance;
   due = due;
   first_waiter = first_waiter;

@@ -1,5 +1,5 @@
 //! The laws of cores and ready lists, and of changes of a control block, each on a function that does nothing.
-ghost use Rattle.bench_model.specs.CoresLaws.{ChangeIsApart, ChangeKeepsSound, InUseIsSeen, InUseKeepsSound, AskOnCores, SeekOnCores, WakeOnCores, WaitOnCores, SwitchOnCores, SlicesOnCores, InUseOnCores, WorkedChanges};
+ghost use Rattle.bench_model.specs.CoresLaws.{ChangeIsApart, ChangeKeepsConsistent, InUseIsSeen, InUseKeepsConsistent, AskOnCores, SeekOnCores, WakeOnCores, WaitOnCores, SwitchOnCores, SlicesOnCores, InUseOnCores, WorkedChanges};
 
 /// A change of the base priority, the mask or the preemption flag of a task changes no order of tasks.
 pub fn change_is_apart()
@@ -7,8 +7,8 @@ pub fn change_is_apart()
 {}
 
 /// A sound table is sound when a control block was changed to priorities below their number.
-pub fn change_keeps_sound()
-    ensures { ChangeKeepsSound }
+pub fn change_keeps_consistent()
+    ensures { ChangeKeepsConsistent }
 {}
 
 /// A new stamp for a ready task whose priority in use was set is, seen as lists, the end of the list of that priority.
@@ -17,8 +17,8 @@ pub fn in_use_is_seen()
 {}
 
 /// A sound table is sound when a priority in use was set to one below their number.
-pub fn in_use_keeps_sound()
-    ensures { InUseKeepsSound }
+pub fn in_use_keeps_consistent()
+    ensures { InUseKeepsConsistent }
 {}
 
 /// What asking a core does to the cores and ready lists that are seen of a table.

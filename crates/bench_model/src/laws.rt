@@ -1,5 +1,5 @@
 //! The laws between the definitions, each on a function that does nothing: its contract is the law, for every table.
-ghost use Rattle.bench_model.specs.Laws.{StartIsSound, StartAsksNone, StepKeepsSound, SwitchFindsTask, StartIsSeen, StepIsSeen, EqualStaysEqual, EditKeepsSession, ReadyIsSeen, LookIsSeen, ReadyAtEndIsSeen, PickIsSeen, SwitchIsSeen, DelayIsSeen, BlockIsSeen, BlockKeepsSound, TickIsSeen, WokenIsSeen, CoresAreApart};
+ghost use Rattle.bench_model.specs.Laws.{StartIsSound, StartAsksNone, StepKeepsSound, SwitchFindsTask, StartIsSeen, StepIsSeen, EqualStaysEqual, EditKeepsSession, ReadyIsSeen, LookIsSeen, ReadyAtEndIsSeen, PickIsSeen, SwitchIsSeen, DelayIsSeen, BlockIsSeen, BlockKeepsConsistent, TickIsSeen, WokenIsSeen, CoresAreApart};
 ghost use Rattle.bench_model.specs.Examples.{WorkedSessions, TimedSessions, EndlessWaits, EqualTables};
 
 /// Every kernel that starts from a checked header has a sound table.
@@ -89,8 +89,8 @@ pub fn block_is_seen()
 {}
 
 /// A sound table is sound when a call blocked its user task.
-pub fn block_keeps_sound()
-    ensures { BlockKeepsSound }
+pub fn block_keeps_consistent()
+    ensures { BlockKeepsConsistent }
 {}
 
 /// Asking a core changes no order of tasks.

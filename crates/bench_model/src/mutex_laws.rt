@@ -1,6 +1,6 @@
 //! The laws of mutexes with priority inheritance, and worked ones, each on a function that does nothing.
 ghost use Rattle.bench_model.specs.MutexExamples.{WorkedMutexes};
-ghost use Rattle.bench_model.specs.MutexLaws.{FirstWaiterIsSeen, DeadlineIsSeen, ForgettingIsSeen, InheritIsSeen, InheritKeepsSound, TakeIsSeen, TakeKeepsSound, FinishIsSeen, FinishKeepsSound, GiveIsSeen, GiveKeepsSound, LowerIsSeen, LowerKeepsSound, InheritOnCores, LowerOnCores};
+ghost use Rattle.bench_model.specs.MutexLaws.{FirstWaiterIsSeen, DeadlineIsSeen, ForgettingIsSeen, InheritIsSeen, InheritKeepsConsistent, TakeIsSeen, TakeKeepsConsistent, FinishIsSeen, FinishKeepsConsistent, GiveIsSeen, GiveKeepsConsistent, LowerIsSeen, LowerKeepsConsistent, InheritOnCores, LowerOnCores};
 
 /// The first waiter of a mutex in its list is the best of all tasks that wait for it.
 pub fn first_waiter_is_seen()
@@ -23,8 +23,8 @@ pub fn inherit_is_seen()
 {}
 
 /// A sound table is sound when a holder took over a priority in use.
-pub fn inherit_keeps_sound()
-    ensures { InheritKeepsSound }
+pub fn inherit_keeps_consistent()
+    ensures { InheritKeepsConsistent }
 {}
 
 /// Taking a mutex, with the inheritance that comes with waiting for it, is so over lists.
@@ -33,8 +33,8 @@ pub fn take_is_seen()
 {}
 
 /// A sound table is sound when a user task took a mutex, or waits for it.
-pub fn take_keeps_sound()
-    ensures { TakeKeepsSound }
+pub fn take_keeps_consistent()
+    ensures { TakeKeepsConsistent }
 {}
 
 /// Finishing a call that has not returned is so over lists: with what it waited for, without it, or by waiting again.
@@ -43,8 +43,8 @@ pub fn finish_is_seen()
 {}
 
 /// A sound table is sound when a user task finished its call.
-pub fn finish_keeps_sound()
-    ensures { FinishKeepsSound }
+pub fn finish_keeps_consistent()
+    ensures { FinishKeepsConsistent }
 {}
 
 /// Giving a mutex, which ends what its holder inherited and wakes its first waiter, is so over lists.
@@ -53,8 +53,8 @@ pub fn give_is_seen()
 {}
 
 /// A sound table is sound when a task gave a mutex.
-pub fn give_keeps_sound()
-    ensures { GiveKeepsSound }
+pub fn give_keeps_consistent()
+    ensures { GiveKeepsConsistent }
 {}
 
 /// Giving up an inherited priority in use, and who is asked behind it, is so over lists.
@@ -63,8 +63,8 @@ pub fn lower_is_seen()
 {}
 
 /// A sound table is sound when a task gave up an inherited priority in use.
-pub fn lower_keeps_sound()
-    ensures { LowerKeepsSound }
+pub fn lower_keeps_consistent()
+    ensures { LowerKeepsConsistent }
 {}
 
 /// What inheriting does to the cores and ready lists depends on them alone.

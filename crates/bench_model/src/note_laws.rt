@@ -1,5 +1,5 @@
 //! The laws of task notifications, and worked ones, each on a function that does nothing.
-ghost use Rattle.bench_model.specs.NoteLaws.{NotifyIsSeen, NotifyKeepsSound, NotesAreApart, NotesKeepSound};
+ghost use Rattle.bench_model.specs.NoteLaws.{NotifyIsSeen, NotifyKeepsConsistent, NotesAreApart, NotesKeepConsistent};
 ghost use Rattle.bench_model.specs.NoteExamples.{WorkedNotes, WorkedWaits, WorkedTakes, WorkedClears, WorkedNotifies, WorkedCalls};
 
 /// Notifying a task, and waking it where it waits for that, is so over lists.
@@ -8,8 +8,8 @@ pub fn notify_is_seen()
 {}
 
 /// A sound table is sound when a task was notified with a number of 32 bits.
-pub fn notify_keeps_sound()
-    ensures { NotifyKeepsSound }
+pub fn notify_keeps_consistent()
+    ensures { NotifyKeepsConsistent }
 {}
 
 /// Notifications are seen as they are, and no order of tasks reads them.
@@ -18,8 +18,8 @@ pub fn notes_are_apart()
 {}
 
 /// A sound table is sound with other notifications, one for each task, whose values are numbers of 32 bits.
-pub fn notes_keep_sound()
-    ensures { NotesKeepSound }
+pub fn notes_keep_consistent()
+    ensures { NotesKeepConsistent }
 {}
 
 /// What each action makes of a value and a state, as it was worked out by hand.

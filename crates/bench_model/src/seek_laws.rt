@@ -1,5 +1,5 @@
 //! The laws of the core that is asked for a task, of seeking one and of time slices, each on a function that does nothing.
-ghost use Rattle.bench_model.specs.SeekLaws.{BestCoreIsAsked, SeekIsSeen, WakeIsSeen, SoughtSwitchIsSeen, SlicesAreSeen, AskKeepsSound, SeekKeepsSound, WakeKeepsSound, SoughtSwitchKeepsSound, SlicesKeepSound};
+ghost use Rattle.bench_model.specs.SeekLaws.{BestCoreIsAsked, SeekIsSeen, WakeIsSeen, SoughtSwitchIsSeen, SlicesAreSeen, AskKeepsConsistent, SeekKeepsConsistent, WakeKeepsConsistent, SoughtSwitchKeepsConsistent, SlicesKeepConsistent};
 ghost use Rattle.bench_model.specs.SeekExamples.{AskedCores, SoughtCores, WorkedChoices};
 
 /// The core that is asked for a task is the best of those that give way to it, and none is asked only where none does.
@@ -28,28 +28,28 @@ pub fn slices_are_seen()
 {}
 
 /// A sound table is sound when any core was asked.
-pub fn ask_keeps_sound()
-    ensures { AskKeepsSound }
+pub fn ask_keeps_consistent()
+    ensures { AskKeepsConsistent }
 {}
 
 /// A sound table is sound when a core was sought for any task.
-pub fn seek_keeps_sound()
-    ensures { SeekKeepsSound }
+pub fn seek_keeps_consistent()
+    ensures { SeekKeepsConsistent }
 {}
 
 /// A sound table is sound when a task was woken and a core sought for it.
-pub fn wake_keeps_sound()
-    ensures { WakeKeepsSound }
+pub fn wake_keeps_consistent()
+    ensures { WakeKeepsConsistent }
 {}
 
 /// A sound table is sound behind a switch and the seek for the task that lost the core.
-pub fn sought_switch_keeps_sound()
-    ensures { SoughtSwitchKeepsSound }
+pub fn sought_switch_keeps_consistent()
+    ensures { SoughtSwitchKeepsConsistent }
 {}
 
 /// A sound table is sound when cores were asked as time slices ended.
-pub fn slices_keep_sound()
-    ensures { SlicesKeepSound }
+pub fn slices_keep_consistent()
+    ensures { SlicesKeepConsistent }
 {}
 
 /// The search answers the core that was worked out by hand, in every tie of it too.

@@ -1,5 +1,5 @@
 //! The laws of the calls that set a task's priority, core affinity mask and preemption, each on a function that does nothing.
-ghost use Rattle.bench_model.specs.SetLaws.{RunsOnSomeCore, AskItsCoreIsSeen, RankedAnewIsSeen, MaskedAnewIsSeen, PrioritySetIsSeen, AffinitySetIsSeen, PreemptionOffIsSeen, PreemptionOnIsSeen, AskItsCoreKeepsSound, RankedAnewKeepsSound, MaskedAnewKeepsSound, PrioritySetKeepsSound, AffinitySetKeepsSound, PreemptionOffKeepsSound, PreemptionOnKeepsSound};
+ghost use Rattle.bench_model.specs.SetLaws.{RunsOnSomeCore, AskItsCoreIsSeen, RankedAnewIsSeen, MaskedAnewIsSeen, PrioritySetIsSeen, AffinitySetIsSeen, PreemptionOffIsSeen, PreemptionOnIsSeen, AskItsCoreKeepsConsistent, RankedAnewKeepsConsistent, MaskedAnewKeepsConsistent, PrioritySetKeepsConsistent, AffinitySetKeepsConsistent, PreemptionOffKeepsConsistent, PreemptionOnKeepsConsistent};
 ghost use Rattle.bench_model.specs.SetExamples.{WorkedPriorities, WorkedMasks, WorkedPreemption};
 
 /// A task runs where there is a core that it runs on.
@@ -43,38 +43,38 @@ pub fn preemption_on_is_seen()
 {}
 
 /// A sound table is sound when the core of any task was asked.
-pub fn ask_its_core_keeps_sound()
-    ensures { AskItsCoreKeepsSound }
+pub fn ask_its_core_keeps_consistent()
+    ensures { AskItsCoreKeepsConsistent }
 {}
 
 /// A sound table is sound when a core was asked behind a new base priority.
-pub fn ranked_anew_keeps_sound()
-    ensures { RankedAnewKeepsSound }
+pub fn ranked_anew_keeps_consistent()
+    ensures { RankedAnewKeepsConsistent }
 {}
 
 /// A sound table is sound when a core was asked behind a new mask.
-pub fn masked_anew_keeps_sound()
-    ensures { MaskedAnewKeepsSound }
+pub fn masked_anew_keeps_consistent()
+    ensures { MaskedAnewKeepsConsistent }
 {}
 
 /// A sound table is sound when a priority was set.
-pub fn priority_set_keeps_sound()
-    ensures { PrioritySetKeepsSound }
+pub fn priority_set_keeps_consistent()
+    ensures { PrioritySetKeepsConsistent }
 {}
 
 /// A sound table is sound when a core affinity mask was set.
-pub fn affinity_set_keeps_sound()
-    ensures { AffinitySetKeepsSound }
+pub fn affinity_set_keeps_consistent()
+    ensures { AffinitySetKeepsConsistent }
 {}
 
 /// A sound table is sound when preemption was turned off.
-pub fn preemption_off_keeps_sound()
-    ensures { PreemptionOffKeepsSound }
+pub fn preemption_off_keeps_consistent()
+    ensures { PreemptionOffKeepsConsistent }
 {}
 
 /// A sound table is sound when preemption was turned on.
-pub fn preemption_on_keeps_sound()
-    ensures { PreemptionOnKeepsSound }
+pub fn preemption_on_keeps_consistent()
+    ensures { PreemptionOnKeepsConsistent }
 {}
 
 /// Who is asked and sought a core behind new priorities, as it was worked out by hand.

@@ -4,25 +4,27 @@ ghost use Rattle.bench_types.specs.Header.{header_check};
 ghost use Rattle.bench_types.specs.declared.step.Call.TheVariants.{Delay};
 ghost use Rattle.bench_model.specs.Control.{is_elsewhere, is_allowed, may_select, is_due, current, run_on, running};
 ghost use Rattle.bench_model.specs.Notes.{no_note};
-ghost use Rattle.bench_model.specs.State.{call_refusal, give_refusal, refusal, queued, switched, yielded, blocked};
+ghost use Rattle.bench_model.specs.State.{queued, switched, yielded, blocked};
 ghost use Rattle.bench_model.specs.Seek.{wake, switched_and_sought};
-ghost use Rattle.bench_model.specs.Steps.{ticked, called, performed};
-ghost use Rattle.bench_model.specs.Sound.{IsSound, IsInPlace};
+ghost use Rattle.bench_model.specs.Steps.{ticked, delayed_until, called, performed};
+ghost use Rattle.bench_model.specs.Sound.{IsConsistent, IsSound, IsInPlace};
 ghost use Rattle.bench_model.specs.Session.{step_of, outcome_at, shown};
 ghost use Rattle.bench_model.specs.Table.{table_moves, advance, make_ready, is_ready, goes_before, pick, row_at, stamp_of, tasks_of, wakes_at};
 ghost use Rattle.bench_model.specs.Search.{is_best, numbers};
 ghost use Rattle.bench_model.specs.Start.{first_look, ready_row, idle_control, user_control, first_control, first_stamps, unstarted, start};
 ghost use Rattle.bench_model.specs.SlowDue.{first_due};
 
+mod holds;
 mod mutexes;
 mod notes;
 mod seek;
 mod sets;
 
+use crate::until::{is_ahead, next_wake};
 use crate::{Standing, TaskRow};
 use bench_types::{
-    Call, CoreLook, Header, MutexWait, NoteState, Notification, Refusal, Reply, Row, Settings,
-    Step, TaskArgs, TaskControl, Unfinished,
+    Call, CoreLook, Header, Hold, MutexWait, NoteState, Notification, Refusal, Reply, Row,
+    Settings, Step, TaskArgs, TaskControl, Unfinished,
 };
 use std::alloc::{AllocError, Global};
 use std::marker::Model;
@@ -37,6 +39,7 @@ struct SlowTable {
     calls: Vec<Option<Unfinished>>,
     notes: Vec<Notification>,
     holders: Vec<Option<u32>>,
+    hold: Option<Hold>,
     rows: Vec<TaskRow>,
     deadlines: Vec<Option<u128>>,
     tick: u128,
@@ -56,6 +59,7 @@ impl Model for SlowTable {
       calls = t.calls.items;
       notes = t.notes.items;
       holders = t.holders.items;
+      hold = t.hold;
       orders = record { rows = t.rows.items; deadlines = t.deadlines.items; tick = t.tick; next = t.next };
     } };
 
@@ -288,7 +292,7 @@ impl SlowTable {
 
     // Wakes the tasks that are due one by one, by core 0, and then ends time slices.
     fn advance(&mut self)
-        requires sound { IsSound self.old }
+        requires sound { IsConsistent self.old }
         requires room { self.old.orders.next + length self.old.orders.rows < 2 ^ 128 }
         requires time { self.old.orders.tick + 1 < 2 ^ 128 }
         ensures { self.new ≡ ticked table_moves self.old }
@@ -344,6 +348,26 @@ impl SlowTable {
         Reply::Blocked
     }
 
+    #[tactic(auto, unfolding(crate::specs::Steps::delayed_until))]
+    fn delay_until(&mut self, core: u32, task: u32, prev: u32, inc: u32) -> Reply
+        requires core { core < length self.old.control.cores }
+        requires task { task < length self.old.orders.rows }
+        requires room { self.old.orders.next + 1 < 2 ^ 128 }
+        requires time { self.old.orders.tick + 2 ^ 32 < 2 ^ 128 }
+        ensures { (result, self.new) ≡ delayed_until table_moves core task prev inc self.old }
+    {
+        let now = self.tick_count();
+        let wake = next_wake(prev, inc);
+        let delayed = is_ahead(now, prev, wake);
+        if delayed {
+            let call = Unfinished::Made(Call::DelayUntil { prev, inc });
+            self.block(core, task, call, Some(wake.wrapping_sub(now)), None);
+        } else {
+            self.ask_itself(core);
+        }
+        Reply::Until { delayed, wake }
+    }
+
     #[tactic(auto, unfolding(crate::specs::Steps::called))]
     fn call(&mut self, core: u32, task: u32, call: Call) -> Reply
         requires sound { IsSound self.old }
@@ -361,7 +385,10 @@ impl SlowTable {
             Call::PreemptOff(task) => self.preempt_off(task),
             Call::PreemptOn(task) => self.preempt_on(core, task),
             Call::Delay(ticks) => return self.delay(core, task, ticks),
+            Call::DelayUntil { prev, inc } => return self.delay_until(core, task, prev, inc),
             Call::Finish => return self.finish(core, task),
+            Call::HoldOpen => self.open_hold(core),
+            Call::HoldClose => self.close_hold(core),
             Call::Notify(note) => return Reply::Flag(self.notify(core, note)),
             Call::NotifyWait { entry, ticks, .. } => {
                 let begun = notes::wait_begun(entry, self.note(task));
@@ -377,43 +404,6 @@ impl SlowTable {
             Call::MutexGive(mutex) => return self.give(core, task, mutex),
         }
         Reply::Done
-    }
-
-    fn is_due(&self, core: u32) -> bool
-        requires { core < length self.now.control.cores }
-        ensures { result ≡ is_due self.now.control core }
-    {
-        let look = &self.cores[core as usize];
-        look.pend || look.asked
-    }
-
-    fn give_refusal(&self, task: u32, call: Call) -> Option<Refusal>
-        requires { call_check self.now.settings call ≡ Ok tt }
-        ensures { result ≡ give_refusal self.now.holders task call }
-    {
-        match call {
-            Call::MutexGive(mutex) => match self.holder(mutex) {
-                Some(holder) if holder != task => Some(Refusal::NotHolder),
-                _ => None,
-            },
-            _ => None,
-        }
-    }
-
-    #[tactic(auto, unfolding(crate::specs::State::refusal))]
-    fn refusal(&self, step: &Step) -> Option<Refusal>
-        requires { step_check self.now.settings step.now ≡ Ok tt }
-        ensures { result ≡ refusal self.now.control self.now.calls self.now.holders step.now }
-    {
-        match *step {
-            Step::Tick | Step::Interrupt { .. } => None,
-            Step::Switch { core } => (!self.is_due(core)).then_some(Refusal::NotDue),
-            Step::Call { core, task, .. } if !self.runs_on(core, task) => Some(Refusal::Displaced),
-            Step::Call { core, .. } if self.is_due(core) => Some(Refusal::SwitchDue),
-            Step::Call { task, call, .. } => {
-                call_refusal(self.calls[task as usize], call).or(self.give_refusal(task, call))
-            }
-        }
     }
 
     #[tactic(auto, unfolding(crate::specs::Steps::performed))]
@@ -613,6 +603,7 @@ fn unstarted(alloc: Global, header: &Header) -> Result<SlowTable, AllocError>
         calls,
         notes,
         holders,
+        hold: None,
         rows,
         deadlines,
         tick: u128::from(header.config.tick),
@@ -654,14 +645,4 @@ pub fn replay_slow<R: Alloc>(
         outcomes.push((reply, table.row()))?;
     }
     Ok(outcomes)
-}
-
-fn call_refusal(unfinished: Option<Unfinished>, call: Call) -> Option<Refusal>
-    ensures { result ≡ call_refusal unfinished call }
-{
-    match (unfinished, call) {
-        (None, Call::Finish) => Some(Refusal::NotInCall),
-        (None, _) | (Some(_), Call::Finish) => None,
-        (Some(_), _) => Some(Refusal::InCall),
-    }
 }

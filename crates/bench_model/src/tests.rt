@@ -2,9 +2,11 @@
 ghost use Rattle.std.specs.Prelude.{◌≡◌, ◌<◌, IsTrue, All, Ok};
 ghost use Rattle.bench_types.specs.Step.{step_check, settings_of};
 
+mod holds;
 mod mutexes;
 mod notes;
 mod random;
+mod sections;
 mod sessions;
 mod sets;
 mod takes;
@@ -112,10 +114,11 @@ fn digit(word: &str, place: usize) -> u32
     }
 }
 
-/// The digit at a place of a word, or 4294967295 for `*`.
+/// The digit at a place of a word, or 4294967295 for `*`, from which capital letters count down.
 fn number(word: &str, place: usize) -> u32 {
     match word.as_bytes().get(place) {
         Some(b'*') => u32::MAX,
+        Some(byte) if byte.is_ascii_uppercase() => u32::MAX - u32::from(*byte - b'A'),
         _ => digit(word, place),
     }
 }
@@ -206,6 +209,18 @@ fn read_mutex_call(word: &str) -> Option<Call> {
             ticks: number(word, 4),
         }),
         Some(b'g') => Some(Call::MutexGive(mutex)),
+        _ => read_hold_call(word),
+    }
+}
+
+fn read_hold_call(word: &str) -> Option<Call> {
+    match word.as_bytes().first() {
+        Some(b'u') => Some(Call::DelayUntil {
+            prev: number(word, 3),
+            inc: number(word, 4),
+        }),
+        Some(b'h') => Some(Call::HoldOpen),
+        Some(b'r') => Some(Call::HoldClose),
         _ => None,
     }
 }
@@ -248,14 +263,31 @@ fn read_reply(word: &str) -> Reply {
             pass: digit(word, 1) == 1,
             pend: digit(word, 2) == 1,
         },
-        Some(b'2') => Reply::Refused(Refusal::Displaced),
-        Some(b'3') => Reply::Refused(Refusal::SwitchDue),
-        Some(b'4') => Reply::Refused(Refusal::InCall),
-        Some(b'5') => Reply::Refused(Refusal::NotInCall),
-        Some(b'9') => Reply::Refused(Refusal::NotHolder),
-        Some(b'0') => Reply::Refused(Refusal::NotDue),
-        _ => Reply::Done,
+        Some(b'u') => Reply::Until {
+            delayed: true,
+            wake: read_value(word, "u"),
+        },
+        Some(b'l') => Reply::Until {
+            delayed: false,
+            wake: read_value(word, "l"),
+        },
+        _ => read_refusal(word).map_or(Reply::Done, Reply::Refused),
     }
+}
+
+fn read_refusal(word: &str) -> Option<Refusal> {
+    Some(match word.as_bytes().first() {
+        Some(b'1') => Refusal::Held,
+        Some(b'2') => Refusal::Displaced,
+        Some(b'3') => Refusal::SwitchDue,
+        Some(b'4') => Refusal::InCall,
+        Some(b'5') => Refusal::NotInCall,
+        Some(b'6') => Refusal::HoldBlock,
+        Some(b'7') => Refusal::NoHold,
+        Some(b'9') => Refusal::NotHolder,
+        Some(b'0') => Refusal::NotDue,
+        _ => return None,
+    })
 }
 
 fn read_steps(alloc: Global, text: &str) -> Result<Vec<Step>, AllocError> {
@@ -304,4 +336,9 @@ fn replays_the_sessions_of_notifications(rt: HostRuntime) -> Result<(), Fail> {
 #[test]
 fn replays_the_sessions_of_mutexes(rt: HostRuntime) -> Result<(), Fail> {
     replays_lines(&rt, rt.alloc(), &takes::SESSIONS)
+}
+
+#[test]
+fn replays_the_sessions_of_holds(rt: HostRuntime) -> Result<(), Fail> {
+    replays_lines(&rt, rt.alloc(), &holds::SESSIONS)
 }

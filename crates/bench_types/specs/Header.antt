@@ -1,6 +1,6 @@
 -- Which headers a session may start from. The numbers are those of `configNUMBER_OF_CORES`,
 -- `configMAX_PRIORITIES` and the arguments of `xTaskCreateAffinitySet` (FreeRTOS SMP documentation).
-use Rattle.std.specs.Prelude.{ℕ, ◌%◌, ◌^◌, List, [], ◌∷◌, length, Bool, false, not, ◌&&◌, ◌||◌, nat_lt, nat_le, bytes_eq, Result, Ok, Err, if◌then◌else◌, ⊤}
+use Rattle.std.specs.Prelude.{ℕ, ◌-◌, ◌%◌, ◌^◌, List, [], ◌∷◌, ◌++◌, length, Bool, false, not, ◌&&◌, ◌||◌, nat_lt, nat_le, bytes_eq, codes, decimal, slice_index_or, Result, Ok, Err, if◌then◌else◌, ⊤}
 use Rattle.std.specs.List.{list_all, list_any}
 use Rattle.bench_types.specs.Name.{is_within}
 use Rattle.bench_types.specs.declared.fault.Fault.{Fault}
@@ -41,3 +41,8 @@ is_header header = has_valid_config header.config && is_within 1 64 (length head
 -- F1 is the one fault of a header
 abbrev pub header_check : Header → Result ⊤ Fault
 header_check header = if is_header header then Ok tt else Err BadHeader
+
+-- the idle task of core c is IDLEc; a user task has its name in the header
+abbrev pub name_of : Header → ℕ → List ℕ
+name_of header task = if nat_lt task header.config.cores then codes "IDLE" ++ decimal task
+    else (slice_index_or header.tasks (task - header.config.cores) (record { name = []; priority = 0; mask = 0 })).name

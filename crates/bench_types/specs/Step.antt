@@ -1,5 +1,5 @@
 -- Which steps a session of a header may have.
-use Rattle.std.specs.Prelude.{◌≡◌, ℕ, ◌+◌, ◌^◌, ◌<◌, length, nat_lt, nat_le, ◌&&◌, Result, Ok, Err, if◌then◌else◌, ⊤}
+use Rattle.std.specs.Prelude.{◌≡◌, ℕ, ◌+◌, ◌^◌, ◌<◌, ◌==◌, length, nat_lt, nat_le, ◌&&◌, Result, Ok, Err, if◌then◌else◌, ⊤}
 use Rattle.bench_types.specs.declared.fault.Fault.{Fault}
 use Rattle.bench_types.specs.declared.fault.Fault.TheVariants.{BadCore, BadTask, BadMutex, BadArgument}
 use Rattle.bench_types.specs.Header.{cores_of_mask}
@@ -7,7 +7,6 @@ use Rattle.bench_types.specs.declared.header.Header.{Header}
 use Rattle.bench_types.specs.declared.kernel_data.Settings.{Settings}
 use Rattle.bench_types.specs.declared.note.Action.{Action}
 use Rattle.bench_types.specs.declared.note.Action.TheVariants.{Nothing, SetBits, Increment, Set, SetNew}
-use Rattle.bench_types.specs.declared.note.Note.{Note}
 use Rattle.bench_types.specs.declared.step.Step.{Step}
 use Rattle.bench_types.specs.declared.step.Step.TheVariants as step
 use Rattle.bench_types.specs.declared.step.Call.{Call}
@@ -41,17 +40,24 @@ mutex_check settings mutex = if nat_lt mutex settings.mutexes then Ok tt else Er
 abbrev pub mask_check : Settings → ℕ → Result ⊤ Fault
 mask_check settings mask = if nat_lt 0 (cores_of_mask settings.cores mask) then Ok tt else Err BadArgument
 
+-- F5: the wake is not behind the last one
+abbrev pub increment_check : ℕ → Result ⊤ Fault
+increment_check inc = if inc == 0 then Err BadArgument else Ok tt
+
 -- the second where the first is no fault
 infixl 10 ◌>>◌
 abbrev pub ◌>>◌ : {Why : Type 0} → Result ⊤ Why → Result ⊤ Why → Result ⊤ Why
 Ok done >> next = next
 Err fault >> next = Err fault
 
--- the fault of a call's arguments: the task that it is for, then the mask
+-- the fault of a call's arguments: the task that it is for, then the mask or the ticks between wakes
 abbrev pub call_check : Settings → Call → Result ⊤ Fault
 call_check settings call.Yield = Ok tt
 call_check settings (call.Delay ticks) = Ok tt
+call_check settings (call.DelayUntil prev inc) = increment_check inc
 call_check settings call.Finish = Ok tt
+call_check settings call.HoldOpen = Ok tt
+call_check settings call.HoldClose = Ok tt
 call_check settings (call.PrioritySet task priority) = task_check settings task
 call_check settings (call.AffinitySet task mask) = task_check settings task >> mask_check settings mask
 call_check settings (call.PreemptOff task) = task_check settings task
@@ -83,7 +89,10 @@ IsActionOfWord (SetNew value) = value < 2 ^ 32
 abbrev pub IsOfWords : Call → Type 0
 IsOfWords call.Yield = ⊤
 IsOfWords (call.Delay ticks) = ticks < 2 ^ 32
+IsOfWords (call.DelayUntil prev inc) = (prev < 2 ^ 32) × (inc < 2 ^ 32)
 IsOfWords call.Finish = ⊤
+IsOfWords call.HoldOpen = ⊤
+IsOfWords call.HoldClose = ⊤
 IsOfWords (call.PrioritySet task priority) = priority < 2 ^ 32
 IsOfWords (call.AffinitySet task mask) = mask < 2 ^ 32
 IsOfWords (call.PreemptOff task) = ⊤

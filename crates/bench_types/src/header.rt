@@ -1,6 +1,6 @@
-ghost use Rattle.std.specs.Prelude.{◌≡◌, nat_lt, ◌<◌, ◌≤◌, ◌^◌, ◌+◌, IfOk, length};
+ghost use Rattle.std.specs.Prelude.{◌≡◌, nat_lt, ◌<◌, ◌≤◌, ◌^◌, ◌+◌, ◌++◌, IfOk, OnOk, length, string_bytes};
 ghost use Rattle.std.specs.List.{list_all};
-ghost use Rattle.bench_types.specs.Header.{header_check, has_valid_config, has_valid_args, has_valid_numbers, cores_of_mask, is_taken, repeats_name};
+ghost use Rattle.bench_types.specs.Header.{header_check, has_valid_config, has_valid_args, has_valid_numbers, cores_of_mask, is_taken, repeats_name, name_of};
 
 use crate::{Fault, Items, Name};
 use std::alloc::{AllocError, Global};
@@ -81,6 +81,20 @@ impl Header {
             config: self.config,
             tasks: Items::new(copies),
         })
+    }
+
+    /// Writes the name of the task behind the text. A number that is no task has no name.
+    pub fn push_name(&self, text: &mut String, task: u32) -> Result<(), AllocError>
+        ensures { OnOk result (string_bytes text.new ≡ string_bytes text.old ++ name_of self.now task) }
+    {
+        let cores = self.config.cores;
+        if task < cores {
+            return write!(text, "IDLE{task}");
+        }
+        match self.tasks.as_slice().get((task - cores) as usize) {
+            Some(args) => text.push_str(args.name.as_str()),
+            None => Ok(()),
+        }
     }
 }
 
@@ -254,6 +268,17 @@ mod tests {
             let tasks = names.map(|name| (name, 1, 3));
             let header = samples::header(rt.alloc(), CONFIG, tasks.as_slice())?;
             assert_eq!(rt; header.check(), answer(fits), "at {names:?}");
+        }
+        Ok(())
+    }
+
+    #[test]
+    fn names_each_task(rt: HostRuntime) -> Result<(), Fail> {
+        let header = samples::header(rt.alloc(), CONFIG, &[("A", 0, 3), ("B", 4, 3)])?;
+        for (task, expected) in [(0, "=IDLE0"), (1, "=IDLE1"), (2, "=A"), (3, "=B"), (4, "=")] {
+            let mut text = String::from_str(rt.alloc(), "=")?;
+            header.push_name(&mut text, task)?;
+            assert_eq!(rt; text.as_str(), expected, "at {task}");
         }
         Ok(())
     }

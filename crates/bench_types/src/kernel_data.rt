@@ -58,6 +58,14 @@ pub struct Waiter {
     pub wait: MutexWait,
 }
 
+/// An open hold of the kernel, by which a core keeps out calls of other cores and every switch (`taskENTER_CRITICAL`).
+#[derive(Clone, Copy, Debug, PartialEq, Eq, Hash)]
+pub struct Hold {
+    pub core: u32,
+    /// How many times over it was opened and is to be closed (`uxCriticalNesting`).
+    pub depth: u32,
+}
+
 /// What can be seen of a task.
 #[derive(Clone, Copy, Debug, PartialEq, Eq, Hash)]
 pub struct TaskLook {

@@ -12,13 +12,17 @@ mod reply;
 #[cfg(test)]
 mod samples;
 mod step;
+mod tally;
 
 pub use edit::{Edit, EditFault, MOST_STEPS};
 pub use fault::Fault;
 pub use header::{Config, Header, TaskArgs};
 pub use items::Items;
-pub use kernel_data::{CoreLook, Delayed, MutexWait, Settings, TaskControl, TaskLook, Waiter};
+pub use kernel_data::{
+    CoreLook, Delayed, Hold, MutexWait, Settings, TaskControl, TaskLook, Waiter,
+};
 pub use name::Name;
 pub use note::{Action, Note, NoteState, Notification};
 pub use reply::{Refusal, Reply, Row};
 pub use step::{Call, Step, Unfinished};
+pub use tally::Tally;

@@ -16,6 +16,8 @@ pub enum Reply {
     Value(u32),
     /// Whether a notification had come, and the notification value before its exit bits were cleared.
     Waited { ok: bool, value: u32 },
+    /// Whether the call made its task wait, and the tick count that it is to wake at, or was to.
+    Until { delayed: bool, wake: u32 },
     /// Whether the notification passed, and whether the interrupted core has asked itself to switch by now.
     Isr { pass: bool, pend: bool },
     /// The step was not made, and nothing changed.
@@ -25,6 +27,8 @@ pub enum Reply {
 /// Why a step was not made, with the code that the texts give it.
 #[derive(Clone, Copy, Debug, PartialEq, Eq, Hash)]
 pub enum Refusal {
+    /// E1: a core holds the kernel, and for a call it is another one.
+    Held,
     /// E2: the task of the call is not the current task of the core.
     Displaced,
     /// E3: the core of the call is due to switch.
@@ -33,6 +37,12 @@ pub enum Refusal {
     InCall,
     /// E5: the task has no unfinished call to finish.
     NotInCall,
+    /// E6: the call would make its task wait, and its core holds the kernel.
+    HoldBlock,
+    /// E7: the core does not hold the kernel that it would free.
+    NoHold,
+    /// E8: the core holds the kernel 255 times over already.
+    HoldDeep,
     /// E9: another task holds the mutex that the task would give.
     NotHolder,
     /// E10: the core of the switch is not due.

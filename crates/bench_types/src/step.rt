@@ -1,5 +1,5 @@
 ghost use Rattle.std.specs.Prelude.{◌≡◌};
-ghost use Rattle.bench_types.specs.Step.{settings_of, call_check, core_check, mask_check, mutex_check, step_check, task_check};
+ghost use Rattle.bench_types.specs.Step.{settings_of, call_check, core_check, increment_check, mask_check, mutex_check, step_check, task_check};
 
 use crate::header::allows_core;
 use crate::{Fault, Header, Note};
@@ -24,6 +24,8 @@ pub enum Call {
     Yield,
     /// `vTaskDelay`, of so many ticks.
     Delay(u32),
+    /// `xTaskDelayUntil` the tick count that lies `inc` ticks behind `prev`, the one at which the task woke last.
+    DelayUntil { prev: u32, inc: u32 },
     /// `vTaskPrioritySet` of the task. A priority that is none counts as the greatest.
     PrioritySet { task: u32, priority: u32 },
     /// `vTaskCoreAffinitySet` of the task. Bits at or above the number of cores mean nothing.
@@ -49,6 +51,10 @@ pub enum Call {
     MutexGive(u32),
     /// The return of the task's unfinished call, once the task runs again.
     Finish,
+    /// `taskENTER_CRITICAL`: no other core makes a call and no core switches until as many calls of `HoldClose` were made.
+    HoldOpen,
+    /// `taskEXIT_CRITICAL`.
+    HoldClose,
 }
 
 /// A call that has not returned, with what of it still counts.
@@ -85,7 +91,7 @@ impl Step {
 
 impl Call {
     /// The fault of the call's arguments: F3 where the task that it is for is no user task, F4 where the mutex that it is for is
-    /// none, F5 where a mask allows no core.
+    /// none, F5 where a mask allows no core or a wake is 0 ticks behind the last one.
     pub fn check(&self, header: &Header) -> Result<(), Fault>
         ensures { result ≡ call_check (settings_of header.now) self.now }
     {
@@ -94,7 +100,10 @@ impl Call {
             | Call::Delay(_)
             | Call::NotifyWait { .. }
             | Call::NotifyTake { .. }
-            | Call::Finish => Ok(()),
+            | Call::Finish
+            | Call::HoldOpen
+            | Call::HoldClose => Ok(()),
+            Call::DelayUntil { inc, .. } => check_increment(*inc),
             Call::AffinitySet { task, mask } => {
                 check_task(*task, header)?;
                 check_mask(*mask, header)
@@ -146,6 +155,16 @@ fn check_mask(mask: u32, header: &Header) -> Result<(), Fault>
         Ok(())
     } else {
         Err(Fault::BadArgument)
+    }
+}
+
+fn check_increment(inc: u32) -> Result<(), Fault>
+    ensures { result ≡ increment_check inc }
+{
+    if inc == 0 {
+        Err(Fault::BadArgument)
+    } else {
+        Ok(())
     }
 }
 
@@ -209,6 +228,8 @@ mod tests {
                 ticks: 0,
             },
             Call::Finish,
+            Call::HoldOpen,
+            Call::HoldClose,
         ] {
             assert_eq!(rt; call.check(&header), Ok(()), "at {call:?}");
         }
@@ -235,6 +256,21 @@ mod tests {
             ] {
                 assert_eq!(rt; call.check(&header), answer, "at {call:?}");
             }
+        }
+        Ok(())
+    }
+
+    #[test]
+    fn asks_for_some_ticks_between_wakes(rt: HostRuntime) -> Result<(), Fail> {
+        let header = samples::crowd(rt.alloc(), 1)?;
+        for (prev, inc, answer) in [
+            (0, 0, Err(Fault::BadArgument)),
+            (7, 0, Err(Fault::BadArgument)),
+            (0, 1, Ok(())),
+            (4_294_967_295, 4_294_967_295, Ok(())),
+        ] {
+            let call = Call::DelayUntil { prev, inc };
+            assert_eq!(rt; call.check(&header), answer, "at {prev} and {inc}");
         }
         Ok(())
     }

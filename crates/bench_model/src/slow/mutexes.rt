@@ -3,7 +3,7 @@ ghost use Rattle.std.specs.Prelude.{◌≡◌, ◌<◌, ◌≤◌, ◌+◌, ◌^
 ghost use Rattle.bench_types.specs.declared.step.Call.TheVariants.{Finish};
 ghost use Rattle.bench_model.specs.Mutexes.{held_by, is_marked, inherited, waited_at, mutex_take, owed, lowered, timed_out, ended, take_finished, disinherited, first_woken, mutex_give};
 ghost use Rattle.bench_model.specs.Search.{is_best};
-ghost use Rattle.bench_model.specs.Sound.{IsSound};
+ghost use Rattle.bench_model.specs.Sound.{IsConsistent};
 ghost use Rattle.bench_model.specs.State.{holder_at};
 ghost use Rattle.bench_model.specs.Steps.{called};
 ghost use Rattle.bench_model.specs.Table.{table_moves, row_at, tasks_of, wait_in, waits_at, waiter_of, waits_before, first_waiter, deadline_at, deadline_left};
@@ -257,7 +257,7 @@ impl SlowTable {
 
     #[tactic(auto, unfolding(crate::specs::Steps::called, crate::specs::Mutexes::finished))]
     pub(super) fn finish(&mut self, core: u32, task: u32) -> Reply
-        requires sound { IsSound self.old }
+        requires sound { IsConsistent self.old }
         requires core { core < length self.old.control.cores }
         requires task { task < length self.old.orders.rows }
         requires room { self.old.orders.next + 2 < 2 ^ 128 }

@@ -11,13 +11,13 @@ use std::alloc::Global;
 use std::process::Abort;
 use std::test::Fail;
 
-const A: u32 = 2;
+pub const A: u32 = 2;
 
-const B: u32 = 3;
+pub const B: u32 = 3;
 
-const C: u32 = 4;
+pub const C: u32 = 4;
 
-const MAX: u32 = 4_294_967_295;
+pub const MAX: u32 = 4_294_967_295;
 
 /// A step, its reply, and the tasks that run behind it.
 pub type Line = (Step, Reply, [u32; 2]);
@@ -61,11 +61,22 @@ fn replays(
     slicing: bool,
     session: &[Line],
 ) -> Result<(), Fail> {
+    replays_from(rt, alloc, slicing, 0, session)
+}
+
+/// Holds a session of A, B and C from a tick count on against its replies and running tasks.
+pub fn replays_from(
+    rt: &(impl Alloc + Abort),
+    alloc: Global,
+    slicing: bool,
+    tick: u32,
+    session: &[Line],
+) -> Result<(), Fail> {
     let config = Config {
         cores: 2,
         priorities: 5,
         slicing,
-        tick: 0,
+        tick,
         mutexes: 0,
     };
     let header = header_of(alloc, config, &[(2, 3), (1, 3), (1, 3)])?;

@@ -54,6 +54,7 @@ table_of settings cores tasks calls notes holders rows deadlines tick next = rec
   calls = calls;
   notes = notes;
   holders = holders;
+  hold = None;
   orders = record { rows = rows; deadlines = deadlines; tick = tick; next = next };
 }
 

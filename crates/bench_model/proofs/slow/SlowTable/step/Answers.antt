@@ -1,5 +1,5 @@
 use Rattle.std.proofs.Common.{sym}
-use Rattle.bench_model.proofs.SeenSteps.{in_place}
+use Rattle.bench_model.proofs.Holds.{in_place}
 use Rattle.bench_model.proofs.slow.SlowTable.step.Goals as goal
 
 pub perform-requires-clause-fits : goal.perform-requires-clause-fits

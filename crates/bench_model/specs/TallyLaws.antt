@@ -1,0 +1,35 @@
+-- The laws of tallies.
+use Rattle.std.specs.Prelude.{◌≡◌, suc, ◌≤◌, List, ◌++◌, length}
+use Rattle.bench_types.specs.declared.header.Header.{Header}
+use Rattle.bench_types.specs.declared.kernel_data.Settings.{Settings}
+use Rattle.bench_types.specs.declared.step.Step.{Step}
+use Rattle.bench_types.specs.Step.{settings_of}
+use Rattle.bench_model.specs.Sound.{IsConsistent}
+use Rattle.bench_model.specs.Table.{Stamps, Table, table_moves}
+use Rattle.bench_model.specs.Lists.{Lists, list_moves, image}
+use Rattle.bench_model.specs.Start.{start}
+use Rattle.bench_model.specs.Session.{behind}
+use Rattle.bench_model.specs.Tally.{TaskTally, Moment, tallies}
+use Rattle.bench_model.specs.Tallied.{tallied, part_tallies, added, AllCountsBelow}
+
+-- the tallies of a session are those of its start with each step counted in turn
+abbrev pub TalliesAreStepwise : Type 0
+TalliesAreStepwise = (header : Header) (steps : List Step) → tallies header steps ≡ part_tallies (settings_of header) (start header) steps
+
+-- the tallies of two parts are the numbers of both together
+abbrev pub PartsAddUp : Type 0
+PartsAddUp = (settings : Settings) (table : Table) (first second : List Step) →
+    part_tallies settings table (first ++ second) ≡ added (part_tallies settings table first) (part_tallies settings (behind table first) second)
+
+-- no count is above the number of steps
+abbrev pub CountsAreFew : Type 0
+CountsAreFew = (settings : Settings) (table : Table) (steps : List Step) → AllCountsBelow (suc (length steps)) (part_tallies settings table steps)
+
+-- what can be seen of a step
+abbrev pub seen_moment : Moment Stamps → Moment Lists
+seen_moment moment = record { before = image moment.before; step = moment.step; reply = moment.reply; after = image moment.after }
+
+-- a step counts the same over lists
+abbrev pub TallyIsSeen : Type 0
+TallyIsSeen = (moment : Moment Stamps) (tallies : List TaskTally) → IsConsistent moment.before → length tallies ≤ moment.before.settings.tasks →
+    tallied table_moves moment tallies ≡ tallied list_moves (seen_moment moment) tallies

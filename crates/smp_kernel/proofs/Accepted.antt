@@ -1,41 +1,28 @@
 -- What a checked step finds in a settled kernel where it is not refused, and what it answers and does either way.
-use Rattle.std.proofs.Common.{◌≡◌, ℕ, Bool, true, false, cond, not, eqb, List, Option, Some, None, Ok, refl, sym, ap, subst, ◌∙◌, arith}
-use Rattle.std.specs.Option.{ForSome, option_or, option_map_or}
+use Rattle.std.proofs.Common.{◌≡◌, ℕ, ◌<◌, ◌≤◌, Bool, true, false, cond, not, eqb, ◌&&◌, List, Option, Some, None, Ok, refl, subst, arith}
+use Rattle.std.specs.Option.{ForSome, option_map_or}
 use Rattle.std.proofs.lemmas.Bool.Decides.{nat_tests}
+use Rattle.bench_types.specs.declared.kernel_data.Hold.{Hold}
 use Rattle.bench_types.specs.declared.reply.Reply.TheVariants.{Refused}
 use Rattle.bench_types.specs.declared.reply.Refusal.{Refusal}
-use Rattle.bench_types.specs.declared.reply.Refusal.TheVariants.{Displaced, SwitchDue, NotHolder}
-use Rattle.bench_types.specs.declared.step.Call.{Call}
+use Rattle.bench_types.specs.declared.reply.Refusal.TheVariants.{NotHolder}
 use Rattle.bench_types.specs.declared.step.Call.TheVariants.{MutexGive}
-use Rattle.bench_types.specs.declared.step.Unfinished.{Unfinished}
 use Rattle.bench_types.specs.declared.step.Step.{Step}
 use Rattle.bench_types.specs.declared.step.Step.TheVariants.{Tick, Switch, Interrupt}
 use Rattle.bench_types.specs.declared.step.Step.TheVariants as steps
 use Rattle.bench_types.specs.Step.{step_check, core_check, task_check, call_check, ◌>>◌}
 use Rattle.bench_model.specs.Search.{has}
-use Rattle.bench_model.specs.Control.{Control, current, is_due}
-use Rattle.bench_model.specs.State.{call_at, holder_at, call_refusal, give_refusal, refusal}
+use Rattle.bench_model.specs.Control.{current, is_due}
+use Rattle.bench_model.specs.Holds.{is_held_by, depth_of}
+use Rattle.bench_model.specs.Refusals.{give_refusal, refusal}
+use Rattle.bench_model.specs.State.{holder_at}
 use Rattle.bench_model.specs.Steps.{performed, after}
 use Rattle.bench_model.specs.Lists.{View, list_moves}
 use Rattle.bench_types.proofs.Passes.{both_pass, checked_core, checked_task}
-use Rattle.bench_model.proofs.SeenSteps.{not_displaced}
+use Rattle.bench_model.proofs.Holds.{its_hold, accepted}
 use Rattle.smp_kernel.specs.Kernel.{IsSettled, FindsItsPlace}
 
--- it gives no mutex that another task holds
-gives_own : (control : Control) (calls : List (Option Unfinished)) (holders : List (Option ℕ)) (core task : ℕ) (call : Call) → refusal control calls holders (steps.Call core task call) ≡ None → give_refusal holders task call ≡ None
-unfolding refusal
-gives_own control calls holders core task call accepted = at (not (eqb (current control core) task)) (is_due control core) (call_refusal (call_at calls task) call) accepted
-  where
-    given : Option Refusal
-    given = give_refusal holders task call
-
-    at : (b d : Bool) (why : Option Refusal) → cond b (Some Displaced) (cond d (Some SwitchDue) (option_or why given)) ≡ None → given ≡ None
-    at true d why accepted = absurd (cc (accepted))
-    at false true why accepted = absurd (cc (accepted))
-    at false false None accepted = accepted
-    at false false (Some other) accepted = absurd (cc (accepted))
-
--- so the task itself holds it, if a task does
+-- a task that may give a mutex holds it itself, if a task does
 pub own_mutex : (holders : List (Option ℕ)) (task mutex : ℕ) → give_refusal holders task (MutexGive mutex) ≡ None → ForSome (holder_at holders mutex) (λ holder. holder ≡ task)
 own_mutex holders task mutex accepted holder held = at (eqb holder task) refl (subst (λ of. option_map_or (λ holder. cond (eqb holder task) None (Some NotHolder)) of None ≡ None) held accepted)
   where
@@ -43,31 +30,49 @@ own_mutex holders task mutex accepted holder held = at (eqb holder task) refl (s
     at true same accepted = grind (arith, nat_tests, same)
     at false other accepted = absurd (cc (accepted))
 
-pub finds_its_place : (step : Step) (view : View) → IsSettled view → step_check view.settings step ≡ Ok tt → refusal view.control view.calls view.holders step ≡ None → FindsItsPlace view step
-finds_its_place Tick view settled passes accepted = settled.none_due
-finds_its_place (Switch core) view settled passes accepted = checked_core view.settings core passes
-finds_its_place (steps.Call core task call) view settled passes accepted =
+-- the current task of a core on which a call is accepted is ready
+caller_ready : (core : ℕ) (view : View) → IsSettled view → core < view.settings.cores → (is_due view.control core && not (is_held_by core view.hold)) ≡ false → has (current view.control core) view.orders.ready ≡ true
+caller_ready core view settled low may = at (is_due view.control core) refl (is_held_by core view.hold) refl
+  where
+    at : (b : Bool) → is_due view.control core ≡ b → (d : Bool) → is_held_by core view.hold ≡ d → has (current view.control core) view.orders.ready ≡ true
+    at false idle d held = settled.runs_ready core low idle
+    at true due true held = let it = its_hold core view.hold held in subst (λ c. has (current view.control c) view.orders.ready ≡ true) it.2 (settled.held it.0 it.1).ready
+    at true due false free = absurd (cc (may, due, free))
+
+-- the kernel is held at most 255 times over
+depth_most : (view : View) → IsSettled view → depth_of view.hold ≤ 255
+depth_most view settled = at view.hold refl
+  where
+    at : (hold : Option Hold) → view.hold ≡ hold → depth_of hold ≤ 255
+    at None free = omega arith
+    at (Some hold) is = (settled.held hold is).depth
+
+pub finds_its_place : (step : Step) (view : View) → IsSettled view → step_check view.settings step ≡ Ok tt → refusal list_moves step view ≡ None → FindsItsPlace view step
+finds_its_place Tick view settled passes none = settled.none_due
+finds_its_place (Switch core) view settled passes none = checked_core view.settings core passes
+finds_its_place (steps.Call core task call) view settled passes none =
     let both = both_pass (core_check view.settings core >> task_check view.settings task) (call_check view.settings call) passes in
     let in_range = both_pass (core_check view.settings core) (task_check view.settings task) both.0 in
     let low = checked_core view.settings core in_range.0 in
-    let found = not_displaced view.control view.calls view.holders core task call accepted in
+    let found = accepted list_moves core task call view none in
     record {
       core_below = low;
       task_below = (checked_task view.settings task in_range.1).1;
-      ready = ap (λ i. has i view.orders.ready) (sym found.0) ∙ settled.runs_ready core low found.1;
+      ready = subst (λ i. has i view.orders.ready ≡ true) found.current (caller_ready core view settled low found.may_call);
       checked = both.1;
-      own = gives_own view.control view.calls view.holders core task call accepted;
+      own = found.own;
+      depth = depth_most view settled;
       priorities = settled.priorities;
       mutexes = settled.mutexes;
     }
-finds_its_place (Interrupt core note) view settled passes accepted =
+finds_its_place (Interrupt core note) view settled passes none =
     let both = both_pass (core_check view.settings core) (task_check view.settings note.task) passes in
     (checked_core view.settings core both.0, (checked_task view.settings note.task both.1).1)
 
-pub after_refused : (step : Step) (view : View) (why : Refusal) → refusal view.control view.calls view.holders step ≡ Some why → (Refused why, view) ≡ after list_moves step view
+pub after_refused : (step : Step) (view : View) (why : Refusal) → refusal list_moves step view ≡ Some why → (Refused why, view) ≡ after list_moves step view
 unfolding after
 after_refused step view why is = rw is refl
 
-pub after_accepted : (step : Step) (view : View) → refusal view.control view.calls view.holders step ≡ None → performed list_moves step view ≡ after list_moves step view
+pub after_accepted : (step : Step) (view : View) → refusal list_moves step view ≡ None → performed list_moves step view ≡ after list_moves step view
 unfolding after
 after_accepted step view is = rw is refl

@@ -8,7 +8,7 @@ use Rattle.bench_model.specs.Control.{Control}
 use Rattle.bench_model.specs.Lists.{outranks}
 use Rattle.bench_model.proofs.Filters.{has-filter}
 use Rattle.bench_model.proofs.Ranks.{list_any-placed}
-use Rattle.smp_kernel.specs.Parts.{DelayView, is_waiting, aged, advanced}
+use Rattle.tick_delay.specs.Parts.{DelayView, is_waiting, aged, advanced}
 use Rattle.smp_kernel.specs.Kernel.{IsApart, delayed_task}
 
 has-moved : (control : Control) (t task : ℕ) (ready : List ℕ) → has t (placed (outranks control) task (without task ready)) ≡ (eqb task t || (not (eqb t task) && has t ready))
@@ -37,6 +37,10 @@ module _ {E : Type 0} (task_of : E → ℕ) where
   waits-left : (t task : ℕ) (entries : List E) → waits t (left task entries) ≡ (not (eqb t task) && waits t entries)
   waits-left t task [] = grind arith
   waits-left t task (entry ∷ entries) = grind (arith, nat_tests, waits-left t task entries)
+
+  -- entries that go leave the others apart
+  pub apart_left : (task : ℕ) (ready : List ℕ) (entries : List E) → IsApart task_of ready entries → IsApart task_of ready (left task entries)
+  apart_left task ready entries apart t found = grind (arith, waits-left t task entries, apart t found)
 
   -- where no entry is the task's, all stay that are not its
   pub left_free : (task : ℕ) (entries : List E) → waits task entries ≡ false → left task entries ≡ entries

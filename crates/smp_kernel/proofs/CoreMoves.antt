@@ -19,7 +19,7 @@ use Rattle.bench_model.specs.Cores.{CoresView, cores_of, alone, on_cores}
 use Rattle.bench_model.specs.Lists.{Lists, View, list_moves, outranks, pick, make_ready, without_waiter}
 use Rattle.bench_model.proofs.SoundSteps.{IsAskedMore}
 use Rattle.bench_model.proofs.Seeks.{seek_more, each_more}
-use Rattle.smp_kernel.specs.Parts.{cancelled}
+use Rattle.tick_delay.specs.Parts.{cancelled}
 use Rattle.smp_kernel.specs.Kernel.{IsApart, Parts, kernel_view, IsKernelShape, delayed_task, waiting_task}
 use Rattle.smp_kernel.proofs.Apart.{left_free, apart_ready, apart_queued}
 

@@ -1,14 +1,13 @@
 -- The parts of a start, what they keep, and the cores that select in turn.
 use Rattle.std.proofs.Common.{◌≡◌, ℕ, ◌+◌, ◌<◌, ◌%◌, ◌^◌, List, [], ◌∷◌, length, replicate, None, Ok, refl, sym, ap, ◌∙◌, arith}
-use Rattle.std.specs.List.{fold, IsDistinct}
+use Rattle.std.specs.List.{fold}
 use Rattle.std.proofs.lemmas.List.{length-map, length-replicate}
-use Rattle.std.proofs.lemmas.List.Elements.{All-nil}
 use Rattle.std.proofs.lemmas.List.FromFn.{length-range_with_len}
 use Rattle.bench_types.specs.declared.header.Header.{Header}
 use Rattle.bench_types.specs.Header.{header_check}
 use Rattle.bench_types.specs.Step.{settings_of}
 use Rattle.bench_types.proofs.Passes.{checked_header}
-use Rattle.bench_model.specs.Search.{numbers, ranked}
+use Rattle.bench_model.specs.Search.{numbers}
 use Rattle.bench_model.specs.Cores.{cores_of}
 use Rattle.bench_model.specs.Lists.{View, list_moves}
 use Rattle.bench_model.specs.Notes.{no_note}
@@ -18,18 +17,9 @@ use Rattle.bench_model.proofs.Filters.{fold-append}
 use Rattle.bench_model.proofs.Starts.{first_tasks}
 use Rattle.mutex_inherit.specs.Parts.{free_mutexes}
 use Rattle.ready_core.proofs.Firsts.{numbers_more}
-use Rattle.smp_kernel.specs.Parts.{seen_delays, no_delays}
+use Rattle.tick_delay.specs.Parts.{no_delays}
 use Rattle.smp_kernel.specs.Kernel.{Parts, kernel_view, IsKernelShape}
-use Rattle.smp_kernel.specs.Shape.{IsDelayShape}
 use Rattle.smp_kernel.proofs.CoreMoves.{turned_settings}
-
-pub no_delays_shape : (tasks places : ℕ) → places ≡ tasks → IsDelayShape tasks [] places
-unfolding IsDistinct
-no_delays_shape tasks places room = record { waiting_tasks = record { below = All-nil (λ i. i < tasks); once = tt }; room = omega (arith, room) }
-
-pub seen_no_delays : (tasks tick : ℕ) → seen_delays tasks tick [] ≡ no_delays tasks tick
-unfolding ranked
-seen_no_delays tasks tick = refl
 
 -- one more core selects
 pub in_turn : View → ℕ → View
@@ -63,8 +53,9 @@ first_parts header = let tasks = header.config.cores + length header.tasks in re
   calls = replicate tasks None;
   notes = replicate tasks no_note;
   mutexes = free_mutexes tasks header.config.mutexes;
-  delays = no_delays tasks header.config.tick;
+  delays = no_delays header.config.tick tasks;
   deadlines = replicate tasks None;
+  hold = None;
 }
 
 -- they show the start over lists, before any core has selected
@@ -72,7 +63,7 @@ pub seen_unstarted : (header : Header) → header.config.tick < 2 ^ 32 → kerne
 unfolding unstarted first_lists
 seen_unstarted header low =
     let cut : header.config.tick ≡ header.config.tick % 2 ^ 32 = omega (arith, low) in
-    ap (λ tick. kernel_view (record (first_parts header) { delays = no_delays (header.config.cores + length header.tasks) tick })) cut
+    ap (λ tick. kernel_view (record (first_parts header) { delays = no_delays tick (header.config.cores + length header.tasks) })) cut
 
 pub first_kernel_shape : (header : Header) → header_check header ≡ Ok tt → IsKernelShape (first_parts header)
 unfolding unstarted

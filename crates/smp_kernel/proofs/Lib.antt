@@ -1,7 +1,8 @@
-pub mod Waits
 pub mod Apart
 pub mod CoreMoves
 pub mod Blocks
+pub mod Calls
+pub mod Untils
 pub mod Owing
 pub mod Ticks
 pub mod Accepted

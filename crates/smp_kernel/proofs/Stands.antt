@@ -6,7 +6,7 @@ use Rattle.std.proofs.lemmas.Bool.{true_from_ne_false}
 use Rattle.std.proofs.lemmas.Bool.Decides.{nat_tests}
 use Rattle.bench_types.specs.declared.note.Notification.{Notification}
 use Rattle.bench_types.specs.declared.reply.Reply.{Reply}
-use Rattle.bench_types.specs.declared.reply.Reply.TheVariants.{Done, Blocked, Flag, Refused}
+use Rattle.bench_types.specs.declared.reply.Reply.TheVariants.{Done, Blocked, Flag, Until, Refused}
 use Rattle.bench_types.specs.declared.step.Step.{Step}
 use Rattle.bench_types.specs.declared.step.Step.TheVariants.{Tick, Switch, Interrupt}
 use Rattle.bench_types.specs.declared.step.Step.TheVariants as steps
@@ -14,13 +14,16 @@ use Rattle.bench_types.specs.declared.step.Call.{Call}
 use Rattle.bench_types.specs.declared.step.Unfinished.{Unfinished}
 use Rattle.bench_types.specs.declared.step.Unfinished.TheVariants.{Made, Take}
 use Rattle.bench_types.specs.declared.kernel_data.Waiter.{Waiter}
-use Rattle.bench_types.specs.declared.step.Call.TheVariants.{Yield, Delay, Finish, PrioritySet, AffinitySet, PreemptOff, PreemptOn, Notify, NotifyWait, NotifyTake, StateClear, ValueClear, MutexTake, MutexGive}
+use Rattle.bench_types.specs.declared.step.Call.TheVariants.{Yield, Delay, DelayUntil, Finish, PrioritySet, AffinitySet, PreemptOff, PreemptOn, Notify, NotifyWait, NotifyTake, StateClear, ValueClear, MutexTake, MutexGive, HoldOpen, HoldClose}
 use Rattle.bench_types.specs.Step.{step_check, IsStepOfWords, IsCheckedStep}
 use Rattle.bench_model.specs.declared.row.Standing.{Standing}
 use Rattle.bench_model.specs.declared.row.Standing.TheVariants as standing
 use Rattle.bench_model.specs.Search.{numbers, has}
 use Rattle.bench_model.specs.Control.{core_at, task_at, current, in_mask}
-use Rattle.bench_model.specs.State.{call_at, holder_at, refusal, yielded, blocked}
+use Rattle.bench_model.specs.State.{call_at, holder_at, yielded, blocked}
+use Rattle.bench_model.specs.Holds.{hold_opened, hold_closed}
+use Rattle.bench_model.specs.Refusals.{refusal}
+use Rattle.bench_model.specs.Until.{next_wake, is_ahead, ticks_to}
 use Rattle.bench_model.specs.Seek.{seek, wake}
 use Rattle.bench_model.specs.Notes.{wait_begun, take_begun, of_task}
 use Rattle.bench_model.specs.Notifying.{interrupted, state_forgotten, bits_cleared, completed, awaited, awaited_for}
@@ -28,21 +31,22 @@ use Rattle.bench_model.specs.Mutexes.{held_by, taken, inherited, waited_at, mute
 use Rattle.bench_model.specs.Changes.{with_base, in_use_set}
 use Rattle.bench_model.specs.Sets.{ask_its_core, capped, in_use_behind, ranked_anew, priority_set, affinity_set, preemption_off, preemption_on}
 use Rattle.bench_model.specs.Looks.{task_look, look_in}
-use Rattle.bench_model.specs.Steps.{woken, ticked, called, performed, after}
+use Rattle.bench_model.specs.Steps.{woken, ticked, delayed_until, called, performed, after}
 use Rattle.bench_model.specs.Table.{Stamps, Table, row_at, stamp_of, is_ready, wake_in, wakes_at, due}
 use Rattle.bench_model.specs.Lists as seen
 use Rattle.bench_model.specs.Lists.{Lists, View, list_moves, lists_of, image, first_of}
 use Rattle.bench_model.specs.Laws.{seen_of}
-use Rattle.bench_model.specs.Sound.{IsSound, WakesInTime}
+use Rattle.bench_model.specs.Sound.{IsConsistent, IsSound, WakesInTime}
 use Rattle.bench_model.specs.Session.{step_of}
 use Rattle.bench_model.specs.Equal.{StandsFor}
+use Rattle.bench_model.proofs.Awaiting.{completed_notes}
 use Rattle.bench_model.proofs.Filters.{All-weaker}
 use Rattle.bench_model.proofs.FirstWaiters.{first_waiter_seen, first_waiter_waits}
 use Rattle.bench_model.proofs.Stamped.{numbers_below, by_stamp_none}
 use Rattle.bench_model.proofs.SeenMoves.{is_ready_seen, due_seen}
 use Rattle.bench_model.proofs.Looks.{look_seen}
 use Rattle.bench_model.proofs.Steps.{after_seen, after_sound}
-use Rattle.smp_kernel.specs.Parts.{due_tasks}
+use Rattle.tick_delay.specs.Parts.{due_tasks}
 use Rattle.smp_kernel.specs.Kernel.{HasPriorities, IsSettled, StandsForSome}
 use Rattle.smp_kernel.proofs.CoreMoves.{turned_settings, notify_settings, woken_settings, sliced_settings}
 
@@ -69,7 +73,7 @@ first_of_seen : (mutex : ℕ) (lists : Lists) → first_of mutex lists.waiters �
 unfolding seen.first_waiter
 first_of_seen mutex lists = refl
 
-image_priorities : (table : Table) → IsSound table → HasPriorities (image table)
+image_priorities : (table : Table) → IsConsistent table → HasPriorities (image table)
 image_priorities table sound = record {
   bases = λ task low. (sound.priorities task low).1;
   waits = λ mutex waiter first.
@@ -77,15 +81,25 @@ image_priorities table sound = record {
       (sound.mutexes.waits waiter.task waiter.wait waits.0 waits.1).1;
 }
 
+-- the current task of a core stands in the ready lists where its row is ready
+current_ready_seen : (table : Table) → IsConsistent table → (core : ℕ) → core < length table.control.cores → has (current table.control core) (lists_of table.control table.orders).ready ≡ is_ready (current table.control core) table.orders
+current_ready_seen table kept core place = is_ready_seen table.control table.orders (current table.control core) kept.stamped.given (kept.in_place.is_task core place)
+
 image_settled : (table : Table) → IsSound table → IsSettled (image table)
-image_settled table sound = record {
-  none_due = sym (due_of (lists_of table.control table.orders)) ∙ due_seen table.control table.orders (λ i wake low waits. omega (arith, (sound.in_time i wake low waits).0)) ∙ none_due table.orders sound.in_time;
+image_settled table sound = let kept = sound.consistent in record {
+  none_due = sym (due_of (lists_of table.control table.orders)) ∙ due_seen table.control table.orders (λ i wake low waits. omega (arith, (kept.in_time i wake low waits).0)) ∙ none_due table.orders kept.in_time;
   runs_ready = λ core low idle.
-      let place : core < length table.control.cores = omega (arith, sound.sized.cores, low) in
-      is_ready_seen table.control table.orders (current table.control core) sound.stamped.given (sound.in_place.is_task core place)
-      ∙ true_from_ne_false (is_ready (current table.control core) table.orders) (λ gone. cc (sound.in_place.blocked_is_due core place gone, idle));
-  priorities = image_priorities table sound;
-  mutexes = λ task mutex mark is. sound.calls task (Take mutex mark) is;
+      let place : core < length table.control.cores = omega (arith, kept.sized.cores, low) in
+      current_ready_seen table kept core place
+      ∙ true_from_ne_false (is_ready (current table.control core) table.orders) (λ gone. cc (kept.in_place.blocked_is_due core place gone, idle));
+  held = λ hold is.
+      let well = sound.held hold is in
+      record {
+        depth = well.depth.1;
+        ready = current_ready_seen table kept hold.core (omega (arith, kept.sized.cores, well.core_below)) ∙ well.ready;
+      };
+  priorities = image_priorities table kept;
+  mutexes = λ task mutex mark is. kept.calls task (Take mutex mark) is;
 }
 
 pub settled_of : (view : View) → StandsForSome view → IsSettled view
@@ -123,21 +137,7 @@ priority_settings core task priority view =
     elim (eqb new block.base) as (λ b. (cond b view (record later { control = ranked_anew core task block.base new (has task view.orders.ready) later.control })).settings ≡ view.settings) [ true ↦ refl | false ↦ refl ]
 
 completed_settings : (task : ℕ) (call : Call) (view : View) → (completed task call view).1.settings ≡ view.settings
-unfolding completed
-completed_settings task Yield view = refl
-completed_settings task (Delay ticks) view = refl
-completed_settings task Finish view = refl
-completed_settings task (PrioritySet other priority) view = refl
-completed_settings task (AffinitySet other mask) view = refl
-completed_settings task (PreemptOff other) view = refl
-completed_settings task (PreemptOn other) view = refl
-completed_settings task (Notify note) view = refl
-completed_settings task (NotifyWait entry exit ticks) view = refl
-completed_settings task (NotifyTake clear ticks) view = refl
-completed_settings task (StateClear other) view = refl
-completed_settings task (ValueClear other bits) view = refl
-completed_settings task (MutexTake mutex ticks) view = refl
-completed_settings task (MutexGive mutex) view = refl
+completed_settings task call view = ap (λ (v : View). v.settings) (completed_notes task call view).1
 
 inherited_settings : (acting holder priority : ℕ) (view : View) → (inherited list_moves acting holder priority view).settings ≡ view.settings
 unfolding inherited in_use_set
@@ -233,8 +233,15 @@ awaited_settings core task call ticks begun view =
     let waiting = record view { notes = begun.1 } in
     elim (begun.0 && ltb 0 ticks) as (λ b. (cond b (outcome Blocked (blocked list_moves core task (Made call) (awaited_for ticks) None waiting)) (completed task call waiting)).1.settings ≡ view.settings) [ true ↦ refl | false ↦ completed_settings task call waiting ]
 
+until_settings : (core task prev inc : ℕ) (view : View) → (delayed_until list_moves core task prev inc view).1.settings ≡ view.settings
+unfolding delayed_until yielded blocked
+until_settings core task prev inc view =
+    let wake = next_wake prev inc in
+    let call = Made (DelayUntil prev inc) in
+    elim (is_ahead view.orders.tick prev wake) as (λ b. (cond b (outcome (Until true wake) (blocked list_moves core task call (Some (ticks_to view.orders.tick wake)) None view)) (outcome (Until false wake) (yielded list_moves core view))).1.settings ≡ view.settings) [ true ↦ refl | false ↦ refl ]
+
 called_settings : (core task : ℕ) (call : Call) (view : View) → (called list_moves core task call view).1.settings ≡ view.settings
-unfolding called yielded blocked affinity_set preemption_off preemption_on state_forgotten bits_cleared
+unfolding called yielded blocked affinity_set preemption_off preemption_on state_forgotten bits_cleared hold_opened hold_closed
 called_settings core task Yield view = refl
 called_settings core task (Delay ticks) view = elim (eqb ticks 0) as (λ b. (cond b (outcome Done (yielded list_moves core view)) (outcome Blocked (blocked list_moves core task (Made (Delay ticks)) (Some ticks) None view))).1.settings ≡ view.settings) [ true ↦ refl | false ↦ refl ]
 called_settings core task Finish view = finish_settings core task view
@@ -249,6 +256,9 @@ called_settings core task (StateClear other) view = refl
 called_settings core task (ValueClear other bits) view = refl
 called_settings core task (MutexTake mutex ticks) view = taken_settings core task mutex ticks view
 called_settings core task (MutexGive mutex) view = given_settings core task mutex view
+called_settings core task (DelayUntil prev inc) view = until_settings core task prev inc view
+called_settings core task HoldOpen view = refl
+called_settings core task HoldClose view = refl
 
 performed_settings : (step : Step) (view : View) → (performed list_moves step view).1.settings ≡ view.settings
 unfolding performed ticked interrupted
@@ -261,7 +271,7 @@ performed_settings (Interrupt core note) view = notify_settings core note.task n
 
 after_settings : (step : Step) (view : View) → (after list_moves step view).1.settings ≡ view.settings
 unfolding after
-after_settings step view = elim (refusal view.control view.calls view.holders step) as (λ why. (option_map_or (λ why. outcome (Refused why) view) why (performed list_moves step view)).1.settings ≡ view.settings) [ None ↦ performed_settings step view | Some why ↦ refl ]
+after_settings step view = elim (refusal list_moves step view) as (λ why. (option_map_or (λ why. outcome (Refused why) view) why (performed list_moves step view)).1.settings ≡ view.settings) [ None ↦ performed_settings step view | Some why ↦ refl ]
 
 -- a step leaves the settings as they are
 pub settings_after : (view later : View) (step : Step) (reply : Reply) → outcome reply later ≡ after list_moves step view → later.settings ≡ view.settings
@@ -276,7 +286,7 @@ holder_seen view table mutex stands = ap (λ (v : View). holder_at v.holders mut
 pub task_look_of : (view : View) (table : Table) (task : ℕ) → task < view.settings.tasks → StandsFor view table → look_in view task ≡ task_look table task
 task_look_of view table task low stands =
     let below : task < table.settings.tasks = omega (arith, low, ap (λ (v : View). v.settings.tasks) stands.shows) in
-    ap (λ (v : View). look_in v task) (sym stands.shows) ∙ look_seen table task stands.sound below
+    ap (λ (v : View). look_in v task) (sym stands.shows) ∙ look_seen table task stands.sound.consistent below
 
 pub tick_of : (view : View) (table : Table) → StandsFor view table → view.orders.tick ≡ table.orders.tick % 2 ^ 32
 unfolding lists_of

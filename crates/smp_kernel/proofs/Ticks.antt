@@ -1,12 +1,15 @@
 -- The tasks that are due are woken one after another, and then time slices end.
-use Rattle.std.proofs.Common.{◌≡◌, ℕ, ◌<◌, [], ◌∷◌, length, map, refl, sym, ap, ◌∙◌, arith}
+use Rattle.std.proofs.Common.{◌≡◌, ℕ, ◌<◌, not, eqb, List, [], ◌∷◌, length, map, refl, sym, ap, ◌∙◌, arith}
 use Rattle.std.proofs.lemmas.List.{length-map}
+use Rattle.bench_types.specs.declared.kernel_data.Delayed.{Delayed}
 use Rattle.bench_model.specs.Steps.{ticked, woken}
 use Rattle.bench_model.specs.Seek.{wake, sliced}
 use Rattle.bench_model.specs.Lists.{View, list_moves, advance, due, make_ready}
-use Rattle.smp_kernel.specs.Parts.{cancelled, advanced, one_less, due_tasks}
-use Rattle.smp_kernel.specs.Kernel.{Parts, kernel_view, IsKernelShape}
-use Rattle.smp_kernel.proofs.Apart.{apart_advanced}
+use Rattle.bench_model.proofs.Filters.{filter_all, All-filter_passes}
+use Rattle.tick_delay.specs.Parts.{cancelled, advanced, due_tasks}
+use Rattle.smp_kernel.specs.Deadlines.{one_less}
+use Rattle.smp_kernel.specs.Kernel.{Parts, kernel_view, IsKernelShape, delayed_task}
+use Rattle.smp_kernel.proofs.Apart.{apart_left, apart_advanced}
 
 -- a kernel one tick later, before a task is woken
 abbrev pub advanced_parts : Parts → Parts
@@ -34,6 +37,42 @@ advance_shape parts shape = record {
   undelayed = apart_advanced parts.cores.ready parts.delays shape.undelayed;
   unqueued = shape.unqueued;
 }
+
+-- a kernel whose first due task has left the delays, before it is woken
+abbrev pub popped_parts : ℕ → Parts → Parts
+popped_parts task parts = record parts { delays = record parts.delays { delayed = cancelled task parts.delays.delayed } }
+
+pub popped_shape : (parts : Parts) → IsKernelShape parts → (task : ℕ) → IsKernelShape (popped_parts task parts)
+popped_shape parts shape task = record {
+  priorities = shape.priorities;
+  slicing = shape.slicing;
+  few_cores = shape.few_cores;
+  some_priority = shape.some_priority;
+  cores = shape.cores;
+  controls = shape.controls;
+  calls = shape.calls;
+  notes = shape.notes;
+  mutexes = shape.mutexes;
+  holders = shape.holders;
+  delays = shape.delays;
+  deadlines = shape.deadlines;
+  undelayed = apart_left delayed_task task parts.cores.ready parts.delays.delayed shape.undelayed;
+  unqueued = shape.unqueued;
+}
+
+cancelled_twice : (task : ℕ) (delayed : List Delayed) → cancelled task (cancelled task delayed) ≡ cancelled task delayed
+cancelled_twice task delayed = filter_all (λ entry. not (eqb entry.task task)) (cancelled task delayed) (All-filter_passes (λ entry. not (eqb entry.task task)) delayed)
+
+abbrev pub popped : ℕ → View → View
+popped task view = record view { orders = record view.orders { delayed = cancelled task view.orders.delayed } }
+
+-- it is woken as if it stood there still
+woken_popped : (view : View) (task : ℕ) → wake list_moves 0 task (popped task view) ≡ wake list_moves 0 task view
+unfolding wake make_ready
+woken_popped view task = rw (cancelled_twice task view.orders.delayed) refl
+
+pub popped_wake : (shown view later : View) (task : ℕ) → shown ≡ view → later ≡ wake list_moves 0 task (popped task shown) → later ≡ wake list_moves 0 task view
+popped_wake shown view later task shows is = is ∙ woken_popped shown task ∙ ap (wake list_moves 0 task) shows
 
 -- the kernel when all tasks that are due were woken, and time slices have ended
 abbrev pub settled_from : View → View

@@ -3,6 +3,7 @@ use Rattle.std.specs.Prelude.{◌≡◌, ℕ, ◌<◌, ◌≤◌, ◌==◌, List
 use Rattle.std.specs.List.{list_any}
 use Rattle.std.specs.Option.{ForSome}
 use Rattle.bench_types.specs.declared.kernel_data.Delayed.{Delayed}
+use Rattle.bench_types.specs.declared.kernel_data.Hold.{Hold}
 use Rattle.bench_types.specs.declared.kernel_data.Settings.{Settings}
 use Rattle.bench_types.specs.declared.kernel_data.Waiter.{Waiter}
 use Rattle.bench_types.specs.declared.note.Notification.{Notification}
@@ -14,13 +15,15 @@ use Rattle.bench_types.specs.declared.step.Unfinished.TheVariants.{Take}
 use Rattle.bench_types.specs.Step.{call_check}
 use Rattle.bench_model.specs.Search.{has}
 use Rattle.bench_model.specs.Control.{current, is_due, task_at}
-use Rattle.bench_model.specs.State.{call_at, give_refusal}
+use Rattle.bench_model.specs.Holds.{depth_of}
+use Rattle.bench_model.specs.Refusals.{give_refusal}
+use Rattle.bench_model.specs.State.{call_at}
 use Rattle.bench_model.specs.Table.{Table}
 use Rattle.bench_model.specs.Lists.{View, first_of}
 use Rattle.bench_model.specs.Equal.{StandsFor}
 use Rattle.bench_model.specs.Cores.{CoresView}
 use Rattle.mutex_inherit.specs.Parts.{MutexPart}
-use Rattle.smp_kernel.specs.Parts.{DelayView, due_tasks}
+use Rattle.tick_delay.specs.Parts.{DelayView, due_tasks}
 
 pub record Parts : Type 0 where
   pub settings : Settings
@@ -33,6 +36,8 @@ pub record Parts : Type 0 where
   pub delays : DelayView
   -- per task the ticks left to the end of its unfinished wait for a mutex
   pub deadlines : List (Option ℕ)
+  -- the open hold, if there is one
+  pub hold : Option Hold
 
 -- what a kernel of these parts shows
 abbrev pub kernel_view : Parts → View
@@ -42,6 +47,7 @@ kernel_view parts = record {
   calls = parts.calls;
   notes = parts.notes;
   holders = parts.mutexes.holders;
+  hold = parts.hold;
   orders = record {
     ready = parts.cores.ready;
     tick = parts.delays.tick;
@@ -87,20 +93,29 @@ pub record HasPriorities (view : View) : Type 0 where
 abbrev pub HasTheirMutexes : View → Type 0
 HasTheirMutexes view = (task mutex : ℕ) (mark : Bool) → call_at view.calls task ≡ Some (Take mutex mark) → mutex < view.settings.mutexes
 
--- between steps no task has waited long enough, a core that is not due runs a ready task, and priorities and mutexes are in range
+-- an open hold is open at most 255 times over, and its core runs a ready task
+pub record IsHeldReady (view : View) (hold : Hold) : Type 0 where
+  pub depth : hold.depth ≤ 255
+  pub ready : has (current view.control hold.core) view.orders.ready ≡ true
+
+-- between steps no task has waited long enough, a core that is not due or holds the kernel runs a ready task, and priorities and
+-- mutexes are in range
 pub record IsSettled (view : View) : Type 0 where
   pub none_due : due_tasks view.orders.delayed ≡ []
   pub runs_ready : (core : ℕ) → core < view.settings.cores → is_due view.control core ≡ false → has (current view.control core) view.orders.ready ≡ true
+  pub held : ForSome view.hold (IsHeldReady view)
   pub priorities : HasPriorities view
   pub mutexes : HasTheirMutexes view
 
--- what a call finds that is not refused: its core, its ready task and what it is for; it gives no mutex that another task holds
+-- what a call finds that is not refused: its core, its ready task and what it is for; it gives no mutex that another task holds, and
+-- a hold that is open at most 255 times over
 pub record FindsItsTask (view : View) (core task : ℕ) (call : Call) : Type 0 where
   pub core_below : core < view.settings.cores
   pub task_below : task < view.settings.tasks
   pub ready : has task view.orders.ready ≡ true
   pub checked : call_check view.settings call ≡ Ok tt
   pub own : give_refusal view.holders task call ≡ None
+  pub depth : depth_of view.hold ≤ 255
   pub priorities : HasPriorities view
   pub mutexes : HasTheirMutexes view
 
@@ -115,3 +130,9 @@ FindsItsPlace view (step.Interrupt core note) = (core < view.settings.cores) × 
 -- there is a sound table that a kernel of which this can be seen stands for
 abbrev pub StandsForSome : View → Type 0
 StandsForSome view = (table : Table) × StandsFor view table
+
+-- two kernels have equal cores and control blocks, holders of mutexes and orders of tasks
+pub record HasSameOrders (one other : View) : Type 0 where
+  pub control : one.control ≡ other.control
+  pub holders : one.holders ≡ other.holders
+  pub orders : one.orders ≡ other.orders

@@ -1,3 +1,2 @@
+pub mod Deadlines
 pub mod Kernel
-pub mod Parts
-pub mod Shape

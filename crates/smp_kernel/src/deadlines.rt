@@ -1,5 +1,5 @@
-ghost use Rattle.std.specs.Prelude.{◌≡◌, ◌<◌, length, map, replicate, None, slice_index_or, slice_set, IfOk};
-ghost use Rattle.smp_kernel.specs.Parts.{one_less};
+ghost use Rattle.std.specs.Prelude.{◌≡◌, ◌↔◌, ◌<◌, length, map, replicate, None, slice_index_or, slice_set, IsTrue, IfOk};
+ghost use Rattle.smp_kernel.specs.Deadlines.{one_less};
 
 use std::alloc::{AllocError, Global};
 use std::marker::Model;
@@ -26,6 +26,22 @@ impl Deadlines {
         Ok(Deadlines {
             left: vec![in alloc; None; tasks as usize]?,
         })
+    }
+
+    /// A second value, equal to this one.
+    pub fn copy(&self, alloc: Global) -> Result<Self, AllocError>
+        ensures { IfOk result (λ copy. copy ≡ self.now) }
+    {
+        Ok(Deadlines {
+            left: Vec::from_slice(alloc, &self.left)?,
+        })
+    }
+
+    /// Whether the deadlines of all tasks are equal.
+    pub fn same(&self, other: &Self) -> bool
+        ensures { IsTrue result ↔ (self.now ≡ other.now) }
+    {
+        self.left == other.left
     }
 
     /// The ticks that are left to the task's deadline, 0 where it is reached.

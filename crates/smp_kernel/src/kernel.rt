@@ -1,4 +1,4 @@
-ghost use Rattle.std.specs.Prelude.{◌≡◌, ◌+◌, ◌-◌, ◌<◌, ◌%◌, ◌^◌, ◌↔◌, IsErr, IfOk, IfSome, Ok, Err, min};
+ghost use Rattle.std.specs.Prelude.{◌≡◌, ◌+◌, ◌-◌, ◌<◌, ◌%◌, ◌^◌, ◌↔◌, true, option_map, IsErr, IfOk, IfSome, Ok, Err, min};
 ghost use Rattle.bench_types.specs.Header.{header_check};
 ghost use Rattle.bench_types.specs.Step.{settings_of, step_check};
 ghost use Rattle.bench_model.specs.Control.{core_at, current};
@@ -7,12 +7,12 @@ ghost use Rattle.bench_model.specs.Table.{Table};
 ghost use Rattle.bench_model.specs.Start.{start};
 ghost use Rattle.bench_model.specs.Looks.{task_look};
 ghost use Rattle.bench_model.specs.Session.{step_of};
-ghost use Rattle.bench_model.specs.Equal.{StandsFor};
+ghost use Rattle.bench_model.specs.Equal.{Same, StandsFor};
 ghost use Rattle.smp_kernel.specs.Kernel.{StandsForSome};
 
 use crate::Meter;
 use crate::scheduler::Scheduler;
-use bench_types::{CoreLook, Header, Reply, Step, TaskLook};
+use bench_types::{CoreLook, Header, Reply, Settings, Step, TaskLook};
 use std::alloc::{AllocError, Global};
 use std::marker::Model;
 
@@ -67,6 +67,28 @@ impl Kernel {
         Ok(Kernel { scheduler })
     }
 
+    /// A second kernel, equal to this one: it stands for the same tables. The two share nothing, and a step of one leaves the other
+    /// as it is.
+    pub fn copy(&self, alloc: Global) -> Result<Kernel, AllocError>
+        ensures { IfOk result (λ kernel. kernel ≡ self.now) }
+    {
+        let scheduler = self.scheduler.copy(alloc)?;
+        Ok(Kernel { scheduler })
+    }
+
+    /// Whether the two kernels are equal, and so answer every step alike from now on.
+    ///
+    /// Compared are the settings (cores, priorities, slicing, mutexes, tasks), the tick count as 32 bits, each core's current task
+    /// and flags, each task's control block, notification and unfinished call, the holder of each mutex, the open hold, and the
+    /// orders: of each ready list, of the delays with the ticks left, and of the waiters of each mutex with their priorities. Of an
+    /// unfinished call that takes a mutex these are the mutex, its mark and the ticks left to its deadline, and not the ticks that
+    /// it named. Not compared are names, the header's arguments, and how a kernel came there. It takes no memory.
+    pub fn same(&self, other: &Kernel) -> bool
+        ensures { (a b : Table) → StandsFor self.now a → StandsFor other.now b → ((result ≡ true) ↔ Same a b) }
+    {
+        self.scheduler.same(&other.scheduler)
+    }
+
     /// Makes a step, counts it on the meter, refused or not, and gives its reply. It takes no memory.
     pub fn step(&mut self, meter: &mut Meter, step: &Step) -> Reply
         requires { step_check self.old.settings step.now ≡ Ok tt }
@@ -78,6 +100,14 @@ impl Kernel {
         let reply = self.scheduler.step(step);
         meter.step();
         reply
+    }
+
+    /// What the kernel started with.
+    pub fn settings(&self) -> Settings
+        ensures settings { result ≡ self.now.settings }
+        ensures sound { StandsForSome self.now }
+    {
+        self.scheduler.settings()
     }
 
     /// The current task of the core.
@@ -113,6 +143,13 @@ impl Kernel {
         ensures task { IfSome result (λ holder. holder < self.now.settings.tasks) }
     {
         self.scheduler.holder(mutex)
+    }
+
+    /// The open hold of the kernel: its core, and how many times over it was opened (`taskENTER_CRITICAL`) and is to be closed.
+    pub fn hold(&self) -> Option<(u32, u32)>
+        ensures { (table : Table) → StandsFor self.now table → result ≡ option_map (λ hold. (hold.core, hold.depth)) table.hold }
+    {
+        self.scheduler.hold().map(|hold| (hold.core, hold.depth))
     }
 
     /// The tick count, in ticks, as a number of 32 bits.

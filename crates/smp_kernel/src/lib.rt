@@ -2,7 +2,6 @@
 #![tactic(auto)]
 
 mod deadlines;
-mod delays;
 mod kernel;
 mod meter;
 mod scheduler;

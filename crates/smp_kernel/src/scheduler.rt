@@ -1,32 +1,38 @@
-ghost use Rattle.std.specs.Prelude.{◌≡◌, ◌<◌, ◌≤◌, length, [], true, IfOk, IfSome, Ok, Some, None, replicate};
+ghost use Rattle.std.specs.Prelude.{◌≡◌, ◌<◌, ◌≤◌, length, [], true, false, IfOk, IfSome, Ok, Some, None, replicate};
+ghost use Rattle.std.specs.Option.{option_map_or};
 ghost use Rattle.bench_types.specs.Header.{header_check};
 ghost use Rattle.bench_types.specs.Step.{call_check, step_check, IsStepOfWords};
 ghost use Rattle.bench_types.specs.declared.step.Call.TheVariants.{Delay};
 ghost use Rattle.bench_types.specs.declared.step.Unfinished.TheVariants.{Made};
-ghost use Rattle.bench_model.specs.Search.{has};
-ghost use Rattle.bench_model.specs.Control.{core_at, current, is_due};
+ghost use Rattle.bench_model.specs.Search.{placed, has};
+ghost use Rattle.bench_model.specs.Control.{core_at, current};
+ghost use Rattle.bench_model.specs.Holds.{depth_of};
+ghost use Rattle.bench_model.specs.Refusals.{give_refusal};
 ghost use Rattle.bench_model.specs.Start.{first_lists, unstarted, start_seen};
-ghost use Rattle.bench_model.specs.State.{call_at, holder_at, call_refusal, give_refusal, refusal, yielded, blocked};
+ghost use Rattle.bench_model.specs.State.{holder_at, yielded, blocked};
 ghost use Rattle.bench_model.specs.Seek.{wake, switched_and_sought, sliced};
-ghost use Rattle.bench_model.specs.Steps.{ticked, called, performed, after};
-ghost use Rattle.bench_model.specs.Lists.{list_moves, advance};
+ghost use Rattle.bench_model.specs.Steps.{ticked, delayed_until, called, performed, after};
+ghost use Rattle.bench_model.specs.Lists.{list_moves, wakes_first, advance};
 ghost use Rattle.bench_model.specs.Looks.{look_in};
-ghost use Rattle.smp_kernel.specs.Parts.{due_tasks};
+ghost use Rattle.tick_delay.specs.Parts.{is_waiting, due_tasks};
 ghost use Rattle.smp_kernel.specs.Kernel.{HasPriorities, HasTheirMutexes, IsSettled, FindsItsPlace};
 
+mod equal;
+mod holds;
 mod mutexes;
 mod notes;
+mod refusals;
 mod sets;
 
 use crate::deadlines::Deadlines;
-use crate::delays::Delays;
-use bench_types::{Call, CoreLook, Header, Refusal, Reply, Settings, Step, TaskLook, Unfinished};
+use bench_types::{Call, CoreLook, Header, Hold, Reply, Settings, Step, TaskLook, Unfinished};
 use mutex_inherit::Mutexes;
 use notify_core::Notes;
 use ready_core::Cores;
 use std::alloc::{AllocError, Global};
 use std::marker::Model;
 use std::ops::Range;
+use tick_delay::Delays;
 
 /// A kernel as far as it can be seen: its parts, and the moves of a step.
 #[derive(Debug, Drop)]
@@ -39,6 +45,8 @@ pub struct Scheduler {
     mutexes: Mutexes,
     delays: Delays,
     deadlines: Deadlines,
+    /// The open hold, if there is one.
+    hold: Option<Hold>,
 }
 
 impl Model for Scheduler {
@@ -47,9 +55,9 @@ impl Model for Scheduler {
 
     ghost Value = { View };
 
-    ghost view = { λ kernel. kernel_view (record { settings = kernel.settings; cores = kernel.cores; calls = kernel.calls.items; notes = kernel.notes; mutexes = kernel.mutexes; delays = kernel.delays; deadlines = kernel.deadlines }) };
+    ghost view = { λ kernel. kernel_view (record { settings = kernel.settings; cores = kernel.cores; calls = kernel.calls.items; notes = kernel.notes; mutexes = kernel.mutexes; delays = kernel.delays; deadlines = kernel.deadlines; hold = kernel.hold }) };
 
-    ghost invariant = { λ kernel. IsKernelShape (record { settings = kernel.settings; cores = kernel.cores; calls = kernel.calls.items; notes = kernel.notes; mutexes = kernel.mutexes; delays = kernel.delays; deadlines = kernel.deadlines }) };
+    ghost invariant = { λ kernel. IsKernelShape (record { settings = kernel.settings; cores = kernel.cores; calls = kernel.calls.items; notes = kernel.notes; mutexes = kernel.mutexes; delays = kernel.delays; deadlines = kernel.deadlines; hold = kernel.hold }) };
 }
 
 impl Scheduler {
@@ -86,9 +94,17 @@ impl Scheduler {
             calls: no_calls(alloc, tasks)?,
             notes: Notes::new(alloc, tasks)?,
             mutexes: Mutexes::new(alloc, tasks, config.mutexes)?,
-            delays: Delays::new(alloc, tasks, config.tick)?,
+            delays: Delays::new(alloc, config.tick, tasks)?,
             deadlines: Deadlines::new(alloc, tasks)?,
+            hold: None,
         })
+    }
+
+    /// What the kernel started with.
+    pub fn settings(&self) -> Settings
+        ensures { result ≡ self.now.settings }
+    {
+        self.settings
     }
 
     /// The current task of the core.
@@ -165,59 +181,6 @@ impl Scheduler {
         0..self.settings.cores
     }
 
-    // Whether the core was asked to switch, by itself or by another.
-    fn is_due(&self, core: u32) -> bool
-        requires { core < self.now.settings.cores }
-        ensures { result ≡ is_due self.now.control core }
-    {
-        let look = self.core_look(core);
-        look.pend || look.asked
-    }
-
-    // Why the step is refused, the first reason that applies.
-    #[tactic(auto, unfolding(bench_model::specs::State::refusal))]
-    fn refusal(&self, step: Step) -> Option<Refusal>
-        requires { step_check self.now.settings step ≡ Ok tt }
-        ensures reason { result ≡ refusal self.now.control self.now.calls self.now.holders step }
-        ensures words { IsStepOfWords step }
-    {
-        match step {
-            Step::Tick | Step::Interrupt { .. } => None,
-            Step::Switch { core } => {
-                if self.is_due(core) {
-                    None
-                } else {
-                    Some(Refusal::NotDue)
-                }
-            }
-            Step::Call { core, task, call } => {
-                let unfinished = unfinished_refusal(self.calls[task as usize], call);
-                let given = self.give_refusal(task, call);
-                if self.cores.running(core) != task {
-                    Some(Refusal::Displaced)
-                } else if self.is_due(core) {
-                    Some(Refusal::SwitchDue)
-                } else {
-                    unfinished.or(given)
-                }
-            }
-        }
-    }
-
-    // A task can't give a mutex that another task holds.
-    fn give_refusal(&self, task: u32, call: Call) -> Option<Refusal>
-        requires { call_check self.now.settings call ≡ Ok tt }
-        ensures { result ≡ give_refusal self.now.holders task call }
-    {
-        let Call::MutexGive(mutex) = call else {
-            return None;
-        };
-        match self.mutexes.holder(mutex) {
-            Some(holder) if holder != task => Some(Refusal::NotHolder),
-            _ => None,
-        }
-    }
-
     // What a step that is not refused answers and does.
     #[tactic(auto, unfolding(bench_model::specs::Steps::performed))]
     fn perform(&mut self, step: &Step) -> Reply
@@ -244,7 +207,7 @@ impl Scheduler {
         ensures { self.new ≡ ticked list_moves self.old }
     {
         self.advance();
-        while let Some(task) = self.delays.first_due() {
+        while let Some(task) = self.delays.pop_due() {
             self.wake(0, task);
         }
         self.slice();
@@ -292,6 +255,7 @@ impl Scheduler {
         requires ready { has task self.old.orders.ready ≡ true }
         requires checked { call_check self.old.settings call ≡ Ok tt }
         requires own { give_refusal self.old.holders task call ≡ None }
+        requires depth { depth_of self.old.hold ≤ 255 }
         requires priorities { HasPriorities self.old }
         requires mutexes { HasTheirMutexes self.old }
         ensures { (result, self.new) ≡ called list_moves core task call self.old }
@@ -302,7 +266,10 @@ impl Scheduler {
             Call::AffinitySet { task, mask } => self.set_affinity(core, task, mask),
             Call::PreemptOff(task) => self.preempt_off(task),
             Call::PreemptOn(task) => self.preempt_on(core, task),
+            Call::HoldOpen => self.open_hold(core),
+            Call::HoldClose => self.close_hold(core),
             Call::Delay(ticks) => return self.delay(core, task, ticks),
+            Call::DelayUntil { prev, inc } => return self.delay_until(core, task, prev, inc),
             Call::Notify(note) => return Reply::Flag(self.notify(core, note)),
             Call::NotifyWait { entry, ticks, .. } => return self.wait(
                 core, task, call, entry, ticks,
@@ -333,6 +300,25 @@ impl Scheduler {
         Reply::Blocked
     }
 
+    // The task waits until its next wake, or where that lies behind only asks its core to switch.
+    #[tactic(auto, unfolding(bench_model::specs::Steps::delayed_until))]
+    fn delay_until(&mut self, core: u32, task: u32, prev: u32, inc: u32) -> Reply
+        requires core { core < self.old.settings.cores }
+        requires task { task < self.old.settings.tasks }
+        requires ready { has task self.old.orders.ready ≡ true }
+        ensures { (result, self.new) ≡ delayed_until list_moves core task prev inc self.old }
+    {
+        let (delayed, wake) = self.delays.delay_until(task, prev, inc);
+        self.cores.ask(core, core);
+        if delayed {
+            let call = Call::DelayUntil { prev, inc };
+            self.cores.unready(task);
+            self.calls[task as usize] = Some(Unfinished::Made(call));
+            self.deadlines.set(task, None);
+        }
+        Reply::Until { delayed, wake }
+    }
+
     // The core asks itself to switch.
     #[tactic(auto, unfolding(bench_model::specs::State::yielded))]
     fn ask_itself(&mut self, core: u32)
@@ -348,13 +334,26 @@ impl Scheduler {
         requires core { core < self.old.settings.cores }
         requires task { task < self.old.settings.tasks }
         requires ready { has task self.old.orders.ready ≡ true }
+        requires some { IfSome ticks (λ ticks. 0 < ticks) }
         ensures { self.new ≡ blocked list_moves core task (Made call) ticks None self.old }
     {
         self.cores.ask(core, core);
         self.cores.unready(task);
         self.calls[task as usize] = Some(Unfinished::Made(call));
-        self.delays.wait(task, ticks);
+        delay_for(&mut self.delays, task, ticks);
         self.deadlines.set(task, None);
+    }
+}
+
+// The task waits for so many ticks; without end it has no place among the delays.
+fn delay_for(delays: &mut Delays, task: u32, ticks: Option<u32>)
+    requires task { task < delays.old.tasks }
+    requires free { is_waiting task delays.old.delayed ≡ false }
+    requires some { IfSome ticks (λ ticks. 0 < ticks) }
+    ensures { delays.new ≡ record delays.old { delayed = option_map_or (λ left. placed wakes_first (record { task = task; left = left }) delays.old.delayed) ticks delays.old.delayed } }
+{
+    if let Some(ticks) = ticks {
+        delays.delay(task, ticks);
     }
 }
 
@@ -366,16 +365,4 @@ fn no_calls(alloc: Global, tasks: u32) -> Result<Vec<Option<Unfinished>>, AllocE
         calls.push(None)?;
     }
     Ok(calls)
-}
-
-// A task with an unfinished call can only finish it, and without one it can't finish.
-fn unfinished_refusal(unfinished: Option<Unfinished>, call: Call) -> Option<Refusal>
-    ensures { result ≡ call_refusal unfinished call }
-{
-    let is_finish = matches!(call, Call::Finish);
-    match unfinished {
-        None if is_finish => Some(Refusal::NotInCall),
-        Some(_) if !is_finish => Some(Refusal::InCall),
-        _ => None,
-    }
 }

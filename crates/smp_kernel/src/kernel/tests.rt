@@ -4,15 +4,18 @@ ghost use Rattle.bench_model.specs.Table.{Table};
 ghost use Rattle.bench_model.specs.Session.{step_of};
 ghost use Rattle.bench_model.specs.Equal.{StandsFor};
 
+mod holds;
 mod looks;
 mod mutexes;
 mod notes;
+mod same;
 mod sets;
+mod until;
 
 use super::{Kernel, StartFault};
 use crate::Meter;
 use bench_types::{
-    Call, Config, CoreLook, Header, Items, Name, Refusal, Reply, Step, TaskArgs, TaskLook,
+    Call, Config, CoreLook, Header, Items, Name, Refusal, Reply, Settings, Step, TaskArgs, TaskLook,
 };
 use std::alloc::Global;
 use std::process::Abort;
@@ -95,6 +98,14 @@ impl<'a, R: Runtime + AllocGlobal + Abort> Started<'a, R> {
         self.kernel.step(&mut self.meter, step)
     }
 
+    // Steps of which none is refused.
+    fn make(&mut self, steps: &[Step]) {
+        for step in steps {
+            let reply = self.step(step);
+            assert!(self.rt; !matches!(reply, Reply::Refused(_)), "at {step:?}");
+        }
+    }
+
     fn running(&self) -> (u32, u32) {
         (self.kernel.running(0), self.kernel.running(1))
     }
@@ -137,6 +148,21 @@ fn play(
 fn three_tasks(alloc: Global, slicing: bool) -> Result<Header, Fail> {
     let config = Config { slicing, ..CONFIG };
     header_of(alloc, config, &[("A", 2, 3), ("B", 1, 3), ("C", 1, 3)])
+}
+
+#[test]
+fn settings_of_the_header(rt: HostRuntime) -> Result<(), Fail> {
+    let header = three_tasks(rt.alloc(), true)?;
+    let kernel = Kernel::start(rt.alloc(), &header)?;
+    let settings = Settings {
+        cores: 2,
+        priorities: 5,
+        slicing: true,
+        mutexes: 0,
+        tasks: 5,
+    };
+    assert_eq!(rt; kernel.settings(), settings);
+    Ok(())
 }
 
 #[test]

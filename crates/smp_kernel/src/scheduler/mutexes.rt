@@ -10,8 +10,8 @@ ghost use Rattle.bench_model.specs.Mutexes.{waited_at, mutex_take, timed_out, en
 ghost use Rattle.smp_kernel.specs.Kernel.{HasPriorities, HasTheirMutexes};
 ghost use Rattle.mutex_inherit.specs.Parts.{holder_of};
 
-use super::Scheduler;
 use super::notes::awaited_for;
+use super::{Scheduler, delay_for};
 use bench_types::{Reply, Unfinished};
 
 impl Scheduler {
@@ -43,13 +43,14 @@ impl Scheduler {
         requires ready { has task self.old.orders.ready ≡ true }
         requires mutex { mutex < self.old.settings.mutexes }
         requires held { IsSome (holder_at self.old.holders mutex) }
+        requires some { IfSome ticks (λ ticks. 0 < ticks) }
         ensures { self.new ≡ waited_at list_moves core task mutex (holder_of self.old.holders mutex) ticks self.old }
     {
         let mark = self.mutexes.wait_on(&mut self.cores, core, task, mutex);
         self.cores.ask(core, core);
         self.cores.unready(task);
         self.calls[task as usize] = Some(Unfinished::Take { mutex, mark });
-        self.delays.wait(task, ticks);
+        delay_for(&mut self.delays, task, ticks);
         self.deadlines.set(task, ticks);
     }
 

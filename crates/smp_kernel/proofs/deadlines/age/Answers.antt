@@ -1,7 +1,7 @@
 use Rattle.std.proofs.Common.{◌<◌, length, get_or, None, arith}
 use Rattle.std.proofs.lemmas.List.{get_or_default}
 use Rattle.std.proofs.lemmas.List.Edits.{map_over_more}
-use Rattle.smp_kernel.specs.Parts.{one_less}
+use Rattle.smp_kernel.specs.Deadlines.{one_less}
 use Rattle.smp_kernel.proofs.deadlines.age.Goals as goal
 
 pub loop-left-preserved : goal.loop-left-preserved

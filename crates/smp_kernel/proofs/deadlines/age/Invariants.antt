@@ -1,5 +1,5 @@
 use Rattle.std.proofs.Common.{◌≡◌, map, ◌++◌, take, drop}
-use Rattle.smp_kernel.specs.Parts.{one_less}
+use Rattle.smp_kernel.specs.Deadlines.{one_less}
 use Rattle.smp_kernel.proofs.deadlines.age.Given as goal
 
 -- the deadlines that were looked at are nearer, and the others as they were

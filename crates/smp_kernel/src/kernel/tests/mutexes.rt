@@ -8,9 +8,9 @@ use std::test::Fail;
 
 const ENDLESS: u32 = 4_294_967_295;
 
-const L: u32 = 2;
+pub(super) const L: u32 = 2;
 
-const H: u32 = 3;
+pub(super) const H: u32 = 3;
 
 const TAKEN: Reply = Reply::Flag(true);
 
@@ -33,20 +33,20 @@ fn header_with_mutexes(alloc: Global, args: &[(&str, u32, u32)]) -> Result<Heade
 }
 
 // 2 mutexes and tasks L (1) and H (3). It starts with H on core 0 and L on core 1.
-fn low_and_high(alloc: Global) -> Result<Header, Fail> {
+pub(super) fn low_and_high(alloc: Global) -> Result<Header, Fail> {
     header_with_mutexes(alloc, &[("L", 1, 3), ("H", 3, 3)])
 }
 
-fn take(mutex: u32, ticks: u32) -> Call {
+pub(super) fn take(mutex: u32, ticks: u32) -> Call {
     Call::MutexTake { mutex, ticks }
 }
 
 // L on core 1 takes a mutex that is free, or gives one.
-fn low_takes(mutex: u32) -> Step {
+pub(super) fn low_takes(mutex: u32) -> Step {
     call_on_1(L, take(mutex, 0))
 }
 
-fn low_gives(mutex: u32) -> Step {
+pub(super) fn low_gives(mutex: u32) -> Step {
     call_on_1(L, Call::MutexGive(mutex))
 }
 

@@ -1,5 +1,5 @@
 use Rattle.std.proofs.Common.{◌<◌, ◌^◌, subst}
-use Rattle.smp_kernel.specs.Parts.{DelayView}
+use Rattle.tick_delay.specs.Parts.{DelayView}
 use Rattle.smp_kernel.proofs.Firsts.{seen_unstarted, first_kernel_shape}
 use Rattle.smp_kernel.proofs.scheduler.Scheduler.unstarted.Goals as goal
 

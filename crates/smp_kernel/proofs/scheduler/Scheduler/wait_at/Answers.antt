@@ -18,12 +18,12 @@ ask-requires c =
 pub invariant_of-self : goal.invariant_of-self
 invariant_of-self c =
     let holder = holder_of c.self.inside.mutexes.holders c.args.mutex in
-    rw (c.set.ensures, c.wait.ensures, c.unready.ensures, c.ask.ensures, c.wait_on-mark.ensures.cores, c.wait_on-mark.ensures.waiters, c.wait_on-mark.ensures.mark)
+    rw (c.set.ensures, c.delay_for.ensures, c.unready.ensures, c.ask.ensures, c.wait_on-mark.ensures.cores, c.wait_on-mark.ensures.waiters, c.wait_on-mark.ensures.mark)
     (wait_shape _ c.self.invariant c.args.core c.args.task c.args.mutex holder c.args.ticks)
 
 pub returns : goal.returns
 returns c =
     let holder = holder_of c.self.inside.mutexes.holders c.args.mutex in
-    rw (c.set.ensures, c.wait.ensures, c.unready.ensures, c.ask.ensures, c.wait_on-mark.ensures.cores, c.wait_on-mark.ensures.waiters, c.wait_on-mark.ensures.mark)
+    rw (c.set.ensures, c.delay_for.ensures, c.unready.ensures, c.ask.ensures, c.wait_on-mark.ensures.cores, c.wait_on-mark.ensures.waiters, c.wait_on-mark.ensures.mark)
     (wait_seen _ c.self.invariant c.args.core c.args.task c.args.mutex holder c.args.ticks
     ∙ ap (λ (view : View). waited_at list_moves c.args.core c.args.task c.args.mutex (holder_of view.holders c.args.mutex) c.args.ticks view) c.self.view_is)

@@ -1,7 +1,0 @@
-use Rattle.std.proofs.Common.{◌≡◌, map, ◌++◌, take, drop}
-use Rattle.smp_kernel.specs.Parts.{aged}
-use Rattle.smp_kernel.proofs.delays.age.Given as goal
-
--- the entries that were looked at are aged, and the others as they were
-abbrev pub invariant-loop-entry : goal.invariant-loop-entry
-invariant-loop-entry l = l.entry-items ≡ map aged (take l.entry-index l.initial.entry-items) ++ drop l.entry-index l.initial.entry-items

@@ -1,0 +1,63 @@
+//! Copies of kernels, and whether two are equal.
+ghost use Rattle.std.specs.Prelude.{◌≡◌, ◌↔◌, IsTrue, IfOk};
+ghost use Rattle.smp_kernel.specs.Kernel.{HasSameOrders};
+
+use super::Scheduler;
+use bench_types::{Hold, Settings, Unfinished};
+use std::alloc::{AllocError, Global};
+
+impl Scheduler {
+    /// A second kernel, equal to this one.
+    pub fn copy(&self, alloc: Global) -> Result<Self, AllocError>
+        ensures { IfOk result (λ copy. copy ≡ self.now) }
+    {
+        Ok(Scheduler {
+            settings: self.settings,
+            cores: self.cores.copy(alloc)?,
+            calls: Vec::from_slice(alloc, &self.calls)?,
+            notes: self.notes.copy(alloc)?,
+            mutexes: self.mutexes.copy(alloc)?,
+            delays: self.delays.copy(alloc)?,
+            deadlines: self.deadlines.copy(alloc)?,
+            hold: self.hold,
+        })
+    }
+
+    /// Whether all that can be seen of the two is equal.
+    pub fn same(&self, other: &Self) -> bool
+        ensures { IsTrue result ↔ (self.now ≡ other.now) }
+    {
+        have_same_settings(self.settings, other.settings)
+            && (have_same_hold(self.hold, other.hold)
+                && (have_same_calls(&self.calls, &other.calls)
+                    && (self.notes.same(&other.notes) && self.has_same_orders(other))))
+    }
+
+    // Whether the cores, the control blocks and the orders of tasks are equal, and the holders of mutexes.
+    fn has_same_orders(&self, other: &Self) -> bool
+        requires { self.now.settings ≡ other.now.settings }
+        ensures { IsTrue result ↔ HasSameOrders self.now other.now }
+    {
+        self.cores.same(&other.cores)
+            && (self.mutexes.same(&other.mutexes)
+                && (self.delays.same(&other.delays) && self.deadlines.same(&other.deadlines)))
+    }
+}
+
+fn have_same_settings(settings: Settings, others: Settings) -> bool
+    ensures { IsTrue result ↔ (settings ≡ others) }
+{
+    settings == others
+}
+
+fn have_same_hold(hold: Option<Hold>, other: Option<Hold>) -> bool
+    ensures { IsTrue result ↔ (hold ≡ other) }
+{
+    hold == other
+}
+
+fn have_same_calls(calls: &[Option<Unfinished>], others: &[Option<Unfinished>]) -> bool
+    ensures { IsTrue result ↔ (calls.now ≡ others.now) }
+{
+    calls == others
+}

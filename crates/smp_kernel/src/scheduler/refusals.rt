@@ -1,0 +1,131 @@
+//! Why a step is refused.
+ghost use Rattle.std.specs.Prelude.{◌≡◌, ◌<◌, Ok};
+ghost use Rattle.bench_types.specs.Step.{call_check, core_check, step_check, IsStepOfWords};
+ghost use Rattle.bench_types.specs.declared.step.Step.TheVariants.{Switch};
+ghost use Rattle.bench_model.specs.Control.{is_due};
+ghost use Rattle.bench_model.specs.Lists.{list_moves};
+ghost use Rattle.bench_model.specs.Refusals.{call_refusal, give_refusal, would_block, hold_refusal, own_refusal, refusal};
+
+use super::Scheduler;
+use bench_model::notes::is_received;
+use bench_model::until::{is_ahead, next_wake};
+use bench_types::{Call, Refusal, Step, Unfinished};
+
+impl Scheduler {
+    // The first reason that applies. A core that holds the kernel keeps out switches and the calls of others.
+    #[tactic(auto, unfolding(bench_model::specs::Refusals::refusal))]
+    pub(super) fn refusal(&self, step: Step) -> Option<Refusal>
+        requires { step_check self.now.settings step ≡ Ok tt }
+        ensures reason { result ≡ refusal list_moves step self.now }
+        ensures words { IsStepOfWords step }
+    {
+        match step {
+            Step::Tick | Step::Interrupt { .. } => None,
+            Step::Switch { core } => self.switch_refusal(core),
+            Step::Call { core, .. } if self.is_held_elsewhere(core) => Some(Refusal::Held),
+            Step::Call { core, task, call } => self.own_refusal(core, task, call),
+        }
+    }
+
+    #[tactic(auto, unfolding(bench_model::specs::Refusals::refusal))]
+    fn switch_refusal(&self, core: u32) -> Option<Refusal>
+        requires { core < self.now.settings.cores }
+        ensures { result ≡ refusal list_moves (Switch core) self.now }
+    {
+        if self.is_held() {
+            Some(Refusal::Held)
+        } else if self.is_due(core) {
+            None
+        } else {
+            Some(Refusal::NotDue)
+        }
+    }
+
+    // Why a call of a core's task is refused that no other core keeps out.
+    fn own_refusal(&self, core: u32, task: u32, call: Call) -> Option<Refusal>
+        requires core { core < self.now.settings.cores }
+        requires task { task < self.now.settings.tasks }
+        requires checked { call_check self.now.settings call ≡ Ok tt }
+        ensures { result ≡ own_refusal list_moves core task call self.now }
+    {
+        if self.cores.running(core) != task {
+            Some(Refusal::Displaced)
+        } else if self.is_due(core) && !self.is_held_by(core) {
+            Some(Refusal::SwitchDue)
+        } else {
+            let held = self.hold_refusal(core, task, call);
+            let given = self.give_refusal(task, call);
+            unfinished_refusal(self.calls[task as usize], call).or(held.or(given))
+        }
+    }
+
+    // Whether the core was asked to switch, by itself or by another.
+    fn is_due(&self, core: u32) -> bool
+        requires { core < self.now.settings.cores }
+        ensures { result ≡ is_due self.now.control core }
+    {
+        let look = self.core_look(core);
+        look.pend || look.asked
+    }
+
+    // A core that holds the kernel lets no task wait and holds it at most 255 times over, and one that doesn't can't free it.
+    #[tactic(auto, unfolding(bench_model::specs::Refusals::would_block))]
+    fn hold_refusal(&self, core: u32, task: u32, call: Call) -> Option<Refusal>
+        requires task { task < self.now.settings.tasks }
+        requires checked { call_check self.now.settings call ≡ Ok tt }
+        ensures { result ≡ hold_refusal list_moves core task call self.now }
+    {
+        let is_held = self.is_held_by(core);
+        match call {
+            Call::HoldClose if !is_held => Some(Refusal::NoHold),
+            Call::HoldOpen if is_held && self.depth() == 255 => Some(Refusal::HoldDeep),
+            _ if is_held && self.would_block(task, call) => Some(Refusal::HoldBlock),
+            _ => None,
+        }
+    }
+
+    // Whether the call would make its task wait: for some ticks, or for what is not there.
+    #[tactic(auto, unfolding(bench_model::specs::Refusals::would_block, bench_model::specs::Notes::wait_begun, bench_model::specs::Notes::take_begun))]
+    fn would_block(&self, task: u32, call: Call) -> bool
+        requires task { task < self.now.settings.tasks }
+        requires checked { call_check self.now.settings call ≡ Ok tt }
+        ensures { result ≡ would_block list_moves task call self.now }
+    {
+        match call {
+            Call::Delay(ticks) => ticks > 0,
+            Call::DelayUntil { prev, inc } => {
+                is_ahead(self.tick_count(), prev, next_wake(prev, inc))
+            }
+            Call::NotifyWait { ticks, .. } => { !is_received(self.notes.state(task)) && ticks > 0 }
+            Call::NotifyTake { ticks, .. } => self.notes.value(task) == 0 && ticks > 0,
+            Call::MutexTake { mutex, ticks } => self.mutexes.holder(mutex).is_some() && ticks > 0,
+            _ => false,
+        }
+    }
+
+    // A task can't give a mutex that another task holds.
+    fn give_refusal(&self, task: u32, call: Call) -> Option<Refusal>
+        requires { call_check self.now.settings call ≡ Ok tt }
+        ensures { result ≡ give_refusal self.now.holders task call }
+    {
+        let Call::MutexGive(mutex) = call else {
+            return None;
+        };
+        match self.mutexes.holder(mutex) {
+            Some(holder) if holder != task => Some(Refusal::NotHolder),
+            _ => None,
+        }
+    }
+}
+
+// A task with an unfinished call can only finish it, and without one it can't finish.
+fn unfinished_refusal(unfinished: Option<Unfinished>, call: Call) -> Option<Refusal>
+    ensures { result ≡ call_refusal unfinished call }
+{
+    let is_finish = matches!(call, Call::Finish);
+    match unfinished {
+        None if is_finish => Some(Refusal::NotInCall),
+        Some(_) if !is_finish => Some(Refusal::InCall),
+        _ => None,
+    }
+}

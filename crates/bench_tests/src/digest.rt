@@ -6,10 +6,14 @@ use std::test::Fail;
 
 fn code_of(why: Refusal) -> u32 {
     match why {
+        Refusal::Held => 1,
         Refusal::Displaced => 2,
         Refusal::SwitchDue => 3,
         Refusal::InCall => 4,
         Refusal::NotInCall => 5,
+        Refusal::HoldBlock => 6,
+        Refusal::NoHold => 7,
+        Refusal::HoldDeep => 8,
         Refusal::NotHolder => 9,
         Refusal::NotDue => 10,
     }
@@ -22,6 +26,7 @@ fn with_reply(digest: u32, reply: Reply) -> u32 {
         Reply::Flag(flag) => with(digest, &[11, u32::from(flag)]),
         Reply::Value(value) => with(digest, &[12, value]),
         Reply::Waited { ok, value } => with(digest, &[13, u32::from(ok), value]),
+        Reply::Until { delayed, wake } => with(digest, &[15, u32::from(delayed), wake]),
         Reply::Isr { pass, pend } => with(digest, &[14, u32::from(pass), u32::from(pend)]),
         Reply::Refused(why) => with(digest, &[code_of(why)]),
     }

@@ -31,6 +31,8 @@ pub enum Mix {
     Notes,
     /// Some set something of a task, and some take or give one of four mutexes.
     Mutexes,
+    /// Some set something of a task, and some delay until a tick count, or open or close a hold.
+    Holds,
 }
 
 /// A session of so many steps, of which most are not refused.
@@ -54,6 +56,7 @@ pub fn random_session(
             Mix::Nothing | Mix::Sets => {}
             Mix::Notes => step = with_note(step, number(&mut seed)),
             Mix::Mutexes => step = with_mutex(&kernel, step, number(&mut seed)),
+            Mix::Holds => step = with_hold(&kernel, step, number(&mut seed)),
         }
         assert_eq!(rt; step.check(&header), Ok(()));
         let reply = kernel.step(&mut meter, &step);
@@ -226,6 +229,50 @@ fn some_mutex_call(kernel: &Kernel, task: u32, choice: u32) -> Call
         _ => match held {
             Some(mutex) => Call::MutexGive(mutex),
             None => Call::MutexTake { mutex, ticks },
+        },
+    }
+}
+
+// The step, or in place of a yield and of most calls that set something a call that delays until a tick count or is for holds,
+// chosen by a number of 16 bits. While a core holds the kernel, most steps are its own calls.
+fn with_hold(kernel: &Kernel, step: Step, choice: u32) -> Step
+    requires cores { kernel.now.settings.cores ≡ 8 }
+    requires choice { choice < 2 ^ 16 }
+{
+    let call = some_hold_call(kernel, choice);
+    match (kernel.hold(), step) {
+        (Some((core, _)), _) if core < 8 && choice % 16 < 12 => {
+            let task = kernel.running(core);
+            Step::Call { core, task, call }
+        }
+        (
+            _,
+            Step::Call {
+                core,
+                task,
+                call: made,
+            },
+        ) if made == Call::Yield || is_set(made) && choice % 16 < 13 => {
+            Step::Call { core, task, call }
+        }
+        _ => step,
+    }
+}
+
+// Wakes lie at most 14 ticks ahead of now, and some behind it.
+fn some_hold_call(kernel: &Kernel, choice: u32) -> Call
+    requires { choice < 2 ^ 16 }
+{
+    let prev = kernel
+        .tick()
+        .wrapping_add(choice / 1024 % 8)
+        .wrapping_sub(6);
+    match choice / 16 % 8 {
+        0..=1 => Call::HoldOpen,
+        2..=4 => Call::HoldClose,
+        _ => Call::DelayUntil {
+            prev,
+            inc: 1 + choice / 4096,
         },
     }
 }

@@ -59,6 +59,11 @@ fn as_the_definitions_replay_mutexes(rt: HostRuntime) -> Result<(), Fail> {
     check_kernel(&rt, &random_session(&rt, 2000, Mix::Mutexes)?)
 }
 
+#[test]
+fn as_the_definitions_replay_holds(rt: HostRuntime) -> Result<(), Fail> {
+    check_kernel(&rt, &random_session(&rt, 2000, Mix::Holds)?)
+}
+
 // The steps of the store are these, and their replies and current tasks those of the definitions.
 fn check_store(rt: &(impl AllocGlobal + Abort), store: &Store, steps: &[Step]) -> Result<(), Fail> {
     let outcomes = by_the_definitions(rt, store.header(), steps)?;

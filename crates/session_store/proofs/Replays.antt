@@ -23,7 +23,7 @@ pub runs : (view : View) (table : Table) → StandsFor view table → running vi
 runs view table stands = sym (ap (λ (v : View). running v.control) stands.shows)
 
 pub cores_stand : (view : View) (table : Table) → StandsFor view table → length view.control.cores ≡ view.settings.cores
-cores_stand view table stands = sym (ap (λ (v : View). length v.control.cores) stands.shows) ∙ stands.sound.sized.cores ∙ ap (λ (v : View). v.settings.cores) stands.shows
+cores_stand view table stands = sym (ap (λ (v : View). length v.control.cores) stands.shows) ∙ stands.sound.consistent.sized.cores ∙ ap (λ (v : View). v.settings.cores) stands.shows
 
 pub behind_more : (table : Table) (steps : List Step) (place : ℕ) → place < length steps → behind table (take (place + 1) steps) ≡ (step_of (get_or steps place Tick) (behind table (take place steps))).1
 behind_more table steps place early =

@@ -25,6 +25,7 @@ kinds =
     (codes "isr_notify", kind.Interrupt) ∷
     (codes "yield", kind.Call callkind.Yield) ∷
     (codes "delay", kind.Call callkind.Delay) ∷
+    (codes "delay_until", kind.Call callkind.DelayUntil) ∷
     (codes "priority_set", kind.Call callkind.PrioritySet) ∷
     (codes "affinity_set", kind.Call callkind.AffinitySet) ∷
     (codes "preempt_off", kind.Call callkind.PreemptOff) ∷
@@ -36,7 +37,9 @@ kinds =
     (codes "value_clear", kind.Call callkind.ValueClear) ∷
     (codes "mutex_take", kind.Call callkind.MutexTake) ∷
     (codes "mutex_give", kind.Call callkind.MutexGive) ∷
-    (codes "finish", kind.Call callkind.Finish) ∷ []
+    (codes "finish", kind.Call callkind.Finish) ∷
+    (codes "hold_open", kind.Call callkind.HoldOpen) ∷
+    (codes "hold_close", kind.Call callkind.HoldClose) ∷ []
 
 abbrev pub kind_of : List ℕ → Option Kind
 kind_of word = option_map (λ entry. entry.1) (find (λ entry. bytes_eq word entry.0) kinds)
@@ -55,6 +58,7 @@ note_members (Some value) = codes "to" ∷ codes "action" ∷ codes "value" ∷ 
 abbrev pub arguments_of : Call → List (List ℕ)
 arguments_of call.Yield = []
 arguments_of (call.Delay ticks) = codes "ticks" ∷ []
+arguments_of (call.DelayUntil prev inc) = codes "prev" ∷ codes "inc" ∷ []
 arguments_of (call.PrioritySet task priority) = codes "to" ∷ codes "priority" ∷ []
 arguments_of (call.AffinitySet task mask) = codes "to" ∷ codes "mask" ∷ []
 arguments_of (call.PreemptOff task) = codes "to" ∷ []
@@ -67,6 +71,8 @@ arguments_of (call.ValueClear task bits) = codes "to" ∷ codes "bits" ∷ []
 arguments_of (call.MutexTake mutex ticks) = codes "mutex" ∷ codes "ticks" ∷ []
 arguments_of (call.MutexGive mutex) = codes "mutex" ∷ []
 arguments_of call.Finish = []
+arguments_of call.HoldOpen = []
+arguments_of call.HoldClose = []
 
 abbrev pub members_of_call : Call → List (List ℕ)
 members_of_call made = codes "do" ∷ codes "core" ∷ codes "by" ∷ arguments_of made
@@ -103,6 +109,10 @@ call_at names callkind.Yield at d = Ok call.Yield
 call_at names callkind.Delay at d = do
   ticks ← number_at at (codes "ticks") d
   Ok (call.Delay ticks)
+call_at names callkind.DelayUntil at d = do
+  prev ← number_at at (codes "prev") d
+  inc ← number_at at (codes "inc") d
+  Ok (call.DelayUntil prev inc)
 call_at names callkind.PrioritySet at d = do
   task ← task_named_at names at (codes "to") d
   priority ← number_at at (codes "priority") d
@@ -140,6 +150,8 @@ call_at names callkind.MutexGive at d = do
   mutex ← number_at at (codes "mutex") d
   Ok (call.MutexGive mutex)
 call_at names callkind.Finish at d = Ok call.Finish
+call_at names callkind.HoldOpen at d = Ok call.HoldOpen
+call_at names callkind.HoldClose at d = Ok call.HoldClose
 
 unfoldable pub step_of_kind_at : TaskNames → Kind → List ℕ → Data → Result Step TextFault
 step_of_kind_at names kind.Tick at d = Ok step.Tick

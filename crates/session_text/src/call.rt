@@ -14,6 +14,7 @@ use bench_types::{Call, Note};
 pub(crate) enum CallKind {
     Yield,
     Delay,
+    DelayUntil,
     PrioritySet,
     AffinitySet,
     PreemptOff,
@@ -26,6 +27,8 @@ pub(crate) enum CallKind {
     MutexTake,
     MutexGive,
     Finish,
+    HoldOpen,
+    HoldClose,
 }
 
 /// The notification of a call or of an interrupt.
@@ -59,6 +62,10 @@ pub(crate) fn call_at(names: &Names<'_>, kind: CallKind, node: &Node<'_, '_>) ->
     match kind {
         CallKind::Yield => Ok(Call::Yield),
         CallKind::Delay => Ok(Call::Delay(node.number("ticks")?)),
+        CallKind::DelayUntil => Ok(Call::DelayUntil {
+            prev: node.number("prev")?,
+            inc: node.number("inc")?,
+        }),
         CallKind::PrioritySet => Ok(Call::PrioritySet {
             task: names.task_named_at(node, "to")?,
             priority: node.number("priority")?,
@@ -86,6 +93,8 @@ pub(crate) fn call_at(names: &Names<'_>, kind: CallKind, node: &Node<'_, '_>) ->
         }),
         CallKind::MutexGive => Ok(Call::MutexGive(node.number("mutex")?)),
         CallKind::Finish => Ok(Call::Finish),
+        CallKind::HoldOpen => Ok(Call::HoldOpen),
+        CallKind::HoldClose => Ok(Call::HoldClose),
     }
 }
 
@@ -94,8 +103,9 @@ pub(crate) fn call_members(call: Call) -> &'static [&'static str]
     ensures { map (λ name. name.now) result.now ≡ members_of_call call }
 {
     match call {
-        Call::Yield | Call::Finish => &["do", "core", "by"],
+        Call::Yield | Call::Finish | Call::HoldOpen | Call::HoldClose => &["do", "core", "by"],
         Call::Delay(_) => &["do", "core", "by", "ticks"],
+        Call::DelayUntil { .. } => &["do", "core", "by", "prev", "inc"],
         Call::PrioritySet { .. } => &["do", "core", "by", "to", "priority"],
         Call::AffinitySet { .. } => &["do", "core", "by", "to", "mask"],
         Call::PreemptOff(_) | Call::PreemptOn(_) | Call::StateClear(_) => {

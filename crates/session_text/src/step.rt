@@ -30,6 +30,7 @@ impl Kind {
             "isr_notify" => Some(Kind::Interrupt),
             "yield" => Some(Kind::Call(CallKind::Yield)),
             "delay" => Some(Kind::Call(CallKind::Delay)),
+            "delay_until" => Some(Kind::Call(CallKind::DelayUntil)),
             "priority_set" => Some(Kind::Call(CallKind::PrioritySet)),
             "affinity_set" => Some(Kind::Call(CallKind::AffinitySet)),
             "preempt_off" => Some(Kind::Call(CallKind::PreemptOff)),
@@ -42,6 +43,8 @@ impl Kind {
             "mutex_take" => Some(Kind::Call(CallKind::MutexTake)),
             "mutex_give" => Some(Kind::Call(CallKind::MutexGive)),
             "finish" => Some(Kind::Call(CallKind::Finish)),
+            "hold_open" => Some(Kind::Call(CallKind::HoldOpen)),
+            "hold_close" => Some(Kind::Call(CallKind::HoldClose)),
             _ => None,
         }
     }

@@ -1,5 +1,6 @@
 mod calls;
 mod documents;
+mod holds;
 mod mutexes;
 mod notes;
 mod rows;

@@ -18,6 +18,7 @@ IsUserTask header task = (header.config.cores ≤ task) × (task < header.config
 abbrev pub HasTarget : Header → Call → Type 0
 HasTarget header call.Yield = ⊤
 HasTarget header (call.Delay ticks) = ⊤
+HasTarget header (call.DelayUntil prev inc) = ⊤
 HasTarget header (call.PrioritySet task priority) = IsUserTask header task
 HasTarget header (call.AffinitySet task mask) = IsUserTask header task
 HasTarget header (call.PreemptOff task) = IsUserTask header task
@@ -30,6 +31,8 @@ HasTarget header (call.ValueClear task bits) = IsUserTask header task
 HasTarget header (call.MutexTake mutex ticks) = mutex < header.config.mutexes
 HasTarget header (call.MutexGive mutex) = mutex < header.config.mutexes
 HasTarget header call.Finish = ⊤
+HasTarget header call.HoldOpen = ⊤
+HasTarget header call.HoldClose = ⊤
 
 -- the core and the caller of a call are there, and what it is for
 pub record IsCallInPlace (header : Header) (core task : ℕ) (made : Call) : Type 0 where
@@ -52,6 +55,7 @@ IsInPlace header (step.Interrupt core note) = IsInterruptInPlace header core not
 has_target : (header : Header) (made : Call) → call_check (settings_of header) made ≡ Ok tt → HasTarget header made
 has_target header call.Yield passes = tt
 has_target header (call.Delay ticks) passes = tt
+has_target header (call.DelayUntil prev inc) passes = tt
 has_target header (call.PrioritySet task priority) passes = checked_task (settings_of header) task passes
 has_target header (call.AffinitySet task mask) passes =
     let settings = settings_of header in
@@ -66,6 +70,8 @@ has_target header (call.ValueClear task bits) passes = checked_task (settings_of
 has_target header (call.MutexTake mutex ticks) passes = checked_mutex (settings_of header) mutex passes
 has_target header (call.MutexGive mutex) passes = checked_mutex (settings_of header) mutex passes
 has_target header call.Finish passes = tt
+has_target header call.HoldOpen passes = tt
+has_target header call.HoldClose passes = tt
 
 pub in_place : (header : Header) (made : Step) → step_fault header made ≡ Ok tt → IsInPlace header made
 in_place header step.Tick passes = tt

@@ -66,6 +66,7 @@ interrupt_plain core to (action.SetNew value) small to_utf8 word = (refl, refl, 
 pub call_plain : (header : Header) (by : List ℕ) (core : ℕ) (made : Call) → IsCheckedHeader header → AreNames header → HasTarget header made → IsUtf8 by → core < 2 ^ 64 → IsOfWords made → IsPlain (call_data header by core made)
 call_plain header by core call.Yield h names target utf8 small words = bare_plain by core _ utf8 small (IsUtf8-are_ascii _ refl)
 call_plain header by core (call.Delay ticks) h names target utf8 small words = (refl, refl, utf8, (refl, refl, small, (refl, refl, IsUtf8-are_ascii _ refl, (refl, refl, omega arith, tt))))
+call_plain header by core (call.DelayUntil prev inc) h names target utf8 small words = (refl, refl, utf8, (refl, refl, small, (refl, refl, IsUtf8-are_ascii _ refl, (refl, refl, omega (arith, words.1), (refl, refl, omega (arith, words.0), tt)))))
 call_plain header by core (call.PrioritySet task priority) h names target utf8 small words = (refl, refl, utf8, (refl, refl, small, (refl, refl, IsUtf8-are_ascii _ refl, (refl, refl, omega arith, (refl, refl, names task target.1 target.0, tt)))))
 call_plain header by core (call.AffinitySet task mask) h names target utf8 small words = (refl, refl, utf8, (refl, refl, small, (refl, refl, IsUtf8-are_ascii _ refl, (refl, refl, omega arith, (refl, refl, names task target.1 target.0, tt)))))
 call_plain header by core (call.PreemptOff task) h names target utf8 small words = for_plain by core _ _ utf8 small (IsUtf8-are_ascii _ refl) (names task target.1 target.0)
@@ -78,6 +79,8 @@ call_plain header by core (call.ValueClear task bits) h names target utf8 small 
 call_plain header by core (call.MutexTake mutex ticks) h names target utf8 small words = (refl, refl, utf8, (refl, refl, small, (refl, refl, IsUtf8-are_ascii _ refl, (refl, refl, omega (arith, h.few_mutexes), (refl, refl, omega arith, tt)))))
 call_plain header by core (call.MutexGive mutex) h names target utf8 small words = (refl, refl, utf8, (refl, refl, small, (refl, refl, IsUtf8-are_ascii _ refl, (refl, refl, omega (arith, h.few_mutexes), tt))))
 call_plain header by core call.Finish h names target utf8 small words = bare_plain by core _ utf8 small (IsUtf8-are_ascii _ refl)
+call_plain header by core call.HoldOpen h names target utf8 small words = bare_plain by core _ utf8 small (IsUtf8-are_ascii _ refl)
+call_plain header by core call.HoldClose h names target utf8 small words = bare_plain by core _ utf8 small (IsUtf8-are_ascii _ refl)
 
 step_plain : (header : Header) (made : Step) → IsCheckedHeader header → AreNames header → IsInPlace header made → IsStepOfWords made → IsPlain (step_data header made)
 step_plain header step.Tick h names place words = (refl, refl, IsUtf8-are_ascii _ refl, tt)
@@ -168,6 +171,7 @@ interrupt_depth core to (action.SetNew value) = omega arith
 call_depth : (header : Header) (by : List ℕ) (core : ℕ) (made : Call) → depth (call_data header by core made) ≤ 1
 call_depth header by core call.Yield = omega arith
 call_depth header by core (call.Delay ticks) = omega arith
+call_depth header by core (call.DelayUntil prev inc) = omega arith
 call_depth header by core (call.PrioritySet task priority) = omega arith
 call_depth header by core (call.AffinitySet task mask) = omega arith
 call_depth header by core (call.PreemptOff task) = omega arith
@@ -180,6 +184,8 @@ call_depth header by core (call.ValueClear task bits) = omega arith
 call_depth header by core (call.MutexTake mutex ticks) = omega arith
 call_depth header by core (call.MutexGive mutex) = omega arith
 call_depth header by core call.Finish = omega arith
+call_depth header by core call.HoldOpen = omega arith
+call_depth header by core call.HoldClose = omega arith
 
 step_depth : (header : Header) (made : Step) → depth (step_data header made) ≤ 1
 step_depth header step.Tick = omega arith

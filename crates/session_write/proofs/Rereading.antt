@@ -73,6 +73,7 @@ call_read : (header : Header) (at : List ℕ) (core task : ℕ) (made : Call) �
 unfolding step_at kind_at text_at step_of_kind_at number_at flag_at task_named_at call_at wait_at
 call_read header at core task call.Yield h place words = rw (core_number header core h place.core_there, target_named header task h place.caller) refl
 call_read header at core task (call.Delay ticks) h place words = rw (core_number header core h place.core_there, lt-ltb _ _ words, target_named header task h place.caller) refl
+call_read header at core task (call.DelayUntil prev inc) h place words = rw (core_number header core h place.core_there, lt-ltb _ _ words.0, lt-ltb _ _ words.1, target_named header task h place.caller) refl
 call_read header at core task (call.PrioritySet to priority) h place words = rw (core_number header core h place.core_there, lt-ltb _ _ words, target_named header task h place.caller, target_named header to h place.target) refl
 call_read header at core task (call.AffinitySet to mask) h place words = rw (core_number header core h place.core_there, lt-ltb _ _ words, target_named header task h place.caller, target_named header to h place.target) refl
 call_read header at core task (call.PreemptOff to) h place words = rw (core_number header core h place.core_there, target_named header task h place.caller, target_named header to h place.target) refl
@@ -85,6 +86,8 @@ call_read header at core task (call.ValueClear to bits) h place words = rw (core
 call_read header at core task (call.MutexTake mutex ticks) h place words = rw (core_number header core h place.core_there, mutex_number header mutex h place.target, lt-ltb _ _ words, target_named header task h place.caller) refl
 call_read header at core task (call.MutexGive mutex) h place words = rw (core_number header core h place.core_there, mutex_number header mutex h place.target, target_named header task h place.caller) refl
 call_read header at core task call.Finish h place words = rw (core_number header core h place.core_there, target_named header task h place.caller) refl
+call_read header at core task call.HoldOpen h place words = rw (core_number header core h place.core_there, target_named header task h place.caller) refl
+call_read header at core task call.HoldClose h place words = rw (core_number header core h place.core_there, target_named header task h place.caller) refl
 
 step_read : (header : Header) (at : List ℕ) (made : Step) → IsCheckedHeader header → IsInPlace header made → IsStepOfWords made → step_at (names_of header) at (step_data header made) ≡ Ok made
 unfolding step_at kind_at text_at step_of_kind_at number_at

@@ -45,6 +45,9 @@ call_for by core word to = object_with ((codes "by", string by) ∷ (codes "core
 abbrev pub delay_data : List ℕ → ℕ → ℕ → Data
 delay_data by core ticks = object_with ((codes "by", string by) ∷ (codes "core", whole core) ∷ (codes "do", string (codes "delay")) ∷ (codes "ticks", whole ticks) ∷ [])
 
+abbrev pub delay_until_data : List ℕ → ℕ → ℕ → ℕ → Data
+delay_until_data by core prev inc = object_with ((codes "by", string by) ∷ (codes "core", whole core) ∷ (codes "do", string (codes "delay_until")) ∷ (codes "inc", whole inc) ∷ (codes "prev", whole prev) ∷ [])
+
 abbrev pub priority_data : List ℕ → ℕ → List ℕ → ℕ → Data
 priority_data by core to priority = object_with ((codes "by", string by) ∷ (codes "core", whole core) ∷ (codes "do", string (codes "priority_set")) ∷ (codes "priority", whole priority) ∷ (codes "to", string to) ∷ [])
 
@@ -88,6 +91,7 @@ mutex_give_data by core mutex = object_with ((codes "by", string by) ∷ (codes 
 abbrev pub call_data : Header → List ℕ → ℕ → Call → Data
 call_data header by core call.Yield = bare_call by core (codes "yield")
 call_data header by core (call.Delay ticks) = delay_data by core ticks
+call_data header by core (call.DelayUntil prev inc) = delay_until_data by core prev inc
 call_data header by core (call.PrioritySet task priority) = priority_data by core (task_name header task) priority
 call_data header by core (call.AffinitySet task mask) = affinity_data by core (task_name header task) mask
 call_data header by core (call.PreemptOff task) = call_for by core (codes "preempt_off") (task_name header task)
@@ -100,6 +104,8 @@ call_data header by core (call.ValueClear task bits) = value_clear_data by core 
 call_data header by core (call.MutexTake mutex ticks) = mutex_take_data by core mutex ticks
 call_data header by core (call.MutexGive mutex) = mutex_give_data by core mutex
 call_data header by core call.Finish = bare_call by core (codes "finish")
+call_data header by core call.HoldOpen = bare_call by core (codes "hold_open")
+call_data header by core call.HoldClose = bare_call by core (codes "hold_close")
 
 abbrev pub step_data : Header → Step → Data
 step_data header step.Tick = object_with ((codes "do", string (codes "tick")) ∷ [])

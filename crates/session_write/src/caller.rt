@@ -1,6 +1,6 @@
 ghost use Rattle.std.specs.Prelude.{◌≡◌, IfOk};
 ghost use Rattle.serde_json.specs.View.{view};
-ghost use Rattle.session_write.specs.Written.{affinity_data, bare_call, call_for, delay_data, mutex_give_data, mutex_take_data, priority_data};
+ghost use Rattle.session_write.specs.Written.{affinity_data, bare_call, call_for, delay_data, delay_until_data, mutex_give_data, mutex_take_data, priority_data};
 
 use serde_json::{Value, json};
 use std::alloc::{AllocError, Global};
@@ -33,6 +33,15 @@ impl Caller<'_> {
         ensures { IfOk result (λ value. view value ≡ delay_data self.now.by.now self.now.core ticks) }
     {
         json!(in self.alloc; {"by": self.by, "core": self.core, "do": "delay", "ticks": ticks})
+    }
+
+    pub(crate) fn delay_until(&self, prev: u32, inc: u32) -> Result<Value, AllocError>
+        ensures { IfOk result
+            (λ value. view value ≡ delay_until_data self.now.by.now self.now.core prev inc) }
+    {
+        json!(in self.alloc; {
+            "by": self.by, "core": self.core, "do": "delay_until", "inc": inc, "prev": prev
+        })
     }
 
     pub(crate) fn priority_set(&self, to: &str, priority: u32) -> Result<Value, AllocError>

@@ -57,6 +57,7 @@ fn call_value(header: &Header, caller: &Caller<'_>, call: Call) -> Result<Value,
     match call {
         Call::Yield => caller.bare("yield"),
         Call::Delay(ticks) => caller.delay(ticks),
+        Call::DelayUntil { prev, inc } => caller.delay_until(prev, inc),
         Call::PrioritySet { task, priority } => {
             caller.priority_set(task_name(header, task), priority)
         }
@@ -71,6 +72,8 @@ fn call_value(header: &Header, caller: &Caller<'_>, call: Call) -> Result<Value,
         Call::MutexTake { mutex, ticks } => caller.mutex_take(mutex, ticks),
         Call::MutexGive(mutex) => caller.mutex_give(mutex),
         Call::Finish => caller.bare("finish"),
+        Call::HoldOpen => caller.bare("hold_open"),
+        Call::HoldClose => caller.bare("hold_close"),
     }
 }
 

@@ -64,6 +64,13 @@ const STEPS: &str = r#"
 {"ticks":4294967295,"mutex":0,"by":"B","core":1,"do":"mutex_take"} | {"by":"B","core":1,"do":"mutex_take","mutex":0,"ticks":4294967295}
 {"do":"mutex_give","core":0,"by":"A","mutex":1} | {"by":"A","core":0,"do":"mutex_give","mutex":1}
 {"mutex":0,"by":"B","core":1,"do":"mutex_give"} | {"by":"B","core":1,"do":"mutex_give","mutex":0}
+{"do":"delay_until","core":0,"by":"B","prev":7,"inc":9} | {"by":"B","core":0,"do":"delay_until","inc":9,"prev":7}
+{"prev":0,"inc":4294967295,"by":"A","core":1,"do":"delay_until"} | {"by":"A","core":1,"do":"delay_until","inc":4294967295,"prev":0}
+{"inc":1,"do":"delay_until","by":"A","prev":4294967295,"core":0} | {"by":"A","core":0,"do":"delay_until","inc":1,"prev":4294967295}
+{"do":"hold_open","core":1,"by":"A"} | {"by":"A","core":1,"do":"hold_open"}
+{"core":0,"by":"B","do":"hold_open"} | {"by":"B","core":0,"do":"hold_open"}
+{"do":"hold_close","core":0,"by":"A"} | {"by":"A","core":0,"do":"hold_close"}
+{"by":"B","core":1,"do":"hold_close"} | {"by":"B","core":1,"do":"hold_close"}
 "#;
 
 fn read(alloc: Global, text: &str) -> Result<(Header, Vec<Step>), Fail>

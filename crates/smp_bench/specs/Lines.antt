@@ -1,20 +1,16 @@
 -- The lines of edits and of a replay.
-use Rattle.std.specs.Prelude.{ℕ, suc, ◌-◌, List, [], ◌∷◌, ◌++◌, flat_map, codes, decimal, Bool, nat_lt, if◌then◌else◌, slice_index_or, Result, Ok, Err}
+use Rattle.std.specs.Prelude.{ℕ, suc, List, [], ◌∷◌, ◌++◌, flat_map, codes, decimal, Bool, if◌then◌else◌, Result, Ok, Err}
 use Rattle.bench_types.specs.declared.edit.EditFault.{EditFault}
 use Rattle.bench_types.specs.declared.edit.EditFault.TheVariants.{Bench, NoPlace, TooLong}
 use Rattle.bench_types.specs.declared.fault.Fault.{Fault}
 use Rattle.bench_types.specs.declared.fault.Fault.TheVariants.{BadHeader, BadCore, BadTask, BadMutex, BadArgument}
 use Rattle.bench_types.specs.declared.header.Header.{Header}
+use Rattle.bench_types.specs.Header.{name_of}
 use Rattle.bench_types.specs.declared.reply.Reply.{Reply}
-use Rattle.bench_types.specs.declared.reply.Reply.TheVariants.{Done, Blocked, Flag, Value, Waited, Isr, Refused}
+use Rattle.bench_types.specs.declared.reply.Reply.TheVariants.{Done, Blocked, Flag, Value, Waited, Until, Isr, Refused}
 use Rattle.bench_types.specs.declared.reply.Refusal.{Refusal}
-use Rattle.bench_types.specs.declared.reply.Refusal.TheVariants.{Displaced, SwitchDue, InCall, NotInCall, NotHolder, NotDue}
+use Rattle.bench_types.specs.declared.reply.Refusal.TheVariants.{Held, Displaced, SwitchDue, InCall, NotInCall, HoldBlock, NoHold, HoldDeep, NotHolder, NotDue}
 use Rattle.session_store.specs.declared.outcome.Outcome.{Outcome}
-
--- the idle task of core c is IDLEc; a user task has its name in the header
-abbrev pub name_of : Header → ℕ → List ℕ
-name_of header task = if nat_lt task header.config.cores then codes "IDLE" ++ decimal task
-    else (slice_index_or header.tasks (task - header.config.cores) (record { name = []; priority = 0; mask = 0 })).name
 
 -- a text behind a space
 abbrev pub spaced : List ℕ → List ℕ
@@ -25,10 +21,14 @@ abbrev pub row_text : Header → List ℕ → List ℕ
 row_text header row = flat_map (λ task. spaced (name_of header task)) row
 
 abbrev pub refusal_text : Refusal → List ℕ
+refusal_text Held = codes "E1"
 refusal_text Displaced = codes "E2"
 refusal_text SwitchDue = codes "E3"
 refusal_text InCall = codes "E4"
 refusal_text NotInCall = codes "E5"
+refusal_text HoldBlock = codes "E6"
+refusal_text NoHold = codes "E7"
+refusal_text HoldDeep = codes "E8"
 refusal_text NotHolder = codes "E9"
 refusal_text NotDue = codes "E10"
 
@@ -41,6 +41,7 @@ reply_text Blocked = codes "blocked"
 reply_text (Flag flag) = flag_text flag
 reply_text (Value value) = codes "value" ++ spaced (decimal value)
 reply_text (Waited ok value) = codes "waited" ++ spaced (flag_text ok) ++ spaced (decimal value)
+reply_text (Until delayed wake) = codes "until" ++ spaced (flag_text delayed) ++ spaced (decimal wake)
 reply_text (Isr pass pend) = codes "isr" ++ spaced (flag_text pass) ++ spaced (flag_text pend)
 reply_text (Refused why) = codes "refused" ++ spaced (refusal_text why)
 

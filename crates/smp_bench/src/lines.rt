@@ -1,5 +1,6 @@
 ghost use Rattle.std.specs.Prelude.{◌≡◌, ◌++◌, OnOk, string_bytes};
-ghost use Rattle.smp_bench.specs.Lines.{name_of, spaced, reply_text, refusal_text, row_text, start_line, step_line, fault_text, edit_fault_text, answer_text, edit_line, edit_lines};
+ghost use Rattle.bench_types.specs.Header.{name_of};
+ghost use Rattle.smp_bench.specs.Lines.{spaced, reply_text, refusal_text, row_text, start_line, step_line, fault_text, edit_fault_text, answer_text, edit_line, edit_lines};
 
 use bench_types::{EditFault, Fault, Header, Refusal, Reply};
 use session_store::Outcome;
@@ -9,10 +10,14 @@ fn refusal_text(why: Refusal) -> &'static str
     ensures { result.now ≡ refusal_text why }
 {
     match why {
+        Refusal::Held => "E1",
         Refusal::Displaced => "E2",
         Refusal::SwitchDue => "E3",
         Refusal::InCall => "E4",
         Refusal::NotInCall => "E5",
+        Refusal::HoldBlock => "E6",
+        Refusal::NoHold => "E7",
+        Refusal::HoldDeep => "E8",
         Refusal::NotHolder => "E9",
         Refusal::NotDue => "E10",
     }
@@ -34,6 +39,7 @@ fn push_reply(text: &mut String, reply: Reply) -> Result<(), AllocError>
         Reply::Flag(flag) => write!(text, "{flag}"),
         Reply::Value(value) => write!(text, "value {value}"),
         Reply::Waited { ok, value } => write!(text, "waited {ok} {value}"),
+        Reply::Until { delayed, wake } => write!(text, "until {delayed} {wake}"),
         Reply::Isr { pass, pend } => write!(text, "isr {pass} {pend}"),
         Reply::Refused(why) => {
             text.push_str("refused")?;
@@ -42,25 +48,11 @@ fn push_reply(text: &mut String, reply: Reply) -> Result<(), AllocError>
     }
 }
 
-// A number that is no task has no name.
-fn push_name(text: &mut String, header: &Header, task: u32) -> Result<(), AllocError>
-    ensures { OnOk result (string_bytes text.new ≡ string_bytes text.old ++ name_of header.now task) }
-{
-    let cores = header.config.cores;
-    if task < cores {
-        return write!(text, "IDLE{task}");
-    }
-    match header.tasks.as_slice().get((task - cores) as usize) {
-        Some(args) => text.push_str(args.name.as_str()),
-        None => Ok(()),
-    }
-}
-
 fn push_task(text: &mut String, header: &Header, task: u32) -> Result<(), AllocError>
     ensures { OnOk result (string_bytes text.new ≡ string_bytes text.old ++ spaced (name_of header.now task)) }
 {
     text.push_str(" ")?;
-    push_name(text, header, task)
+    header.push_name(text, task)
 }
 
 fn push_row(text: &mut String, header: &Header, row: &[u32]) -> Result<(), AllocError>

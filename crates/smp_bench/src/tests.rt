@@ -1,5 +1,6 @@
 //! Runs over devices in memory, some of which give little, fail, or never end.
 mod edits;
+mod holds;
 
 use crate::{
     Counted, CountedRead, CountedWrite, DEFAULT_SPAN, MOST_INPUT, Mode, RunFault, Status, run,

@@ -1,6 +1,6 @@
 -- Two unfinished calls are equal where `==` says so.
 use Rattle.std.proofs.Common.{◌≡◌, ℕ, Bool, true, Option, None, Some, refl, ap, subst, arith}
-use Rattle.std.specs.Bool.{Decides, beq}
+use Rattle.std.specs.Bool.{Decides}
 use Rattle.std.specs.Option.{option_eq}
 use Rattle.std.proofs.lemmas.Bool.Decides.{nat_tests}
 use Rattle.std.proofs.lemmas.Option.{same_Some}
@@ -8,9 +8,9 @@ use Rattle.bench_types.specs.declared.note.Action.{Action}
 use Rattle.bench_types.specs.declared.note.Action.TheVariants.{Nothing, SetBits, Increment, Set, SetNew}
 use Rattle.bench_types.specs.declared.note.Note.{Note}
 use Rattle.bench_types.specs.declared.step.Call.{Call}
-use Rattle.bench_types.specs.declared.step.Call.TheVariants.{Yield, Delay, DelayUntil, Finish, PrioritySet, AffinitySet, PreemptOff, PreemptOn, Notify, NotifyWait, NotifyTake, StateClear, ValueClear, MutexTake, MutexGive, HoldOpen, HoldClose}
+use Rattle.bench_types.specs.declared.step.Call.TheVariants.{Notify}
 use Rattle.bench_types.specs.declared.step.Unfinished.{Unfinished}
-use Rattle.bench_types.specs.declared.step.Unfinished.TheVariants.{Made, Take}
+use Rattle.bench_types.specs.declared.step.Unfinished.TheVariants.{Made}
 use Rattle.bench_types.specs.contracts.note.ActionPartialEq.TheImpl as actions
 use Rattle.bench_types.specs.contracts.note.NotePartialEq.TheImpl as notes
 use Rattle.bench_types.specs.contracts.step.CallPartialEq.TheImpl as calls

@@ -1,5 +1,5 @@
 //! Taking and giving mutexes, and how unfinished calls return.
-ghost use Rattle.std.specs.Prelude.{◌≡◌, ◌<◌, slice_set, true, None, Some, option_map, IfSome, IsSome, is_some};
+ghost use Rattle.std.specs.Prelude.{◌≡◌, ◌<◌, slice_set, true, None, Some, option_map, IfSome, IsSome};
 ghost use Rattle.std.specs.Option.{option_map_or, ForSome};
 ghost use Rattle.bench_types.specs.declared.kernel_data.Waiter.{Waiter};
 ghost use Rattle.bench_types.specs.declared.reply.Reply.TheVariants.{Done};

@@ -1,6 +1,6 @@
 //! Why a step is refused.
 ghost use Rattle.std.specs.Prelude.{◌≡◌, ◌<◌, Ok};
-ghost use Rattle.bench_types.specs.Step.{call_check, core_check, step_check, IsStepOfWords};
+ghost use Rattle.bench_types.specs.Step.{call_check, step_check, IsStepOfWords};
 ghost use Rattle.bench_types.specs.declared.step.Step.TheVariants.{Switch};
 ghost use Rattle.bench_model.specs.Control.{is_due};
 ghost use Rattle.bench_model.specs.Lists.{list_moves};

@@ -1,5 +1,5 @@
 use Rattle.std.proofs.Common.{◌∙◌, ap}
-use Rattle.bench_model.specs.Lists.{View, list_moves}
+use Rattle.bench_model.specs.Lists.{list_moves}
 use Rattle.bench_model.specs.Steps.{delayed_until}
 use Rattle.smp_kernel.proofs.Untils.{until_shape, until_seen, behind_shape, behind_seen}
 use Rattle.smp_kernel.proofs.scheduler.Scheduler.delay_until.Goals as goal

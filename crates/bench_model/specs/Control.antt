@@ -4,7 +4,7 @@ use Rattle.std.specs.List.{list_any}
 use Rattle.std.specs.Int.{bit_at}
 use Rattle.bench_types.specs.declared.kernel_data.CoreLook.{CoreLook}
 use Rattle.bench_types.specs.declared.kernel_data.TaskControl.{TaskControl}
-use Rattle.bench_model.specs.Search.{numbers}
+use Rattle.list_orders.specs.Search.{numbers}
 
 -- the cores, core 0 first, and the tasks' control blocks, task 0 first
 pub record Control : Type 0 where

@@ -1,4 +1,5 @@
 -- What can be seen of a kernel: its orders as lists, the tick count as 32 bits, and how long each task still waits.
+use Rattle.bench_types.specs.declared.reply.Reply.{Reply}
 use Rattle.std.specs.Prelude.{ℕ, ◌+◌, ◌-◌, ◌%◌, ◌^◌, List, map, filter, find, Bool, not, ◌==◌, nat_le, Option, None, option_map, unwrap_or, is_some, ◌&&◌, ◌||◌, nat_lt, if◌then◌else◌, slice_index_or, slice_set}
 use Rattle.std.specs.Option.{option_map_or}
 use Rattle.bench_types.specs.declared.kernel_data.Delayed.{Delayed}
@@ -6,7 +7,7 @@ use Rattle.bench_types.specs.declared.kernel_data.MutexWait.{MutexWait}
 use Rattle.bench_types.specs.declared.kernel_data.Waiter.{Waiter}
 use Rattle.bench_model.specs.Control.{Control, task_at, may_select}
 use Rattle.bench_model.specs.State.{State, Moves}
-use Rattle.bench_model.specs.Search.{by_stamp, placed, ranked, without, has}
+use Rattle.list_orders.specs.Search.{by_stamp, placed, ranked, without, has}
 use Rattle.bench_model.specs.Table.{Stamps, Table, row_at, stamp_of, tasks_of, stands_ready, wake_in, wait_in, waiter_of}
 
 pub record Lists : Type 0 where
@@ -129,3 +130,7 @@ image table = record {
   hold = table.hold;
   orders = lists_of table.control table.orders;
 }
+
+-- what can be seen of a reply and the table behind it
+abbrev pub seen_of : Reply × Table → Reply × View
+seen_of outcome = (outcome.0, image outcome.1)

@@ -6,7 +6,7 @@ use Rattle.bench_model.specs.Control.{task_at}
 use Rattle.bench_model.specs.Mutexes.{held_by}
 use Rattle.bench_model.specs.Notes.{note_at}
 use Rattle.bench_model.specs.State.{call_at}
-use Rattle.bench_model.specs.Search.{has}
+use Rattle.list_orders.specs.Search.{has}
 use Rattle.bench_model.specs.Table.{Stamps, Table, row_at, wake_in, is_ready}
 use Rattle.bench_model.specs.Lists.{View}
 

@@ -2,7 +2,7 @@
 use Rattle.std.specs.Prelude.{ℕ, List, Option, option_map, find, ◌==◌}
 use Rattle.bench_types.specs.declared.kernel_data.MutexWait.{MutexWait}
 use Rattle.bench_types.specs.declared.kernel_data.Waiter.{Waiter}
-use Rattle.bench_model.specs.Search.{placed}
+use Rattle.list_orders.specs.Search.{placed}
 use Rattle.bench_model.specs.Lists.{waits_first}
 
 -- a task that begins to wait stands behind the waiters of its mutex with its waiting priority or a greater one

@@ -3,7 +3,7 @@
 use Rattle.std.specs.Prelude.{ℕ, suc, List, length, filter, Bool, not, ◌&&◌, ◌||◌, ◌==◌, nat_lt, nat_le, Option, if◌then◌else◌}
 use Rattle.std.specs.List.{list_any}
 use Rattle.std.specs.Option.{option_map_or}
-use Rattle.bench_model.specs.Search.{numbers, best}
+use Rattle.list_orders.specs.Search.{numbers, best}
 use Rattle.bench_model.specs.Control.{Control, core_at, task_at, current, is_due, is_idle, in_mask, ask, ask_each}
 use Rattle.bench_model.specs.State.{State, Moves, switched}
 

@@ -1,6 +1,5 @@
 -- A session's states and replies: its steps folded from the start of its header.
 use Rattle.std.specs.Prelude.{ℕ, suc, List, [], ◌∷◌, length, fold, take, Option, Some, None, nat_le, if◌then◌else◌, option_map, slice_get}
-use Rattle.arrayvec.specs.ArrayVec.{ArrayVec}
 use Rattle.bench_types.specs.declared.header.Header.{Header}
 use Rattle.bench_types.specs.declared.reply.Reply.{Reply}
 use Rattle.bench_types.specs.declared.step.Step.{Step}
@@ -37,7 +36,3 @@ running_at header steps place = if nat_le place (length steps) then Some (runnin
 abbrev pub trace : Table → List Step → List (Reply × List ℕ)
 trace table [] = []
 trace table (step ∷ steps) = let outcome = step_of step table in (outcome.0, running outcome.1.control) ∷ trace outcome.1 steps
-
--- an outcome with its row as a list
-abbrev pub shown : Reply × ArrayVec ℕ → Reply × List ℕ
-shown outcome = (outcome.0, outcome.1.items)

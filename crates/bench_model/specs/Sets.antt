@@ -3,7 +3,7 @@
 use Rattle.std.specs.Prelude.{ℕ, ◌-◌, length, find, Bool, true, false, not, ◌&&◌, ◌||◌, ◌==◌, nat_lt, Option, if◌then◌else◌}
 use Rattle.std.specs.Option.{option_map_or}
 use Rattle.bench_types.specs.declared.kernel_data.TaskControl.{TaskControl}
-use Rattle.bench_model.specs.Search.{numbers}
+use Rattle.list_orders.specs.Search.{numbers}
 use Rattle.bench_model.specs.Control.{Control, core_at, task_at, current, in_mask, ask}
 use Rattle.bench_model.specs.State.{State, Moves}
 use Rattle.bench_model.specs.Seek.{seek}

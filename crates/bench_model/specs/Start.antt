@@ -9,7 +9,7 @@ use Rattle.bench_types.specs.Header.{cores_of_mask}
 use Rattle.bench_types.specs.Step.{settings_of}
 use Rattle.bench_model.specs.declared.row.TaskRow.{TaskRow}
 use Rattle.bench_model.specs.declared.row.Standing.TheVariants.{Ready}
-use Rattle.bench_model.specs.Search.{numbers, ranked}
+use Rattle.list_orders.specs.Search.{numbers, ranked}
 use Rattle.bench_model.specs.Control.{Control}
 use Rattle.bench_model.specs.Notes.{no_note}
 use Rattle.bench_model.specs.State.{State, Moves}

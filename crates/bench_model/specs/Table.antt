@@ -8,7 +8,7 @@ use Rattle.bench_model.specs.declared.row.Standing.{Standing}
 use Rattle.bench_model.specs.declared.row.Standing.TheVariants.{Ready, Blocked}
 use Rattle.bench_model.specs.Control.{Control, task_at, may_select}
 use Rattle.bench_model.specs.State.{State, Moves}
-use Rattle.bench_model.specs.Search.{numbers, best, by_stamp}
+use Rattle.list_orders.specs.Search.{numbers, best, by_stamp}
 
 pub record Stamps : Type 0 where
   -- per task its stamp and, where it waits for some ticks, its wake

@@ -11,7 +11,7 @@ use Rattle.bench_types.specs.declared.step.Step.{Step}
 use Rattle.bench_types.specs.declared.step.Step.TheVariants.{Tick, Switch, Call}
 use Rattle.bench_types.specs.declared.tally.Tally.{Tally}
 use Rattle.bench_types.specs.Step.{settings_of}
-use Rattle.bench_model.specs.Search.{numbers}
+use Rattle.list_orders.specs.Search.{numbers}
 use Rattle.bench_model.specs.Control.{Control, task_at, current, is_allowed}
 use Rattle.bench_model.specs.State.{State, Moves}
 use Rattle.bench_model.specs.Seek.{effective}

@@ -3,7 +3,7 @@ ghost use Rattle.std.specs.Prelude.{◌≡◌, All, IsTrue, Ok};
 ghost use Rattle.bench_types.specs.Step.{settings_of, step_check};
 
 use crate::random::{Mix, Played, random_session};
-use bench_model::replay_slow;
+use slow_replay::replay_slow;
 use bench_types::{Edit, Header, Reply, Row, Step};
 use session_store::Store;
 use smp_kernel::Meter;

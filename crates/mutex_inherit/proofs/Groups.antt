@@ -4,13 +4,13 @@ use Rattle.std.specs.List.{filter, AllByRecursion}
 use Rattle.std.proofs.lemmas.Bool.Decides.{nat_tests}
 use Rattle.bench_types.specs.declared.kernel_data.MutexWait.{MutexWait}
 use Rattle.bench_types.specs.declared.kernel_data.Waiter.{Waiter}
-use Rattle.bench_model.specs.Search.{ranked}
+use Rattle.list_orders.specs.Search.{ranked}
 use Rattle.bench_model.specs.Lists.{waits_first}
-use Rattle.bench_model.proofs.Choices.{IsOrdered}
-use Rattle.bench_model.proofs.Filters.{filter_none, All-filter_passes, All-weaker}
-use Rattle.bench_model.proofs.Ranks.{filter-ranked, ranked_same}
-use Rattle.bench_model.proofs.SeenMoves.{waits_first-IsRank}
-use Rattle.ready_core.proofs.Orders.{ordered-ranked}
+use Rattle.list_orders.proofs.Choices.{IsOrdered}
+use Rattle.list_orders.proofs.Filters.{filter_none, All-filter_passes, All-weaker}
+use Rattle.list_orders.proofs.Ranks.{filter-ranked, ranked_same}
+use Rattle.bench_model.proofs.Ranks.{waits_first-IsRank}
+use Rattle.list_orders.proofs.Scans.{ordered-ranked}
 use Rattle.mutex_inherit.specs.Parts.{has_wait}
 
 none_ahead : (x y : Waiter) (ys : List Waiter) → IsOrdered waits_first (y ∷ ys) → waits_first y x ≡ false → filter (has_wait x.wait) (y ∷ ys) ≡ []

@@ -2,12 +2,12 @@
 use Rattle.std.proofs.Common.{◌≡◌, ℕ, Bool, true, false, cond, eqb, ◌||◌, length, refl, sym, ◌∙◌, arith}
 use Rattle.std.proofs.lemmas.Bool.Decides.{nat_tests}
 use Rattle.std.proofs.lemmas.List.{length-set}
-use Rattle.bench_model.specs.Search.{without, has}
+use Rattle.list_orders.specs.Search.{without, has}
 use Rattle.bench_model.specs.Control.{Control}
 use Rattle.bench_model.specs.Lists.{list_moves, outranks, make_ready}
 use Rattle.bench_model.specs.Changes.{with_in_use, in_use_set}
 use Rattle.bench_model.specs.Cores.{CoresView, cores_of, alone, on_cores}
-use Rattle.bench_model.proofs.Ranks.{list_any-placed}
+use Rattle.list_orders.proofs.Ranks.{list_any-placed}
 
 pub in_use_ready : (task priority : ℕ) (cores : CoresView) → has task (on_cores (in_use_set list_moves task priority) cores).ready ≡ has task cores.ready
 unfolding in_use_set make_ready

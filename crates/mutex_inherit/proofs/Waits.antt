@@ -7,14 +7,14 @@ use Rattle.std.proofs.lemmas.List.{length-replicate}
 use Rattle.std.proofs.lemmas.List.Elements.{All-nil, All-replicate, recursion_from_All}
 use Rattle.std.proofs.lemmas.Option.{same_Some}
 use Rattle.bench_types.specs.declared.kernel_data.Waiter.{Waiter}
-use Rattle.bench_model.specs.Search.{ranked, without, has}
+use Rattle.list_orders.specs.Search.{ranked, without, has}
 use Rattle.bench_model.specs.Lists.{waits_first, without_waiter, first_of}
 use Rattle.bench_model.specs.MutexParts.{with_waiter, wait_of}
-use Rattle.bench_model.proofs.Filters.{filter-map}
-use Rattle.bench_model.proofs.Ranks.{ranked-push, filter-ranked, All-ranked}
-use Rattle.bench_model.proofs.SeenMoves.{waits_first-IsRank}
-use Rattle.bench_model.proofs.SoleEntries.{each_entry, find-ranked}
-use Rattle.ready_core.specs.Shape.{IsListing}
+use Rattle.list_orders.proofs.Filters.{filter-map}
+use Rattle.list_orders.proofs.Ranks.{ranked-push, filter-ranked, All-ranked}
+use Rattle.bench_model.proofs.Ranks.{waits_first-IsRank}
+use Rattle.list_orders.proofs.SoleEntries.{each_entry, find-ranked}
+use Rattle.list_orders.specs.Listings.{IsListing}
 use Rattle.mutex_inherit.specs.Parts.{MutexPart, seen_mutexes, free_mutexes}
 use Rattle.mutex_inherit.specs.Shape.{IsMutexShape}
 

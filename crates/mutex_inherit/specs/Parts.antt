@@ -2,7 +2,7 @@
 use Rattle.std.specs.Prelude.{ℕ, List, [], replicate, Bool, ◌&&◌, ◌==◌, Option, None, unwrap_or}
 use Rattle.bench_types.specs.declared.kernel_data.MutexWait.{MutexWait}
 use Rattle.bench_types.specs.declared.kernel_data.Waiter.{Waiter}
-use Rattle.bench_model.specs.Search.{ranked}
+use Rattle.list_orders.specs.Search.{ranked}
 use Rattle.bench_model.specs.State.{holder_at}
 use Rattle.bench_model.specs.Lists.{waits_first}
 

@@ -2,7 +2,7 @@
 use Rattle.std.specs.Prelude.{ℕ, ◌<◌, ◌≤◌, ◌^◌, List, length, map, All, Option}
 use Rattle.std.specs.Option.{ForSome}
 use Rattle.bench_types.specs.declared.kernel_data.Waiter.{Waiter}
-use Rattle.ready_core.specs.Shape.{IsListing}
+use Rattle.list_orders.specs.Listings.{IsListing}
 
 -- each holder is a task, each task waits once at most, and there is a place for every task among those that wait
 pub record IsMutexShape (tasks : ℕ) (holders : List (Option ℕ)) (waiters : List Waiter) (places : ℕ) : Type 0 where

@@ -3,7 +3,7 @@ ghost use Rattle.std.specs.Prelude.{◌≡◌, ◌<◌, length};
 ghost use Rattle.bench_model.specs.Lists.{list_moves};
 ghost use Rattle.bench_model.specs.Mutexes.{is_marked, owed_to, inherited, lowered};
 ghost use Rattle.bench_model.specs.Changes.{in_use_set};
-ghost use Rattle.bench_model.specs.Search.{has};
+ghost use Rattle.list_orders.specs.Search.{has};
 ghost use Rattle.bench_model.specs.Cores.{on_cores};
 
 use bench_types::Waiter;

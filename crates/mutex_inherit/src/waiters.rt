@@ -1,10 +1,10 @@
 //! The tasks that wait for mutexes, in the order in which they began to wait.
 ghost use Rattle.std.specs.Prelude.{◌≡◌, ◌↔◌, ◌≤◌, ◌==◌, filter, [], ◌∷◌, All, MatchOption, IsTrue, IfOk};
 ghost use Rattle.std.specs.Vec.{vec_capacity};
-ghost use Rattle.bench_model.specs.Search.{ranked};
+ghost use Rattle.list_orders.specs.Search.{ranked};
 ghost use Rattle.bench_model.specs.Lists.{waits_first, first_of, without_waiter};
 ghost use Rattle.bench_model.specs.MutexParts.{wait_of};
-ghost use Rattle.ready_core.specs.Fields.{better_of};
+ghost use Rattle.list_orders.specs.Scans.{better_of};
 ghost use Rattle.mutex_inherit.specs.Parts.{has_wait};
 
 use bench_types::{MutexWait, Waiter};

@@ -5,9 +5,10 @@ use Rattle.std.proofs.lemmas.Bool.{cases_eq}
 use Rattle.std.proofs.lemmas.Bool.Decides.{nat_tests}
 use Rattle.bench_model.specs.Control.{Control, ask}
 use Rattle.bench_model.specs.Seek.{is_running, is_asked_before, asked_for, seek}
-use Rattle.bench_model.specs.SeekLaws.{IsCandidate, IsAnswer}
-use Rattle.bench_model.proofs.Seeks.{best_core}
-use Rattle.ready_core.specs.Fields.{better_of, may_be_asked, stays_asked}
+use Rattle.order_laws.specs.AskedCores.{IsCandidate, IsAnswer}
+use Rattle.order_laws.proofs.AskedCores.{best_core}
+use Rattle.list_orders.specs.Scans.{better_of}
+use Rattle.ready_core.specs.Fields.{may_be_asked, stays_asked}
 
 module _ (control : Control) (task : ℕ) (among : ℕ → Bool) where
   -- of the cores below n: one that may be asked and is asked before every other, or none may be asked

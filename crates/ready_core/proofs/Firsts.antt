@@ -9,15 +9,16 @@ use Rattle.bench_types.specs.declared.header.Header.{Header}
 use Rattle.bench_types.specs.declared.kernel_data.CoreLook.{CoreLook}
 use Rattle.bench_types.specs.declared.kernel_data.TaskControl.{TaskControl}
 use Rattle.bench_types.proofs.Passes.{IsCheckedHeader}
-use Rattle.bench_model.specs.Search.{numbers, has}
+use Rattle.list_orders.specs.Search.{numbers, has}
 use Rattle.bench_model.specs.Start.{first_look, first_control, first_lists, unstarted}
 use Rattle.bench_model.specs.Cores.{cores_of}
-use Rattle.bench_model.proofs.Filters.{list_any-append}
-use Rattle.bench_model.proofs.Stamped.{numbers_below, range_parts}
-use Rattle.bench_model.proofs.Starts.{first_tasks, first_priorities}
+use Rattle.list_orders.proofs.Filters.{list_any-append}
+use Rattle.list_orders.proofs.Stamped.{numbers_below, range_parts}
+use Rattle.order_laws.proofs.FirstBlocks.{first_tasks, first_priorities}
 use Rattle.ready_core.specs.Fields.{seen_of}
-use Rattle.ready_core.specs.Shape.{IsListing, IsShape}
-use Rattle.ready_core.proofs.Listings.{listing_push}
+use Rattle.list_orders.specs.Listings.{IsListing}
+use Rattle.ready_core.specs.Shape.{IsShape}
+use Rattle.list_orders.proofs.Listings.{listing_push}
 
 pub range_more : (a n : ℕ) → range_with_len a (n + 1) ≡ range_with_len a n ++ (a + n) ∷ []
 range_more a n = range_parts a n 1

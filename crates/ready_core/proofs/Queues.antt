@@ -4,15 +4,15 @@ use Rattle.std.specs.Prelude.{slice_set}
 use Rattle.std.proofs.lemmas.List.{get_or_default}
 use Rattle.bench_types.specs.declared.kernel_data.CoreLook.{CoreLook}
 use Rattle.bench_types.specs.declared.kernel_data.TaskControl.{TaskControl}
-use Rattle.bench_model.specs.Search.{placed, ranked, without, has}
+use Rattle.list_orders.specs.Search.{placed, ranked, without, has}
 use Rattle.bench_model.specs.Control.{Control, task_at}
 use Rattle.bench_model.specs.Lists.{list_moves, make_ready, outranks}
 use Rattle.bench_model.specs.Changes.{with_task, with_in_use, in_use_set}
 use Rattle.bench_model.specs.Cores.{CoresView, cores_of, alone, on_cores}
-use Rattle.bench_model.proofs.Changes.{others_stay}
-use Rattle.bench_model.proofs.Ranks.{ranked-push, filter-ranked, list_any-ranked}
-use Rattle.bench_model.proofs.Entries.{without_absent}
-use Rattle.bench_model.proofs.SeenMoves.{outranks-IsRank}
+use Rattle.order_laws.proofs.ControlBlocks.{others_stay}
+use Rattle.list_orders.proofs.Ranks.{ranked-push, filter-ranked, list_any-ranked}
+use Rattle.order_laws.proofs.Entries.{without_absent}
+use Rattle.bench_model.proofs.Ranks.{outranks-IsRank}
 use Rattle.ready_core.specs.Fields.{control_from, seen_of}
 
 pub ready-without : (control : Control) (task : ℕ) (queue : List ℕ) → ranked (outranks control) (without task queue) ≡ without task (ranked (outranks control) queue)

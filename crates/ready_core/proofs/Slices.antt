@@ -6,13 +6,13 @@ use Rattle.std.proofs.lemmas.Bool.Decides.{nat_tests}
 use Rattle.std.proofs.lemmas.List.{ext_get_or, length-set, get_or-set_same, get_or-set_other}
 use Rattle.std.proofs.lemmas.List.FromFn.{get_or-map-range_with_len, length-map-range_with_len}
 use Rattle.bench_types.specs.declared.kernel_data.CoreLook.{CoreLook}
-use Rattle.bench_model.specs.Search.{numbers, without, has}
+use Rattle.list_orders.specs.Search.{numbers, without, has}
 use Rattle.bench_model.specs.Control.{Control, core_at, task_at, ask, asked_by, asked_where, ask_each}
 use Rattle.bench_model.specs.Lists.{list_moves}
 use Rattle.bench_model.specs.Seek.{ready_in, shares_its_time, sliced}
 use Rattle.bench_model.specs.Cores.{CoresView, cores_of, alone, on_cores}
-use Rattle.bench_model.proofs.Filters.{filter-filter}
-use Rattle.bench_model.proofs.Stamped.{numbers_have, numbers_one}
+use Rattle.list_orders.proofs.Filters.{filter-filter}
+use Rattle.list_orders.proofs.Stamped.{numbers_have, numbers_one}
 
 -- the cores that pass the test, of those below n
 abbrev pub below : ℕ → (ℕ → Bool) → ℕ → Bool

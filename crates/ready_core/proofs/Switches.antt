@@ -1,7 +1,7 @@
 -- A switch with the seek behind it.
 use Rattle.std.proofs.Common.{◌≡◌, ◌≢◌, ℕ, ◌<◌, Bool, true, cond, not, eqb, ◌&&◌, length, sym, ap, ◌∙◌, arith}
 use Rattle.std.proofs.lemmas.Bool.Decides.{nat_tests}
-use Rattle.bench_model.specs.Search.{has}
+use Rattle.list_orders.specs.Search.{has}
 use Rattle.bench_model.specs.Control.{Control, current}
 use Rattle.bench_model.specs.State.{switched}
 use Rattle.bench_model.specs.Lists.{View, list_moves}

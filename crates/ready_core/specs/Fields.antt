@@ -3,7 +3,7 @@ use Rattle.std.specs.Prelude.{ℕ, List, [], Bool, true, not, ◌&&◌, ◌==◌
 use Rattle.bench_types.specs.declared.kernel_data.CoreLook.{CoreLook}
 use Rattle.bench_types.specs.declared.kernel_data.TaskControl.{TaskControl}
 use Rattle.bench_model.specs.Control.{Control, task_at, current}
-use Rattle.bench_model.specs.Search.{ranked}
+use Rattle.list_orders.specs.Search.{ranked}
 use Rattle.bench_model.specs.Lists.{outranks}
 use Rattle.bench_model.specs.Seek.{effective, gives_way}
 use Rattle.bench_model.specs.Cores.{CoresView}
@@ -14,15 +14,6 @@ control_from cores tasks = record { cores = cores; tasks = tasks }
 -- what can be seen of cores, control blocks, and the ready tasks in the order in which they came to their lists
 abbrev pub seen_of : ℕ → Bool → Control → List ℕ → CoresView
 seen_of priorities slicing control queue = record { priorities = priorities; slicing = slicing; control = control; ready = ranked (outranks control) queue }
-
--- an item behind those that were looked at is better than the best of them
-abbrev pub is_better : {X : Type 0} → (X → X → Bool) → Option X → X → Bool
-is_better stays_in_front None x = true
-is_better stays_in_front (Some best) x = not (stays_in_front best x)
-
--- the better of them where it passes the test
-abbrev pub better_of : {X : Type 0} → (X → X → Bool) → (X → Bool) → Option X → X → Option X
-better_of stays_in_front test best x = if test x && is_better stays_in_front best x then Some x else best
 
 -- a core that may be asked for the task
 abbrev pub may_be_asked : Control → ℕ → (ℕ → Bool) → ℕ → Bool

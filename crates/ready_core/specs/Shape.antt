@@ -1,13 +1,8 @@
 -- What the fields of cores and ready lists keep, whatever they show.
-use Rattle.std.specs.Prelude.{ℕ, ◌<◌, ◌≤◌, List, length, All, nat_eq}
-use Rattle.std.specs.List.{IsDistinct}
+use Rattle.std.specs.Prelude.{ℕ, ◌<◌, ◌≤◌, List, length, All}
+use Rattle.list_orders.specs.Listings.{IsListing}
 use Rattle.bench_types.specs.declared.kernel_data.CoreLook.{CoreLook}
 use Rattle.bench_types.specs.declared.kernel_data.TaskControl.{TaskControl}
-
--- each number is below n, and is in the list once
-pub record IsListing (n : ℕ) (list : List ℕ) : Type 0 where
-  pub below : All (λ i. i < n) list
-  pub once : IsDistinct nat_eq list
 
 -- each core runs a task, the priorities in use are below their number, the ready tasks are a listing, and there is a place
 -- for every task among them

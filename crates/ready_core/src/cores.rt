@@ -1,7 +1,7 @@
 ghost use Rattle.std.specs.Prelude.{◌≡◌, ℕ, ◌↔◌, ◌<◌, ◌≤◌, ◌==◌, ◌&&◌, nat_lt, if◌then◌else◌, length, true, not, find, unwrap_or, IsTrue, IfOk, IfSome, Ok};
 ghost use Rattle.std.specs.Option.{ForSome};
 ghost use Rattle.bench_types.specs.Header.{header_check};
-ghost use Rattle.bench_model.specs.Search.{placed, without, has};
+ghost use Rattle.list_orders.specs.Search.{placed, without, has};
 ghost use Rattle.bench_model.specs.Control.{core_at, task_at, current, is_idle, is_elsewhere, may_select, ask, run_on};
 ghost use Rattle.bench_model.specs.State.{switched};
 ghost use Rattle.bench_model.specs.Lists.{list_moves, outranks};
@@ -10,7 +10,8 @@ ghost use Rattle.bench_model.specs.Seek.{effective, is_running, gives_way, asked
 ghost use Rattle.bench_model.specs.Sets.{runs_on, ask_its_core};
 ghost use Rattle.bench_model.specs.Changes.{with_base, with_affinity, with_preemption, in_use_set};
 ghost use Rattle.bench_model.specs.Cores.{cores_of, alone, on_cores, has_core};
-ghost use Rattle.ready_core.specs.Fields.{better_of, may_be_asked, stays_asked};
+ghost use Rattle.list_orders.specs.Scans.{better_of};
+ghost use Rattle.ready_core.specs.Fields.{may_be_asked, stays_asked};
 
 use crate::first::{cut_mask, first_controls, first_looks, first_queue};
 use crate::ready_list::{copy_with_room, has_company, have_same_lists, remove_task, requeue};

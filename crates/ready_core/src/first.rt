@@ -3,7 +3,7 @@ ghost use Rattle.std.specs.Prelude.{◌≡◌, ◌≤◌, ◌+◌, ◌-◌, ◌+
 ghost use Rattle.std.specs.Vec.{vec_capacity};
 ghost use Rattle.std.specs.List.{range_with_len};
 ghost use Rattle.bench_types.specs.Header.{cores_of_mask};
-ghost use Rattle.bench_model.specs.Search.{numbers};
+ghost use Rattle.list_orders.specs.Search.{numbers};
 ghost use Rattle.bench_model.specs.Start.{first_look, idle_control, first_control};
 
 use bench_types::{CoreLook, Header, TaskControl};

@@ -2,7 +2,7 @@
 ghost use Rattle.std.specs.Prelude.{◌≡◌, ◌↔◌, ◌<◌, ◌≤◌, ◌++◌, ◌==◌, ◌&&◌, not, length, filter, [], ◌∷◌, All, MatchOption, IsTrue, IfOk};
 ghost use Rattle.std.specs.List.{list_any};
 ghost use Rattle.std.specs.Vec.{vec_capacity};
-ghost use Rattle.bench_model.specs.Search.{ranked, without};
+ghost use Rattle.list_orders.specs.Search.{ranked, without};
 ghost use Rattle.bench_model.specs.Lists.{outranks};
 ghost use Rattle.ready_core.specs.Fields.{control_from, has_priority, shares_list};
 

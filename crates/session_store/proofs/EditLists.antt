@@ -10,7 +10,7 @@ use Rattle.bench_types.specs.declared.edit.Edit.TheVariants.{Insert}
 use Rattle.bench_types.specs.declared.step.Step.TheVariants.{Tick}
 use Rattle.bench_types.specs.declared.edit.EditFault.{EditFault}
 use Rattle.bench_model.specs.Edits.{Session, accepted, edited, after_edit, after_edits}
-use Rattle.bench_model.proofs.Filters.{fold-append}
+use Rattle.list_orders.proofs.Filters.{fold-append}
 use Rattle.session_store.specs.declared.outcome.Outcome.{Outcome}
 use Rattle.session_store.specs.Counting.{counted, CountsUpTo}
 use Rattle.session_store.specs.Outcomes.{whole_replay, answer, answers, replayed_for, all_replayed}

@@ -10,8 +10,9 @@ use Rattle.bench_model.specs.Control.{running}
 use Rattle.bench_model.specs.Table.{Table}
 use Rattle.bench_model.specs.Lists.{View}
 use Rattle.bench_model.specs.Equal.{StandsFor}
-use Rattle.bench_model.specs.Session.{step_of, behind, trace, shown}
-use Rattle.bench_model.proofs.Filters.{fold-append}
+use Rattle.bench_model.specs.Session.{step_of, behind, trace}
+use Rattle.slow_replay.specs.Shown.{shown}
+use Rattle.list_orders.proofs.Filters.{fold-append}
 
 -- the kernel stands for the state behind the first steps; their outcomes and what the rest gives are the whole trace
 pub record IsReplayed (table : Table) (steps : List Step) (place : ℕ) (view : View) (outcomes : List (Reply × ArrayVec ℕ)) : Type 0 where

@@ -7,7 +7,7 @@ use Rattle.bench_types.specs.declared.edit.EditFault.{EditFault}
 use Rattle.bench_types.specs.declared.header.Header.{Header}
 use Rattle.bench_types.specs.declared.step.Step.{Step}
 use Rattle.bench_model.specs.Edits.{Session, IsSession, accepted, edited}
-use Rattle.bench_model.proofs.EditedSessions.{edited_session}
+use Rattle.session_laws.proofs.EditedSessions.{edited_session}
 use Rattle.session_store.specs.declared.fault.StoreFault.{StoreFault}
 use Rattle.session_store.specs.declared.fault.StoreFault.TheVariants as fault
 

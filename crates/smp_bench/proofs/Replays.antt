@@ -9,11 +9,11 @@ use Rattle.std.proofs.lemmas.Grind.{flat_map-append}
 use Rattle.bench_types.specs.declared.header.Header.{Header}
 use Rattle.bench_types.specs.declared.reply.Reply.{Reply}
 use Rattle.bench_types.specs.declared.step.Step.{Step}
-use Rattle.bench_model.specs.Search.{numbers}
+use Rattle.list_orders.specs.Search.{numbers}
 use Rattle.bench_model.specs.Control.{running}
 use Rattle.bench_model.specs.Start.{start}
 use Rattle.bench_model.specs.Session.{step_of, state_at, reply_at, running_at}
-use Rattle.bench_model.proofs.Stamped.{range_parts}
+use Rattle.list_orders.proofs.Stamped.{range_parts}
 use Rattle.smp_bench.specs.Lines.{step_line}
 use Rattle.smp_bench.specs.Answer.{first_line, line_at, replay_text}
 

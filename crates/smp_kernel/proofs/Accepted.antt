@@ -11,7 +11,7 @@ use Rattle.bench_types.specs.declared.step.Step.{Step}
 use Rattle.bench_types.specs.declared.step.Step.TheVariants.{Tick, Switch, Interrupt}
 use Rattle.bench_types.specs.declared.step.Step.TheVariants as steps
 use Rattle.bench_types.specs.Step.{step_check, core_check, task_check, call_check, ◌>>◌}
-use Rattle.bench_model.specs.Search.{has}
+use Rattle.list_orders.specs.Search.{has}
 use Rattle.bench_model.specs.Control.{current, is_due}
 use Rattle.bench_model.specs.Holds.{is_held_by, depth_of}
 use Rattle.bench_model.specs.Refusals.{give_refusal, refusal}
@@ -19,7 +19,7 @@ use Rattle.bench_model.specs.State.{holder_at}
 use Rattle.bench_model.specs.Steps.{performed, after}
 use Rattle.bench_model.specs.Lists.{View, list_moves}
 use Rattle.bench_types.proofs.Passes.{both_pass, checked_core, checked_task}
-use Rattle.bench_model.proofs.Holds.{its_hold, accepted}
+use Rattle.step_laws.proofs.Holds.{its_hold, accepted}
 use Rattle.smp_kernel.specs.Kernel.{IsSettled, FindsItsPlace}
 
 -- a task that may give a mutex holds it itself, if a task does

@@ -3,11 +3,11 @@ use Rattle.std.proofs.Common.{◌≡◌, ℕ, Bool, true, false, cond, not, eqb,
 use Rattle.std.specs.List.{filter, find, list_any}
 use Rattle.std.proofs.lemmas.Bool.Decides.{nat_tests}
 use Rattle.bench_types.specs.declared.kernel_data.Delayed.{Delayed}
-use Rattle.bench_model.specs.Search.{placed, without, has}
+use Rattle.list_orders.specs.Search.{placed, without, has}
 use Rattle.bench_model.specs.Control.{Control}
 use Rattle.bench_model.specs.Lists.{outranks}
-use Rattle.bench_model.proofs.Filters.{has-filter}
-use Rattle.bench_model.proofs.Ranks.{list_any-placed}
+use Rattle.list_orders.proofs.Filters.{has-filter}
+use Rattle.list_orders.proofs.Ranks.{list_any-placed}
 use Rattle.tick_delay.specs.Parts.{DelayView, is_waiting, aged, advanced}
 use Rattle.smp_kernel.specs.Kernel.{IsApart, delayed_task}
 

@@ -8,7 +8,7 @@ use Rattle.bench_types.specs.declared.kernel_data.MutexWait.{MutexWait}
 use Rattle.bench_types.specs.declared.kernel_data.Waiter.{Waiter}
 use Rattle.bench_types.specs.declared.step.Unfinished.{Unfinished}
 use Rattle.bench_types.specs.declared.step.Unfinished.TheVariants.{Take}
-use Rattle.bench_model.specs.Search.{placed, without, has}
+use Rattle.list_orders.specs.Search.{placed, without, has}
 use Rattle.bench_model.specs.Control.{task_at, ask}
 use Rattle.bench_model.specs.State.{blocked}
 use Rattle.bench_model.specs.Lists.{list_moves, wakes_first, waits_first, delay}

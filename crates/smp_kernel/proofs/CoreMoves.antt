@@ -5,7 +5,7 @@ use Rattle.std.specs.Option.{option_map_or}
 use Rattle.std.specs.List.{find}
 use Rattle.std.proofs.lemmas.List.{length-set}
 use Rattle.bench_types.specs.declared.note.Action.{Action}
-use Rattle.bench_model.specs.Search.{placed, without, has}
+use Rattle.list_orders.specs.Search.{placed, without, has}
 use Rattle.bench_model.specs.Control.{Control, task_at, current, may_select, in_mask, run_on, ask, ask_each}
 use Rattle.bench_model.specs.State.{switched}
 use Rattle.bench_model.specs.Seek.{seek, may_move, wake, resettled, switched_and_sought, shares_its_time, sliced}
@@ -17,8 +17,8 @@ use Rattle.bench_model.specs.Steps.{woken}
 use Rattle.bench_model.specs.Changes.{with_in_use, in_use_set}
 use Rattle.bench_model.specs.Cores.{CoresView, cores_of, alone, on_cores}
 use Rattle.bench_model.specs.Lists.{Lists, View, list_moves, outranks, pick, make_ready, without_waiter}
-use Rattle.bench_model.proofs.SoundSteps.{IsAskedMore}
-use Rattle.bench_model.proofs.Seeks.{seek_more, each_more}
+use Rattle.order_laws.proofs.SoundSteps.{IsAskedMore}
+use Rattle.rule_laws.proofs.Seeks.{seek_more, each_more}
 use Rattle.tick_delay.specs.Parts.{cancelled}
 use Rattle.smp_kernel.specs.Kernel.{IsApart, Parts, kernel_view, IsKernelShape, delayed_task, waiting_task}
 use Rattle.smp_kernel.proofs.Apart.{left_free, apart_ready, apart_queued}

@@ -7,14 +7,14 @@ use Rattle.bench_types.specs.declared.header.Header.{Header}
 use Rattle.bench_types.specs.Header.{header_check}
 use Rattle.bench_types.specs.Step.{settings_of}
 use Rattle.bench_types.proofs.Passes.{checked_header}
-use Rattle.bench_model.specs.Search.{numbers}
+use Rattle.list_orders.specs.Search.{numbers}
 use Rattle.bench_model.specs.Cores.{cores_of}
 use Rattle.bench_model.specs.Lists.{View, list_moves}
 use Rattle.bench_model.specs.Notes.{no_note}
 use Rattle.bench_model.specs.Seek.{switched_and_sought}
 use Rattle.bench_model.specs.Start.{first_look, first_lists, unstarted, started, start_seen}
-use Rattle.bench_model.proofs.Filters.{fold-append}
-use Rattle.bench_model.proofs.Starts.{first_tasks}
+use Rattle.list_orders.proofs.Filters.{fold-append}
+use Rattle.order_laws.proofs.FirstBlocks.{first_tasks}
 use Rattle.mutex_inherit.specs.Parts.{free_mutexes}
 use Rattle.ready_core.proofs.Firsts.{numbers_more}
 use Rattle.tick_delay.specs.Parts.{no_delays}

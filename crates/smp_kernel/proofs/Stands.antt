@@ -18,7 +18,7 @@ use Rattle.bench_types.specs.declared.step.Call.TheVariants.{Yield, Delay, Delay
 use Rattle.bench_types.specs.Step.{step_check, IsStepOfWords, IsCheckedStep}
 use Rattle.bench_model.specs.declared.row.Standing.{Standing}
 use Rattle.bench_model.specs.declared.row.Standing.TheVariants as standing
-use Rattle.bench_model.specs.Search.{numbers, has}
+use Rattle.list_orders.specs.Search.{numbers, has}
 use Rattle.bench_model.specs.Control.{core_at, task_at, current, in_mask}
 use Rattle.bench_model.specs.State.{call_at, holder_at, yielded, blocked}
 use Rattle.bench_model.specs.Holds.{hold_opened, hold_closed}
@@ -35,17 +35,17 @@ use Rattle.bench_model.specs.Steps.{woken, ticked, delayed_until, called, perfor
 use Rattle.bench_model.specs.Table.{Stamps, Table, row_at, stamp_of, is_ready, wake_in, wakes_at, due}
 use Rattle.bench_model.specs.Lists as seen
 use Rattle.bench_model.specs.Lists.{Lists, View, list_moves, lists_of, image, first_of}
-use Rattle.bench_model.specs.Laws.{seen_of}
+use Rattle.bench_model.specs.Lists.{seen_of}
 use Rattle.bench_model.specs.Sound.{IsConsistent, IsSound, WakesInTime}
 use Rattle.bench_model.specs.Session.{step_of}
 use Rattle.bench_model.specs.Equal.{StandsFor}
-use Rattle.bench_model.proofs.Awaiting.{completed_notes}
-use Rattle.bench_model.proofs.Filters.{All-weaker}
-use Rattle.bench_model.proofs.FirstWaiters.{first_waiter_seen, first_waiter_waits}
-use Rattle.bench_model.proofs.Stamped.{numbers_below, by_stamp_none}
-use Rattle.bench_model.proofs.SeenMoves.{is_ready_seen, due_seen}
-use Rattle.bench_model.proofs.Looks.{look_seen}
-use Rattle.bench_model.proofs.Steps.{after_seen, after_sound}
+use Rattle.rule_laws.proofs.Awaiting.{completed_notes}
+use Rattle.list_orders.proofs.Filters.{All-weaker}
+use Rattle.order_laws.proofs.FirstWaiters.{first_waiter_seen, first_waiter_waits}
+use Rattle.list_orders.proofs.Stamped.{numbers_below, by_stamp_none}
+use Rattle.order_laws.proofs.SeenMoves.{is_ready_seen, due_seen}
+use Rattle.order_laws.proofs.Looks.{look_seen}
+use Rattle.step_laws.proofs.Steps.{after_seen, after_sound}
 use Rattle.tick_delay.specs.Parts.{due_tasks}
 use Rattle.smp_kernel.specs.Kernel.{HasPriorities, IsSettled, StandsForSome}
 use Rattle.smp_kernel.proofs.CoreMoves.{turned_settings, notify_settings, woken_settings, sliced_settings}

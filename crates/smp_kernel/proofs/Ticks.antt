@@ -5,7 +5,7 @@ use Rattle.bench_types.specs.declared.kernel_data.Delayed.{Delayed}
 use Rattle.bench_model.specs.Steps.{ticked, woken}
 use Rattle.bench_model.specs.Seek.{wake, sliced}
 use Rattle.bench_model.specs.Lists.{View, list_moves, advance, due, make_ready}
-use Rattle.bench_model.proofs.Filters.{filter_all, All-filter_passes}
+use Rattle.list_orders.proofs.Filters.{filter_all, All-filter_passes}
 use Rattle.tick_delay.specs.Parts.{cancelled, advanced, due_tasks}
 use Rattle.smp_kernel.specs.Deadlines.{one_less}
 use Rattle.smp_kernel.specs.Kernel.{Parts, kernel_view, IsKernelShape, delayed_task}

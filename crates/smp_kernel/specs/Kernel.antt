@@ -13,7 +13,7 @@ use Rattle.bench_types.specs.declared.step.Step.TheVariants as step
 use Rattle.bench_types.specs.declared.step.Unfinished.{Unfinished}
 use Rattle.bench_types.specs.declared.step.Unfinished.TheVariants.{Take}
 use Rattle.bench_types.specs.Step.{call_check}
-use Rattle.bench_model.specs.Search.{has}
+use Rattle.list_orders.specs.Search.{has}
 use Rattle.bench_model.specs.Control.{current, is_due, task_at}
 use Rattle.bench_model.specs.Holds.{depth_of}
 use Rattle.bench_model.specs.Refusals.{give_refusal}

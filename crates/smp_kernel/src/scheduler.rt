@@ -4,7 +4,7 @@ ghost use Rattle.bench_types.specs.Header.{header_check};
 ghost use Rattle.bench_types.specs.Step.{call_check, step_check, IsStepOfWords};
 ghost use Rattle.bench_types.specs.declared.step.Call.TheVariants.{Delay};
 ghost use Rattle.bench_types.specs.declared.step.Unfinished.TheVariants.{Made};
-ghost use Rattle.bench_model.specs.Search.{placed, has};
+ghost use Rattle.list_orders.specs.Search.{placed, has};
 ghost use Rattle.bench_model.specs.Control.{core_at, current};
 ghost use Rattle.bench_model.specs.Holds.{depth_of};
 ghost use Rattle.bench_model.specs.Refusals.{give_refusal};

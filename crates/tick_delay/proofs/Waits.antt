@@ -9,16 +9,16 @@ use Rattle.std.proofs.lemmas.Map.Keys.{IsDistinct-head, IsDistinct-cons, IsDisti
 use Rattle.std.proofs.lemmas.Bool.Decides.{nat_tests}
 use Rattle.std.proofs.lemmas.Option.{same_Some}
 use Rattle.bench_types.specs.declared.kernel_data.Delayed.{Delayed}
-use Rattle.bench_model.specs.Search.{placed, ranked, without, has}
+use Rattle.list_orders.specs.Search.{placed, ranked, without, has}
 use Rattle.bench_model.specs.Lists.{wakes_first}
-use Rattle.bench_model.proofs.Filters.{filter-map, filter_none, All-weaker}
-use Rattle.bench_model.proofs.Ranks.{filter-ranked, map-ranked}
-use Rattle.bench_model.proofs.SeenMoves.{wakes_first-IsRank}
+use Rattle.list_orders.proofs.Filters.{filter-map, filter_none, All-weaker}
+use Rattle.list_orders.proofs.Ranks.{filter-ranked, map-ranked}
+use Rattle.bench_model.proofs.Ranks.{wakes_first-IsRank}
 use Rattle.tick_delay.specs.Parts.{DelayView, is_waiting, cancelled, aged, advanced, due_tasks}
 use Rattle.tick_delay.specs.Shape.{IsDelayShape}
-use Rattle.tick_delay.proofs.Orders.{placed_at, first_in_order}
-use Rattle.ready_core.specs.Shape.{IsListing}
-use Rattle.ready_core.proofs.Listings.{listing_room}
+use Rattle.list_orders.proofs.Placements.{placed_at, first_in_order}
+use Rattle.list_orders.specs.Listings.{IsListing}
+use Rattle.list_orders.proofs.Listings.{listing_room}
 
 abbrev task_of : Delayed → ℕ
 task_of entry = entry.task

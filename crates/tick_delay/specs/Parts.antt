@@ -2,7 +2,7 @@
 use Rattle.std.specs.Prelude.{◌+◌, ◌-◌, ◌%◌, ◌^◌, ◌==◌, map, filter, ℕ, List, [], Bool, true, false, not, if◌then◌else◌}
 use Rattle.std.specs.List.{list_any}
 use Rattle.bench_types.specs.declared.kernel_data.Delayed.{Delayed}
-use Rattle.bench_model.specs.Search.{placed}
+use Rattle.list_orders.specs.Search.{placed}
 use Rattle.bench_model.specs.Lists.{wakes_first}
 use Rattle.bench_model.specs.Until.{next_wake, is_ahead, ticks_to}
 

@@ -2,7 +2,7 @@ ghost use Rattle.std.specs.Prelude.{◌≡◌, ◌↔◌, ◌^◌, ◌<◌, ◌�
 ghost use Rattle.std.specs.List.{position_or_len};
 ghost use Rattle.std.specs.Vec.{vec_capacity};
 ghost use Rattle.bench_types.specs.declared.kernel_data.Delayed.{Delayed};
-ghost use Rattle.bench_model.specs.Search.{placed, ranked};
+ghost use Rattle.list_orders.specs.Search.{placed, ranked};
 ghost use Rattle.bench_model.specs.Lists.{wakes_first};
 ghost use Rattle.bench_model.specs.Looks.{left_in};
 ghost use Rattle.tick_delay.specs.Parts.{no_delays, is_waiting, delayed_for, until_delayed, cancelled, aged, advanced, due_tasks};

@@ -3,7 +3,7 @@ ghost use Rattle.std.specs.Prelude.{◌≡◌, ◌<◌, slice_set, true, None, S
 ghost use Rattle.std.specs.Option.{option_map_or, ForSome};
 ghost use Rattle.bench_types.specs.declared.kernel_data.Waiter.{Waiter};
 ghost use Rattle.bench_types.specs.declared.reply.Reply.TheVariants.{Done};
-ghost use Rattle.bench_model.specs.Search.{has};
+ghost use Rattle.list_orders.specs.Search.{has};
 ghost use Rattle.bench_model.specs.State.{call_at, holder_at};
 ghost use Rattle.bench_model.specs.Lists.{list_moves, first_of};
 ghost use Rattle.bench_model.specs.Mutexes.{waited_at, mutex_take, timed_out, ended, take_finished, finished, disinherited, mutex_give};

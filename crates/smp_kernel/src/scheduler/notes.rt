@@ -1,6 +1,6 @@
 //! Notifying a task, and the calls that wait for a notification.
 ghost use Rattle.std.specs.Prelude.{◌≡◌, ◌<◌, true};
-ghost use Rattle.bench_model.specs.Search.{has};
+ghost use Rattle.list_orders.specs.Search.{has};
 ghost use Rattle.bench_model.specs.Notes.{of_task, wait_begun, take_begun};
 ghost use Rattle.bench_model.specs.Notifying.{notify, is_passed, interrupted, state_forgotten, bits_cleared, completed, awaited, awaited_for};
 ghost use Rattle.bench_model.specs.Lists.{list_moves};

@@ -1,6 +1,6 @@
 //! The calls that set a task's priority, core affinity mask and preemption.
 ghost use Rattle.std.specs.Prelude.{◌≡◌, ◌<◌, ◌==◌, ◌&&◌, true, not, IfSome};
-ghost use Rattle.bench_model.specs.Search.{has};
+ghost use Rattle.list_orders.specs.Search.{has};
 ghost use Rattle.bench_model.specs.Control.{core_at, task_at, current, in_mask};
 ghost use Rattle.bench_model.specs.Lists.{list_moves};
 ghost use Rattle.bench_model.specs.Seek.{seek};

@@ -1,10 +1,10 @@
 use Rattle.std.proofs.Common.{eqb, get_or, refl, sym, ap, ◌∙◌}
 use Rattle.bench_types.specs.declared.kernel_data.Waiter.{Waiter}
-use Rattle.bench_model.specs.Search.{ranked}
+use Rattle.list_orders.specs.Search.{ranked}
 use Rattle.bench_model.specs.Lists.{waits_first}
-use Rattle.bench_model.proofs.SeenMoves.{waits_first-IsRank}
-use Rattle.ready_core.specs.Fields.{better_of}
-use Rattle.ready_core.proofs.Orders.{find-ranked_more}
+use Rattle.bench_model.proofs.Ranks.{waits_first-IsRank}
+use Rattle.list_orders.specs.Scans.{better_of}
+use Rattle.list_orders.proofs.Scans.{find-ranked_more}
 use Rattle.mutex_inherit.proofs.waiters.first_of.Goals as goal
 
 pub loop-waiter-init : goal.loop-waiter-init

@@ -2,9 +2,9 @@ use Rattle.std.proofs.Common.{◌≡◌, List, filter}
 use Rattle.std.specs.List.{All}
 use Rattle.std.proofs.lemmas.List.Elements.{All-from_recursion, recursion_from_All}
 use Rattle.bench_types.specs.declared.kernel_data.Waiter.{Waiter}
-use Rattle.bench_model.specs.Search.{ranked}
+use Rattle.list_orders.specs.Search.{ranked}
 use Rattle.bench_model.specs.Lists.{waits_first}
-use Rattle.bench_model.proofs.Filters.{All_each}
+use Rattle.list_orders.proofs.Filters.{All_each}
 use Rattle.mutex_inherit.specs.Parts.{has_wait}
 use Rattle.mutex_inherit.proofs.Groups.{ranked_alike, groups_alike}
 use Rattle.mutex_inherit.proofs.waiters.have_same_order.Goals as goal

@@ -1,5 +1,5 @@
 use Rattle.std.proofs.Common.{◌≡◌, map}
-use Rattle.bench_model.specs.Search.{numbers}
+use Rattle.list_orders.specs.Search.{numbers}
 use Rattle.bench_model.specs.Start.{first_look}
 use Rattle.ready_core.proofs.first.first_looks.Given as goal
 

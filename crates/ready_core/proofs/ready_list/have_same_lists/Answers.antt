@@ -3,9 +3,9 @@ use Rattle.std.specs.List.{All, AllByRecursion}
 use Rattle.std.proofs.lemmas.List.Elements.{All-get_or, recursion_from_All}
 use Rattle.bench_types.specs.declared.kernel_data.TaskControl.{TaskControl}
 use Rattle.bench_model.specs.Control.{task_at}
-use Rattle.bench_model.proofs.Filters.{All-weaker}
+use Rattle.list_orders.proofs.Filters.{All-weaker}
 use Rattle.ready_core.specs.Fields.{control_from}
-use Rattle.ready_core.proofs.Orders.{of_rank-ranked, ranked_alike}
+use Rattle.list_orders.proofs.Scans.{of_rank-ranked, ranked_alike}
 use Rattle.ready_core.proofs.ready_list.have_same_lists.Goals as goal
 
 abbrev rank_in : List TaskControl → ℕ → ℕ

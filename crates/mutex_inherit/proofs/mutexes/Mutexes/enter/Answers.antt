@@ -1,7 +1,7 @@
 use Rattle.std.proofs.Common.{◌<◌, ap, arith}
 use Rattle.std.proofs.lemmas.List.{map-append, length-map}
 use Rattle.bench_types.specs.declared.kernel_data.Waiter.{Waiter}
-use Rattle.ready_core.proofs.Listings.{listing_push, listing_room}
+use Rattle.list_orders.proofs.Listings.{listing_push, listing_room}
 use Rattle.mutex_inherit.specs.Parts.{MutexPart}
 use Rattle.mutex_inherit.proofs.Waits.{seen_free, seen_enter}
 use Rattle.mutex_inherit.proofs.mutexes.Mutexes.enter.Goals as goal

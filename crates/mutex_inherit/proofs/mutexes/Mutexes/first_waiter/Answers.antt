@@ -1,5 +1,5 @@
 use Rattle.std.proofs.Common.{◌≡◌, sym, ap, ◌∙◌, arith}
-use Rattle.bench_model.specs.Search.{ranked}
+use Rattle.list_orders.specs.Search.{ranked}
 use Rattle.bench_model.specs.Lists.{waits_first, first_of}
 use Rattle.mutex_inherit.specs.Parts.{MutexPart}
 use Rattle.mutex_inherit.proofs.Waits.{first_below}

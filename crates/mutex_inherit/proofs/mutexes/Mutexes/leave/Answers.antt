@@ -1,5 +1,5 @@
 use Rattle.std.proofs.Common.{arith}
-use Rattle.ready_core.proofs.Listings.{listing_without}
+use Rattle.list_orders.proofs.Listings.{listing_without}
 use Rattle.mutex_inherit.proofs.Waits.{map-left, seen_leave}
 use Rattle.mutex_inherit.proofs.mutexes.Mutexes.leave.Goals as goal
 

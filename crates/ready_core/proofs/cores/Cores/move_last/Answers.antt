@@ -1,7 +1,7 @@
 use Rattle.std.proofs.Common.{◌<◌, length, arith, ap}
 use Rattle.bench_model.specs.Cores.{CoresView}
 use Rattle.ready_core.proofs.Queues.{seen_last}
-use Rattle.ready_core.proofs.Listings.{listing_without, listing_push, listing_room, has-without}
+use Rattle.list_orders.proofs.Listings.{listing_without, listing_push, listing_room, has-without}
 use Rattle.ready_core.proofs.cores.Cores.move_last.Goals as goal
 
 pub requeue-requires : goal.requeue-requires

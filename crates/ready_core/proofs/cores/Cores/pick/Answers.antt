@@ -1,10 +1,10 @@
 use Rattle.std.proofs.Common.{get_or, sym, ap, ◌∙◌, refl}
-use Rattle.bench_model.specs.Search.{ranked}
+use Rattle.list_orders.specs.Search.{ranked}
 use Rattle.bench_model.specs.Control.{may_select}
 use Rattle.bench_model.specs.Lists.{outranks}
-use Rattle.bench_model.proofs.SeenMoves.{outranks-IsRank}
-use Rattle.ready_core.specs.Fields.{better_of}
-use Rattle.ready_core.proofs.Orders.{find-ranked_more}
+use Rattle.bench_model.proofs.Ranks.{outranks-IsRank}
+use Rattle.list_orders.specs.Scans.{better_of}
+use Rattle.list_orders.proofs.Scans.{find-ranked_more}
 use Rattle.ready_core.proofs.cores.Cores.pick.Goals as goal
 
 pub loop-task-init : goal.loop-task-init

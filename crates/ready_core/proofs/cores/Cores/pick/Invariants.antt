@@ -1,6 +1,6 @@
 use Rattle.std.proofs.Common.{◌≡◌, ◌<◌, length, find, take}
 use Rattle.std.specs.Option.{ForSome}
-use Rattle.bench_model.specs.Search.{ranked}
+use Rattle.list_orders.specs.Search.{ranked}
 use Rattle.bench_model.specs.Control.{may_select}
 use Rattle.bench_model.specs.Lists.{outranks}
 use Rattle.ready_core.proofs.cores.Cores.pick.Given as goal

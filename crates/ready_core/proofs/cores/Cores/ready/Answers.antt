@@ -1,5 +1,5 @@
 use Rattle.std.proofs.Common.{◌∙◌, ap}
-use Rattle.bench_model.specs.Search.{has}
+use Rattle.list_orders.specs.Search.{has}
 use Rattle.ready_core.proofs.Queues.{seen_has}
 use Rattle.ready_core.proofs.cores.Cores.ready.Goals as goal
 

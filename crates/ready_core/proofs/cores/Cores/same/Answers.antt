@@ -1,6 +1,6 @@
 use Rattle.std.proofs.Common.{◌≡◌, ℕ, Bool, List, [], ◌∙◌, ap, sym}
 use Rattle.bench_types.specs.declared.kernel_data.TaskControl.{TaskControl}
-use Rattle.bench_model.specs.Search.{ranked}
+use Rattle.list_orders.specs.Search.{ranked}
 use Rattle.bench_model.specs.Control.{Control}
 use Rattle.bench_model.specs.Lists.{outranks}
 use Rattle.bench_model.specs.Cores.{CoresView}

@@ -4,11 +4,11 @@ use Rattle.std.proofs.lemmas.List.{length-set}
 use Rattle.std.proofs.lemmas.List.Elements.{All-set}
 use Rattle.bench_types.specs.declared.kernel_data.CoreLook.{CoreLook}
 use Rattle.bench_types.specs.declared.kernel_data.TaskControl.{TaskControl}
-use Rattle.bench_model.specs.Search.{without}
+use Rattle.list_orders.specs.Search.{without}
 use Rattle.bench_model.specs.Cores.{CoresView}
-use Rattle.ready_core.specs.Shape.{IsListing}
+use Rattle.list_orders.specs.Listings.{IsListing}
 use Rattle.ready_core.proofs.Queues.{seen_in_use}
-use Rattle.ready_core.proofs.Listings.{listing_without, listing_push, listing_room, has-without}
+use Rattle.list_orders.proofs.Listings.{listing_without, listing_push, listing_room, has-without}
 use Rattle.ready_core.proofs.cores.Cores.set_in_use.Goals as goal
 
 pub requeue-requires : goal.requeue-requires

@@ -1,6 +1,6 @@
 use Rattle.std.proofs.Common.{arith}
 use Rattle.ready_core.proofs.Queues.{seen_leave}
-use Rattle.ready_core.proofs.Listings.{listing_without}
+use Rattle.list_orders.proofs.Listings.{listing_without}
 use Rattle.ready_core.proofs.cores.Cores.unready.Goals as goal
 
 pub invariant_of-self : goal.invariant_of-self

@@ -2,7 +2,7 @@ use Rattle.std.proofs.Common.{◌≡◌, ◌∙◌, Ok, sym, ap, rules}
 use Rattle.bench_model.specs.Lists.{View}
 use Rattle.bench_types.specs.Header.{header_check}
 use Rattle.bench_model.specs.Start.{start}
-use Rattle.bench_model.proofs.Starts.{start_sound, start_seen_lem}
+use Rattle.step_laws.proofs.Starts.{start_sound, start_seen_lem}
 use Rattle.smp_kernel.proofs.Firsts.{start_settings}
 use Rattle.smp_kernel.proofs.kernel.Kernel.start.Goals as goal
 

@@ -1,6 +1,6 @@
 use Rattle.std.proofs.Common.{◌≡◌, Ok, subst}
 use Rattle.bench_types.specs.Step.{call_check}
-use Rattle.bench_model.proofs.Steps.{set_task, masked_task}
+use Rattle.step_laws.proofs.Steps.{set_task, masked_task}
 use Rattle.smp_kernel.proofs.scheduler.Scheduler.call.Goals as goal
 
 pub set_priority-requires : goal.set_priority-requires

@@ -1,5 +1,5 @@
 use Rattle.std.proofs.Common.{◌∙◌, ap}
-use Rattle.bench_model.specs.Search.{has}
+use Rattle.list_orders.specs.Search.{has}
 use Rattle.bench_model.specs.Lists.{View, list_moves}
 use Rattle.bench_model.specs.Changes.{with_in_use, in_use_set}
 use Rattle.smp_kernel.proofs.Apart.{ready_queued}

@@ -1,5 +1,5 @@
 use Rattle.std.proofs.Common.{length, ap, ◌∙◌, arith}
-use Rattle.bench_model.specs.Search.{has}
+use Rattle.list_orders.specs.Search.{has}
 use Rattle.bench_model.specs.Cores.{CoresView}
 use Rattle.bench_model.specs.Lists.{View, list_moves}
 use Rattle.bench_model.specs.Mutexes.{waited_at}

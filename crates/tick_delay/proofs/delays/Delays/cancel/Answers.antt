@@ -1,5 +1,5 @@
 use Rattle.std.proofs.Common.{arith}
-use Rattle.ready_core.proofs.Listings.{listing_without}
+use Rattle.list_orders.proofs.Listings.{listing_without}
 use Rattle.tick_delay.proofs.Waits.{map-cancelled, cancelled_in_order}
 use Rattle.tick_delay.proofs.delays.Delays.cancel.Goals as goal
 

@@ -1,8 +1,8 @@
 use Rattle.std.proofs.Common.{◌<◌, ap, ◌∙◌, arith}
 use Rattle.bench_model.specs.Lists.{wakes_first}
-use Rattle.bench_model.proofs.SeenMoves.{wakes_first-IsRank}
+use Rattle.bench_model.proofs.Ranks.{wakes_first-IsRank}
 use Rattle.tick_delay.specs.Parts.{DelayView, is_waiting}
-use Rattle.tick_delay.proofs.Orders.{ranked-placed}
+use Rattle.list_orders.proofs.Placements.{ranked-placed}
 use Rattle.tick_delay.proofs.Waits.{listing_placed, room_left}
 use Rattle.tick_delay.proofs.delays.Delays.delay.Goals as goal
 

@@ -1,8 +1,0 @@
-use Rattle.std.proofs.Common.{refl}
-use Rattle.bench_model.specs.Changes.{in_use_set}
-use Rattle.bench_model.proofs.Examples.{computed}
-use Rattle.bench_model.proofs.cores_laws.worked_changes.Goals as goal
-
-pub returns : goal.returns
-unfolding computed in_use_set
-returns c = record { before = refl; same_priority = refl; raised = refl; lowered = refl; lowest = refl; blocked_stays = refl; cut_mask = refl; base_alone = refl }

@@ -1,5 +1,0 @@
-use Rattle.bench_model.proofs.SeenMoves.{make_ready_seen}
-use Rattle.bench_model.proofs.laws.ready_at_end_is_seen.Goals as goal
-
-pub returns : goal.returns
-returns c = λ control stamps task stamped. make_ready_seen control stamps task stamped.given

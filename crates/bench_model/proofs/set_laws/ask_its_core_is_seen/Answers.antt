@@ -1,5 +1,0 @@
-use Rattle.bench_model.proofs.Sets.{its_core_seen}
-use Rattle.bench_model.proofs.set_laws.ask_its_core_is_seen.Goals as goal
-
-pub returns : goal.returns
-returns c = its_core_seen

@@ -1,6 +1,0 @@
-use Rattle.std.proofs.Common.{◌≡◌, ◌≤◌}
-use Rattle.bench_model.proofs.SlowSlices.{counted, stands_in}
-use Rattle.bench_model.proofs.slow.SlowTable.ready_in.Given as goal
-
-abbrev pub invariant-loop-task : goal.invariant-loop-task
-invariant-loop-task l = (l.ready ≡ counted (stands_in l.self l.priority) l.task) × (l.ready ≤ l.task)

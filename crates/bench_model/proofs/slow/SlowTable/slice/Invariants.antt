@@ -1,5 +1,0 @@
-use Rattle.bench_model.proofs.SlowSlices.{IsSlicing}
-use Rattle.bench_model.proofs.slow.SlowTable.slice.Given as goal
-
-abbrev pub invariant-loop-core : goal.invariant-loop-core
-invariant-loop-core l = IsSlicing l.fn.self l.core l.self

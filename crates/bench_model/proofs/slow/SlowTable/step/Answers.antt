@@ -1,6 +1,0 @@
-use Rattle.std.proofs.Common.{sym}
-use Rattle.bench_model.proofs.Holds.{in_place}
-use Rattle.bench_model.proofs.slow.SlowTable.step.Goals as goal
-
-pub perform-requires-clause-fits : goal.perform-requires-clause-fits
-perform-requires-clause-fits c = in_place c.args.step c.args.self.now c.requires.sound c.requires.checked (sym c.in-None.ensures)

@@ -1,5 +1,0 @@
-use Rattle.bench_model.proofs.SlowRuns.{IsReplaying}
-use Rattle.bench_model.proofs.slow.replay_slow.Given as goal
-
-abbrev pub invariant-loop-step : goal.invariant-loop-step
-invariant-loop-step g l = IsReplaying l.header l.steps l.step-index l.table l.outcomes.items

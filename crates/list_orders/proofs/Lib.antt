@@ -1,0 +1,10 @@
+pub mod Bests
+pub mod Choices
+pub mod Filters
+pub mod Listings
+pub mod Orders
+pub mod Placements
+pub mod Ranks
+pub mod Scans
+pub mod SoleEntries
+pub mod Stamped

@@ -1,0 +1,13 @@
+pub mod AskedCores
+pub mod ControlBlocks
+pub mod DueTasks
+pub mod Entries
+pub mod FirstBlocks
+pub mod FirstWaiters
+pub mod Looks
+pub mod Restamps
+pub mod SeenMoves
+pub mod SeenSteps
+pub mod Selects
+pub mod SoundMutexes
+pub mod SoundSteps

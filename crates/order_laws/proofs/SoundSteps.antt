@@ -1,0 +1,518 @@
+-- The rules that seek no core keep a sound table sound.
+use Rattle.std.proofs.Common.{◌≡◌, ◌≢◌, ℕ, suc, ◌+◌, ◌<◌, ◌≤◌, ◌^◌, Bool, true, false, cond, not, eqb, ◌&&◌, ◌||◌, List, [], ◌∷◌, length, Option, Some, None, refl, sym, ap, subst, ◌∙◌, arith, inl, inr}
+use Rattle.std.specs.Prelude.{unwrap_or, slice_set, option_map, is_some, IsSome, IfSome}
+use Rattle.std.specs.Option.{option_map_or}
+use Rattle.std.specs.List.{fold, AllByRecursion}
+use Rattle.std.proofs.lemmas.Bool.Decides.{nat_tests}
+use Rattle.std.proofs.lemmas.Bool.{cases_eq}
+use Rattle.std.proofs.lemmas.List.{length-set, get_or-set_same, get_or-set_other}
+use Rattle.bench_types.specs.declared.step.Unfinished.{Unfinished}
+use Rattle.bench_types.specs.declared.kernel_data.MutexWait.{MutexWait}
+use Rattle.bench_types.specs.declared.kernel_data.CoreLook.{CoreLook}
+use Rattle.bench_types.specs.declared.kernel_data.Settings.{Settings}
+use Rattle.bench_types.specs.declared.kernel_data.TaskControl.{TaskControl}
+use Rattle.bench_types.specs.Step.{IsCheckedUnfinished}
+use Rattle.bench_model.specs.declared.row.Standing.{Standing}
+use Rattle.bench_model.specs.declared.row.Standing.TheVariants.{Ready, Blocked}
+use Rattle.list_orders.specs.Search.{numbers, has}
+use Rattle.bench_model.specs.Control.{Control, core_at, task_at, with_core, current, is_due, may_select, asked_by, ask, run_on}
+use Rattle.bench_model.specs.State.{selected, call_at, switched, yielded, blocked}
+use Rattle.bench_model.specs.Table.{Stamps, Table, table_moves, row_at, stamp_of, is_ready, stands_ready, wake_in, ahead, wakes_at, tasks_of, restamped, pick, make_ready, delay, advance, due}
+use Rattle.bench_model.specs.Sound.{IsCaller, IsStamped, IsPlaced, IsWait, IsMutexWait, WakesInTime, IsBelow, HasMutexes, IsConsistent, takes_mutex}
+use Rattle.list_orders.proofs.Filters.{All-weaker}
+use Rattle.list_orders.proofs.Stamped.{numbers_have, has-by_stamp}
+use Rattle.order_laws.proofs.Restamps.{moved_length, moved_once}
+use Rattle.order_laws.proofs.SoundMutexes.{standing_same, standing_other, readied_field, readied_mutexes, advanced_mutexes, waiting_mutexes}
+use Rattle.order_laws.proofs.Selects.{selects, list_any_at}
+use Rattle.order_laws.proofs.SeenSteps.{queued, queued_once, make_ready_once, due_below}
+
+module _ (control : Control) (core : ℕ) (look : CoreLook) where
+  abbrev changed : Control
+  changed = with_core core look control
+
+  pub look_same : core < length control.cores → core_at changed core ≡ look
+  look_same below = get_or-set_same control.cores core look (record { current = 0; pend = false; asked = false }) below
+
+  pub look_other : (other : ℕ) → other ≢ core → core_at changed other ≡ core_at control other
+  look_other other away = get_or-set_other control.cores core other look (record { current = 0; pend = false; asked = false }) away
+
+  pub cores_length : length changed.cores ≡ length control.cores
+  cores_length = length-set control.cores core look
+
+-- a task that was set to stand so
+module _ (stamps : Stamps) (task : ℕ) (standing : Standing) (below : task < length stamps.rows) where
+  abbrev moved : Stamps
+  moved = restamped task standing stamps
+
+  ready_other : (i : ℕ) → i ≢ task → is_ready i moved ≡ is_ready i stamps
+  ready_other i away = ap stands_ready (standing_other stamps task standing below i away)
+
+-- a ready task stays ready when some task is made ready
+pub make_ready_keeps : (stamps : Stamps) (task i : ℕ) → task < length stamps.rows → is_ready i stamps ≡ true → is_ready i (make_ready task stamps) ≡ true
+unfolding make_ready
+make_ready_keeps stamps task i below ready = elim (cases_eq i task) [
+  | inl here ↦ ap (λ j. is_ready j (restamped task Ready stamps)) here ∙ ap stands_ready (standing_same stamps task Ready below)
+  | inr away ↦ ready_other stamps task Ready below i away ∙ ready
+]
+
+pub make_ready_length : (stamps : Stamps) (task : ℕ) → task < length stamps.rows → length (make_ready task stamps).rows ≡ length stamps.rows
+unfolding make_ready
+make_ready_length stamps task below = moved_length stamps task Ready below
+
+make_ready_deadlines : (stamps : Stamps) (task : ℕ) → length (make_ready task stamps).deadlines ≡ length stamps.deadlines
+unfolding make_ready
+make_ready_deadlines stamps task = refl
+
+pub make_ready_tick : (stamps : Stamps) (task : ℕ) → (make_ready task stamps).tick ≡ stamps.tick
+unfolding make_ready
+make_ready_tick stamps task = refl
+
+false_before : (b : Bool) → (b ≡ true → ⊥) → b ≡ false
+false_before true not_true = absurd (not_true refl)
+false_before false not_true = refl
+
+abbrev running_look : ℕ → CoreLook
+running_look task = record { current = task; pend = false; asked = false }
+
+-- making a task ready keeps the places of all
+make_ready_placed : (control : Control) (stamps : Stamps) (task : ℕ) → task < length stamps.rows → IsPlaced control stamps → IsPlaced control (make_ready task stamps)
+make_ready_placed control stamps task below place = record {
+  is_task = λ c low. omega (arith, place.is_task c low, make_ready_length stamps task below);
+  on_one_core = place.on_one_core;
+  blocked_is_due = λ c low waits. place.blocked_is_due c low (false_before (is_ready (current control c) stamps) (λ ready. cc (make_ready_keeps stamps task (current control c) below ready, waits)));
+  idle_is_ready = λ i low. make_ready_keeps stamps task i below (place.idle_is_ready i low);
+}
+
+make_ready_in_time : (stamps : Stamps) (task : ℕ) → task < length stamps.rows → WakesInTime stamps → WakesInTime (make_ready task stamps)
+make_ready_in_time stamps task below in_time i wake low waits =
+    let before = readied_field wake_in refl stamps task i wake below waits in
+    let bounds = in_time i wake (omega (arith, make_ready_length stamps task below)) before.0 in
+    let same = make_ready_tick stamps task in
+    (omega (arith, same, bounds.0), omega (arith, same, bounds.1))
+
+-- a ready task runs on a core that may select it
+run_placed : (control : Control) (core task : ℕ) (stamps : Stamps) → IsPlaced control stamps → core < length control.cores → task < length stamps.rows → is_ready task stamps ≡ true → may_select control core task ≡ true → IsPlaced (run_on core task control) stamps
+run_placed control core task stamps place below low ready may = record {
+  is_task = λ c h. elim (cases_eq c core) [
+    | inl here ↦ subst (λ i. i < length stamps.rows) (sym (current_here c here)) low
+    | inr away ↦ subst (λ i. i < length stamps.rows) (sym (current_away c away)) (place.is_task c (omega (arith, cores_length control core (running_look task))))
+  ];
+  on_one_core = λ c d h k same. elim (cases_eq c core) [
+    | inl here ↦ elim (cases_eq d core) [
+      | inl there ↦ here ∙ sym there
+      | inr away ↦ absurd (alone d (omega (arith, cores_length control core (running_look task))) away (sym (current_away d away) ∙ sym same ∙ current_here c here))
+    ]
+    | inr off ↦ elim (cases_eq d core) [
+      | inl there ↦ absurd (alone c (omega (arith, cores_length control core (running_look task))) off (sym (current_away c off) ∙ same ∙ current_here d there))
+      | inr away ↦ place.on_one_core c d (omega (arith, cores_length control core (running_look task))) (omega (arith, cores_length control core (running_look task))) (sym (current_away c off) ∙ same ∙ current_away d away)
+    ]
+  ];
+  blocked_is_due = λ c h waits. elim (cases_eq c core) [
+    | inl here ↦ absurd (cc (ap (λ i. is_ready i stamps) (current_here c here), ready, waits))
+    | inr away ↦ ap (λ (l : CoreLook). l.pend || l.asked) (look_other control core (running_look task) c away) ∙ place.blocked_is_due c (omega (arith, cores_length control core (running_look task))) (ap (λ i. is_ready i stamps) (sym (current_away c away)) ∙ waits)
+  ];
+  idle_is_ready = λ i h. place.idle_is_ready i (omega (arith, cores_length control core (running_look task)));
+}
+  where
+    current_here : (c : ℕ) → c ≡ core → current (run_on core task control) c ≡ task
+    current_here c here = ap (current (run_on core task control)) here ∙ ap (λ (l : CoreLook). l.current) (look_same control core (running_look task) below)
+
+    current_away : (c : ℕ) → c ≢ core → current (run_on core task control) c ≡ current control c
+    current_away c away = ap (λ (l : CoreLook). l.current) (look_other control core (running_look task) c away)
+
+    alone : (d : ℕ) → d < length control.cores → d ≢ core → current control d ≡ task → ⊥
+    alone d h away same =
+        let seen = list_any_at (λ other. not (eqb other core) && eqb (current control other) task) d (numbers (length control.cores)) (numbers_have (length control.cores) d h) (grind (arith, nat_tests, away, same)) in
+        absurd (grind (arith, seen, may))
+
+-- making a task ready keeps a table sound
+pub ready_sound : (table : Table) (task : ℕ) → IsConsistent table → task < table.settings.tasks → IsConsistent (record table { orders = make_ready task table.orders })
+ready_sound table task sound low =
+    let below : task < length table.orders.rows = omega (arith, sound.sized.rows) in
+    record {
+      sized = record {
+        cores = sound.sized.cores;
+        controls = sound.sized.controls;
+        calls = sound.sized.calls;
+        holders = sound.sized.holders;
+        rows = make_ready_length table.orders task below ∙ sound.sized.rows;
+        deadlines = make_ready_deadlines table.orders task ∙ sound.sized.deadlines;
+        some_core = sound.sized.some_core;
+        idle_tasks = sound.sized.idle_tasks;
+        notes = sound.sized.notes;
+      };
+      stamped = make_ready_once table.orders task sound.stamped below;
+      in_place = make_ready_placed table.control table.orders task below sound.in_place;
+      in_time = make_ready_in_time table.orders task below sound.in_time;
+      priorities = sound.priorities;
+      calls = sound.calls;
+      notes = sound.notes;
+      mutexes = readied_mutexes table.settings table.calls table.holders table.orders sound.mutexes task below;
+    }
+
+queued_placed : (control : Control) (stamps : Stamps) (task : ℕ) → task < length stamps.rows → IsPlaced control stamps → IsPlaced control (queued stamps task)
+queued_placed control stamps task below place = either (is_ready task stamps)
+  where
+    either : (b : Bool) → IsPlaced control (cond b (make_ready task stamps) stamps)
+    either true = make_ready_placed control stamps task below place
+    either false = place
+
+queued_in_time : (stamps : Stamps) (task : ℕ) → task < length stamps.rows → WakesInTime stamps → WakesInTime (queued stamps task)
+queued_in_time stamps task below in_time = either (is_ready task stamps)
+  where
+    either : (b : Bool) → WakesInTime (cond b (make_ready task stamps) stamps)
+    either true = make_ready_in_time stamps task below in_time
+    either false = in_time
+
+pub queued_length : (stamps : Stamps) (task : ℕ) → task < length stamps.rows → length (queued stamps task).rows ≡ length stamps.rows
+queued_length stamps task below = either (is_ready task stamps)
+  where
+    either : (b : Bool) → length (cond b (make_ready task stamps) stamps).rows ≡ length stamps.rows
+    either true = make_ready_length stamps task below
+    either false = refl
+
+queued_deadlines : (stamps : Stamps) (task : ℕ) → length (queued stamps task).deadlines ≡ length stamps.deadlines
+queued_deadlines stamps task = either (is_ready task stamps)
+  where
+    either : (b : Bool) → length (cond b (make_ready task stamps) stamps).deadlines ≡ length stamps.deadlines
+    either true = make_ready_deadlines stamps task
+    either false = refl
+
+queued_mutexes : (table : Table) (task : ℕ) → task < length table.orders.rows → HasMutexes table.settings table.calls table.holders table.orders → HasMutexes table.settings table.calls table.holders (queued table.orders task)
+queued_mutexes table task below kept = either (is_ready task table.orders)
+  where
+    either : (b : Bool) → HasMutexes table.settings table.calls table.holders (cond b (make_ready task table.orders) table.orders)
+    either true = readied_mutexes table.settings table.calls table.holders table.orders kept task below
+    either false = kept
+
+pub switched_sound : (core : ℕ) (table : Table) → IsConsistent table → core < length table.control.cores → IsConsistent (switched table_moves core table)
+unfolding switched
+switched_sound core table sound below =
+    let control = table.control in
+    let left = current control core in
+    let low = sound.in_place.is_task core below in
+    let orders = queued table.orders left in
+    let same = queued_length table.orders left low in
+    let place = queued_placed control table.orders left low sound.in_place in
+    let found = selects control core orders (queued_once table.orders left sound.stamped low) below (omega (arith, same, sound.sized.cores, sound.sized.rows, sound.sized.idle_tasks)) place.idle_is_ready in
+    let now = ap (λ o. unwrap_or o left) found.1 in
+    record {
+      sized = record {
+        cores = cores_length control core _ ∙ sound.sized.cores;
+        controls = sound.sized.controls;
+        calls = sound.sized.calls;
+        holders = sound.sized.holders;
+        rows = same ∙ sound.sized.rows;
+        deadlines = queued_deadlines table.orders left ∙ sound.sized.deadlines;
+        some_core = sound.sized.some_core;
+        idle_tasks = sound.sized.idle_tasks;
+        notes = sound.sized.notes;
+      };
+      stamped = queued_once table.orders left sound.stamped low;
+      in_place = subst (λ task. IsPlaced (run_on core task control) orders) (sym now) (run_placed control core found.0 orders place below found.2 found.3 found.4);
+      in_time = queued_in_time table.orders left low sound.in_time;
+      priorities = sound.priorities;
+      calls = sound.calls;
+      notes = sound.notes;
+      mutexes = queued_mutexes table left low sound.mutexes;
+    }
+
+-- the tasks that are made ready in turn
+abbrev pub readied : Stamps → List ℕ → Stamps
+readied stamps tasks = fold (λ orders task. make_ready task orders) stamps tasks
+
+readied_low : (stamps : Stamps) (task : ℕ) (tasks : List ℕ) → task < length stamps.rows → AllByRecursion (λ i. i < length stamps.rows) tasks → AllByRecursion (λ i. i < length (make_ready task stamps).rows) tasks
+readied_low stamps task tasks below all = All-weaker (λ i. i < length stamps.rows) (λ i. i < length (make_ready task stamps).rows) (λ i h. omega (arith, make_ready_length stamps task below)) tasks all
+
+readied_length : (tasks : List ℕ) (stamps : Stamps) → AllByRecursion (λ i. i < length stamps.rows) tasks → length (readied stamps tasks).rows ≡ length stamps.rows
+readied_length [] stamps all = refl
+readied_length (task ∷ tasks) stamps all = readied_length tasks (make_ready task stamps) (readied_low stamps task tasks all.0 all.1) ∙ make_ready_length stamps task all.0
+
+pub readied_tick : (tasks : List ℕ) (stamps : Stamps) → (readied stamps tasks).tick ≡ stamps.tick
+readied_tick [] stamps = refl
+readied_tick (task ∷ tasks) stamps = readied_tick tasks (make_ready task stamps) ∙ make_ready_tick stamps task
+
+readied_stamped : (tasks : List ℕ) (stamps : Stamps) → AllByRecursion (λ i. i < length stamps.rows) tasks → IsStamped stamps → IsStamped (readied stamps tasks)
+readied_stamped [] stamps all stamped = stamped
+readied_stamped (task ∷ tasks) stamps all stamped = readied_stamped tasks (make_ready task stamps) (readied_low stamps task tasks all.0 all.1) (make_ready_once stamps task stamped all.0)
+
+readied_placed : (control : Control) (tasks : List ℕ) (stamps : Stamps) → AllByRecursion (λ i. i < length stamps.rows) tasks → IsPlaced control stamps → IsPlaced control (readied stamps tasks)
+readied_placed control [] stamps all place = place
+readied_placed control (task ∷ tasks) stamps all place = readied_placed control tasks (make_ready task stamps) (readied_low stamps task tasks all.0 all.1) (make_ready_placed control stamps task all.0 place)
+
+-- what still waits waited before, and is none of them
+readied_blocked : (tasks : List ℕ) (stamps : Stamps) → AllByRecursion (λ i. i < length stamps.rows) tasks → (i wake : ℕ) → wake_in (row_at (readied stamps tasks) i).standing ≡ Some wake → (wake_in (row_at stamps i).standing ≡ Some wake) × (has i tasks ≡ false)
+readied_blocked [] stamps all i wake waits = (waits, refl)
+readied_blocked (task ∷ tasks) stamps all i wake waits =
+    let rest = readied_blocked tasks (make_ready task stamps) (readied_low stamps task tasks all.0 all.1) i wake waits in
+    let first = readied_field wake_in refl stamps task i wake all.0 rest.0 in
+    (first.0, grind (arith, nat_tests, first.1, rest.1))
+
+-- a task that waits until the tick count is due then
+waits_due : (stamps : Stamps) (i : ℕ) → IsStamped stamps → i < length stamps.rows → wake_in (row_at stamps i).standing ≡ Some stamps.tick → has i (due stamps) ≡ true
+unfolding due
+waits_due stamps i stamped low waits =
+    let passes : wakes_at stamps.tick (row_at stamps i).standing ≡ true = ap (λ wake. option_map_or (λ at. eqb at stamps.tick) wake false) waits ∙ grind (arith, nat_tests) in
+    has-by_stamp (stamp_of stamps) (λ task. wakes_at stamps.tick (row_at stamps task).standing) (tasks_of stamps) i stamps.next ∙ grind (arith, nat_tests, passes, stamped.given i low, numbers_have (length stamps.rows) i low)
+
+pub advanced_stamped : (stamps : Stamps) → IsStamped stamps → IsStamped (advance stamps)
+unfolding advance
+advanced_stamped stamps stamped = record { given = stamped.given; once = stamped.once }
+
+advanced_placed : (control : Control) (stamps : Stamps) → IsPlaced control stamps → IsPlaced control (advance stamps)
+unfolding advance
+advanced_placed control stamps place = record { is_task = place.is_task; on_one_core = place.on_one_core; blocked_is_due = place.blocked_is_due; idle_is_ready = place.idle_is_ready }
+
+advanced_row : (stamps : Stamps) (i : ℕ) → row_at (advance stamps) i ≡ row_at stamps i
+unfolding advance
+advanced_row stamps i = refl
+
+advanced_length : (stamps : Stamps) → length (advance stamps).rows ≡ length stamps.rows
+unfolding advance
+advanced_length stamps = refl
+
+pub advanced_tick : (stamps : Stamps) → (advance stamps).tick ≡ suc stamps.tick
+unfolding advance
+advanced_tick stamps = refl
+
+-- what waits and is not due waits on
+still_in_time : (stamps : Stamps) → IsStamped stamps → WakesInTime stamps → WakesInTime (readied (advance stamps) (due (advance stamps)))
+unfolding advance
+still_in_time stamps stamped in_time i wake low waits =
+    let later = advance stamps in
+    let before = readied_blocked (due later) later (due_below later) i wake waits in
+    let within : i < length later.rows = omega (arith, readied_length (due later) later (due_below later)) in
+    let bounds = in_time i wake (omega (arith, advanced_length stamps)) before.0 in
+    let not_now : wake ≡ later.tick → ⊥ = λ now. cc (waits_due later i (advanced_stamped stamps stamped) within (before.0 ∙ ap Some now), before.1) in
+    let same = readied_tick (due later) later in
+    (omega (arith, same, advanced_tick stamps, bounds.0, not_now), omega (arith, same, advanced_tick stamps, bounds.1))
+
+readied_deadlines : (tasks : List ℕ) (stamps : Stamps) → length (readied stamps tasks).deadlines ≡ length stamps.deadlines
+readied_deadlines [] stamps = refl
+readied_deadlines (task ∷ tasks) stamps = readied_deadlines tasks (make_ready task stamps) ∙ make_ready_deadlines stamps task
+
+advanced_deadlines : (stamps : Stamps) → length (advance stamps).deadlines ≡ length stamps.deadlines
+unfolding advance
+advanced_deadlines stamps = refl
+
+all_readied_mutexes : (table : Table) (tasks : List ℕ) (stamps : Stamps) → AllByRecursion (λ i. i < length stamps.rows) tasks → HasMutexes table.settings table.calls table.holders stamps → HasMutexes table.settings table.calls table.holders (readied stamps tasks)
+all_readied_mutexes table [] stamps all kept = kept
+all_readied_mutexes table (task ∷ tasks) stamps all kept =
+    all_readied_mutexes table tasks (make_ready task stamps) (readied_low stamps task tasks all.0 all.1) (readied_mutexes table.settings table.calls table.holders stamps kept task all.0)
+
+-- when a tick has passed, and the tasks that are due are ready
+pub readied_sound : (table : Table) → IsConsistent table → IsConsistent (record table { orders = readied (advance table.orders) (due (advance table.orders)) })
+readied_sound table sound =
+    let later = advance table.orders in
+    let low = due_below later in
+    record {
+      sized = record {
+        cores = sound.sized.cores;
+        controls = sound.sized.controls;
+        calls = sound.sized.calls;
+        holders = sound.sized.holders;
+        rows = readied_length (due later) later low ∙ advanced_length table.orders ∙ sound.sized.rows;
+        deadlines = readied_deadlines (due later) later ∙ advanced_deadlines table.orders ∙ sound.sized.deadlines;
+        some_core = sound.sized.some_core;
+        idle_tasks = sound.sized.idle_tasks;
+        notes = sound.sized.notes;
+      };
+      stamped = readied_stamped (due later) later low (advanced_stamped table.orders sound.stamped);
+      in_place = readied_placed table.control (due later) later low (advanced_placed table.control table.orders sound.in_place);
+      in_time = still_in_time table.orders sound.stamped sound.in_time;
+      priorities = sound.priorities;
+      calls = sound.calls;
+      notes = sound.notes;
+      mutexes = all_readied_mutexes table (due later) later low (advanced_mutexes table.settings table.calls table.holders table.orders sound.mutexes);
+    }
+
+-- Cores of which some were asked: the others are as they were, and none has another current task.
+pub record IsAskedMore (control other : Control) : Type 0 where
+  pub cores : length other.cores ≡ length control.cores
+  pub tasks : other.tasks ≡ control.tasks
+  pub currents : (c : ℕ) → current other c ≡ current control c
+  pub due : (c : ℕ) → is_due control c ≡ true → is_due other c ≡ true
+
+more_placed : (control other : Control) (stamps : Stamps) → IsAskedMore control other → IsPlaced control stamps → IsPlaced other stamps
+more_placed control other stamps more place = record {
+  is_task = λ c low. subst (λ i. i < length stamps.rows) (sym (more.currents c)) (place.is_task c (omega (arith, more.cores)));
+  on_one_core = λ c d low high same. place.on_one_core c d (omega (arith, more.cores)) (omega (arith, more.cores)) (sym (more.currents c) ∙ same ∙ more.currents d);
+  blocked_is_due = λ c low waits. more.due c (place.blocked_is_due c (omega (arith, more.cores)) (ap (λ i. is_ready i stamps) (sym (more.currents c)) ∙ waits));
+  idle_is_ready = λ i low. place.idle_is_ready i (omega (arith, more.cores));
+}
+
+abbrev pub with_control : Table → Control → Table
+with_control table control = record table { control = control }
+
+-- asking cores keeps a table sound
+pub more_sound : (table : Table) (other : Control) → IsAskedMore table.control other → IsConsistent table → IsConsistent (with_control table other)
+more_sound table other more sound = record {
+  sized = record {
+    cores = more.cores ∙ sound.sized.cores;
+    controls = ap (λ (tasks : List TaskControl). length tasks) more.tasks ∙ sound.sized.controls;
+    calls = sound.sized.calls;
+    holders = sound.sized.holders;
+    rows = sound.sized.rows;
+    deadlines = sound.sized.deadlines;
+    some_core = sound.sized.some_core;
+    idle_tasks = sound.sized.idle_tasks;
+    notes = sound.sized.notes;
+  };
+  stamped = sound.stamped;
+  in_place = more_placed table.control other table.orders more sound.in_place;
+  in_time = sound.in_time;
+  priorities = λ i low. subst (λ (tasks : List TaskControl). IsBelow table.settings.priorities (task_at (record { cores = other.cores; tasks = tasks }) i)) (sym more.tasks) (sound.priorities i low);
+  calls = sound.calls;
+  notes = sound.notes;
+  mutexes = sound.mutexes;
+}
+
+pub asked_runs : (acting core : ℕ) (look : CoreLook) → (asked_by acting core look).current ≡ look.current
+asked_runs acting core look = elim (eqb core acting) as (λ b. (cond b (record look { pend = true }) (record look { asked = true })).current ≡ look.current) [ true ↦ refl | false ↦ refl ]
+
+pub asked_is_due : (acting core : ℕ) (look : CoreLook) → ((asked_by acting core look).pend || (asked_by acting core look).asked) ≡ true
+asked_is_due acting core look = at (eqb core acting)
+  where
+    at : (b : Bool) → ((cond b (record look { pend = true }) (record look { asked = true })).pend || (cond b (record look { pend = true }) (record look { asked = true })).asked) ≡ true
+    at true = refl
+    at false = grind (arith)
+
+-- a core that was asked
+module _ (control : Control) (acting core : ℕ) (below : core < length control.cores) where
+  asked_here : core_at (ask acting core control) core ≡ asked_by acting core (core_at control core)
+  asked_here = look_same control core (asked_by acting core (core_at control core)) below
+
+  asked_current : (c : ℕ) → current (ask acting core control) c ≡ current control c
+  asked_current c = elim (cases_eq c core) [
+    | inl here ↦ ap (current (ask acting core control)) here ∙ ap (λ (l : CoreLook). l.current) asked_here ∙ asked_runs acting core (core_at control core) ∙ ap (current control) (sym here)
+    | inr away ↦ ap (λ (l : CoreLook). l.current) (look_other control core (asked_by acting core (core_at control core)) c away)
+  ]
+
+  asked_due : is_due (ask acting core control) core ≡ true
+  asked_due = ap (λ (l : CoreLook). l.pend || l.asked) asked_here ∙ asked_is_due acting core (core_at control core)
+
+  asked_others : (c : ℕ) → c ≢ core → is_due (ask acting core control) c ≡ is_due control c
+  asked_others c away = ap (λ (l : CoreLook). l.pend || l.asked) (look_other control core (asked_by acting core (core_at control core)) c away)
+
+  asked_length : length (ask acting core control).cores ≡ length control.cores
+  asked_length = cores_length control core (asked_by acting core (core_at control core))
+
+  pub asked_more : IsAskedMore control (ask acting core control)
+  asked_more = record {
+    cores = asked_length;
+    tasks = refl;
+    currents = asked_current;
+    due = λ c is. elim (cases_eq c core) [
+      | inl here ↦ ap (is_due (ask acting core control)) here ∙ asked_due
+      | inr away ↦ asked_others c away ∙ is
+    ];
+  }
+
+  -- its task waits from now on
+  waiting_placed : (stamps : Stamps) (task : ℕ) (standing : Standing) → task < length stamps.rows → current control core ≡ task → length control.cores ≤ task → IsPlaced control stamps → IsPlaced (ask acting core control) (restamped task standing stamps)
+  waiting_placed stamps task standing low here user place = record {
+    is_task = λ c h. omega (arith, moved_length stamps task standing low, asked_current c, place.is_task c (omega (arith, asked_length)));
+    on_one_core = (more_placed control (ask acting core control) stamps asked_more place).on_one_core;
+    blocked_is_due = λ c h waits. elim (cases_eq c core) [
+      | inl on ↦ ap (is_due (ask acting core control)) on ∙ asked_due
+      | inr away ↦ asked_others c away ∙ place.blocked_is_due c (omega (arith, asked_length)) (sym (ready_other stamps task standing low (current control c) (λ same. away (place.on_one_core c core (omega (arith, asked_length)) below (same ∙ sym here)))) ∙ ap (λ i. is_ready i (restamped task standing stamps)) (sym (asked_current c)) ∙ waits)
+    ];
+    idle_is_ready = λ i h. ready_other stamps task standing low i (λ same. absurd (omega (arith, asked_length))) ∙ place.idle_is_ready i (omega (arith, asked_length));
+  }
+
+pub yielded_sound : (core : ℕ) (table : Table) → IsConsistent table → core < length table.control.cores → IsConsistent (yielded table_moves core table)
+unfolding yielded
+yielded_sound core table sound below = more_sound table (ask core core table.control) (asked_more table.control core core below) sound
+
+-- the unfinished calls stay checked where one begins or ends
+pub call_set : (settings : Settings) (calls : List (Option Unfinished)) (task : ℕ) (given : Option Unfinished) → task < length calls → ((call : Unfinished) → given ≡ Some call → IsCheckedUnfinished settings call) → ((i : ℕ) (call : Unfinished) → call_at calls i ≡ Some call → IsCheckedUnfinished settings call) → (i : ℕ) (call : Unfinished) → call_at (slice_set calls task given) i ≡ Some call → IsCheckedUnfinished settings call
+call_set settings calls task given below one all i call found = elim (cases_eq i task) [
+  | inl here ↦ one call (sym (get_or-set_same calls task given None below) ∙ ap (call_at (slice_set calls task given)) (sym here) ∙ found)
+  | inr away ↦ all i call (sym (get_or-set_other calls task i given None away) ∙ found)
+]
+
+-- where a task stands that waits from now on
+abbrev waiting_for : Stamps → Option ℕ → Option MutexWait → Standing
+waiting_for stamps ticks wait = Blocked (ahead stamps ticks) wait
+
+-- a wake that is there is in time
+wake_in_time : (tick wake : ℕ) (ticks : Option ℕ) → IsWait ticks → option_map (λ ticks. tick + ticks) ticks ≡ Some wake → (tick < wake) × (wake < tick + 2 ^ 32)
+wake_in_time tick wake None fits same = absurd (cc (same))
+wake_in_time tick wake (Some ticks) fits same =
+    let at : tick + ticks ≡ wake = cc (same) in
+    (omega (arith, at, fits.0), omega (arith, at, fits.1))
+
+module _ (stamps : Stamps) (task : ℕ) (ticks : Option ℕ) (wait : Option MutexWait) (below : task < length stamps.rows) where
+  delayed_in_time : IsWait ticks → WakesInTime stamps → WakesInTime (delay task ticks wait stamps)
+  unfolding delay
+  delayed_in_time fits in_time i wake low waits =
+      let standing = waiting_for stamps ticks wait in
+      elim (cases_eq i task) [
+        | inl here ↦ wake_in_time stamps.tick wake ticks fits (ap wake_in (sym (standing_same stamps task standing below)) ∙ ap (λ j. wake_in (row_at (restamped task standing stamps) j).standing) (sym here) ∙ waits)
+        | inr away ↦ in_time i wake (omega (arith, moved_length stamps task standing below)) (ap wake_in (sym (standing_other stamps task standing below i away)) ∙ waits)
+      ]
+
+  delayed_length : length (delay task ticks wait stamps).rows ≡ length stamps.rows
+  unfolding delay
+  delayed_length = moved_length stamps task (waiting_for stamps ticks wait) below
+
+  delayed_deadlines : length (delay task ticks wait stamps).deadlines ≡ length stamps.deadlines
+  unfolding delay
+  delayed_deadlines = length-set stamps.deadlines task _
+
+  delayed_stamped : IsStamped stamps → IsStamped (delay task ticks wait stamps)
+  unfolding delay
+  delayed_stamped stamped =
+      let moved = moved_once stamps task (waiting_for stamps ticks wait) below stamped in
+      record { given = moved.given; once = moved.once }
+
+  delayed_placed : (control : Control) (core : ℕ) → core < length control.cores → current control core ≡ task → length control.cores ≤ task → IsPlaced control stamps → IsPlaced (ask core core control) (delay task ticks wait stamps)
+  unfolding delay
+  delayed_placed control core low here user place =
+      let moved = waiting_placed control core core low stamps task (waiting_for stamps ticks wait) below here user place in
+      record { is_task = moved.is_task; on_one_core = moved.on_one_core; blocked_is_due = moved.blocked_is_due; idle_is_ready = moved.idle_is_ready }
+
+pub blocked_sound : (core task : ℕ) (call : Unfinished) (ticks : Option ℕ) (wait : Option MutexWait) (table : Table) → IsConsistent table → IsCaller table core task → IsCheckedUnfinished table.settings call → length table.control.cores ≤ task → IsWait ticks → IfSome wait (IsMutexWait table.settings) → (is_some wait ≡ true → takes_mutex (Some call) ≡ true) → IsConsistent (blocked table_moves core task call ticks wait table)
+unfolding blocked
+blocked_sound core task call ticks wait table sound place checked user fits there takes =
+    let low : task < table.settings.tasks = omega (arith, sound.sized.rows, place.2) in
+    let in_calls : task < length table.calls = omega (arith, sound.sized.calls, low) in
+    record {
+      sized = record {
+        cores = asked_length table.control core core place.0 ∙ sound.sized.cores;
+        controls = sound.sized.controls;
+        calls = length-set table.calls task (Some call) ∙ sound.sized.calls;
+        holders = sound.sized.holders;
+        rows = delayed_length table.orders task ticks wait place.2 ∙ sound.sized.rows;
+        deadlines = delayed_deadlines table.orders task ticks wait place.2 ∙ sound.sized.deadlines;
+        some_core = sound.sized.some_core;
+        idle_tasks = sound.sized.idle_tasks;
+        notes = sound.sized.notes;
+      };
+      stamped = delayed_stamped table.orders task ticks wait place.2 sound.stamped;
+      in_place = delayed_placed table.orders task ticks wait place.2 table.control core place.0 place.1 user sound.in_place;
+      in_time = delayed_in_time table.orders task ticks wait place.2 fits sound.in_time;
+      priorities = sound.priorities;
+      calls = call_set table.settings table.calls task (Some call) in_calls (λ other same. subst (IsCheckedUnfinished table.settings) (call_of call other same) checked) sound.calls;
+      notes = sound.notes;
+      mutexes = waiting_mutexes table.settings table.calls table.holders table.orders sound.mutexes task call ticks wait place.2 in_calls (omega (arith, sound.sized.deadlines, low)) fits there takes;
+    }
+  where
+    call_of : (one other : Unfinished) → Some one ≡ Some other → one ≡ other
+    call_of one other same = cc
+
+-- a switch of a sound table selects a task
+pub switch_selects : (table : Table) (core : ℕ) → IsConsistent table → core < table.settings.cores → IsSome (selected table_moves core table)
+switch_selects table core sound low =
+    let below : core < length table.control.cores = omega (arith, sound.sized.cores) in
+    let left = current table.control core in
+    let task = sound.in_place.is_task core below in
+    let orders = queued table.orders left in
+    let same = queued_length table.orders left task in
+    let place = queued_placed table.control table.orders left task sound.in_place in
+    let found = selects table.control core orders (queued_once table.orders left sound.stamped task) below (omega (arith, same, sound.sized.cores, sound.sized.rows, sound.sized.idle_tasks)) place.idle_is_ready in
+    some_found (pick table.control core orders) found.0 found.1
+  where
+    some_found : (o : Option ℕ) (i : ℕ) → o ≡ Some i → IsSome o
+    some_found (Some j) i same = refl
+    some_found None i same = absurd (cc (same))

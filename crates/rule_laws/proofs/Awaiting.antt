@@ -1,0 +1,199 @@
+-- Interrupts that notify, and the calls that clear, await and take notifications: as lists, and that soundness stays.
+use Rattle.std.proofs.Common.{◌≡◌, ℕ, ◌-◌, ◌<◌, ◌≤◌, ◌^◌, Bool, true, false, cond, eqb, ltb, ◌&&◌, List, length, Some, None, refl, ap, arith}
+use Rattle.std.specs.Prelude.{slice_set}
+use Rattle.std.specs.Int.{w32, bit_not}
+use Rattle.std.proofs.lemmas.Bool.Decides.{nat_tests}
+use Rattle.std.proofs.lemmas.Nat.{and_le_l}
+use Rattle.bench_types.specs.declared.note.Note.{Note}
+use Rattle.bench_types.specs.declared.note.Notification.{Notification}
+use Rattle.bench_types.specs.declared.note.NoteState.TheVariants.{NotWaiting, Waiting}
+use Rattle.bench_types.specs.declared.reply.Reply.{Reply}
+use Rattle.bench_types.specs.declared.reply.Reply.TheVariants.{Blocked, Isr}
+use Rattle.bench_types.specs.declared.step.Unfinished.TheVariants.{Made}
+use Rattle.bench_types.specs.declared.step.Call.{Call}
+use Rattle.bench_types.specs.declared.step.Call.TheVariants as calls
+use Rattle.bench_types.specs.Step.{IsActionOfWord, IsCheckedCall}
+use Rattle.bench_model.specs.Control.{core_at}
+use Rattle.bench_model.specs.Notes.{note_at, is_received, without_bits, wait_begun, wait_ended, take_begun, take_ended, state_cleared, value_cleared}
+use Rattle.bench_model.specs.Notifying.{awaited_for, is_passed, interrupted, state_forgotten, bits_cleared, completed, awaited}
+use Rattle.bench_model.specs.State.{State, blocked}
+use Rattle.bench_model.specs.Table.{Table, table_moves, is_ready}
+use Rattle.bench_model.specs.Lists.{View, list_moves, image}
+use Rattle.bench_model.specs.Lists.{seen_of}
+use Rattle.bench_model.specs.Sound.{IsCaller, IsConsistent, IsWait}
+use Rattle.rule_laws.proofs.Notifying.{notify_seen, notify_sound, ruled_sound}
+use Rattle.order_laws.proofs.SeenSteps.{blocked_seen}
+use Rattle.order_laws.proofs.SoundSteps.{blocked_sound}
+
+-- ---- values stay numbers of 32 bits
+
+without_word : (bits value : ℕ) → value < 2 ^ 32 → without_bits bits value < 2 ^ 32
+without_word bits value low = omega (arith, and_le_l value (bit_not w32 bits))
+
+pub wait_begun_word : (entry : ℕ) (note : Notification) → note.value < 2 ^ 32 → (wait_begun entry note).1.value < 2 ^ 32
+unfolding wait_begun
+wait_begun_word entry note low = at (is_received note.state)
+  where
+    at : (b : Bool) → (cond {A = Bool × Notification} b (false, note) (true, record { value = without_bits entry note.value; state = Waiting })).1.value < 2 ^ 32
+    at true = low
+    at false = without_word entry note.value low
+
+wait_ended_word : (exit : ℕ) (note : Notification) → note.value < 2 ^ 32 → (wait_ended exit note).1.value < 2 ^ 32
+unfolding wait_ended
+wait_ended_word exit note low = at (is_received note.state)
+  where
+    at : (b : Bool) → cond b (without_bits exit note.value) note.value < 2 ^ 32
+    at true = without_word exit note.value low
+    at false = low
+
+pub take_begun_word : (note : Notification) → note.value < 2 ^ 32 → (take_begun note).1.value < 2 ^ 32
+unfolding take_begun
+take_begun_word note low = at (eqb note.value 0)
+  where
+    at : (b : Bool) → (cond {A = Bool × Notification} b (true, record note { state = Waiting }) (false, note)).1.value < 2 ^ 32
+    at true = low
+    at false = low
+
+take_ended_word : (clear : Bool) (note : Notification) → note.value < 2 ^ 32 → (take_ended clear note).1.value < 2 ^ 32
+unfolding take_ended
+take_ended_word true note low = omega arith
+take_ended_word false note low = omega arith
+
+state_cleared_word : (note : Notification) → note.value < 2 ^ 32 → (state_cleared note).1.value < 2 ^ 32
+unfolding state_cleared
+state_cleared_word note low = at (is_received note.state)
+  where
+    at : (b : Bool) → (cond {A = Notification} b (record note { state = NotWaiting }) note).value < 2 ^ 32
+    at true = low
+    at false = low
+
+value_cleared_word : (bits : ℕ) (note : Notification) → note.value < 2 ^ 32 → (value_cleared bits note).1.value < 2 ^ 32
+unfolding value_cleared
+value_cleared_word bits note low = without_word bits note.value low
+
+-- a call that completes changes notifications, or nothing
+pub completed_notes : {Orders : Type 0} (task : ℕ) (call : Call) (state : State Orders) → (notes : List Notification) × ((completed task call state).1 ≡ record state { notes = notes })
+unfolding completed
+completed_notes task calls.Yield state = (state.notes, refl)
+completed_notes task (calls.Delay ticks) state = (state.notes, refl)
+completed_notes task (calls.DelayUntil prev inc) state = (state.notes, refl)
+completed_notes task (calls.PrioritySet other priority) state = (state.notes, refl)
+completed_notes task (calls.AffinitySet other mask) state = (state.notes, refl)
+completed_notes task (calls.PreemptOff other) state = (state.notes, refl)
+completed_notes task (calls.PreemptOn other) state = (state.notes, refl)
+completed_notes task (calls.Notify note) state = (state.notes, refl)
+completed_notes task (calls.NotifyWait entry exit ticks) state = (slice_set state.notes task (wait_ended exit (note_at state.notes task)).1, refl)
+completed_notes task (calls.NotifyTake clear ticks) state = (slice_set state.notes task (take_ended clear (note_at state.notes task)).1, refl)
+completed_notes task (calls.StateClear other) state = (state.notes, refl)
+completed_notes task (calls.ValueClear other bits) state = (state.notes, refl)
+completed_notes task (calls.MutexTake mutex ticks) state = (state.notes, refl)
+completed_notes task (calls.MutexGive mutex) state = (state.notes, refl)
+completed_notes task calls.Finish state = (state.notes, refl)
+completed_notes task calls.HoldOpen state = (state.notes, refl)
+completed_notes task calls.HoldClose state = (state.notes, refl)
+
+-- ---- as lists
+
+abbrev seen_from : Reply → View → Reply × View
+seen_from reply view = (reply, view)
+
+same_seen : (reply : Reply) (one other : View) → one ≡ other → seen_from reply one ≡ seen_from reply other
+same_seen reply one other a = ap (seen_from reply) a
+
+pub interrupted_seen : (table : Table) (core : ℕ) (note : Note) → IsConsistent table → note.task < table.settings.tasks → seen_of (interrupted table_moves core note table) ≡ interrupted list_moves core note (image table)
+unfolding interrupted
+interrupted_seen table core note sound low = ap (λ (view : View). (Isr (is_passed note table) (core_at view.control core).pend, view)) (notify_seen table core note.task note.action sound low)
+
+pub forgotten_seen : (table : Table) (task : ℕ) → seen_of (state_forgotten task table) ≡ state_forgotten task (image table)
+unfolding state_forgotten
+forgotten_seen table task = refl
+
+pub bits_seen : (table : Table) (task bits : ℕ) → seen_of (bits_cleared task bits table) ≡ bits_cleared task bits (image table)
+unfolding bits_cleared
+bits_seen table task bits = refl
+
+pub completed_seen : (table : Table) (task : ℕ) (call : Call) → seen_of (completed task call table) ≡ completed task call (image table)
+unfolding completed
+completed_seen table task calls.Yield = refl
+completed_seen table task (calls.Delay ticks) = refl
+completed_seen table task (calls.PrioritySet other priority) = refl
+completed_seen table task (calls.AffinitySet other mask) = refl
+completed_seen table task (calls.PreemptOff other) = refl
+completed_seen table task (calls.PreemptOn other) = refl
+completed_seen table task (calls.Notify note) = refl
+completed_seen table task (calls.NotifyWait entry exit ticks) = refl
+completed_seen table task (calls.NotifyTake clear ticks) = refl
+completed_seen table task (calls.StateClear other) = refl
+completed_seen table task (calls.ValueClear other bits) = refl
+completed_seen table task (calls.MutexTake mutex ticks) = refl
+completed_seen table task (calls.MutexGive mutex) = refl
+completed_seen table task (calls.DelayUntil prev inc) = refl
+completed_seen table task calls.Finish = refl
+completed_seen table task calls.HoldOpen = refl
+completed_seen table task calls.HoldClose = refl
+
+pub awaited_seen : (table : Table) (core task : ℕ) (call : Call) (ticks : ℕ) (begun : Bool × List Notification) → IsConsistent table → task < length table.orders.rows → is_ready task table.orders ≡ true →
+    seen_of (awaited table_moves core task call ticks begun table) ≡ awaited list_moves core task call ticks begun (image table)
+unfolding awaited
+awaited_seen table core task call ticks begun sound below ready = either (begun.0 && ltb 0 ticks)
+  where
+    waiting : Table
+    waiting = record table { notes = begun.1 }
+
+    either : (b : Bool) → seen_of (cond b (Blocked, blocked table_moves core task (Made call) (awaited_for ticks) None waiting) (completed task call waiting)) ≡ cond b (Blocked, blocked list_moves core task (Made call) (awaited_for ticks) None (image waiting)) (completed task call (image waiting))
+    either true = same_seen Blocked _ _ (blocked_seen core task (Made call) (awaited_for ticks) None waiting sound.stamped.given below ready)
+    either false = completed_seen waiting task call
+
+-- ---- soundness stays
+
+pub interrupted_sound : (table : Table) (core : ℕ) (note : Note) → IsConsistent table → note.task < table.settings.tasks → IsActionOfWord note.action → IsConsistent (interrupted table_moves core note table).1
+unfolding interrupted
+interrupted_sound table core note sound low word = notify_sound table core note.task note.action sound low word
+
+pub forgotten_sound : (table : Table) (task : ℕ) → IsConsistent table → task < table.settings.tasks → IsConsistent (state_forgotten task table).1
+unfolding state_forgotten
+forgotten_sound table task sound low = ruled_sound task state_cleared table sound low state_cleared_word
+
+pub bits_sound : (table : Table) (task bits : ℕ) → IsConsistent table → task < table.settings.tasks → IsConsistent (bits_cleared task bits table).1
+unfolding bits_cleared
+bits_sound table task bits sound low = ruled_sound task (value_cleared bits) table sound low (value_cleared_word bits)
+
+pub completed_sound : (table : Table) (task : ℕ) (call : Call) → IsConsistent table → task < table.settings.tasks → IsConsistent (completed task call table).1
+unfolding completed
+completed_sound table task calls.Yield sound low = sound
+completed_sound table task (calls.Delay ticks) sound low = sound
+completed_sound table task (calls.PrioritySet other priority) sound low = sound
+completed_sound table task (calls.AffinitySet other mask) sound low = sound
+completed_sound table task (calls.PreemptOff other) sound low = sound
+completed_sound table task (calls.PreemptOn other) sound low = sound
+completed_sound table task (calls.Notify note) sound low = sound
+completed_sound table task (calls.NotifyWait entry exit ticks) sound low = ruled_sound task (wait_ended exit) table sound low (wait_ended_word exit)
+completed_sound table task (calls.NotifyTake clear ticks) sound low = ruled_sound task (take_ended clear) table sound low (take_ended_word clear)
+completed_sound table task (calls.StateClear other) sound low = sound
+completed_sound table task (calls.ValueClear other bits) sound low = sound
+completed_sound table task (calls.MutexTake mutex ticks) sound low = sound
+completed_sound table task (calls.MutexGive mutex) sound low = sound
+completed_sound table task (calls.DelayUntil prev inc) sound low = sound
+completed_sound table task calls.Finish sound low = sound
+completed_sound table task calls.HoldOpen sound low = sound
+completed_sound table task calls.HoldClose sound low = sound
+
+-- the ticks of a wait that does not end at once
+pub waits_on : (ticks : ℕ) → 0 < ticks → ticks < 2 ^ 32 → IsWait (awaited_for ticks)
+waits_on ticks some low = either (eqb ticks (2 ^ 32 - 1))
+  where
+    either : (b : Bool) → IsWait (cond b None (Some ticks))
+    either true = tt
+    either false = (some, low)
+
+pub awaited_sound : (table : Table) (core task : ℕ) (call : Call) (ticks : ℕ) (begun : Bool × List Notification) → IsConsistent (record table { notes = begun.1 }) → IsCaller table core task → IsCheckedCall table.settings call → length table.control.cores ≤ task → ticks < 2 ^ 32 →
+    IsConsistent (awaited table_moves core task call ticks begun table).1
+unfolding awaited
+awaited_sound table core task call ticks begun sound place checked user low = either (begun.0 && ltb 0 ticks) refl
+  where
+    waiting : Table
+    waiting = record table { notes = begun.1 }
+
+    either : (b : Bool) → (begun.0 && ltb 0 ticks) ≡ b → IsConsistent (cond {A = Reply × Table} b (Blocked, blocked table_moves core task (Made call) (awaited_for ticks) None waiting) (completed task call waiting)).1
+    either true waits = blocked_sound core task (Made call) (awaited_for ticks) None waiting sound place checked user (waits_on ticks (grind (arith, nat_tests, waits)) low) tt (λ none. absurd (cc (none)))
+    either false done = completed_sound waiting task call sound (omega (arith, sound.sized.rows, place.2))

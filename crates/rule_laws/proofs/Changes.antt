@@ -1,0 +1,117 @@
+-- What changes of a control block do to the orders of a table, and that they keep it sound.
+use Rattle.order_laws.proofs.ControlBlocks.{block_same, block_other, outranks_kept, others_stay}
+use Rattle.std.proofs.Common.{◌≡◌, ℕ, ◌<◌, Bool, true, false, cond, List, [], length, refl, sym, ap, subst, ◌∙◌, arith, inl, inr}
+use Rattle.std.proofs.lemmas.Bool.{cases_eq}
+use Rattle.std.proofs.lemmas.List.{length-set}
+use Rattle.bench_types.specs.declared.kernel_data.TaskControl.{TaskControl}
+use Rattle.list_orders.specs.Search.{placed, ranked, without, has}
+use Rattle.bench_model.specs.Control.{Control, task_at}
+use Rattle.bench_model.specs.Changes.{with_task, with_in_use, in_use_set}
+use Rattle.bench_model.specs.Table.{Stamps, Table, table_moves, stands_ready, is_ready, make_ready}
+use Rattle.bench_model.specs.Lists as seen
+use Rattle.bench_model.specs.Lists.{Lists, list_moves, lists_of, outranks, image}
+use Rattle.bench_model.specs.Sound.{IsBelow, IsConsistent}
+use Rattle.order_laws.proofs.Entries.{without_absent}
+use Rattle.order_laws.proofs.Restamps.{standing_so}
+use Rattle.order_laws.proofs.SeenMoves.{is_ready_seen, make_ready_seen}
+use Rattle.order_laws.proofs.SeenSteps.{same_state}
+use Rattle.order_laws.proofs.SoundSteps.{ready_sound}
+
+-- what is seen of stamps where some items stay in front of others
+lists_by : (ℕ → ℕ → Bool) → Stamps → Lists
+lists_by front stamps = record (lists_of (record { cores = []; tasks = [] }) stamps) { ready = ranked front (standing_so stands_ready stamps) }
+
+lists_of_by : (control : Control) (stamps : Stamps) → lists_of control stamps ≡ lists_by (outranks control) stamps
+unfolding lists_of lists_by
+lists_of_by control stamps = refl
+
+pub change_apart : (control : Control) (stamps : Stamps) (task : ℕ) (block : TaskControl) → block.in_use ≡ (task_at control task).in_use → lists_of (with_task task block control) stamps ≡ lists_of control stamps
+change_apart control stamps task block kept =
+    lists_of_by (with_task task block control) stamps ∙ ap (λ front. lists_by front stamps) (outranks_kept control task block kept) ∙ sym (lists_of_by control stamps)
+
+pub change_sound : (table : Table) (task : ℕ) (block : TaskControl) → IsConsistent table → IsBelow table.settings.priorities block → IsConsistent (record table { control = with_task task block table.control })
+change_sound table task block sound low = record {
+  sized = record {
+    cores = sound.sized.cores;
+    controls = length-set table.control.tasks task block ∙ sound.sized.controls;
+    calls = sound.sized.calls;
+    holders = sound.sized.holders;
+    rows = sound.sized.rows;
+    deadlines = sound.sized.deadlines;
+    some_core = sound.sized.some_core;
+    idle_tasks = sound.sized.idle_tasks;
+    notes = sound.sized.notes;
+  };
+  stamped = sound.stamped;
+  in_place = record {
+    is_task = sound.in_place.is_task;
+    on_one_core = sound.in_place.on_one_core;
+    blocked_is_due = sound.in_place.blocked_is_due;
+    idle_is_ready = sound.in_place.idle_is_ready;
+  };
+  in_time = sound.in_time;
+  priorities = λ i within. elim (cases_eq i task) [
+    | inl here ↦ subst (IsBelow table.settings.priorities) (sym (ap (task_at (with_task task block table.control)) here ∙ block_same table.control task block (omega (arith, sound.sized.controls, here, within)))) low
+    | inr away ↦ subst (IsBelow table.settings.priorities) (sym (block_other table.control task block i away)) (sound.priorities i within)
+  ];
+  calls = sound.calls;
+  notes = sound.notes;
+  mutexes = sound.mutexes;
+}
+
+-- of the changed task the old place is read no more
+moved_last : (control changed : Control) (task : ℕ) (stamps : Stamps) → without task (ranked (outranks changed) (standing_so stands_ready stamps)) ≡ without task (ranked (outranks control) (standing_so stands_ready stamps)) → seen.make_ready changed task (lists_of changed stamps) ≡ seen.make_ready changed task (lists_of control stamps)
+unfolding lists_of seen.make_ready
+moved_last control changed task stamps same = ap (λ others. record (seen.make_ready changed task (lists_of control stamps)) { ready = placed (outranks changed) task others }) same
+
+has_ready : (control : Control) (task : ℕ) (stamps : Stamps) → has task (lists_of control stamps).ready ≡ has task (ranked (outranks control) (standing_so stands_ready stamps))
+unfolding lists_of
+has_ready control task stamps = refl
+
+-- a blocked task has no place that its priority in use decides
+blocked_apart : (table : Table) (task priority : ℕ) → IsConsistent table → task < table.settings.tasks → is_ready task table.orders ≡ false → lists_of (with_in_use task priority table.control) table.orders ≡ lists_of table.control table.orders
+unfolding lists_by lists_of
+blocked_apart table task priority sound low blocked =
+    lists_of_by changed table.orders ∙ ap (λ ready. record (lists_of table.control table.orders) { ready = ready }) same ∙ sym (lists_of_by table.control table.orders)
+  where
+    changed : Control
+    changed = with_in_use task priority table.control
+
+    queue : List ℕ
+    queue = standing_so stands_ready table.orders
+
+    absent : (control : Control) → without task (ranked (outranks control) queue) ≡ ranked (outranks control) queue
+    absent control = without_absent task (ranked (outranks control) queue) (sym (has_ready control task table.orders) ∙ is_ready_seen control table.orders task sound.stamped.given (omega (arith, sound.sized.rows)) ∙ blocked)
+
+    same : ranked (outranks changed) queue ≡ ranked (outranks table.control) queue
+    same = sym (absent changed) ∙ others_stay table.control task _ queue ∙ absent table.control
+
+pub in_use_seen : (table : Table) (task priority : ℕ) → IsConsistent table → task < table.settings.tasks → image (in_use_set table_moves task priority table) ≡ in_use_set list_moves task priority (image table)
+unfolding in_use_set
+in_use_seen table task priority sound low = at (is_ready task table.orders) refl (has task (lists_of table.control table.orders).ready) (is_ready_seen table.control table.orders task sound.stamped.given below)
+  where
+    changed : Control
+    changed = with_in_use task priority table.control
+
+    below : task < length table.orders.rows
+    below = omega (arith, sound.sized.rows)
+
+    at : (b : Bool) → is_ready task table.orders ≡ b → (d : Bool) → d ≡ is_ready task table.orders → image (record table { control = changed; orders = cond b (make_ready task table.orders) table.orders }) ≡ record (image table) { control = changed; orders = cond d (seen.make_ready changed task (lists_of table.control table.orders)) (lists_of table.control table.orders) }
+    at true is true same = same_state table.settings changed changed table.calls table.notes table.holders table.hold _ _ refl (make_ready_seen changed table.orders task sound.stamped.given below ∙ moved_last table.control changed task table.orders (others_stay table.control task _ (standing_so stands_ready table.orders)))
+    at false is false same = same_state table.settings changed changed table.calls table.notes table.holders table.hold _ _ refl (blocked_apart table task priority sound low is)
+    at true is false same = absurd (cc (is, same))
+    at false is true same = absurd (cc (is, same))
+
+pub in_use_sound : (table : Table) (task priority : ℕ) → IsConsistent table → task < table.settings.tasks → priority < table.settings.priorities → IsConsistent (in_use_set table_moves task priority table)
+unfolding in_use_set
+in_use_sound table task priority sound low below = at (is_ready task table.orders)
+  where
+    changed : Table
+    changed = record table { control = with_in_use task priority table.control }
+
+    still : IsConsistent changed
+    still = change_sound table task _ sound (below, (sound.priorities task low).1)
+
+    at : (b : Bool) → IsConsistent (record changed { orders = cond b (make_ready task changed.orders) changed.orders })
+    at true = ready_sound changed task still low
+    at false = still

@@ -1,0 +1,97 @@
+-- Notifying a task: as lists, and that soundness stays.
+use Rattle.std.proofs.Common.{◌≡◌, ℕ, ◌<◌, ◌^◌, Bool, true, false, cond, List, length, refl, sym, ap, subst, ◌∙◌, arith, inl, inr}
+use Rattle.std.specs.Prelude.{slice_set}
+use Rattle.std.proofs.lemmas.Bool.{cases_eq}
+use Rattle.std.proofs.lemmas.List.{length-set, get_or-set_same, get_or-set_other}
+use Rattle.std.proofs.lemmas.Nat.{or_lt}
+use Rattle.bench_types.specs.declared.note.Action.{Action}
+use Rattle.bench_types.specs.declared.note.Action.TheVariants.{Nothing, SetBits, Increment, Set, SetNew}
+use Rattle.bench_types.specs.declared.note.Notification.{Notification}
+use Rattle.bench_types.specs.Step.{IsActionOfWord}
+use Rattle.bench_model.specs.Notes.{no_note, note_at, is_waiting, passes, acted, notified, of_task}
+use Rattle.bench_model.specs.Notifying.{notify}
+use Rattle.bench_model.specs.Seek.{wake}
+use Rattle.bench_model.specs.Table.{Table, table_moves}
+use Rattle.bench_model.specs.Lists.{list_moves, image}
+use Rattle.bench_model.specs.Sound.{HasWords, IsConsistent}
+use Rattle.rule_laws.proofs.Seeks.{wake_seen, wake_sound}
+
+pub notes_apart : (table : Table) (notes : List Notification) → image (record table { notes = notes }) ≡ record (image table) { notes = notes }
+notes_apart table notes = refl
+
+pub notes_sound : (table : Table) (notes : List Notification) → IsConsistent table → length notes ≡ table.settings.tasks → HasWords notes → IsConsistent (record table { notes = notes })
+notes_sound table notes sound each words = record {
+  sized = record {
+    cores = sound.sized.cores;
+    controls = sound.sized.controls;
+    calls = sound.sized.calls;
+    notes = each;
+    holders = sound.sized.holders;
+    rows = sound.sized.rows;
+    deadlines = sound.sized.deadlines;
+    some_core = sound.sized.some_core;
+    idle_tasks = sound.sized.idle_tasks;
+  };
+  stamped = sound.stamped;
+  in_place = sound.in_place;
+  in_time = sound.in_time;
+  priorities = sound.priorities;
+  calls = sound.calls;
+  notes = words;
+  mutexes = sound.mutexes;
+}
+
+acted_word : (action : Action) (value : ℕ) → IsActionOfWord action → value < 2 ^ 32 → acted action value < 2 ^ 32
+acted_word Nothing value word low = low
+acted_word (SetBits bits) value word low = or_lt 32 value bits low word
+acted_word Increment value word low = omega arith
+acted_word (Set new) value word low = word
+acted_word (SetNew new) value word low = word
+
+notified_word : (action : Action) (note : Notification) → IsActionOfWord action → note.value < 2 ^ 32 → (notified action note).value < 2 ^ 32
+unfolding notified
+notified_word action note word low = at (passes action note.state)
+  where
+    at : (b : Bool) → cond b (acted action note.value) note.value < 2 ^ 32
+    at true = acted_word action note.value word low
+    at false = low
+
+-- all notifications behind a rule of one task's
+module _ {A : Type 0} (task : ℕ) (rule : Notification → A × Notification) where
+  abbrev ruled : List Notification → List Notification
+  ruled notes = (of_task task rule notes).1
+
+  ruled_words : (notes : List Notification) → task < length notes → ((note : Notification) → note.value < 2 ^ 32 → (rule note).1.value < 2 ^ 32) → HasWords notes → HasWords (ruled notes)
+  ruled_words notes below keeps words i low =
+      let new = (rule (note_at notes task)).1 in
+      elim (cases_eq i task) [
+        | inl here ↦ subst (λ (n : Notification). n.value < 2 ^ 32) (sym (ap (note_at (ruled notes)) here ∙ get_or-set_same notes task new no_note below)) (keeps (note_at notes task) (words task below))
+        | inr away ↦ subst (λ (n : Notification). n.value < 2 ^ 32) (sym (get_or-set_other notes task i new no_note away)) (words i (omega (arith, length-set notes task new)))
+      ]
+
+  pub ruled_sound : (table : Table) → IsConsistent table → task < table.settings.tasks → ((note : Notification) → note.value < 2 ^ 32 → (rule note).1.value < 2 ^ 32) → IsConsistent (record table { notes = ruled table.notes })
+  ruled_sound table sound low keeps =
+      notes_sound table (ruled table.notes) sound (length-set table.notes task _ ∙ sound.sized.notes) (ruled_words table.notes (omega (arith, sound.sized.notes)) keeps sound.notes)
+
+module _ (table : Table) (acting task : ℕ) (action : Action) (sound : IsConsistent table) (low : task < table.settings.tasks) where
+  abbrev told : Table
+  told = record table { notes = slice_set table.notes task (notified action (note_at table.notes task)) }
+
+  told_sound : IsActionOfWord action → IsConsistent told
+  told_sound word = ruled_sound task (λ note. (note, notified action note)) table sound low (λ note. notified_word action note word)
+
+  pub notify_seen : image (notify table_moves acting task action table) ≡ notify list_moves acting task action (image table)
+  unfolding notify
+  notify_seen = at (is_waiting (note_at table.notes task).state)
+    where
+      at : (b : Bool) → image (cond b (wake table_moves acting task told) told) ≡ cond b (wake list_moves acting task (image told)) (image told)
+      at true = wake_seen told acting task sound.stamped.given (omega (arith, sound.sized.rows))
+      at false = refl
+
+  pub notify_sound : IsActionOfWord action → IsConsistent (notify table_moves acting task action table)
+  unfolding notify
+  notify_sound word = at (is_waiting (note_at table.notes task).state)
+    where
+      at : (b : Bool) → IsConsistent (cond b (wake table_moves acting task told) told)
+      at true = wake_sound told acting task (told_sound word) low
+      at false = told_sound word

@@ -1,0 +1,210 @@
+-- The calls that set a task's priority, core affinity mask and preemption: how each is seen, and that each keeps soundness.
+use Rattle.std.proofs.Common.{◌≡◌, ℕ, ◌-◌, ◌<◌, Bool, true, false, cond, not, eqb, ltb, ◌&&◌, ◌||◌, List, [], ◌∷◌, length, Option, Some, None, refl, sym, ap, ◌∙◌, arith}
+use Rattle.std.specs.Prelude.{is_some}
+use Rattle.std.specs.List.{find, list_any}
+use Rattle.std.specs.Option.{option_map_or}
+use Rattle.std.proofs.lemmas.Bool.Decides.{nat_tests}
+use Rattle.bench_types.specs.declared.kernel_data.TaskControl.{TaskControl}
+use Rattle.list_orders.specs.Search.{numbers}
+use Rattle.bench_model.specs.Control.{Control, core_at, task_at, current, in_mask, ask}
+use Rattle.bench_model.specs.Table.{Stamps, Table, table_moves, is_ready}
+use Rattle.bench_model.specs.Lists as seen
+use Rattle.bench_model.specs.Lists.{View, list_moves, lists_of, image}
+use Rattle.bench_model.specs.Seek.{is_running, seek}
+use Rattle.bench_model.specs.Changes.{with_task, with_base, with_affinity, with_preemption, in_use_set}
+use Rattle.bench_model.specs.Sets.{runs_on, ask_its_core, capped, in_use_behind, ranked_anew, masked_anew, priority_set, affinity_set, preemption_off, preemption_on}
+use Rattle.rule_laws.specs.SetLaws.{on_control}
+use Rattle.bench_model.specs.Sound.{IsConsistent}
+use Rattle.list_orders.proofs.Bests.{found}
+use Rattle.rule_laws.proofs.Changes.{change_apart, change_sound, in_use_seen, in_use_sound}
+use Rattle.list_orders.proofs.Filters.{All-has}
+use Rattle.rule_laws.proofs.Seeks.{seek_more}
+use Rattle.order_laws.proofs.SeenMoves.{is_ready_seen}
+use Rattle.order_laws.proofs.SeenSteps.{same_state, lists_of_cores}
+use Rattle.order_laws.proofs.SoundSteps.{IsAskedMore, asked_more, more_sound, with_control}
+use Rattle.list_orders.proofs.Stamped.{numbers_below}
+
+is_some_find : (p : ℕ → Bool) (xs : List ℕ) → is_some (find p xs) ≡ list_any p xs
+is_some_find p [] = refl
+is_some_find p (x ∷ xs) = at (p x) (is_some_find p xs)
+  where
+    at : (b : Bool) → is_some (find p xs) ≡ list_any p xs → is_some (cond b (Some x) (find p xs)) ≡ (b || list_any p xs)
+    at true rest = refl
+    at false rest = rest
+
+abbrev keeps_running : Control → ℕ → ℕ → Bool
+keeps_running control task core = eqb (current control core) task && not (core_at control core).asked
+
+pub runs_on_some : (control : Control) (task : ℕ) → is_some (runs_on control task) ≡ is_running control task
+unfolding runs_on
+runs_on_some control task = is_some_find (keeps_running control task) (numbers (length control.cores))
+
+runs_below : (control : Control) (task core : ℕ) → runs_on control task ≡ Some core → core < length control.cores
+unfolding runs_on
+runs_below control task core same =
+    let cores = length control.cores in
+    All-has (λ c. c < cores) core (numbers cores) (numbers_below cores) (found (keeps_running control task) (numbers cores) core same).0
+
+-- what each rule asks: one core, or none
+none_more : (control : Control) → IsAskedMore control control
+none_more control = record { cores = refl; tasks = refl; currents = λ c. refl; due = λ c is. is }
+
+either_more : (control one other : Control) (b : Bool) → IsAskedMore control one → IsAskedMore control other → IsAskedMore control (cond b one other)
+either_more control one other true here there = here
+either_more control one other false here there = there
+
+pub its_core_more : (acting task : ℕ) (control : Control) → IsAskedMore control (ask_its_core acting task control)
+unfolding ask_its_core
+its_core_more acting task control = at (runs_on control task) refl
+  where
+    at : (o : Option ℕ) → runs_on control task ≡ o → IsAskedMore control (option_map_or (λ core. ask acting core control) o control)
+    at None same = none_more control
+    at (Some core) same = asked_more control acting core (runs_below control task core same)
+
+pub ranked_more : (acting task old new : ℕ) (ready : Bool) (control : Control) → IsAskedMore control (ranked_anew acting task old new ready control)
+unfolding ranked_anew
+ranked_more acting task old new ready control =
+    let asked = ask_its_core acting task control in
+    let lowered = ltb new old && (task_at control task).preempt in
+    either_more control (seek acting task (in_mask control task) control) (cond lowered asked control) (ltb old new && ready) (seek_more acting task (in_mask control task) control)
+    (either_more control asked control lowered (its_core_more acting task control) (none_more control))
+
+pub masked_more : (acting task : ℕ) (ready : Bool) (control : Control) → IsAskedMore control (masked_anew acting task ready control)
+unfolding masked_anew
+masked_more acting task ready control = at (runs_on control task) refl
+  where
+    sought : Control
+    sought = seek acting task (in_mask control task) control
+
+    at : (o : Option ℕ) → runs_on control task ≡ o → IsAskedMore control (option_map_or (λ core. cond (in_mask control task core) control (ask acting core control)) o (cond ready sought control))
+    at None same = either_more control sought control ready (seek_more acting task (in_mask control task) control) (none_more control)
+    at (Some core) same = either_more control control (ask acting core control) (in_mask control task core) (none_more control) (asked_more control acting core (runs_below control task core same))
+
+-- the orders do not read the cores, some of which may be asked
+more_apart : (control other : Control) (stamps : Stamps) → IsAskedMore control other → lists_of other stamps ≡ lists_of control stamps
+more_apart control other stamps more =
+    ap (λ (tasks : List TaskControl). lists_of (record { cores = other.cores; tasks = tasks }) stamps) more.tasks ∙ lists_of_cores control other.cores stamps
+
+more_seen : (table : Table) (other : Control) → IsAskedMore table.control other → image (with_control table other) ≡ record (image table) { control = other }
+more_seen table other more = same_state table.settings other other table.calls table.notes table.holders table.hold _ _ refl (more_apart table.control other table.orders more)
+
+pub its_core_seen : (table : Table) (acting task : ℕ) → image (on_control (ask_its_core acting task) table) ≡ on_control (ask_its_core acting task) (image table)
+its_core_seen table acting task = more_seen table (ask_its_core acting task table.control) (its_core_more acting task table.control)
+
+pub ranked_seen : (table : Table) (acting task old new : ℕ) (ready : Bool) → image (on_control (ranked_anew acting task old new ready) table) ≡ on_control (ranked_anew acting task old new ready) (image table)
+ranked_seen table acting task old new ready = more_seen table (ranked_anew acting task old new ready table.control) (ranked_more acting task old new ready table.control)
+
+pub masked_seen : (table : Table) (acting task : ℕ) (ready : Bool) → image (on_control (masked_anew acting task ready) table) ≡ on_control (masked_anew acting task ready) (image table)
+masked_seen table acting task ready = more_seen table (masked_anew acting task ready table.control) (masked_more acting task ready table.control)
+
+pub its_core_sound : (table : Table) (acting task : ℕ) → IsConsistent table → IsConsistent (on_control (ask_its_core acting task) table)
+its_core_sound table acting task sound = more_sound table (ask_its_core acting task table.control) (its_core_more acting task table.control) sound
+
+pub ranked_sound : (table : Table) (acting task old new : ℕ) (ready : Bool) → IsConsistent table → IsConsistent (on_control (ranked_anew acting task old new ready) table)
+ranked_sound table acting task old new ready sound = more_sound table (ranked_anew acting task old new ready table.control) (ranked_more acting task old new ready table.control) sound
+
+pub masked_sound : (table : Table) (acting task : ℕ) (ready : Bool) → IsConsistent table → IsConsistent (on_control (masked_anew acting task ready) table)
+masked_sound table acting task ready sound = more_sound table (masked_anew acting task ready table.control) (masked_more acting task ready table.control) sound
+
+-- a control block that keeps its priority in use
+change_seen : (table : Table) (task : ℕ) (block : TaskControl) → block.in_use ≡ (task_at table.control task).in_use → image (with_control table (with_task task block table.control)) ≡ record (image table) { control = with_task task block table.control }
+change_seen table task block kept = same_state table.settings _ _ table.calls table.notes table.holders table.hold _ _ refl (change_apart table.control table.orders task block kept)
+
+pub off_seen : (table : Table) (task : ℕ) → image (preemption_off table_moves task table) ≡ preemption_off list_moves task (image table)
+unfolding preemption_off
+off_seen table task = change_seen table task (record (task_at table.control task) { preempt = false }) refl
+
+pub off_sound : (table : Table) (task : ℕ) → IsConsistent table → task < table.settings.tasks → IsConsistent (preemption_off table_moves task table)
+unfolding preemption_off
+off_sound table task sound low = change_sound table task (record (task_at table.control task) { preempt = false }) sound (sound.priorities task low)
+
+pub on_seen : (table : Table) (acting task : ℕ) → image (preemption_on table_moves acting task table) ≡ preemption_on list_moves acting task (image table)
+unfolding preemption_on
+on_seen table acting task =
+    its_core_seen (with_control table (with_preemption task true table.control)) acting task
+    ∙ ap (on_control (ask_its_core acting task)) (change_seen table task (record (task_at table.control task) { preempt = true }) refl)
+
+pub on_sound : (table : Table) (acting task : ℕ) → IsConsistent table → task < table.settings.tasks → IsConsistent (preemption_on table_moves acting task table)
+unfolding preemption_on
+on_sound table acting task sound low =
+    its_core_sound (with_control table (with_preemption task true table.control)) acting task (change_sound table task (record (task_at table.control task) { preempt = true }) sound (sound.priorities task low))
+
+pub ready_seen : (table : Table) (task : ℕ) → IsConsistent table → task < table.settings.tasks → is_ready task table.orders ≡ seen.is_ready task (lists_of table.control table.orders)
+ready_seen table task sound low = sym (is_ready_seen table.control table.orders task sound.stamped.given (omega (arith, sound.sized.rows)))
+
+pub affinity_seen : (table : Table) (acting task mask : ℕ) → IsConsistent table → task < table.settings.tasks → image (affinity_set table_moves acting task mask table) ≡ affinity_set list_moves acting task mask (image table)
+unfolding affinity_set
+affinity_seen table acting task mask sound low =
+    let changed = with_affinity task mask table.control in
+    masked_seen (with_control table changed) acting task (is_ready task table.orders)
+    ∙ ap (on_control (masked_anew acting task (is_ready task table.orders))) (change_seen table task _ refl)
+    ∙ ap (λ ready. record (image table) { control = masked_anew acting task ready changed }) (ready_seen table task sound low)
+
+pub affinity_sound : (table : Table) (acting task mask : ℕ) → IsConsistent table → task < table.settings.tasks → IsConsistent (affinity_set table_moves acting task mask table)
+unfolding affinity_set
+affinity_sound table acting task mask sound low =
+    masked_sound (with_control table (with_affinity task mask table.control)) acting task (is_ready task table.orders) (change_sound table task _ sound (sound.priorities task low))
+
+either_below : (x y bound : ℕ) (b : Bool) → x < bound → y < bound → cond b x y < bound
+either_below x y bound true here there = here
+either_below x y bound false here there = there
+
+capped_below : (priorities priority : ℕ) → 0 < priorities → capped priorities priority < priorities
+capped_below priorities priority some = at (ltb priority priorities) refl
+  where
+    at : (b : Bool) → ltb priority priorities ≡ b → cond b priority (priorities - 1) < priorities
+    at true below = grind (arith, nat_tests, below)
+    at false above = omega arith
+
+pub either_seen : (b : Bool) (x y : Table) (v w : View) → image x ≡ v → image y ≡ w → image (cond b x y) ≡ cond b v w
+either_seen true x y v w here there = here
+either_seen false x y v w here there = there
+
+pub either_sound : (b : Bool) (x y : Table) → IsConsistent x → IsConsistent y → IsConsistent (cond b x y)
+either_sound true x y here there = here
+either_sound false x y here there = there
+
+-- a priority that is set
+module _ (table : Table) (task priority : ℕ) (sound : IsConsistent table) (low : task < table.settings.tasks) where
+  abbrev block : TaskControl
+  block = task_at table.control task
+
+  abbrev new : ℕ
+  new = capped table.settings.priorities priority
+
+  abbrev based : Table
+  based = with_control table (with_base task new table.control)
+
+  abbrev based_view : View
+  based_view = record (image table) { control = with_base task new table.control }
+
+  new_below : new < table.settings.priorities
+  new_below = capped_below table.settings.priorities priority (omega (arith, (sound.priorities task low).0))
+
+  based_sound : IsConsistent based
+  based_sound = change_sound table task (record block { base = new }) sound ((sound.priorities task low).0, new_below)
+
+  later_seen : image (in_use_set table_moves task (in_use_behind block new) based) ≡ in_use_set list_moves task (in_use_behind block new) based_view
+  later_seen =
+      in_use_seen based task (in_use_behind block new) based_sound low
+      ∙ ap (in_use_set list_moves task (in_use_behind block new)) (change_seen table task (record block { base = new }) refl)
+
+  later_sound : IsConsistent (in_use_set table_moves task (in_use_behind block new) based)
+  later_sound = in_use_sound based task (in_use_behind block new) based_sound low (either_below new block.in_use table.settings.priorities (eqb block.in_use block.base || ltb block.in_use new) new_below (sound.priorities task low).0)
+
+pub priority_seen : (table : Table) (acting task priority : ℕ) → IsConsistent table → task < table.settings.tasks → image (priority_set table_moves acting task priority table) ≡ priority_set list_moves acting task priority (image table)
+unfolding priority_set
+priority_seen table acting task priority sound low =
+    let rule = ranked_anew acting task (block table task priority sound low).base (new table task priority sound low) in
+    let later = in_use_set table_moves task (in_use_behind (task_at table.control task) (capped table.settings.priorities priority)) (based table task priority sound low) in
+    let later_view = in_use_set list_moves task (in_use_behind (task_at table.control task) (capped table.settings.priorities priority)) (based_view table task priority sound low) in
+    either_seen (eqb (capped table.settings.priorities priority) (task_at table.control task).base) table _ (image table) _ refl
+    (ranked_seen later acting task (task_at table.control task).base (capped table.settings.priorities priority) (is_ready task table.orders)
+    ∙ ap (on_control (rule (is_ready task table.orders))) (later_seen table task priority sound low)
+    ∙ ap (λ ready. on_control (rule ready) later_view) (ready_seen table task sound low))
+
+pub priority_sound : (table : Table) (acting task priority : ℕ) → IsConsistent table → task < table.settings.tasks → IsConsistent (priority_set table_moves acting task priority table)
+unfolding priority_set
+priority_sound table acting task priority sound low =
+    either_sound (eqb (capped table.settings.priorities priority) (task_at table.control task).base) table _ sound
+    (ranked_sound _ acting task (task_at table.control task).base (capped table.settings.priorities priority) (is_ready task table.orders) (later_sound table task priority sound low))

@@ -1,0 +1,51 @@
+use Rattle.order_laws.proofs.FirstWaiters.{first_waiter_seen}
+use Rattle.order_laws.proofs.SeenMoves.{deadline_left_seen, forget_deadline_seen}
+use Rattle.rule_laws.proofs.Mutexes.{inherited_seen, inherited_sound, take_seen, take_sound, finished_seen, finished_sound, give_seen, give_sound, lowered_seen, lowered_sound}
+use Rattle.std.proofs.Common.{arith}
+use Rattle.rule_laws.proofs.CoresAlone.{inherited_on, lowered_on}
+use Rattle.rule_laws.proofs.laws_of_mutexes.Goals as goal
+
+pub returns-clause-first_waiter_is_seen : goal.returns-clause-first_waiter_is_seen
+returns-clause-first_waiter_is_seen c = λ control mutex stamps. first_waiter_seen mutex stamps control
+
+pub returns-clause-deadline_is_seen : goal.returns-clause-deadline_is_seen
+returns-clause-deadline_is_seen c = λ control task stamps. deadline_left_seen control stamps task
+
+pub returns-clause-forgetting_is_seen : goal.returns-clause-forgetting_is_seen
+returns-clause-forgetting_is_seen c = λ control task stamps. forget_deadline_seen control stamps task
+
+pub returns-clause-inherit_is_seen : goal.returns-clause-inherit_is_seen
+returns-clause-inherit_is_seen c = inherited_seen
+
+pub returns-clause-inherit_keeps_consistent : goal.returns-clause-inherit_keeps_consistent
+returns-clause-inherit_keeps_consistent c = inherited_sound
+
+pub returns-clause-take_is_seen : goal.returns-clause-take_is_seen
+returns-clause-take_is_seen c = take_seen
+
+pub returns-clause-take_keeps_consistent : goal.returns-clause-take_keeps_consistent
+returns-clause-take_keeps_consistent c = λ table core task mutex ticks sound place user. take_sound table core task mutex ticks sound place (omega (arith, sound.sized.cores, user))
+
+pub returns-clause-finish_is_seen : goal.returns-clause-finish_is_seen
+returns-clause-finish_is_seen c = finished_seen
+
+pub returns-clause-finish_keeps_consistent : goal.returns-clause-finish_keeps_consistent
+returns-clause-finish_keeps_consistent c = λ table core task call sound place checked user. finished_sound table core task call sound place checked (omega (arith, sound.sized.cores, user))
+
+pub returns-clause-give_is_seen : goal.returns-clause-give_is_seen
+returns-clause-give_is_seen c = give_seen
+
+pub returns-clause-give_keeps_consistent : goal.returns-clause-give_keeps_consistent
+returns-clause-give_keeps_consistent c = give_sound
+
+pub returns-clause-lower_is_seen : goal.returns-clause-lower_is_seen
+returns-clause-lower_is_seen c = lowered_seen
+
+pub returns-clause-lower_keeps_consistent : goal.returns-clause-lower_keeps_consistent
+returns-clause-lower_keeps_consistent c = lowered_sound
+
+pub returns-clause-inherit_on_cores : goal.returns-clause-inherit_on_cores
+returns-clause-inherit_on_cores c = inherited_on
+
+pub returns-clause-lower_on_cores : goal.returns-clause-lower_on_cores
+returns-clause-lower_on_cores c = lowered_on

@@ -1,0 +1,5 @@
+pub mod CoresLaws
+pub mod MutexLaws
+pub mod NoteLaws
+pub mod SeekLaws
+pub mod SetLaws

@@ -1,0 +1,150 @@
+//! The laws of single rules: a rule over stamps is the same rule over lists, and it keeps a table consistent. Each function does nothing: its contract
+//! is the laws, one a clause.
+#![tactic(auto)]
+
+ghost use Rattle.rule_laws.specs.CoresLaws.{ChangeIsApart, ChangeKeepsConsistent, InUseIsSeen, InUseKeepsConsistent, AskOnCores, SeekOnCores, WakeOnCores, WaitOnCores, SwitchOnCores, SlicesOnCores, InUseOnCores};
+ghost use Rattle.rule_laws.specs.MutexLaws.{FirstWaiterIsSeen, DeadlineIsSeen, ForgettingIsSeen, InheritIsSeen, InheritKeepsConsistent, TakeIsSeen, TakeKeepsConsistent, FinishIsSeen, FinishKeepsConsistent, GiveIsSeen, GiveKeepsConsistent, LowerIsSeen, LowerKeepsConsistent, InheritOnCores, LowerOnCores};
+ghost use Rattle.rule_laws.specs.NoteLaws.{NotifyIsSeen, NotifyKeepsConsistent, NotesAreApart, NotesKeepConsistent};
+ghost use Rattle.rule_laws.specs.SeekLaws.{BestCoreIsAsked, SeekIsSeen, WakeIsSeen, SoughtSwitchIsSeen, SlicesAreSeen, AskKeepsConsistent, SeekKeepsConsistent, WakeKeepsConsistent, SoughtSwitchKeepsConsistent, SlicesKeepConsistent};
+ghost use Rattle.rule_laws.specs.SetLaws.{RunsOnSomeCore, AskItsCoreIsSeen, RankedAnewIsSeen, MaskedAnewIsSeen, PrioritySetIsSeen, AffinitySetIsSeen, PreemptionOffIsSeen, PreemptionOnIsSeen, AskItsCoreKeepsConsistent, RankedAnewKeepsConsistent, MaskedAnewKeepsConsistent, PrioritySetKeepsConsistent, AffinitySetKeepsConsistent, PreemptionOffKeepsConsistent, PreemptionOnKeepsConsistent};
+
+/// Seeking a core for a task, waking one, switches and time slices. Each rule is the same over stamps and over lists, and keeps a
+/// table consistent (FreeRTOS SMP, `prvYieldForTask`).
+pub fn laws_of_seeking()
+    // The core that is asked for a task is the best of those that give way to it, and none is
+    // asked only where none does.
+    ensures best_core_is_asked { BestCoreIsAsked }
+    // Seeking a core changes no order of tasks, so it is the same over lists.
+    ensures seek_is_seen { SeekIsSeen }
+    // Waking a task, and seeking a core for it, is so over lists.
+    ensures wake_is_seen { WakeIsSeen }
+    // A switch, with the seek for the task that lost the core, is so over lists.
+    ensures sought_switch_is_seen { SoughtSwitchIsSeen }
+    // The cores that are asked as time slices end are the same over lists.
+    ensures slices_are_seen { SlicesAreSeen }
+    // A sound table is sound when any core was asked.
+    ensures ask_keeps_consistent { AskKeepsConsistent }
+    // A sound table is sound when a core was sought for any task.
+    ensures seek_keeps_consistent { SeekKeepsConsistent }
+    // A sound table is sound when a task was woken and a core sought for it.
+    ensures wake_keeps_consistent { WakeKeepsConsistent }
+    // A sound table is sound behind a switch and the seek for the task that lost the core.
+    ensures sought_switch_keeps_consistent { SoughtSwitchKeepsConsistent }
+    // A sound table is sound when cores were asked as time slices ended.
+    ensures slices_keep_consistent { SlicesKeepConsistent }
+{}
+
+/// The calls that set a task's priority, core affinity mask and preemption, and who is asked then. Each rule is the same over
+/// stamps and over lists, and keeps a table consistent.
+pub fn laws_of_priority_and_affinity()
+    // A task runs where there is a core that it runs on.
+    ensures runs_on_some_core { RunsOnSomeCore }
+    // Asking the core of a task changes no order of tasks, so it is the same over lists.
+    ensures ask_its_core_is_seen { AskItsCoreIsSeen }
+    // Who is asked behind a new base priority changes no order of tasks, so it is the same over
+    // lists.
+    ensures ranked_anew_is_seen { RankedAnewIsSeen }
+    // Who is asked behind a new mask changes no order of tasks, so it is the same over lists.
+    ensures masked_anew_is_seen { MaskedAnewIsSeen }
+    // Setting a priority is so over lists.
+    ensures priority_set_is_seen { PrioritySetIsSeen }
+    // Setting a core affinity mask is so over lists.
+    ensures affinity_set_is_seen { AffinitySetIsSeen }
+    // Turning preemption off is so over lists.
+    ensures preemption_off_is_seen { PreemptionOffIsSeen }
+    // Turning preemption on is so over lists.
+    ensures preemption_on_is_seen { PreemptionOnIsSeen }
+    // A sound table is sound when the core of any task was asked.
+    ensures ask_its_core_keeps_consistent { AskItsCoreKeepsConsistent }
+    // A sound table is sound when a core was asked behind a new base priority.
+    ensures ranked_anew_keeps_consistent { RankedAnewKeepsConsistent }
+    // A sound table is sound when a core was asked behind a new mask.
+    ensures masked_anew_keeps_consistent { MaskedAnewKeepsConsistent }
+    // A sound table is sound when a priority was set.
+    ensures priority_set_keeps_consistent { PrioritySetKeepsConsistent }
+    // A sound table is sound when a core affinity mask was set.
+    ensures affinity_set_keeps_consistent { AffinitySetKeepsConsistent }
+    // A sound table is sound when preemption was turned off.
+    ensures preemption_off_keeps_consistent { PreemptionOffKeepsConsistent }
+    // A sound table is sound when preemption was turned on.
+    ensures preemption_on_keeps_consistent { PreemptionOnKeepsConsistent }
+{}
+
+/// Notifying a task. The rule is the same over stamps and over lists, and keeps a table consistent.
+pub fn laws_of_notifications()
+    // Notifying a task, and waking it where it waits for that, is so over lists.
+    ensures notify_is_seen { NotifyIsSeen }
+    // A sound table is sound when a task was notified with a number of 32 bits.
+    ensures notify_keeps_consistent { NotifyKeepsConsistent }
+    // Notifications are seen as they are, and no order of tasks reads them.
+    ensures notes_are_apart { NotesAreApart }
+    // A sound table is sound with other notifications, one for each task, whose values are numbers
+    // of 32 bits.
+    ensures notes_keep_consistent { NotesKeepConsistent }
+{}
+
+/// Mutexes and priority inheritance. Each rule is the same over stamps and over lists, and keeps a table consistent.
+pub fn laws_of_mutexes()
+    // The first waiter of a mutex in its list is the best of all tasks that wait for it.
+    ensures first_waiter_is_seen { FirstWaiterIsSeen }
+    // The ticks that are left to a deadline are seen as they are.
+    ensures deadline_is_seen { DeadlineIsSeen }
+    // Forgetting a deadline is so over lists.
+    ensures forgetting_is_seen { ForgettingIsSeen }
+    // A holder that takes over a greater priority in use does so over lists.
+    ensures inherit_is_seen { InheritIsSeen }
+    // A sound table is sound when a holder took over a priority in use.
+    ensures inherit_keeps_consistent { InheritKeepsConsistent }
+    // Taking a mutex, with the inheritance that comes with waiting for it, is so over lists.
+    ensures take_is_seen { TakeIsSeen }
+    // A sound table is sound when a user task took a mutex, or waits for it.
+    ensures take_keeps_consistent { TakeKeepsConsistent }
+    // Finishing a call that has not returned is so over lists: with what it waited for, without
+    // it, or by waiting again.
+    ensures finish_is_seen { FinishIsSeen }
+    // A sound table is sound when a user task finished its call.
+    ensures finish_keeps_consistent { FinishKeepsConsistent }
+    // Giving a mutex, which ends what its holder inherited and wakes its first waiter, is so over
+    // lists.
+    ensures give_is_seen { GiveIsSeen }
+    // A sound table is sound when a task gave a mutex.
+    ensures give_keeps_consistent { GiveKeepsConsistent }
+    // Giving up an inherited priority in use, and who is asked behind it, is so over lists.
+    ensures lower_is_seen { LowerIsSeen }
+    // A sound table is sound when a task gave up an inherited priority in use.
+    ensures lower_keeps_consistent { LowerKeepsConsistent }
+    // What inheriting does to the cores and ready lists depends on them alone.
+    ensures inherit_on_cores { InheritOnCores }
+    // What giving up an inherited priority does to the cores and ready lists depends on them
+    // alone.
+    ensures lower_on_cores { LowerOnCores }
+{}
+
+/// Cores, control blocks and ready lists by themselves: what each rule does to them depends on them alone.
+pub fn laws_of_cores()
+    // A change of the base priority, the mask or the preemption flag of a task changes no order of
+    // tasks.
+    ensures change_is_apart { ChangeIsApart }
+    // A sound table is sound when a control block was changed to priorities below their number.
+    ensures change_keeps_consistent { ChangeKeepsConsistent }
+    // A new stamp for a ready task whose priority in use was set is, seen as lists, the end of the
+    // list of that priority.
+    ensures in_use_is_seen { InUseIsSeen }
+    // A sound table is sound when a priority in use was set to one below their number.
+    ensures in_use_keeps_consistent { InUseKeepsConsistent }
+    // What asking a core does to the cores and ready lists that are seen of a table.
+    ensures ask_on_cores { AskOnCores }
+    // What seeking a core does to the cores and ready lists that are seen of a table.
+    ensures seek_on_cores { SeekOnCores }
+    // What waking a task does to the cores and ready lists depends on them alone.
+    ensures wake_on_cores { WakeOnCores }
+    // A task that begins to wait leaves the ready lists, and changes no core.
+    ensures wait_on_cores { WaitOnCores }
+    // What a switch, with the seek behind it, does to the cores and ready lists depends on them
+    // alone.
+    ensures switch_on_cores { SwitchOnCores }
+    // What the ends of time slices do to the cores and ready lists depends on them alone.
+    ensures slices_on_cores { SlicesOnCores }
+    // What setting a priority in use does to the cores and ready lists depends on them alone.
+    ensures in_use_on_cores { InUseOnCores }
+{}

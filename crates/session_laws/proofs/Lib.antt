@@ -1,0 +1,5 @@
+pub mod Alike
+pub mod EditedSessions
+pub mod SameOrders
+pub mod Tallies
+pub mod Traces

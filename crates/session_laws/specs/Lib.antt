@@ -1,0 +1,3 @@
+pub mod AlikeLaws
+pub mod EditLaws
+pub mod TallyLaws

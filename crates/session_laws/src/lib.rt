@@ -1,0 +1,33 @@
+//! The laws of sessions: edits keep one, equality is equality pair by pair, tallies add up. Each function does nothing: its contract
+//! is the laws, one a clause.
+#![tactic(auto)]
+
+ghost use Rattle.session_laws.specs.AlikeLaws.{SameIsAlike};
+ghost use Rattle.session_laws.specs.EditLaws.{EditKeepsSession};
+ghost use Rattle.session_laws.specs.TallyLaws.{TalliesAreStepwise, PartsAddUp, CountsAreFew, TallyIsSeen};
+
+/// Edits of a session.
+pub fn laws_of_edits()
+    // An accepted edit leaves a header within its limits, no step at fault under it, and not too
+    // many steps.
+    ensures { EditKeepsSession }
+{}
+
+/// Equality of kernels by what can be seen of them.
+pub fn laws_of_equality()
+    // What can be seen of two sound tables, sorted into lists, is equal exactly where the tables
+    // are alike pair by pair.
+    ensures { SameIsAlike }
+{}
+
+/// The tallies of a session.
+pub fn laws_of_tallies()
+    // The tallies of a session are those of its start, with each step counted in turn.
+    ensures tallies_are_stepwise { TalliesAreStepwise }
+    // Where a session is cut in two, its tallies are the numbers of both parts together.
+    ensures parts_add_up { PartsAddUp }
+    // No count is above the number of steps.
+    ensures counts_are_few { CountsAreFew }
+    // A step counts the same over lists.
+    ensures tally_is_seen { TallyIsSeen }
+{}

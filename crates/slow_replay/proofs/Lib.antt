@@ -1,0 +1,3 @@
+pub mod SlowRuns
+pub mod SlowSlices
+pub mod SlowTicks

@@ -1,0 +1,83 @@
+use Rattle.std.proofs.Common.{◌≡◌, ℕ, zero, suc, ◌+◌, ◌-◌, false, List, ◌++◌, length, map, replicate, Option, Some, None, refl, ap, sym, ◌∙◌, arith}
+use Rattle.std.specs.Prelude.{slice_index_or}
+use Rattle.std.proofs.lemmas.List.{length-replicate}
+use Rattle.std.proofs.lemmas.List.FromFn.{length-map-range_with_len, get_or-map-range_with_len}
+use Rattle.bench_types.specs.declared.kernel_data.CoreLook.{CoreLook}
+use Rattle.bench_types.specs.declared.kernel_data.Settings.{Settings}
+use Rattle.bench_types.specs.declared.kernel_data.TaskControl.{TaskControl}
+use Rattle.bench_types.specs.declared.note.Notification.{Notification}
+use Rattle.bench_types.specs.declared.step.Unfinished.{Unfinished}
+use Rattle.bench_model.specs.declared.row.TaskRow.{TaskRow}
+use Rattle.bench_model.specs.Notes.{no_note}
+use Rattle.list_orders.specs.Search.{numbers}
+use Rattle.bench_model.specs.Start.{first_look, ready_row, first_stamps, unstarted}
+use Rattle.bench_model.specs.Table.{Table}
+use Rattle.step_laws.proofs.Starts.{length_ranges}
+use Rattle.order_laws.proofs.FirstBlocks.{first_tasks}
+use Rattle.slow_replay.proofs.slow.unstarted.Goals as goal
+
+abbrev no_look : CoreLook
+no_look = record { current = 0; pend = false; asked = false }
+
+none_at : (n mutex : ℕ) → slice_index_or {A = Option ℕ} (replicate n None) mutex None ≡ None
+none_at zero mutex = refl
+none_at (suc n) zero = refl
+none_at (suc n) (suc mutex) = none_at n mutex
+
+none_held : (n mutex task : ℕ) → slice_index_or {A = Option ℕ} (replicate n None) mutex None ≡ Some task → ⊥
+none_held n mutex task held = cc (none_at n mutex, held)
+
+pub invariant_of-result : goal.invariant_of-result
+invariant_of-result c =
+    let settings = c.settings_of-settings.result in
+    let cores = ap (λ (s : Settings). s.cores) c.settings_of-settings.ensures in
+    let tasks = ap (λ (s : Settings). s.tasks) c.settings_of-settings.ensures in
+    let sum : settings.cores + (settings.tasks - settings.cores) ≡ settings.tasks = omega arith in
+    record {
+      few_cores = omega (arith, cores, c.requires.cores);
+      cores = ap length c.in_ok-cores.ensures ∙ length-map-range_with_len _ 0 settings.cores;
+      controls = ap length c.in_ok-tasks.ensures ∙ first_tasks c.args.header.now ∙ omega (arith, tasks);
+      calls = ap length c.in_ok-calls.ensures ∙ length-replicate settings.tasks _;
+      notes = ap length c.in_ok-notes.ensures ∙ length-replicate settings.tasks _;
+      holders = ap length c.in_ok-holders.ensures ∙ length-replicate settings.mutexes _;
+      rows = ap length c.in_ok-rows.ensures ∙ length_ranges _ _ settings.cores (settings.tasks - settings.cores) ∙ sum;
+      deadlines = ap length c.in_ok-deadlines.ensures ∙ length-replicate settings.tasks _;
+      held_by_tasks = λ mutex task held. absurd (none_held settings.mutexes mutex task (ap (λ holders. slice_index_or holders mutex None) (sym c.in_ok-holders.ensures) ∙ held));
+      runs_tasks = λ core low.
+          let look = ap (λ looks. slice_index_or looks core no_look) c.in_ok-cores.ensures ∙ get_or-map-range_with_len first_look 0 settings.cores core core no_look low (omega arith) in
+          omega (arith, ap (λ (l : CoreLook). l.current) look, cores, tasks);
+    }
+
+abbrev table_of : Settings → List CoreLook → List TaskControl → List (Option Unfinished) → List Notification → List (Option ℕ) → List TaskRow → List (Option ℕ) → ℕ → ℕ → Table
+table_of settings cores tasks calls notes holders rows deadlines tick next = record {
+  settings = settings;
+  control = record { cores = cores; tasks = tasks };
+  calls = calls;
+  notes = notes;
+  holders = holders;
+  hold = None;
+  orders = record { rows = rows; deadlines = deadlines; tick = tick; next = next };
+}
+
+same_table : {s t : Settings} {cs ds : List CoreLook} {bs es : List TaskControl} {us vs : List (Option Unfinished)} {ns ms : List Notification} {hs gs : List (Option ℕ)} {rs qs : List TaskRow} {xs ys : List (Option ℕ)} {i j k l : ℕ} → s ≡ t → cs ≡ ds → bs ≡ es → us ≡ vs → ns ≡ ms → hs ≡ gs → rs ≡ qs → xs ≡ ys → i ≡ j → k ≡ l → table_of s cs bs us ns hs rs xs i k ≡ table_of t ds es vs ms gs qs ys j l
+same_table a b c d e f g h i j = cc
+
+abbrev rows_for : ℕ → ℕ → List TaskRow
+rows_for cores users = map (λ core. ready_row (users + core)) (numbers cores) ++ map ready_row (numbers users)
+
+pub returns : goal.returns
+unfolding unstarted first_stamps
+returns c =
+    let header = c.args.header.now in
+    let settings = c.settings_of-settings.result in
+    let same = c.settings_of-settings.ensures in
+    let cores : settings.cores ≡ header.config.cores = ap (λ (s : Settings). s.cores) same in
+    let tasks : settings.tasks ≡ header.config.cores + length header.tasks = ap (λ (s : Settings). s.tasks) same in
+    let users : settings.tasks - settings.cores ≡ length header.tasks = omega (arith, cores, tasks) in
+    same_table same (c.in_ok-cores.ensures ∙ ap (λ n. map first_look (numbers n)) cores) c.in_ok-tasks.ensures
+    (c.in_ok-calls.ensures ∙ ap (λ n. replicate n None) tasks)
+    (c.in_ok-notes.ensures ∙ ap (λ n. replicate n no_note) tasks)
+    (c.in_ok-holders.ensures ∙ ap (λ n. replicate n None) (ap (λ (s : Settings). s.mutexes) same))
+    (c.in_ok-rows.ensures ∙ ap (λ n. rows_for n (settings.tasks - settings.cores)) cores ∙ ap (rows_for header.config.cores) users)
+    (c.in_ok-deadlines.ensures ∙ ap (λ n. replicate n None) tasks)
+    c.from.ensures (c.from-2.ensures ∙ tasks)

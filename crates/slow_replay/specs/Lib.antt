@@ -1,0 +1,4 @@
+pub mod Shown
+pub mod SlowDue
+pub mod SlowSeek
+pub mod SlowTable

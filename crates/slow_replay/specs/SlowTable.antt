@@ -1,0 +1,15 @@
+-- What the slow table keeps of its sizes.
+use Rattle.std.specs.Prelude.{◌≡◌, ℕ, ◌<◌, ◌≤◌, length, false, Some, None, slice_index_or}
+use Rattle.slow_replay.specs.declared.slow.SlowTable.TheInside.{Inside}
+
+pub record IsFit (table : Inside) : Type 0 where
+  pub few_cores : table.settings.cores ≤ 8
+  pub cores : length table.cores.items ≡ table.settings.cores
+  pub controls : length table.tasks.items ≡ table.settings.tasks
+  pub calls : length table.calls.items ≡ table.settings.tasks
+  pub notes : length table.notes.items ≡ table.settings.tasks
+  pub holders : length table.holders.items ≡ table.settings.mutexes
+  pub rows : length table.rows.items ≡ table.settings.tasks
+  pub deadlines : length table.deadlines.items ≡ table.settings.tasks
+  pub held_by_tasks : (mutex task : ℕ) → slice_index_or table.holders.items mutex None ≡ Some task → task < table.settings.tasks
+  pub runs_tasks : (core : ℕ) → core < table.settings.cores → (slice_index_or table.cores.items core (record { current = 0; pend = false; asked = false })).current < table.settings.tasks

@@ -1,0 +1,649 @@
+ghost use Rattle.std.specs.Prelude.{◌≡◌, ℕ, ◌<◌, ◌≤◌, ◌^◌, ◌+◌, ◌==◌, ◌&&◌, length, ◌++◌, map, replicate, option_map, slice_get, All, Some, None, IfOk, IfSome, nat_le, Ok};
+ghost use Rattle.bench_types.specs.Step.{call_check, step_check, settings_of, IsStepOfWords};
+ghost use Rattle.bench_types.specs.Header.{header_check};
+ghost use Rattle.bench_types.specs.declared.step.Call.TheVariants.{Delay};
+ghost use Rattle.bench_model.specs.Control.{is_elsewhere, is_allowed, may_select, is_due, current, run_on, running};
+ghost use Rattle.bench_model.specs.Notes.{no_note};
+ghost use Rattle.bench_model.specs.State.{queued, switched, yielded, blocked};
+ghost use Rattle.bench_model.specs.Seek.{wake, switched_and_sought};
+ghost use Rattle.bench_model.specs.Steps.{ticked, delayed_until, called, performed};
+ghost use Rattle.bench_model.specs.Sound.{IsConsistent, IsSound, IsInPlace};
+ghost use Rattle.bench_model.specs.Session.{step_of, outcome_at};
+ghost use Rattle.slow_replay.specs.Shown.{shown};
+ghost use Rattle.bench_model.specs.Table.{table_moves, advance, make_ready, is_ready, goes_before, pick, row_at, stamp_of, tasks_of, wakes_at};
+ghost use Rattle.list_orders.specs.Search.{is_best, numbers};
+ghost use Rattle.bench_model.specs.Start.{first_look, ready_row, idle_control, user_control, first_control, first_stamps, unstarted, start};
+ghost use Rattle.slow_replay.specs.SlowDue.{first_due};
+
+mod holds;
+mod mutexes;
+mod notes;
+mod seek;
+mod sets;
+
+use bench_model::until::{is_ahead, next_wake};
+use bench_model::{Standing, TaskRow};
+use bench_types::{
+    Call, CoreLook, Header, Hold, MutexWait, NoteState, Notification, Refusal, Reply, Row,
+    Settings, Step, TaskArgs, TaskControl, Unfinished,
+};
+use std::alloc::{AllocError, Global};
+use std::marker::Model;
+use std::ops::Range;
+
+/// The flat table as it is defined: a row a task, stamps and absolute wakes, searched whole.
+#[derive(Drop)]
+struct SlowTable {
+    settings: Settings,
+    cores: Vec<CoreLook>,
+    tasks: Vec<TaskControl>,
+    calls: Vec<Option<Unfinished>>,
+    notes: Vec<Notification>,
+    holders: Vec<Option<u32>>,
+    hold: Option<Hold>,
+    rows: Vec<TaskRow>,
+    deadlines: Vec<Option<u128>>,
+    tick: u128,
+    next: u128,
+}
+
+impl Model for SlowTable {
+    ghost use Rattle.bench_model.specs.Table.{Table};
+
+    ghost Value = { Table };
+
+    ghost use Rattle.slow_replay.specs.SlowTable.{IsFit};
+
+    ghost view = { λ t. record {
+      settings = t.settings;
+      control = record { cores = t.cores.items; tasks = t.tasks.items };
+      calls = t.calls.items;
+      notes = t.notes.items;
+      holders = t.holders.items;
+      hold = t.hold;
+      orders = record { rows = t.rows.items; deadlines = t.deadlines.items; tick = t.tick; next = t.next };
+    } };
+
+    ghost invariant = { IsFit };
+}
+
+impl SlowTable {
+    fn core_numbers(&self) -> Range<u32>
+        ensures numbers { result ≡ record { start = 0; end = length self.now.control.cores } }
+        ensures few { length self.now.control.cores ≤ 8 }
+        ensures settings { self.now.settings.cores ≡ length self.now.control.cores }
+    {
+        0..self.settings.cores
+    }
+
+    fn task_numbers(&self) -> Range<u32>
+        ensures numbers { result ≡ record { start = 0; end = length self.now.orders.rows } }
+        ensures settings { self.now.settings.tasks ≡ length self.now.orders.rows }
+    {
+        0..self.settings.tasks
+    }
+
+    fn is_ready(&self, task: u32) -> bool
+        requires { task < length self.now.orders.rows }
+        ensures { result ≡ is_ready task self.now.orders }
+    {
+        match self.rows[task as usize].standing {
+            Standing::Ready => true,
+            Standing::Blocked { .. } => false,
+        }
+    }
+
+    fn runs_on(&self, core: u32, task: u32) -> bool
+        requires { core < length self.now.control.cores }
+        ensures { result ≡ (current self.now.control core == task) }
+    {
+        self.cores[core as usize].current == task
+    }
+
+    fn current(&self, core: u32) -> u32
+        requires { core < length self.now.control.cores }
+        ensures runs { result ≡ current self.now.control core }
+        ensures task { result < length self.now.orders.rows }
+    {
+        self.cores[core as usize].current
+    }
+
+    fn is_elsewhere(&self, core: u32, task: u32) -> bool
+        ensures { result ≡ is_elsewhere self.now.control core task }
+    {
+        self.core_numbers()
+            .any(|other| other != core && self.runs_on(other, task))
+    }
+
+    fn is_allowed(&self, core: u32, task: u32) -> bool
+        requires core { core < length self.now.control.cores }
+        requires task { task < length self.now.orders.rows }
+        ensures { result ≡ is_allowed self.now.control core task }
+    {
+        task < self.settings.cores || (self.tasks[task as usize].mask >> core) & 1 == 1
+    }
+
+    fn can_select(&self, core: u32, task: u32) -> bool
+        requires core { core < length self.now.control.cores }
+        requires task { task < length self.now.orders.rows }
+        ensures { result ≡ (is_ready task self.now.orders && may_select self.now.control core task) }
+    {
+        self.is_ready(task) && self.is_allowed(core, task) && !self.is_elsewhere(core, task)
+    }
+
+    fn is_no_later(&self, one: u32, other: u32) -> bool
+        requires one { one < length self.now.orders.rows }
+        requires other { other < length self.now.orders.rows }
+        ensures { result ≡ nat_le (stamp_of self.now.orders one) (stamp_of self.now.orders other) }
+    {
+        self.rows[one as usize].stamp <= self.rows[other as usize].stamp
+    }
+
+    fn goes_before(&self, one: u32, other: u32) -> bool
+        requires one { one < length self.now.orders.rows }
+        requires other { other < length self.now.orders.rows }
+        ensures { result ≡ goes_before self.now.control self.now.orders one other }
+    {
+        let a = self.tasks[one as usize].in_use;
+        let b = self.tasks[other as usize].in_use;
+        b < a || (a == b && self.is_no_later(one, other))
+    }
+
+    // Whether the core may select the task and none that it may select goes before it.
+    fn is_best(&self, core: u32, task: u32) -> bool
+        requires core { core < length self.now.control.cores }
+        requires task { task < length self.now.orders.rows }
+        ensures { result ≡ is_best (λ i. is_ready i self.now.orders && may_select self.now.control core i) (goes_before self.now.control self.now.orders) (tasks_of self.now.orders) task }
+    {
+        self.can_select(core, task)
+            && self.task_numbers().all(|other| !self.can_select(core, other)
+                || self.goes_before(task, other))
+    }
+
+    fn pick(&self, core: u32) -> Option<u32>
+        requires { core < length self.now.control.cores }
+        ensures picked { result ≡ pick self.now.control core self.now.orders }
+        ensures task { IfSome result (λ task. task < length self.now.orders.rows) }
+    {
+        self.task_numbers().find(|task| self.is_best(core, *task))
+    }
+
+    fn is_due_now(&self, task: u32) -> bool
+        requires { task < length self.now.orders.rows }
+        ensures { result ≡ wakes_at self.now.orders.tick (row_at self.now.orders task).standing }
+    {
+        match self.rows[task as usize].standing {
+            Standing::Ready | Standing::Blocked { wake: None, .. } => false,
+            Standing::Blocked {
+                wake: Some(wake),
+                ..
+            } => wake == self.tick,
+        }
+    }
+
+    // Whether the task is due and none that is due has a smaller stamp.
+    fn is_first_due(&self, task: u32) -> bool
+        requires { task < length self.now.orders.rows }
+        ensures { result ≡ is_best (λ i. wakes_at self.now.orders.tick (row_at self.now.orders i).standing) (λ i j. nat_le (stamp_of self.now.orders i) (stamp_of self.now.orders j)) (tasks_of self.now.orders) task }
+    {
+        self.is_due_now(task)
+            && self.task_numbers().all(|other| !self.is_due_now(other)
+                || self.is_no_later(task, other))
+    }
+
+    fn first_due(&self) -> Option<u32>
+        ensures first { result ≡ first_due self.now.orders }
+        ensures task { IfSome result (λ task. task < length self.now.orders.rows) }
+    {
+        self.task_numbers().find(|task| self.is_first_due(*task))
+    }
+
+    #[tactic(auto, unfolding(bench_model::specs::Table::make_ready))]
+    fn make_ready(&mut self, task: u32)
+        requires task { task < length self.old.orders.rows }
+        requires room { self.old.orders.next + 1 < 2 ^ 128 }
+        ensures made { self.new ≡ record self.old { orders = make_ready task self.old.orders } }
+        ensures rows { length self.new.orders.rows ≡ length self.old.orders.rows }
+        ensures stamps { self.new.orders.next ≡ self.old.orders.next + 1 }
+        ensures tick { self.new.orders.tick ≡ self.old.orders.tick }
+    {
+        self.rows[task as usize] = TaskRow {
+            stamp: self.next,
+            standing: Standing::Ready,
+        };
+        self.next += 1;
+    }
+
+    #[tactic(auto, unfolding(bench_model::specs::State::yielded))]
+    fn ask_itself(&mut self, core: u32)
+        requires { core < length self.old.control.cores }
+        ensures { self.new ≡ yielded table_moves core self.old }
+    {
+        self.cores[core as usize].pend = true;
+    }
+
+    fn run_on(&mut self, core: u32, task: u32)
+        requires core { core < length self.old.control.cores }
+        requires task { task < length self.old.orders.rows }
+        ensures { self.new ≡ record self.old { control = run_on core task self.old.control } }
+    {
+        self.cores[core as usize] = CoreLook {
+            current: task,
+            pend: false,
+            asked: false,
+        };
+    }
+
+    // The core's task goes to the end of its ready list, where it is ready.
+    fn queue(&mut self, core: u32)
+        requires core { core < length self.old.control.cores }
+        requires room { self.old.orders.next + 1 < 2 ^ 128 }
+        ensures queued { self.new ≡ record self.old { orders = queued table_moves core self.old } }
+        ensures rows { length self.new.orders.rows ≡ length self.old.orders.rows }
+    {
+        let left = self.current(core);
+        if self.is_ready(left) {
+            self.make_ready(left);
+        }
+    }
+
+    #[tactic(auto, unfolding(bench_model::specs::State::switched))]
+    fn select(&mut self, core: u32)
+        requires core { core < length self.old.control.cores }
+        requires room { self.old.orders.next + 1 < 2 ^ 128 }
+        ensures switched { self.new ≡ switched table_moves core self.old }
+        ensures rows { length self.new.orders.rows ≡ length self.old.orders.rows }
+        ensures cores { length self.new.control.cores ≡ length self.old.control.cores }
+    {
+        let left = self.current(core);
+        self.queue(core);
+        let task = self.pick(core).unwrap_or(left);
+        self.run_on(core, task);
+    }
+
+    #[tactic(auto, unfolding(bench_model::specs::Seek::switched_and_sought))]
+    fn switch(&mut self, core: u32)
+        requires core { core < length self.old.control.cores }
+        requires room { self.old.orders.next + 1 < 2 ^ 128 }
+        ensures { self.new ≡ switched_and_sought table_moves core self.old }
+    {
+        let loser = self.current(core);
+        self.select(core);
+        self.resettle(core, loser);
+    }
+
+    #[tactic(auto, unfolding(bench_model::specs::Seek::wake))]
+    fn wake(&mut self, acting: u32, task: u32)
+        requires task { task < length self.old.orders.rows }
+        requires room { self.old.orders.next + 1 < 2 ^ 128 }
+        ensures woken { self.new ≡ wake table_moves acting task self.old }
+        ensures settings { self.new.settings ≡ self.old.settings }
+    {
+        self.make_ready(task);
+        self.seek(acting, task, None);
+    }
+
+    #[tactic(auto, unfolding(bench_model::specs::Table::advance))]
+    fn count_tick(&mut self)
+        requires { self.old.orders.tick + 1 < 2 ^ 128 }
+        ensures { self.new ≡ record self.old { orders = advance self.old.orders } }
+    {
+        self.tick += 1;
+    }
+
+    // Wakes the tasks that are due one by one, by core 0, and then ends time slices.
+    fn advance(&mut self)
+        requires sound { IsConsistent self.old }
+        requires room { self.old.orders.next + length self.old.orders.rows < 2 ^ 128 }
+        requires time { self.old.orders.tick + 1 < 2 ^ 128 }
+        ensures { self.new ≡ ticked table_moves self.old }
+    {
+        self.count_tick();
+        while let Some(task) = self.first_due() {
+            self.wake(0, task);
+        }
+        self.slice();
+    }
+
+    #[tactic(auto, unfolding(bench_model::specs::State::blocked, bench_model::specs::State::yielded, bench_model::specs::Table::delay))]
+    fn block(
+        &mut self,
+        core: u32,
+        task: u32,
+        call: Unfinished,
+        ticks: Option<u32>,
+        wait: Option<MutexWait>,
+    )
+        requires core { core < length self.old.control.cores }
+        requires task { task < length self.old.orders.rows }
+        requires room { self.old.orders.next + 1 < 2 ^ 128 }
+        requires time { self.old.orders.tick + 2 ^ 32 < 2 ^ 128 }
+        ensures { self.new ≡ blocked table_moves core task call ticks wait self.old }
+    {
+        let tick = self.tick;
+        let wake = ticks.map(|ticks| tick + u128::from(ticks));
+        self.rows[task as usize] = TaskRow {
+            stamp: self.next,
+            standing: Standing::Blocked { wake, wait },
+        };
+        self.next += 1;
+        self.deadlines[task as usize] = if wait.is_some() { wake } else { None };
+        self.calls[task as usize] = Some(call);
+        self.ask_itself(core);
+    }
+
+    #[tactic(auto, unfolding(bench_model::specs::Steps::called))]
+    fn delay(&mut self, core: u32, task: u32, ticks: u32) -> Reply
+        requires core { core < length self.old.control.cores }
+        requires task { task < length self.old.orders.rows }
+        requires room { self.old.orders.next + 1 < 2 ^ 128 }
+        requires time { self.old.orders.tick + 2 ^ 32 < 2 ^ 128 }
+        ensures { (result, self.new) ≡ called table_moves core task (Delay ticks) self.old }
+    {
+        if ticks == 0 {
+            self.ask_itself(core);
+            return Reply::Done;
+        }
+        let call = Unfinished::Made(Call::Delay(ticks));
+        self.block(core, task, call, Some(ticks), None);
+        Reply::Blocked
+    }
+
+    #[tactic(auto, unfolding(bench_model::specs::Steps::delayed_until))]
+    fn delay_until(&mut self, core: u32, task: u32, prev: u32, inc: u32) -> Reply
+        requires core { core < length self.old.control.cores }
+        requires task { task < length self.old.orders.rows }
+        requires room { self.old.orders.next + 1 < 2 ^ 128 }
+        requires time { self.old.orders.tick + 2 ^ 32 < 2 ^ 128 }
+        ensures { (result, self.new) ≡ delayed_until table_moves core task prev inc self.old }
+    {
+        let now = self.tick_count();
+        let wake = next_wake(prev, inc);
+        let delayed = is_ahead(now, prev, wake);
+        if delayed {
+            let call = Unfinished::Made(Call::DelayUntil { prev, inc });
+            self.block(core, task, call, Some(wake.wrapping_sub(now)), None);
+        } else {
+            self.ask_itself(core);
+        }
+        Reply::Until { delayed, wake }
+    }
+
+    #[tactic(auto, unfolding(bench_model::specs::Steps::called))]
+    fn call(&mut self, core: u32, task: u32, call: Call) -> Reply
+        requires sound { IsSound self.old }
+        requires core { core < length self.old.control.cores }
+        requires task { task < length self.old.orders.rows }
+        requires checked { call_check self.old.settings call ≡ Ok tt }
+        requires room { self.old.orders.next + 2 < 2 ^ 128 }
+        requires time { self.old.orders.tick + 2 ^ 32 < 2 ^ 128 }
+        ensures { (result, self.new) ≡ called table_moves core task call self.old }
+    {
+        match call {
+            Call::Yield => self.ask_itself(core),
+            Call::PrioritySet { task, priority } => self.set_priority(core, task, priority),
+            Call::AffinitySet { task, mask } => self.set_affinity(core, task, mask),
+            Call::PreemptOff(task) => self.preempt_off(task),
+            Call::PreemptOn(task) => self.preempt_on(core, task),
+            Call::Delay(ticks) => return self.delay(core, task, ticks),
+            Call::DelayUntil { prev, inc } => return self.delay_until(core, task, prev, inc),
+            Call::Finish => return self.finish(core, task),
+            Call::HoldOpen => self.open_hold(core),
+            Call::HoldClose => self.close_hold(core),
+            Call::Notify(note) => return Reply::Flag(self.notify(core, note)),
+            Call::NotifyWait { entry, ticks, .. } => {
+                let begun = notes::wait_begun(entry, self.note(task));
+                return self.await_note(core, task, call, ticks, begun);
+            }
+            Call::NotifyTake { ticks, .. } => {
+                let begun = notes::take_begun(self.note(task));
+                return self.await_note(core, task, call, ticks, begun);
+            }
+            Call::StateClear(task) => return self.clear_state(task),
+            Call::ValueClear { task, bits } => return self.clear_value(task, bits),
+            Call::MutexTake { mutex, ticks } => return self.take(core, task, mutex, ticks),
+            Call::MutexGive(mutex) => return self.give(core, task, mutex),
+        }
+        Reply::Done
+    }
+
+    #[tactic(auto, unfolding(bench_model::specs::Steps::performed))]
+    fn perform(&mut self, step: &Step) -> Reply
+        requires sound { IsSound self.old }
+        requires fits { IsInPlace self.old step.now }
+        requires checked { step_check self.old.settings step.now ≡ Ok tt }
+        requires room { self.old.orders.next + length self.old.orders.rows + 1 < 2 ^ 128 }
+        requires time { self.old.orders.tick + 2 ^ 32 < 2 ^ 128 }
+        ensures { (result, self.new) ≡ performed table_moves step.now self.old }
+    {
+        match *step {
+            Step::Tick => {
+                self.advance();
+                Reply::Done
+            }
+            Step::Switch { core } => {
+                self.switch(core);
+                Reply::Done
+            }
+            Step::Call { core, task, call } => self.call(core, task, call),
+            Step::Interrupt { core, note } => self.interrupt(core, note),
+        }
+    }
+
+    #[tactic(auto, unfolding(bench_model::specs::Steps::after))]
+    fn step(&mut self, step: Step) -> Reply
+        requires sound { IsSound self.old }
+        requires checked { step_check self.old.settings step ≡ Ok tt }
+        requires room { self.old.orders.next + length self.old.orders.rows + 1 < 2 ^ 128 }
+        requires time { self.old.orders.tick + 2 ^ 32 < 2 ^ 128 }
+        ensures outcome { (result, self.new) ≡ step_of step self.old }
+        ensures words { IsStepOfWords step }
+    {
+        match self.refusal(&step) {
+            Some(why) => Reply::Refused(why),
+            None => self.perform(&step),
+        }
+    }
+
+    fn row(&self) -> Row
+        ensures { result.items ≡ running self.now.control }
+    {
+        let mut row = Row::new();
+        for look in &self.cores {
+            row.push(look.current);
+        }
+        row
+    }
+}
+
+fn first_look(core: u32) -> CoreLook
+    ensures { result ≡ first_look core }
+{
+    CoreLook {
+        current: core,
+        pend: false,
+        asked: false,
+    }
+}
+
+fn ready_row(stamp: u32) -> TaskRow
+    ensures { result ≡ ready_row stamp }
+{
+    TaskRow {
+        stamp: u128::from(stamp),
+        standing: Standing::Ready,
+    }
+}
+
+fn first_cores(alloc: Global, cores: u32) -> Result<Vec<CoreLook>, AllocError>
+    ensures { IfOk result (λ looks. looks.items ≡ map first_look (numbers cores)) }
+{
+    (0..cores).map(first_look).collect(alloc)
+}
+
+fn first_rows(alloc: Global, cores: u32, users: u32) -> Result<Vec<TaskRow>, AllocError>
+    requires { cores + users < 2 ^ 32 }
+    ensures { IfOk result (λ rows. rows.items ≡ map (λ core. ready_row (users + core)) (numbers cores) ++ map ready_row (numbers users)) }
+{
+    let idle = (0..cores).map(|core| ready_row(users + core));
+    idle.chain((0..users).map(ready_row)).collect(alloc)
+}
+
+fn no_calls(alloc: Global, tasks: u32) -> Result<Vec<Option<Unfinished>>, AllocError>
+    ensures { IfOk result (λ calls. calls.items ≡ replicate tasks None) }
+{
+    let mut calls = Vec::new(alloc);
+    for _task in 0..tasks {
+        calls.push(None)?;
+    }
+    Ok(calls)
+}
+
+fn no_notes(alloc: Global, tasks: u32) -> Result<Vec<Notification>, AllocError>
+    ensures { IfOk result (λ notes. notes.items ≡ replicate tasks no_note) }
+{
+    let note = Notification {
+        value: 0,
+        state: NoteState::NotWaiting,
+    };
+    vec![in alloc; note; tasks as usize]
+}
+
+fn no_holders(alloc: Global, mutexes: u32) -> Result<Vec<Option<u32>>, AllocError>
+    ensures { IfOk result (λ holders. holders.items ≡ replicate mutexes None) }
+{
+    vec![in alloc; None; mutexes as usize]
+}
+
+fn no_deadlines(alloc: Global, tasks: u32) -> Result<Vec<Option<u128>>, AllocError>
+    ensures { IfOk result (λ deadlines. deadlines.items ≡ replicate tasks None) }
+{
+    vec![in alloc; None; tasks as usize]
+}
+
+fn idle_control(cores: u32) -> TaskControl
+    requires { cores ≤ 8 }
+    ensures { result ≡ idle_control cores }
+{
+    TaskControl {
+        base: 0,
+        in_use: 0,
+        mask: (1 << cores) - 1,
+        preempt: true,
+    }
+}
+
+fn user_control(cores: u32, args: &TaskArgs) -> TaskControl
+    requires { cores ≤ 8 }
+    ensures { result ≡ user_control cores args.now }
+{
+    TaskControl {
+        base: args.priority,
+        in_use: args.priority,
+        mask: args.mask % (1 << cores),
+        preempt: true,
+    }
+}
+
+fn idle_controls(alloc: Global, cores: u32) -> Result<Vec<TaskControl>, AllocError>
+    requires { cores ≤ 8 }
+    ensures { IfOk result (λ controls. controls.items ≡ replicate cores (idle_control cores)) }
+{
+    let mut controls = Vec::new(alloc);
+    for _core in 0..cores {
+        controls.push(idle_control(cores))?;
+    }
+    Ok(controls)
+}
+
+fn first_controls(alloc: Global, header: &Header) -> Result<Vec<TaskControl>, AllocError>
+    requires { header.now.config.cores ≤ 8 }
+    ensures { IfOk result (λ controls. controls.items ≡ (first_control header.now).tasks) }
+{
+    let cores = header.config.cores;
+    let mut controls = idle_controls(alloc, cores)?;
+    for args in header.tasks.as_slice() {
+        controls.push(user_control(cores, args))?;
+    }
+    Ok(controls)
+}
+
+fn settings_of(header: &Header) -> Settings
+    requires { header.now.config.cores + length header.now.tasks < 2 ^ 32 }
+    ensures { result ≡ settings_of header.now }
+{
+    let config = header.config;
+    Settings {
+        cores: config.cores,
+        priorities: config.priorities,
+        slicing: config.slicing,
+        mutexes: config.mutexes,
+        tasks: config.cores + header.tasks.as_slice().len() as u32,
+    }
+}
+
+#[tactic(auto, unfolding(bench_model::specs::Start::unstarted, bench_model::specs::Start::first_stamps))]
+fn unstarted(alloc: Global, header: &Header) -> Result<SlowTable, AllocError>
+    requires cores { header.now.config.cores ≤ 8 }
+    requires tasks { length header.now.tasks ≤ 64 }
+    ensures { IfOk result (λ table. table ≡ unstarted (first_stamps header.now) header.now) }
+{
+    let settings = settings_of(header);
+    let users = settings.tasks - settings.cores;
+    let cores = first_cores(alloc, settings.cores)?;
+    let tasks = first_controls(alloc, header)?;
+    let calls = no_calls(alloc, settings.tasks)?;
+    let notes = no_notes(alloc, settings.tasks)?;
+    let holders = no_holders(alloc, settings.mutexes)?;
+    let rows = first_rows(alloc, settings.cores, users)?;
+    let deadlines = no_deadlines(alloc, settings.tasks)?;
+    Ok(SlowTable {
+        settings,
+        cores,
+        tasks,
+        calls,
+        notes,
+        holders,
+        hold: None,
+        rows,
+        deadlines,
+        tick: u128::from(header.config.tick),
+        next: u128::from(settings.tasks),
+    })
+}
+
+fn start(alloc: Global, header: &Header) -> Result<SlowTable, AllocError>
+    requires { header_check header.now ≡ Ok tt }
+    ensures { IfOk result (λ table. table ≡ start header.now) }
+{
+    let mut table = unstarted(alloc, header)?;
+    for core in 0..header.config.cores {
+        table.switch(core);
+    }
+    Ok(table)
+}
+
+/// Replays the steps on the flat table as it is defined, and gives per step its reply and the tasks that run behind it.
+///
+/// It searches the whole table at each step, so it serves to test faster kernels. It takes the runtime so that a crate
+/// that is handed none can't replay unnoticed.
+pub fn replay_slow<R: Alloc>(
+    _rt: &R,
+    alloc: Global,
+    header: &Header,
+    steps: &[Step],
+) -> Result<Vec<(Reply, Row)>, AllocError>
+    requires header { header_check header.now ≡ Ok tt }
+    requires steps { All (λ step. step_check (settings_of header.now) step ≡ Ok tt) steps.now }
+    ensures { IfOk result (λ outcomes. (place : ℕ) →
+        option_map shown (slice_get outcomes.items place) ≡ outcome_at header.now steps.now place) }
+{
+    let _start = header.config.tick;
+    let mut table = start(alloc, header)?;
+    let mut outcomes = Vec::with_capacity(alloc, steps.len())?;
+    for step in steps {
+        let reply = table.step(*step);
+        outcomes.push((reply, table.row()))?;
+    }
+    Ok(outcomes)
+}

@@ -1,0 +1,205 @@
+//! Notifying a task and waiting for that, each as it is defined.
+ghost use Rattle.std.specs.Prelude.{◌≡◌, ◌<◌, ◌+◌, ◌^◌, length, slice_set};
+ghost use Rattle.bench_model.specs.Control.{core_at};
+ghost use Rattle.bench_model.specs.Notes.{note_at, is_received, is_waiting, without_bits, passes, acted, notified, wait_begun, wait_ended, take_begun, take_ended, state_cleared, value_cleared};
+ghost use Rattle.bench_model.specs.Notifying.{awaited_for, is_passed, state_forgotten, bits_cleared, completed, notify, interrupted, awaited};
+ghost use Rattle.bench_model.specs.Table.{table_moves};
+
+use super::SlowTable;
+use bench_model::notes::{is_received, is_waiting, notified, passes, without_bits};
+use bench_types::{Action, Call, Note, NoteState, Notification, Reply, Unfinished};
+
+impl SlowTable {
+    pub(super) fn note(&self, task: u32) -> Notification
+        requires { task < length self.now.orders.rows }
+        ensures { result ≡ note_at self.now.notes task }
+    {
+        self.notes[task as usize]
+    }
+
+    fn set_note(&mut self, task: u32, note: Notification)
+        requires { task < length self.old.orders.rows }
+        ensures { self.new ≡ record self.old { notes = slice_set self.old.notes task note } }
+    {
+        self.notes[task as usize] = note;
+    }
+
+    // Answers whether the notification passed.
+    #[tactic(auto, unfolding(bench_model::specs::Notifying::notify))]
+    pub(super) fn notify(&mut self, acting: u32, note: Note) -> bool
+        requires task { note.task < length self.old.orders.rows }
+        requires room { self.old.orders.next + 1 < 2 ^ 128 }
+        ensures passed { result ≡ is_passed note self.old }
+        ensures told { self.new ≡ notify table_moves acting note.task note.action self.old }
+        ensures settings { self.new.settings ≡ self.old.settings }
+    {
+        let before = self.note(note.task);
+        self.set_note(note.task, notified(note.action, before));
+        if is_waiting(before.state) {
+            self.wake(acting, note.task);
+        }
+        passes(note.action, before.state)
+    }
+
+    fn has_asked_itself(&self, core: u32) -> bool
+        requires { core < self.now.settings.cores }
+        ensures { result ≡ (core_at self.now.control core).pend }
+    {
+        self.cores[core as usize].pend
+    }
+
+    #[tactic(auto, unfolding(bench_model::specs::Notifying::interrupted))]
+    pub(super) fn interrupt(&mut self, core: u32, note: Note) -> Reply
+        requires core { core < self.old.settings.cores }
+        requires task { note.task < length self.old.orders.rows }
+        requires room { self.old.orders.next + 1 < 2 ^ 128 }
+        ensures { (result, self.new) ≡ interrupted table_moves core note self.old }
+    {
+        let pass = self.notify(core, note);
+        Reply::Isr {
+            pass,
+            pend: self.has_asked_itself(core),
+        }
+    }
+
+    #[tactic(auto, unfolding(bench_model::specs::Notifying::state_forgotten))]
+    pub(super) fn clear_state(&mut self, task: u32) -> Reply
+        requires { task < length self.old.orders.rows }
+        ensures { (result, self.new) ≡ state_forgotten task self.old }
+    {
+        let (had, note) = state_cleared(self.note(task));
+        self.set_note(task, note);
+        Reply::Flag(had)
+    }
+
+    #[tactic(auto, unfolding(bench_model::specs::Notifying::bits_cleared))]
+    pub(super) fn clear_value(&mut self, task: u32, bits: u32) -> Reply
+        requires { task < length self.old.orders.rows }
+        ensures { (result, self.new) ≡ bits_cleared task bits self.old }
+    {
+        let (value, note) = value_cleared(bits, self.note(task));
+        self.set_note(task, note);
+        Reply::Value(value)
+    }
+
+    // A call that waited for a notification answers with that.
+    #[tactic(auto, unfolding(bench_model::specs::Notifying::completed))]
+    pub(super) fn complete(&mut self, task: u32, call: Call) -> Reply
+        requires { task < length self.old.orders.rows }
+        ensures { (result, self.new) ≡ completed task call self.old }
+    {
+        match call {
+            Call::NotifyWait { exit, .. } => {
+                let ((ok, value), note) = wait_ended(exit, self.note(task));
+                self.set_note(task, note);
+                Reply::Waited { ok, value }
+            }
+            Call::NotifyTake { clear, .. } => {
+                let (value, note) = take_ended(clear, self.note(task));
+                self.set_note(task, note);
+                Reply::Value(value)
+            }
+            _ => Reply::Done,
+        }
+    }
+
+    // Blocks a call that has nothing to complete with and some ticks to wait.
+    #[tactic(auto, unfolding(bench_model::specs::Notifying::awaited))]
+    pub(super) fn await_note(
+        &mut self,
+        core: u32,
+        task: u32,
+        call: Call,
+        ticks: u32,
+        begun: (bool, Notification),
+    ) -> Reply
+        requires core { core < length self.old.control.cores }
+        requires task { task < length self.old.orders.rows }
+        requires room { self.old.orders.next + 1 < 2 ^ 128 }
+        requires time { self.old.orders.tick + 2 ^ 32 < 2 ^ 128 }
+        ensures { (result, self.new) ≡ awaited table_moves core task call ticks (begun.0, slice_set self.old.notes task begun.1) self.old }
+    {
+        let (waits, note) = begun;
+        self.set_note(task, note);
+        if waits && 0 < ticks {
+            self.block(core, task, Unfinished::Made(call), awaited_for(ticks), None);
+            return Reply::Blocked;
+        }
+        self.complete(task, call)
+    }
+}
+
+pub(super) fn awaited_for(ticks: u32) -> Option<u32>
+    ensures { result ≡ awaited_for ticks }
+{
+    (ticks != u32::MAX).then_some(ticks)
+}
+
+#[tactic(auto, unfolding(bench_model::specs::Notes::wait_begun))]
+pub(super) fn wait_begun(entry: u32, note: Notification) -> (bool, Notification)
+    ensures { result ≡ wait_begun entry note }
+{
+    if is_received(note.state) {
+        return (false, note);
+    }
+    let value = without_bits(entry, note.value);
+    let state = NoteState::Waiting;
+    (true, Notification { value, state })
+}
+
+#[tactic(auto, unfolding(bench_model::specs::Notes::wait_ended))]
+fn wait_ended(exit: u32, note: Notification) -> ((bool, u32), Notification)
+    ensures { result ≡ wait_ended exit note }
+{
+    let come = is_received(note.state);
+    let value = if come {
+        without_bits(exit, note.value)
+    } else {
+        note.value
+    };
+    let state = NoteState::NotWaiting;
+    ((come, note.value), Notification { value, state })
+}
+
+#[tactic(auto, unfolding(bench_model::specs::Notes::take_begun))]
+pub(super) fn take_begun(note: Notification) -> (bool, Notification)
+    ensures { result ≡ take_begun note }
+{
+    if note.value != 0 {
+        return (false, note);
+    }
+    let state = NoteState::Waiting;
+    (true, Notification { state, ..note })
+}
+
+#[tactic(auto, unfolding(bench_model::specs::Notes::take_ended))]
+fn take_ended(clear: bool, note: Notification) -> (u32, Notification)
+    ensures { result ≡ take_ended clear note }
+{
+    let value = if clear {
+        0
+    } else {
+        note.value.saturating_sub(1)
+    };
+    let state = NoteState::NotWaiting;
+    (note.value, Notification { value, state })
+}
+
+#[tactic(auto, unfolding(bench_model::specs::Notes::state_cleared))]
+fn state_cleared(note: Notification) -> (bool, Notification)
+    ensures { result ≡ state_cleared note }
+{
+    if !is_received(note.state) {
+        return (false, note);
+    }
+    let state = NoteState::NotWaiting;
+    (true, Notification { state, ..note })
+}
+
+#[tactic(auto, unfolding(bench_model::specs::Notes::value_cleared))]
+fn value_cleared(bits: u32, note: Notification) -> (u32, Notification)
+    ensures { result ≡ value_cleared bits note }
+{
+    let value = without_bits(bits, note.value);
+    (note.value, Notification { value, ..note })
+}

@@ -1,0 +1,156 @@
+//! The calls that set a task's priority, core affinity mask and preemption, each as it is defined.
+ghost use Rattle.std.specs.Prelude.{◌≡◌, ◌<◌, ◌≤◌, ◌+◌, ◌^◌, length, IfSome};
+ghost use Rattle.bench_model.specs.Changes.{with_base, with_affinity, with_preemption, in_use_set};
+ghost use Rattle.bench_model.specs.Sets.{runs_on, ask_its_core, capped, in_use_behind, ranked_anew, masked_anew, priority_set, affinity_set, preemption_off, preemption_on};
+ghost use Rattle.bench_model.specs.Table.{table_moves, is_ready};
+
+use super::SlowTable;
+use bench_types::TaskControl;
+
+impl SlowTable {
+    fn its_core(&self, task: u32) -> Option<u32>
+        ensures core { result ≡ runs_on self.now.control task }
+        ensures below { IfSome result (λ core. core < length self.now.control.cores) }
+    {
+        self.core_numbers()
+            .find(|core| self.keeps_running(*core, task))
+    }
+
+    #[tactic(auto, unfolding(bench_model::specs::Sets::ask_its_core))]
+    pub(super) fn ask_its_core(&mut self, acting: u32, task: u32)
+        ensures { self.new ≡ record self.old { control = ask_its_core acting task self.old.control } }
+    {
+        if let Some(core) = self.its_core(task) {
+            self.ask(acting, core);
+        }
+    }
+
+    fn capped(&self, priority: u32) -> u32
+        ensures { result ≡ capped self.now.settings.priorities priority }
+    {
+        let priorities = self.settings.priorities;
+        if priority < priorities {
+            priority
+        } else {
+            priorities.saturating_sub(1)
+        }
+    }
+
+    fn set_base(&mut self, task: u32, priority: u32)
+        requires { task < length self.old.orders.rows }
+        ensures { self.new ≡ record self.old { control = with_base task priority self.old.control } }
+    {
+        self.tasks[task as usize].base = priority;
+    }
+
+    fn set_mask(&mut self, task: u32, mask: u32)
+        requires { task < length self.old.orders.rows }
+        ensures { self.new ≡ record self.old { control = with_affinity task mask self.old.control } }
+    {
+        let cores = self.settings.cores;
+        self.tasks[task as usize].mask = mask % (1 << cores);
+    }
+
+    fn set_preemption(&mut self, task: u32, preempt: bool)
+        requires { task < length self.old.orders.rows }
+        ensures { self.new ≡ record self.old { control = with_preemption task preempt self.old.control } }
+    {
+        self.tasks[task as usize].preempt = preempt;
+    }
+
+    #[tactic(auto, unfolding(bench_model::specs::Changes::in_use_set))]
+    pub(super) fn set_in_use(&mut self, task: u32, priority: u32)
+        requires task { task < length self.old.orders.rows }
+        requires room { self.old.orders.next + 1 < 2 ^ 128 }
+        ensures set { self.new ≡ in_use_set table_moves task priority self.old }
+        ensures rows { length self.new.orders.rows ≡ length self.old.orders.rows }
+        ensures stamps { self.new.orders.next ≤ self.old.orders.next + 1 }
+        ensures tick { self.new.orders.tick ≡ self.old.orders.tick }
+        ensures cores { length self.new.control.cores ≡ length self.old.control.cores }
+    {
+        self.tasks[task as usize].in_use = priority;
+        if self.is_ready(task) {
+            self.make_ready(task);
+        }
+    }
+
+    #[tactic(auto, unfolding(bench_model::specs::Sets::ranked_anew))]
+    fn rank_anew(&mut self, acting: u32, task: u32, old: u32, new: u32, ready: bool)
+        requires { task < length self.old.orders.rows }
+        ensures { self.new ≡ record self.old { control = ranked_anew acting task old new ready self.old.control } }
+    {
+        if old < new && ready {
+            self.seek(acting, task, None);
+        } else if new < old && self.has_preemption_on(task) {
+            self.ask_its_core(acting, task);
+        }
+    }
+
+    #[tactic(auto, unfolding(bench_model::specs::Sets::priority_set))]
+    pub(super) fn set_priority(&mut self, acting: u32, task: u32, priority: u32)
+        requires task { task < length self.old.orders.rows }
+        requires room { self.old.orders.next + 1 < 2 ^ 128 }
+        ensures { self.new ≡ priority_set table_moves acting task priority self.old }
+    {
+        let block = self.tasks[task as usize];
+        let new = self.capped(priority);
+        if new == block.base {
+            return;
+        }
+        let ready = self.is_ready(task);
+        self.set_base(task, new);
+        self.set_in_use(task, in_use_behind(block, new));
+        self.rank_anew(acting, task, block.base, new, ready);
+    }
+
+    // The core that has the task keeps it where the mask allows it.
+    #[tactic(auto, unfolding(bench_model::specs::Sets::masked_anew))]
+    fn mask_anew(&mut self, acting: u32, task: u32)
+        requires { task < length self.old.orders.rows }
+        ensures { self.new ≡ record self.old { control = masked_anew acting task (is_ready task self.old.orders) self.old.control } }
+    {
+        if let Some(core) = self.its_core(task) {
+            if !self.in_mask(task, core) {
+                self.ask(acting, core);
+            }
+        } else if self.is_ready(task) {
+            self.seek(acting, task, None);
+        }
+    }
+
+    #[tactic(auto, unfolding(bench_model::specs::Sets::affinity_set))]
+    pub(super) fn set_affinity(&mut self, acting: u32, task: u32, mask: u32)
+        requires { task < length self.old.orders.rows }
+        ensures { self.new ≡ affinity_set table_moves acting task mask self.old }
+    {
+        self.set_mask(task, mask);
+        self.mask_anew(acting, task);
+    }
+
+    #[tactic(auto, unfolding(bench_model::specs::Sets::preemption_off))]
+    pub(super) fn preempt_off(&mut self, task: u32)
+        requires { task < length self.old.orders.rows }
+        ensures { self.new ≡ preemption_off table_moves task self.old }
+    {
+        self.set_preemption(task, false);
+    }
+
+    #[tactic(auto, unfolding(bench_model::specs::Sets::preemption_on))]
+    pub(super) fn preempt_on(&mut self, acting: u32, task: u32)
+        requires { task < length self.old.orders.rows }
+        ensures { self.new ≡ preemption_on table_moves acting task self.old }
+    {
+        self.set_preemption(task, true);
+        self.ask_its_core(acting, task);
+    }
+}
+
+fn in_use_behind(block: TaskControl, priority: u32) -> u32
+    ensures { result ≡ in_use_behind block priority }
+{
+    if block.in_use == block.base || block.in_use < priority {
+        priority
+    } else {
+        block.in_use
+    }
+}

@@ -1,0 +1,96 @@
+-- The laws between the definitions. Each is the contract of a public function.
+use Rattle.bench_model.specs.Lists.{seen_of}
+use Rattle.std.specs.Prelude.{◌≡◌, ℕ, ◌<◌, ◌≤◌, List, length, true, false, Option, Some, is_some, IsSome, IfSome, Ok}
+use Rattle.std.specs.List.{AllByRecursion}
+use Rattle.bench_types.specs.declared.header.Header.{Header}
+use Rattle.bench_types.specs.declared.kernel_data.MutexWait.{MutexWait}
+use Rattle.bench_types.specs.declared.step.Unfinished.{Unfinished}
+use Rattle.bench_types.specs.declared.step.Step.{Step}
+use Rattle.bench_types.specs.Header.{header_check}
+use Rattle.bench_types.specs.Step.{IsCheckedUnfinished, IsCheckedStep}
+use Rattle.bench_model.specs.Control.{Control, is_due, ask}
+use Rattle.bench_model.specs.State.{blocked, selected, switched}
+use Rattle.bench_model.specs.Steps.{woken, after}
+use Rattle.bench_model.specs.Table.{Stamps, Table, table_moves, is_ready, pick, make_ready, delay, advance, due}
+use Rattle.bench_model.specs.Lists as seen
+use Rattle.bench_model.specs.Lists.{list_moves, lists_of, image}
+use Rattle.bench_model.specs.Looks.{task_look, look_in}
+use Rattle.bench_model.specs.Sound.{IsStamped, IsWait, IsMutexWait, WakesInTime, IsCaller, IsConsistent, IsSound, takes_mutex}
+use Rattle.bench_model.specs.Start.{start, start_seen}
+use Rattle.bench_model.specs.Session.{step_of}
+use Rattle.bench_model.specs.Equal.{Same}
+
+-- the start of a checked header is sound
+abbrev pub StartIsSound : Type 0
+StartIsSound = (header : Header) → header_check header ≡ Ok tt → IsSound (start header)
+
+-- the start sets no flag
+abbrev pub StartAsksNone : Type 0
+StartAsksNone = (header : Header) (core : ℕ) → core < header.config.cores → is_due (start header).control core ≡ false
+
+-- every checked step keeps a table sound
+abbrev pub StepKeepsSound : Type 0
+StepKeepsSound = (table : Table) (step : Step) → IsSound table → IsCheckedStep table.settings step → IsSound (step_of step table).1
+
+-- a switch of a core always finds a task
+abbrev pub SwitchFindsTask : Type 0
+SwitchFindsTask = (table : Table) (core : ℕ) → IsConsistent table → core < table.settings.cores → IsSome (selected table_moves core table)
+
+-- seen as lists, the start of a table is the start over lists
+abbrev pub StartIsSeen : Type 0
+StartIsSeen = (header : Header) → header_check header ≡ Ok tt → image (start header) ≡ start_seen header
+
+-- seen as lists, a step of a table is the step over lists, with the same reply
+abbrev pub StepIsSeen : Type 0
+StepIsSeen = (table : Table) (step : Step) → IsSound table → IsCheckedStep table.settings step → seen_of (step_of step table) ≡ after list_moves step (image table)
+
+-- equal tables give equal replies and are equal after every step
+abbrev pub EqualStaysEqual : Type 0
+EqualStaysEqual = (a b : Table) (step : Step) → IsSound a → IsSound b → Same a b → IsCheckedStep a.settings step →
+    ((step_of step a).0 ≡ (step_of step b).0) × Same (step_of step a).1 (step_of step b).1
+
+-- the words of the contracts above: each move over lists is the move of the table, seen
+
+abbrev pub ReadyIsSeen : Type 0
+ReadyIsSeen = (control : Control) (stamps : Stamps) (task : ℕ) → IsStamped stamps → task < length stamps.rows →
+    seen.is_ready task (lists_of control stamps) ≡ is_ready task stamps
+
+-- what the lists of a table show of a task is what the table shows of it
+abbrev pub LookIsSeen : Type 0
+LookIsSeen = (table : Table) (task : ℕ) → IsConsistent table → task < table.settings.tasks → look_in (image table) task ≡ task_look table task
+
+abbrev pub ReadyAtEndIsSeen : Type 0
+ReadyAtEndIsSeen = (control : Control) (stamps : Stamps) (task : ℕ) → IsStamped stamps → task < length stamps.rows →
+    lists_of control (make_ready task stamps) ≡ seen.make_ready control task (lists_of control stamps)
+
+abbrev pub PickIsSeen : Type 0
+PickIsSeen = (control : Control) (core : ℕ) (stamps : Stamps) → IsStamped stamps → seen.pick control core (lists_of control stamps) ≡ pick control core stamps
+
+abbrev pub DelayIsSeen : Type 0
+DelayIsSeen = (control : Control) (stamps : Stamps) (task : ℕ) (ticks : Option ℕ) (wait : Option MutexWait) → IsStamped stamps → task < length stamps.rows → is_ready task stamps ≡ true →
+    lists_of control (delay task ticks wait stamps) ≡ seen.delay task ticks wait (lists_of control stamps)
+
+abbrev pub TickIsSeen : Type 0
+TickIsSeen = (control : Control) (stamps : Stamps) → WakesInTime stamps →
+    (lists_of control (advance stamps) ≡ seen.advance (lists_of control stamps)) × (seen.due (lists_of control (advance stamps)) ≡ due (advance stamps))
+
+abbrev pub WokenIsSeen : Type 0
+WokenIsSeen = (table : Table) (tasks : List ℕ) → IsStamped table.orders → AllByRecursion (λ task. task < length table.orders.rows) tasks →
+    image (woken table_moves tasks table) ≡ woken list_moves tasks (image table)
+
+-- asking a core changes no order
+abbrev pub CoresAreApart : Type 0
+CoresAreApart = (control : Control) (acting core : ℕ) (stamps : Stamps) → lists_of (ask acting core control) stamps ≡ lists_of control stamps
+
+abbrev pub SwitchIsSeen : Type 0
+SwitchIsSeen = (table : Table) (core : ℕ) → IsConsistent table → core < table.settings.cores → image (switched table_moves core table) ≡ switched list_moves core (image table)
+
+abbrev pub BlockIsSeen : Type 0
+BlockIsSeen = (table : Table) (core task : ℕ) (call : Unfinished) (ticks : Option ℕ) (wait : Option MutexWait) → IsConsistent table → IsCaller table core task →
+    image (blocked table_moves core task call ticks wait table) ≡ blocked list_moves core task call ticks wait (image table)
+
+-- a user task that a call blocks leaves a sound table sound
+abbrev pub BlockKeepsConsistent : Type 0
+BlockKeepsConsistent = (table : Table) (core task : ℕ) (call : Unfinished) (ticks : Option ℕ) (wait : Option MutexWait) → IsConsistent table → IsCaller table core task →
+    IsCheckedUnfinished table.settings call → table.settings.cores ≤ task → IsWait ticks → IfSome wait (IsMutexWait table.settings) →
+    (is_some wait ≡ true → takes_mutex (Some call) ≡ true) → IsConsistent (blocked table_moves core task call ticks wait table)

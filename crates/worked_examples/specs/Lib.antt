@@ -1,0 +1,8 @@
+pub mod ChangeExamples
+pub mod Examples
+pub mod HoldExamples
+pub mod MutexExamples
+pub mod NoteExamples
+pub mod SeekExamples
+pub mod SetExamples
+pub mod TallyExamples

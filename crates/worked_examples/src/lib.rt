@@ -1,0 +1,98 @@
+//! The definitions give the values that were worked out by hand. Each function does nothing: its contract
+//! is the laws, one a clause.
+#![tactic(auto)]
+
+ghost use Rattle.worked_examples.specs.ChangeExamples.{WorkedChanges};
+ghost use Rattle.worked_examples.specs.Examples.{WorkedSessions, TimedSessions, EndlessWaits, EqualTables, AlikeTables};
+ghost use Rattle.worked_examples.specs.HoldExamples.{WorkedHolds, WorkedUntils};
+ghost use Rattle.worked_examples.specs.MutexExamples.{WorkedMutexes};
+ghost use Rattle.worked_examples.specs.NoteExamples.{WorkedNotes, WorkedWaits, WorkedTakes, WorkedClears, WorkedNotifies, WorkedCalls};
+ghost use Rattle.worked_examples.specs.SeekExamples.{AskedCores, SoughtCores, WorkedChoices};
+ghost use Rattle.worked_examples.specs.SetExamples.{WorkedPriorities, WorkedMasks, WorkedPreemption};
+ghost use Rattle.worked_examples.specs.TallyExamples.{WorkedTallies};
+
+/// Whole sessions, worked out by hand.
+pub fn examples_of_sessions()
+    // The definitions give the worked sessions.
+    ensures worked_sessions { WorkedSessions }
+    // The definitions give the worked sessions with time slicing, where woken tasks seek a core.
+    ensures timed_sessions { TimedSessions }
+    // A task that waits without end is woken by no tick, and one that waits beside it is woken by
+    // its tick.
+    ensures endless_waits { EndlessWaits }
+{}
+
+/// Tables that are equal or not.
+pub fn examples_of_equality()
+    // Tables that differ in stamps and absolute times alone are equal; with another order in a
+    // ready list they are not.
+    ensures equal_tables { EqualTables }
+    // Tables that differ in stamps and absolute times alone are alike; with another order of two
+    // ready tasks of one priority, of two that wake together, or of two waiters of one priority
+    // they are not.
+    ensures alike_tables { AlikeTables }
+{}
+
+/// The core that is asked, the cores that are sought, and choices of tasks.
+pub fn examples_of_seeking()
+    // The search answers the core that was worked out by hand, in every tie of it too.
+    ensures worked_searches { AskedCores }
+    // Seeking asks nobody for a task that runs, and sets the flag that is the acting core's or
+    // another's.
+    ensures worked_seeks { SoughtCores }
+    // The seek of a task that was woken or lost its core, and the ends of time slices, as they
+    // were worked out by hand.
+    ensures worked_choices { WorkedChoices }
+{}
+
+/// Priorities, core affinity masks and preemption that a call sets.
+pub fn examples_of_priority_and_affinity()
+    // Who is asked and sought a core behind new priorities, as it was worked out by hand.
+    ensures worked_priorities { WorkedPriorities }
+    // Who is asked and sought a core behind new masks, as it was worked out by hand.
+    ensures worked_masks { WorkedMasks }
+    // What turning preemption off and on does, as it was worked out by hand.
+    ensures worked_preemption { WorkedPreemption }
+{}
+
+/// Changes of a control block.
+pub fn examples_of_control_blocks()
+    // The ready lists behind settings of a priority in use, as they were worked out by hand.
+    ensures { WorkedChanges }
+{}
+
+/// Notifications: values, states, waits and takes.
+pub fn examples_of_notifications()
+    // What each action makes of a value and a state, as it was worked out by hand.
+    ensures worked_notes { WorkedNotes }
+    // What waiting for a notification makes of a value and a state, as it was worked out by hand.
+    ensures worked_waits { WorkedWaits }
+    // What taking a notification value makes of it and of the state, as it was worked out by hand.
+    ensures worked_takes { WorkedTakes }
+    // What clearing a state or bits of a value does, as it was worked out by hand.
+    ensures worked_clears { WorkedClears }
+    // Who is woken by a notification and who waits on, as it was worked out by hand.
+    ensures worked_notifies { WorkedNotifies }
+    // The definitions give the worked sessions of tasks that notify, wait and take.
+    ensures worked_calls { WorkedCalls }
+{}
+
+/// Mutexes with priority inheritance.
+pub fn examples_of_mutexes()
+    // The definitions give the worked sessions of two tasks and two mutexes.
+    ensures { WorkedMutexes }
+{}
+
+/// Holds, and delays until a tick count.
+pub fn examples_of_holds()
+    // The definitions give the worked holds.
+    ensures worked_holds { WorkedHolds }
+    // The definitions give the worked delays until a tick count, at its wrap too.
+    ensures worked_untils { WorkedUntils }
+{}
+
+/// Tallies of sessions.
+pub fn examples_of_tallies()
+    // The definitions give the tallies that were worked out by hand.
+    ensures { WorkedTallies }
+{}

@@ -22,6 +22,7 @@ use Rattle.bench_model.specs.Session.{step_of, outcome_at, trace}
 use Rattle.slow_replay.specs.Shown.{shown}
 use Rattle.list_orders.proofs.Filters.{fold-append}
 use Rattle.list_orders.proofs.Stamped.{range_parts}
+use Rattle.session_laws.proofs.Traces.{trace_at}
 use Rattle.step_laws.proofs.Nears.{turned_next, turned_tick, turned_settings, after_near}
 use Rattle.rule_laws.proofs.Seeks.{sought_switch_sound, sought_switch_length}
 use Rattle.step_laws.proofs.Steps.{after_sound}

@@ -1,25 +1,7 @@
 //! The bench as a program: a command line and bytes in, bytes and an exit status out.
 #![tactic(auto)]
 
-mod answer;
-mod bench;
-mod command;
-#[cfg(test)]
-mod command_tests;
-mod device;
-mod input;
-mod lines;
-mod program;
-mod replay;
-#[cfg(test)]
-mod tests;
-mod writing;
-
-pub use answer::MOST_INPUT;
-pub use bench::{Mode, RunFault, Status, run};
-pub use command::{DEFAULT_SPAN, Request, request_of};
-pub use device::{Counted, CountedRead, CountedWrite};
-pub use program::{Ending, carry_out};
+use bench_commands::{Counted, Ending, RunFault, Status, carry_out};
 use std::alloc::AllocError;
 use std::io::ErrorKind;
 use std::process::ExitCode;

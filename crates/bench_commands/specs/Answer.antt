@@ -1,0 +1,73 @@
+-- What the program writes for the bytes that it read.
+use Rattle.std.specs.Prelude.{ℕ, List, [], ◌∷◌, ◌++◌, length, flat_map, codes, Bool, true, false, nat_lt, if◌then◌else◌, Result, Ok, Err}
+use Rattle.std.specs.Option.{option_map_or}
+use Rattle.bench_types.specs.declared.edit.TheConstants.{MOST_STEPS}
+use Rattle.bench_types.specs.declared.edit.Edit.{Edit}
+use Rattle.bench_types.specs.declared.header.Header.{Header}
+use Rattle.bench_types.specs.declared.step.Step.{Step}
+use Rattle.list_orders.specs.Search.{numbers}
+use Rattle.bench_model.specs.Control.{running}
+use Rattle.bench_model.specs.Start.{start}
+use Rattle.bench_model.specs.Edits.{Session, after_edits}
+use Rattle.bench_model.specs.Session.{outcome_at}
+use Rattle.session_store.specs.Outcomes.{answers}
+use Rattle.session_text.specs.declared.bench.Bench.{Bench}
+use Rattle.session_text.specs.declared.fault.Why.{Why}
+use Rattle.session_text.specs.declared.fault.Why.TheVariants.{NotJson, BadShape, NoMemory}
+use Rattle.session_text.specs.declared.fault.Why.TheVariants as why
+use Rattle.session_text.specs.declared.fault.TextFault.{TextFault}
+use Rattle.session_text.specs.Bench.{bench_text}
+use Rattle.bench_commands.specs.declared.answer.TheConstants.{MOST_INPUT}
+use Rattle.bench_commands.specs.Lines.{spaced, fault_text, edit_lines, start_line, step_line}
+
+-- the line of the step at a place
+abbrev pub line_at : Header → List Step → ℕ → List ℕ
+line_at header steps place = option_map_or (λ outcome. step_line header place outcome.0 outcome.1) (outcome_at header steps place) []
+
+-- the line of the start
+abbrev pub first_line : Header → List ℕ
+first_line header = start_line header (running (start header).control)
+
+-- the start, then a line a step
+unfoldable pub replay_text : Header → List Step → List ℕ
+replay_text header steps = first_line header ++ flat_map (line_at header steps) (numbers (length steps))
+
+-- the code of a refusal; want of memory is none, and has no line
+abbrev pub why_text : Why → List ℕ
+why_text NotJson = codes "H1"
+why_text BadShape = codes "H2"
+why_text (why.Bench fault) = fault_text fault
+why_text NoMemory = []
+
+-- a path is left out where it is empty
+abbrev pub path_text : List ℕ → List ℕ
+path_text [] = []
+path_text (byte ∷ rest) = spaced (byte ∷ rest)
+
+abbrev pub refusal_line : List ℕ → List ℕ → List ℕ
+refusal_line code path = codes "refused" ++ spaced code ++ path_text path ++ codes "\n"
+
+-- whether the input is refused, and what is written
+pub record Output : Type 0 where
+  pub is_refused : Bool
+  pub text : List ℕ
+
+abbrev pub refused : List ℕ → List ℕ → Output
+refused code path = record { is_refused = true; text = refusal_line code path }
+
+-- the lines of the edits, then those of the session that they leave
+abbrev pub edited_text : Session → List Edit → List ℕ
+edited_text session edits = let last = after_edits session edits in edit_lines 0 (answers session edits) ++ replay_text last.header last.steps
+
+-- J2 comes behind all other refusals
+abbrev pub output_of_bench : Bench → Output
+output_of_bench bench =
+    if nat_lt MOST_STEPS (length bench.steps) then refused (codes "J2") []
+    else record { is_refused = false; text = edited_text (record { header = bench.header; steps = bench.steps }) bench.edits }
+
+abbrev pub output_of : Result Bench TextFault → Output
+output_of (Ok bench) = output_of_bench bench
+output_of (Err fault) = refused (why_text fault.why) fault.path
+
+unfoldable pub output : List ℕ → Output
+output input = if nat_lt MOST_INPUT (length input) then refused (codes "H3") [] else output_of (bench_text input)

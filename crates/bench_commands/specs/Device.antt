@@ -1,0 +1,51 @@
+-- What is known of reads and writes that are counted.
+use Rattle.std.specs.Prelude.{◌≡◌, ◌⊎◌, ℕ, zero, suc, ◌+◌, ◌-◌, ◌≤◌, ◌^◌, min, List, ◌++◌, length, take, Option, Bool, true, false, Result, Ok, Err, if◌then◌else◌}
+use Rattle.std.specs.Io.KnownBytes.{Appends, Consumes, IsAtEnd}
+use Rattle.bench_commands.specs.declared.answer.TheConstants.{MOST_INPUT}
+use Rattle.bench_commands.specs.declared.input.Stop.{Stop}
+use Rattle.bench_commands.specs.declared.input.Stop.TheVariants.{Memory, Read}
+
+-- one failure more, up to the end of 64 bits
+abbrev pub one_more : ℕ → ℕ
+one_more failures = min (failures + 1) (2 ^ 64 - 1)
+
+-- a write succeeds where it takes a byte
+abbrev pub took_some : {E : Type 0} → Result ℕ E → Bool
+took_some (Ok zero) = false
+took_some (Ok (suc n)) = true
+took_some (Err fault) = false
+
+-- the count after a try
+abbrev pub counted : Bool → ℕ → ℕ
+counted succeeds failures = if succeeds then failures else one_more failures
+
+-- all that was left was read, or as much as is ever read
+pub record ReadsInput (old new : Option (List ℕ)) (input : List ℕ) : Type 0 where
+  pub consumes : Consumes old new input
+  pub within : length input ≤ MOST_INPUT + 1
+  pub whole : (length input ≡ MOST_INPUT + 1) ⊎ IsAtEnd new
+
+-- at most so many bytes were read
+pub record ReadsSome (old new : Option (List ℕ)) (most : ℕ) : Type 0 where
+  pub bytes : List ℕ
+  pub consumes : Consumes old new bytes
+  pub within : length bytes ≤ most
+
+-- some bytes, at most so many, were read behind what was there; none only at the end
+pub record ReadsOn (old new : Option (List ℕ)) (most : ℕ) (before after : List ℕ) (count_read : ℕ) : Type 0 where
+  pub bytes : List ℕ
+  pub behind : after ≡ before ++ bytes
+  pub count : length bytes ≡ count_read
+  pub within : count_read ≤ most
+  pub consumes : Consumes old new bytes
+  pub ends : count_read ≡ 0 → IsAtEnd new
+
+-- no read failed: what stopped the reading, if anything, was want of memory
+abbrev pub reads_on : {A : Type 0} → Result A Stop → Bool
+reads_on (Ok input) = true
+reads_on (Err Memory) = true
+reads_on (Err Read) = false
+
+-- some first bytes of the text were written, and no others
+abbrev pub AppendsPrefix : Option (List ℕ) → Option (List ℕ) → List ℕ → Type 0
+AppendsPrefix old new text = (count : ℕ) × Appends old new (take count text)

@@ -1,0 +1,59 @@
+-- What a run has read and written when it ends.
+use Rattle.std.specs.Prelude.{◌≡◌, ℕ, ◌+◌, List, Option, Bool, true, false}
+use Rattle.std.specs.Io.KnownBytes.{Appends}
+use Rattle.bench_commands.specs.declared.answer.TheConstants.{MOST_INPUT}
+use Rattle.bench_types.specs.Name.{is_within}
+use Rattle.session_store.specs.declared.store.TheConstants.{MOST_SPAN}
+use Rattle.bench_commands.specs.declared.bench.Mode.{Mode}
+use Rattle.bench_commands.specs.declared.bench.Mode.TheVariants.{Replay}
+use Rattle.bench_commands.specs.declared.bench.Status.{Status}
+use Rattle.bench_commands.specs.declared.bench.Status.TheVariants.{Fine, Refused, Fault}
+use Rattle.bench_commands.specs.declared.bench.RunFault.TheVariants.{Memory, Read, Write}
+use Rattle.bench_commands.specs.Device.{ReadsInput, ReadsSome, AppendsPrefix}
+use Rattle.bench_commands.specs.Answer.{output}
+
+-- a span of checkpoints that a session may be opened with
+abbrev pub has_span : Mode → Bool
+has_span (Replay span) = is_within 1 MOST_SPAN span
+
+-- the input was read, and its whole output written
+pub record Wrote (read_old read_new write_old write_new : Option (List ℕ)) (is_refused : Bool) : Type 0 where
+  pub input : List ℕ
+  pub reads : ReadsInput read_old read_new input
+  pub status : (output input).is_refused ≡ is_refused
+  pub writes : Appends write_old write_new (output input).text
+
+-- the input was read, and some first bytes of its output written
+pub record WrotePart (read_old read_new write_old write_new : Option (List ℕ)) : Type 0 where
+  pub input : List ℕ
+  pub reads : ReadsInput read_old read_new input
+  pub writes : AppendsPrefix write_old write_new (output input).text
+
+-- no more was read than is ever read, and nothing written
+pub record WroteNothing (read_old read_new write_old write_new : Option (List ℕ)) : Type 0 where
+  pub reads : ReadsSome read_old read_new (MOST_INPUT + 1)
+  pub writes : write_new ≡ write_old
+
+-- by the status, what was read and written
+abbrev pub Ran : Status → Option (List ℕ) → Option (List ℕ) → Option (List ℕ) → Option (List ℕ) → Type 0
+Ran Fine read_old read_new write_old write_new = Wrote read_old read_new write_old write_new false
+Ran Refused read_old read_new write_old write_new = Wrote read_old read_new write_old write_new true
+Ran (Fault Memory) read_old read_new write_old write_new = WroteNothing read_old read_new write_old write_new
+Ran (Fault Read) read_old read_new write_old write_new = WroteNothing read_old read_new write_old write_new
+Ran (Fault Write) read_old read_new write_old write_new = WrotePart read_old read_new write_old write_new
+
+-- whether no read failed
+abbrev pub reads_well : Status → Bool
+reads_well Fine = true
+reads_well Refused = true
+reads_well (Fault Memory) = true
+reads_well (Fault Read) = false
+reads_well (Fault Write) = true
+
+-- whether no write failed
+abbrev pub writes_well : Status → Bool
+writes_well Fine = true
+writes_well Refused = true
+writes_well (Fault Memory) = true
+writes_well (Fault Read) = true
+writes_well (Fault Write) = false

@@ -1,0 +1,134 @@
+ghost use Rattle.std.specs.Prelude.{◌≡◌, ◌++◌, IfOk, OnOk, string_bytes, true, IsErr};
+ghost use Rattle.bench_types.specs.Name.{is_within};
+ghost use Rattle.session_store.specs.declared.store.TheConstants.{MOST_SPAN};
+ghost use Rattle.session_text.specs.declared.fault.Why.TheVariants.{NoMemory};
+ghost use Rattle.session_text.specs.Bench.{IsCheckedBench};
+ghost use Rattle.bench_commands.specs.Answer.{why_text, path_text, refusal_line, output, output_of_bench, Output};
+
+use crate::lines::{fault_text, push_spaced};
+use crate::replay::edited_replay;
+use session_store::{OpenRefusal, Store};
+use session_text::{Bench, TextFault, Why, read_bench};
+use smp_kernel::Meter;
+use std::alloc::{AllocError, Global};
+use std::marker::Model;
+
+/// The most bytes of input that are read as a bench document. One more is H3.
+pub const MOST_INPUT: usize = 67_108_864;
+
+/// What the program writes, and whether its input was refused.
+#[derive(Drop)]
+pub(crate) struct Answer {
+    pub(crate) is_refused: bool,
+    pub(crate) text: String,
+}
+
+impl Model for Answer {
+    ghost use Rattle.std.specs.Prelude.{string_bytes};
+    ghost use Rattle.bench_commands.specs.Answer.{Output};
+
+    ghost Value = { Output };
+
+    ghost view = { λ answer. record { is_refused = answer.is_refused; text = string_bytes answer.text } };
+}
+
+fn refused(alloc: Global, code: &str, path: &str) -> Result<Answer, AllocError>
+    ensures { IfOk result (λ answer. answer ≡ record { is_refused = true; text = refusal_line code.now path.now }) }
+{
+    let text = refusal_line(alloc, code, path)?;
+    Ok(Answer {
+        is_refused: true,
+        text,
+    })
+}
+
+fn refused_for(alloc: Global, fault: TextFault) -> Result<Answer, AllocError>
+    ensures line { IfOk result (λ answer. answer ≡ record { is_refused = true; text = refusal_line (why_text fault.why) fault.path }) }
+    ensures memory { fault.why ≡ NoMemory → IsErr result }
+{
+    match fault.why {
+        Why::NoMemory => Err(AllocError),
+        why => refused(alloc, why_text(why), fault.path.as_str()),
+    }
+}
+
+// The lines of the edits and of the edited session. Texts may have any number of steps, so J2 is found here.
+fn answer_of_bench(
+    alloc: Global,
+    meter: &mut Meter,
+    bench: Bench,
+    span: u32,
+) -> Result<Answer, AllocError>
+    requires checked { IsCheckedBench bench }
+    requires span { is_within 1 MOST_SPAN span ≡ true }
+    ensures { IfOk result (λ answer. answer ≡ output_of_bench bench) }
+{
+    let Bench {
+        header,
+        steps,
+        edits,
+    } = bench;
+    match Store::open(alloc, header, steps.into_vec(), span, meter) {
+        Ok(mut store) => {
+            let text = edited_replay(alloc, meter, &mut store, edits.as_slice())?;
+            Ok(Answer {
+                is_refused: false,
+                text,
+            })
+        }
+        Err(fault) => match fault.why {
+            OpenRefusal::TooLong => refused(alloc, "J2", ""),
+            _ => Err(AllocError),
+        },
+    }
+}
+
+/// The whole output for the input. Each step is counted on the meter.
+#[tactic(auto, unfolding(crate::specs::Answer::output))]
+pub(crate) fn answer_to(
+    alloc: Global,
+    meter: &mut Meter,
+    input: &[u8],
+    span: u32,
+) -> Result<Answer, AllocError>
+    requires { is_within 1 MOST_SPAN span ≡ true }
+    ensures { IfOk result (λ answer. answer ≡ output input.now) }
+{
+    if input.len() > MOST_INPUT {
+        return refused(alloc, "H3", "");
+    }
+    match read_bench(alloc, input) {
+        Err(fault) => refused_for(alloc, fault),
+        Ok(bench) => answer_of_bench(alloc, meter, bench, span),
+    }
+}
+
+fn why_text(why: Why) -> &'static str
+    ensures { result.now ≡ why_text why }
+{
+    match why {
+        Why::NotJson => "H1",
+        Why::BadShape => "H2",
+        Why::Bench(fault) => fault_text(fault),
+        Why::NoMemory => "",
+    }
+}
+
+fn refusal_line(alloc: Global, code: &str, path: &str) -> Result<String, AllocError>
+    ensures { IfOk result (λ line. string_bytes line ≡ refusal_line code.now path.now) }
+{
+    let mut line = String::from_str(alloc, "refused")?;
+    push_spaced(&mut line, code)?;
+    push_path(&mut line, path)?;
+    line.push_str("\n")?;
+    Ok(line)
+}
+
+fn push_path(line: &mut String, path: &str) -> Result<(), AllocError>
+    ensures { OnOk result (string_bytes line.new ≡ string_bytes line.old ++ path_text path.now) }
+{
+    if path.is_empty() {
+        return Ok(());
+    }
+    push_spaced(line, path)
+}

@@ -1,0 +1,73 @@
+ghost use Rattle.std.specs.Prelude.{◌≡◌, true};
+ghost use Rattle.bench_commands.specs.Device.{counted};
+ghost use Rattle.bench_commands.specs.Run.{Ran, has_span, reads_well, writes_well};
+
+use crate::answer::{Answer, answer_to};
+use crate::device::{CountedRead, CountedWrite};
+use crate::input::{Stop, read_input};
+use crate::writing::write_text;
+use smp_kernel::Meter;
+use std::alloc::Global;
+use std::rt::Runtime;
+
+/// What the program is asked to do with its input.
+#[derive(Clone, Copy, Debug, PartialEq, Eq)]
+pub enum Mode {
+    /// Replay a session or a bench document, and print the tasks that run after each step. A checkpoint is to be kept
+    /// every `span` steps, 1 to [`MOST_SPAN`](session_store::MOST_SPAN).
+    Replay { span: u32 },
+}
+
+/// What kept a run from its end.
+#[derive(Clone, Copy, Debug, PartialEq, Eq)]
+pub enum RunFault {
+    /// Memory was refused. Nothing was written.
+    Memory,
+    /// A read failed. Nothing was written.
+    Read,
+    /// A write failed or took no byte. Some first bytes of the output went out, or none.
+    Write,
+}
+
+/// How a run ended.
+#[derive(Clone, Copy, Debug, PartialEq, Eq)]
+pub enum Status {
+    /// The whole output was written.
+    Fine,
+    /// The input was refused, and its refusal line written.
+    Refused,
+    Fault(RunFault),
+}
+
+/// Reads the input to its end, or one byte past the most that is a bench document, then writes its whole output.
+pub fn run<T: Runtime, R: CountedRead, W: CountedWrite>(
+    rt: &T,
+    alloc: Global,
+    reader: &mut R,
+    writer: &mut W,
+    mode: &Mode,
+) -> Status
+    requires { has_span mode.now ≡ true }
+    ensures bytes { Ran result (R.Read.remaining reader.old) (R.Read.remaining reader.new) (W.Write.contents writer.old) (W.Write.contents writer.new) }
+    ensures reads { R.CountedRead.failures reader.new ≡ counted (reads_well result) (R.CountedRead.failures reader.old) }
+    ensures writes { W.CountedWrite.failures writer.new ≡ counted (writes_well result) (W.CountedWrite.failures writer.old) }
+{
+    let Mode::Replay { span } = *mode;
+    let input = match read_input(alloc, reader) {
+        Ok(input) => input,
+        Err(Stop::Memory) => return Status::Fault(RunFault::Memory),
+        Err(Stop::Read) => return Status::Fault(RunFault::Read),
+    };
+    let mut meter = Meter::new(rt);
+    let Ok(answer) = answer_to(alloc, &mut meter, &input, span) else {
+        return Status::Fault(RunFault::Memory);
+    };
+    if write_text(writer, answer.text.as_bytes()).is_err() {
+        return Status::Fault(RunFault::Write);
+    }
+    if answer.is_refused {
+        Status::Refused
+    } else {
+        Status::Fine
+    }
+}

@@ -1,0 +1,109 @@
+ghost use Rattle.std.specs.Prelude.{◌≡◌, ℕ, IfOk, IsErr, drop, map, option_map, true};
+ghost use Rattle.clap.specs.Words.{app_of, kind_of, rule_of, subcommand_rows_of};
+ghost use Rattle.clap.specs.declared.error.kind.ErrorKind.TheVariants.{OutOfMemory};
+ghost use Rattle.bench_commands.specs.Command.{GivesSpan, a_mistake, asked, asked_behind, asked_by, asked_in, bench_app, can_run, span_rule, value_found};
+
+use crate::bench::Mode;
+use clap::error::ErrorKind;
+use clap::{Arg, ArgMatches, Command, Error, value_parser};
+use session_store::MOST_SPAN;
+use std::alloc::{AllocError, Global};
+use std::convert::AsStr;
+
+/// The span of a replay where the command line gives none.
+pub const DEFAULT_SPAN: u32 = 64;
+
+/// What a command line asks for.
+#[derive(Debug, Drop)]
+pub enum Request {
+    /// A run over standard input.
+    Run(Mode),
+    /// This help.
+    Help(String),
+    /// Nothing that the program does; the text says why.
+    Bad(String),
+}
+
+fn span_option<'a>(alloc: Global) -> Arg<'a>
+    ensures { rule_of result ≡ span_rule }
+{
+    Arg::new(alloc, "span")
+        .long("span")
+        .value_name("STEPS")
+        .help("Steps from one checkpoint to the next, 1 to 1000, or 64 if left out")
+        .value_parser(value_parser!(u32).range(1..=i64::from(MOST_SPAN)))
+}
+
+// The program's commands. Help for one of them is asked for by its `--help`, so `help` is no command.
+fn command<'a>(alloc: Global) -> Result<Command<'a>, AllocError>
+    ensures { IfOk result (λ command. app_of command ≡ bench_app) }
+{
+    let replay = Command::new(alloc, "replay")
+        .about(
+            "Replays the session on standard input, and prints the tasks that run after each step",
+        )
+        .arg(span_option(alloc))?;
+    Command::new(alloc, "smp_bench")
+        .about("Replays FreeRTOS SMP scheduling sessions")
+        .disable_help_subcommand(true)
+        .subcommand_required(true)
+        .subcommand(replay)
+}
+
+fn told(alloc: Global, error: &Error) -> Result<Request, AllocError>
+    ensures span { IfOk result (λ request. can_run request ≡ true) }
+    ensures asked { IfOk result (λ request. asked_in request ≡ asked_by (kind_of error.now)) }
+    ensures memory { kind_of error.now ≡ OutOfMemory → IsErr result }
+{
+    match error.kind() {
+        ErrorKind::OutOfMemory => Err(AllocError),
+        ErrorKind::DisplayHelp => Ok(Request::Help(error.to_string(alloc)?)),
+        _ => Ok(Request::Bad(error.to_string(alloc)?)),
+    }
+}
+
+// The refusal of words that are no text, which clap is never given.
+fn not_text(alloc: Global) -> Result<Request, AllocError>
+    ensures span { IfOk result (λ request. can_run request ≡ true) }
+    ensures asked { IfOk result (λ request. asked_in request ≡ a_mistake) }
+{
+    let error = command(alloc)?.error(
+        ErrorKind::InvalidValue,
+        "invalid UTF-8 was detected in one or more arguments",
+    )?;
+    told(alloc, &error)
+}
+
+// The span of the command that was met.
+fn span_in(matches: &ArgMatches) -> u32
+    ensures { (span : ℕ) → GivesSpan (value_found (subcommand_rows_of matches.now)) span → result ≡ span }
+{
+    let Some((_, replay)) = matches.subcommand() else {
+        return DEFAULT_SPAN;
+    };
+    replay.get_one::<u32>("span").unwrap_or(DEFAULT_SPAN)
+}
+
+fn request_in<S: AsStr>(alloc: Global, words: &[S]) -> Result<Request, AllocError>
+    ensures span { IfOk result (λ request. can_run request ≡ true) }
+    ensures asked { IfOk result (λ request. asked_in request ≡ asked_behind (drop 1 (map S.text words.now))) }
+{
+    match command(alloc)?.try_get_matches_from(words) {
+        Ok(matches) => Ok(Request::Run(Mode::Replay {
+            span: span_in(&matches),
+        })),
+        Err(error) => told(alloc, &error),
+    }
+}
+
+/// Reads a command line: its words, the program's name first, or `None` where one of them is no text.
+/// The texts are clap's.
+pub fn request_of<S: AsStr>(alloc: Global, words: Option<&[S]>) -> Result<Request, AllocError>
+    ensures span { IfOk result (λ request. can_run request ≡ true) }
+    ensures asked { IfOk result (λ request. asked_in request ≡ asked (option_map (λ all. map S.text all.now) words.entry)) }
+{
+    match words {
+        Some(words) => request_in(alloc, words),
+        None => not_text(alloc),
+    }
+}

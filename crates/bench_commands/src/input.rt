@@ -1,0 +1,74 @@
+ghost use Rattle.std.specs.Prelude.{◌≡◌, ◌+◌, ◌<◌, ◌≤◌, length, IfOk};
+ghost use Rattle.bench_commands.specs.Device.{counted, reads_on, ReadsInput, ReadsOn, ReadsSome};
+
+use crate::answer::MOST_INPUT;
+use crate::device::CountedRead;
+use std::alloc::{AllocError, Global};
+
+// How many bytes are read at once.
+const CHUNK: usize = 65_536;
+
+/// Why the input was not read.
+#[derive(Clone, Copy, Debug, PartialEq, Eq)]
+pub(crate) enum Stop {
+    Memory,
+    Read,
+}
+
+impl From<AllocError> for Stop {
+    ghost use Rattle.std.specs.Prelude.{◌≡◌};
+    ghost use Rattle.bench_commands.specs.declared.input.Stop.TheVariants.{Memory};
+
+    ghost from_gives = { λ _ stop. stop ≡ Memory };
+
+    fn from(_refused: AllocError) -> Stop {
+        Stop::Memory
+    }
+}
+
+// Room for so many bytes.
+fn room_for(alloc: Global, count: usize) -> Result<Vec<u8>, AllocError>
+    ensures { IfOk result (λ chunk. length chunk.items ≡ count) }
+{
+    vec![in alloc; 0u8; count]
+}
+
+// One read of at most `most` bytes behind what was read before. It gives how many bytes came, 0 at the end.
+fn read_on<R: CountedRead>(
+    reader: &mut R,
+    chunk: &mut [u8],
+    most: usize,
+    input: &mut Vec<u8>,
+) -> Result<usize, Stop>
+    requires wanted { 0 < most }
+    requires room { most ≤ length chunk.old }
+    ensures read { IfOk result (ReadsOn (R.Read.remaining reader.old) (R.Read.remaining reader.new) most input.old.items input.new.items) }
+    ensures some { ReadsSome (R.Read.remaining reader.old) (R.Read.remaining reader.new) most }
+    ensures failures { R.CountedRead.failures reader.new ≡ counted (reads_on result) (R.CountedRead.failures reader.old) }
+{
+    let part = &mut chunk[..most];
+    match reader.read_counted(part) {
+        Ok(count) => {
+            input.extend_from_slice(&part[..count])?;
+            Ok(count)
+        }
+        Err(_) => Err(Stop::Read),
+    }
+}
+
+/// Reads to the end of the input, or one byte past the most that is a session.
+pub(crate) fn read_input<R: CountedRead>(alloc: Global, reader: &mut R) -> Result<Vec<u8>, Stop>
+    ensures input { IfOk result (λ input. ReadsInput (R.Read.remaining reader.old) (R.Read.remaining reader.new) input.items) }
+    ensures some { ReadsSome (R.Read.remaining reader.old) (R.Read.remaining reader.new) (MOST_INPUT + 1) }
+    ensures failures { R.CountedRead.failures reader.new ≡ counted (reads_on result) (R.CountedRead.failures reader.old) }
+{
+    let mut input = Vec::new(alloc);
+    let mut chunk = room_for(alloc, CHUNK)?;
+    while input.len() <= MOST_INPUT {
+        let most = CHUNK.min(MOST_INPUT + 1 - input.len());
+        if read_on(reader, &mut chunk, most, &mut input)? == 0 {
+            return Ok(input);
+        }
+    }
+    Ok(input)
+}

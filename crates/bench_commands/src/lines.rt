@@ -1,0 +1,157 @@
+ghost use Rattle.std.specs.Prelude.{◌≡◌, ◌++◌, OnOk, string_bytes};
+ghost use Rattle.bench_types.specs.Header.{name_of};
+ghost use Rattle.bench_commands.specs.Lines.{spaced, reply_text, refusal_text, row_text, start_line, step_line, fault_text, edit_fault_text, answer_text, edit_line, edit_lines};
+
+use bench_types::{EditFault, Fault, Header, Refusal, Reply};
+use session_store::Outcome;
+use std::alloc::AllocError;
+
+fn refusal_text(why: Refusal) -> &'static str
+    ensures { result.now ≡ refusal_text why }
+{
+    match why {
+        Refusal::Held => "E1",
+        Refusal::Displaced => "E2",
+        Refusal::SwitchDue => "E3",
+        Refusal::InCall => "E4",
+        Refusal::NotInCall => "E5",
+        Refusal::HoldBlock => "E6",
+        Refusal::NoHold => "E7",
+        Refusal::HoldDeep => "E8",
+        Refusal::NotHolder => "E9",
+        Refusal::NotDue => "E10",
+    }
+}
+
+pub(crate) fn push_spaced(text: &mut String, word: &str) -> Result<(), AllocError>
+    ensures { OnOk result (string_bytes text.new ≡ string_bytes text.old ++ spaced word.now) }
+{
+    text.push_str(" ")?;
+    text.push_str(word)
+}
+
+fn push_reply(text: &mut String, reply: Reply) -> Result<(), AllocError>
+    ensures { OnOk result (string_bytes text.new ≡ string_bytes text.old ++ reply_text reply) }
+{
+    match reply {
+        Reply::Done => text.push_str("done"),
+        Reply::Blocked => text.push_str("blocked"),
+        Reply::Flag(flag) => write!(text, "{flag}"),
+        Reply::Value(value) => write!(text, "value {value}"),
+        Reply::Waited { ok, value } => write!(text, "waited {ok} {value}"),
+        Reply::Until { delayed, wake } => write!(text, "until {delayed} {wake}"),
+        Reply::Isr { pass, pend } => write!(text, "isr {pass} {pend}"),
+        Reply::Refused(why) => {
+            text.push_str("refused")?;
+            push_spaced(text, refusal_text(why))
+        }
+    }
+}
+
+fn push_task(text: &mut String, header: &Header, task: u32) -> Result<(), AllocError>
+    ensures { OnOk result (string_bytes text.new ≡ string_bytes text.old ++ spaced (name_of header.now task)) }
+{
+    text.push_str(" ")?;
+    header.push_name(text, task)
+}
+
+fn push_row(text: &mut String, header: &Header, row: &[u32]) -> Result<(), AllocError>
+    ensures { OnOk result (string_bytes text.new ≡ string_bytes text.old ++ row_text header.now row.now) }
+{
+    for task in row {
+        push_task(text, header, *task)?;
+    }
+    Ok(())
+}
+
+pub(crate) fn push_start_line(
+    text: &mut String,
+    header: &Header,
+    row: &[u32],
+) -> Result<(), AllocError>
+    ensures { OnOk result (string_bytes text.new ≡ string_bytes text.old ++ start_line header.now row.now) }
+{
+    text.push_str("start")?;
+    push_row(text, header, row)?;
+    text.push_str("\n")
+}
+
+pub(crate) fn push_step_line(
+    text: &mut String,
+    header: &Header,
+    index: u32,
+    reply: Reply,
+    row: &[u32],
+) -> Result<(), AllocError>
+    ensures { OnOk result (string_bytes text.new ≡ string_bytes text.old ++ step_line header.now index reply row.now) }
+{
+    write!(text, "{index} ")?;
+    push_reply(text, reply)?;
+    push_row(text, header, row)?;
+    text.push_str("\n")
+}
+
+pub(crate) fn fault_text(fault: Fault) -> &'static str
+    ensures { result.now ≡ fault_text fault }
+{
+    match fault {
+        Fault::BadHeader => "F1",
+        Fault::BadCore => "F2",
+        Fault::BadTask => "F3",
+        Fault::BadMutex => "F4",
+        Fault::BadArgument => "F5",
+    }
+}
+
+fn edit_fault_text(why: EditFault) -> &'static str
+    ensures { result.now ≡ edit_fault_text why }
+{
+    match why {
+        EditFault::Bench(fault) => fault_text(fault),
+        EditFault::NoPlace => "J1",
+        EditFault::TooLong => "J2",
+    }
+}
+
+fn push_answer(text: &mut String, answer: &Result<Outcome, EditFault>) -> Result<(), AllocError>
+    ensures { OnOk result (string_bytes text.new ≡ string_bytes text.old ++ answer_text answer.now) }
+{
+    match answer {
+        Ok(
+            Outcome {
+                from,
+                met,
+                replayed,
+            },
+        ) => write!(text, "from {from} met {met} replayed {replayed}"),
+        Err(why) => {
+            text.push_str("refused")?;
+            push_spaced(text, edit_fault_text(*why))
+        }
+    }
+}
+
+fn push_edit_line(
+    text: &mut String,
+    index: usize,
+    answer: &Result<Outcome, EditFault>,
+) -> Result<(), AllocError>
+    ensures { OnOk result (string_bytes text.new ≡ string_bytes text.old ++ edit_line index answer.now) }
+{
+    write!(text, "edit {index} ")?;
+    push_answer(text, answer)?;
+    text.push_str("\n")
+}
+
+/// The lines of edits, by what each of them led to.
+pub(crate) fn push_edit_lines(
+    text: &mut String,
+    answers: &[Result<Outcome, EditFault>],
+) -> Result<(), AllocError>
+    ensures { OnOk result (string_bytes text.new ≡ string_bytes text.old ++ edit_lines 0 answers.now) }
+{
+    for (index, answer) in answers.iter().enumerate() {
+        push_edit_line(text, index, answer)?;
+    }
+    Ok(())
+}

@@ -1,0 +1,80 @@
+ghost use Rattle.std.specs.Prelude.{◌≡◌, map, option_map};
+ghost use Rattle.bench_commands.specs.Command.{asked};
+ghost use Rattle.bench_commands.specs.Device.{counted};
+ghost use Rattle.bench_commands.specs.Program.{Ends, Shows, all_reads_well, all_writes_well, exit_code, message};
+ghost use Rattle.bench_commands.specs.Run.{writes_well};
+
+use crate::bench::{RunFault, Status, run};
+use crate::command::{Request, request_of};
+use crate::device::{CountedRead, CountedWrite};
+use crate::writing::write_text;
+use std::alloc::Global;
+use std::convert::AsStr;
+use std::rt::Runtime;
+
+/// How the program ends.
+#[derive(Debug, Drop)]
+pub enum Ending {
+    /// What was asked for was run.
+    Ran(Status),
+    /// The command line asks for nothing that the program does, and the text says why.
+    BadCommandLine(String),
+}
+
+impl Ending {
+    /// The exit status of the process.
+    pub fn code(&self) -> u8
+        ensures { result ≡ exit_code self.now }
+    {
+        match self {
+            Ending::Ran(Status::Fine) => 0,
+            Ending::Ran(Status::Refused) => 1,
+            Ending::BadCommandLine(_) => 2,
+            Ending::Ran(Status::Fault(_)) => 3,
+        }
+    }
+
+    /// What goes to standard error.
+    pub fn message(&self) -> &str
+        ensures { result.now ≡ message self.now }
+    {
+        match self {
+            Ending::Ran(Status::Fine) | Ending::Ran(Status::Refused) => "",
+            Ending::BadCommandLine(text) => text.as_str(),
+            Ending::Ran(Status::Fault(RunFault::Memory)) => "fault memory\n",
+            Ending::Ran(Status::Fault(RunFault::Read)) => "fault read\n",
+            Ending::Ran(Status::Fault(RunFault::Write)) => "fault write\n",
+        }
+    }
+}
+
+fn show_help<W: CountedWrite>(writer: &mut W, text: &str) -> Status
+    ensures bytes { Shows result text.now (W.Write.contents writer.old) (W.Write.contents writer.new) }
+    ensures failures { W.CountedWrite.failures writer.new ≡ counted (writes_well result) (W.CountedWrite.failures writer.old) }
+{
+    if write_text(writer, text.as_bytes()).is_err() {
+        return Status::Fault(RunFault::Write);
+    }
+    Status::Fine
+}
+
+/// Does what the words of the command line ask for: they are `None` where one of them is no text. Only a run
+/// reads, once the words are known to ask for it.
+pub fn carry_out<T: Runtime, S: AsStr, R: CountedRead, W: CountedWrite>(
+    rt: &T,
+    alloc: Global,
+    words: Option<&[S]>,
+    reader: &mut R,
+    writer: &mut W,
+) -> Ending
+    ensures bytes { Ends (asked (option_map (λ all. map S.text all.now) words.entry)) result (R.Read.remaining reader.old) (R.Read.remaining reader.new) (W.Write.contents writer.old) (W.Write.contents writer.new) }
+    ensures reads { R.CountedRead.failures reader.new ≡ counted (all_reads_well result) (R.CountedRead.failures reader.old) }
+    ensures writes { W.CountedWrite.failures writer.new ≡ counted (all_writes_well result) (W.CountedWrite.failures writer.old) }
+{
+    match request_of(alloc, words) {
+        Ok(Request::Run(mode)) => Ending::Ran(run(rt, alloc, reader, writer, &mode)),
+        Ok(Request::Help(text)) => Ending::Ran(show_help(writer, text.as_str())),
+        Ok(Request::Bad(text)) => Ending::BadCommandLine(text),
+        Err(_) => Ending::Ran(Status::Fault(RunFault::Memory)),
+    }
+}

@@ -1,5 +1,0 @@
-use Rattle.smp_bench.proofs.Refused.{refused_output}
-use Rattle.smp_bench.proofs.answer.answer_to.Goals as goal
-
-pub returns-in-Err : goal.returns-in-Err
-returns-in-Err c = refused_output c.args.input.now c.in-Err.fault c.refused_for.result c.if-input-gt-MOST_INPUT.false c.in-Err.ensures.reading c.refused_for.ensures.line c.refused_for.ensures.memory

@@ -1,4 +1,5 @@
 pub mod Edit
 pub mod Header
 pub mod Name
+pub mod Reply
 pub mod Step

@@ -9,7 +9,7 @@ use Rattle.bench_types.specs.declared.reply.Reply.{Reply}
 use Rattle.bench_types.specs.declared.step.Step.{Step}
 use Rattle.bench_model.specs.Control.{running}
 use Rattle.bench_model.specs.Session.{step_of, behind, state_at, reply_at, running_at, outcome_at, trace}
-use Rattle.slow_replay.specs.Shown.{shown}
+use Rattle.bench_types.specs.Reply.{shown}
 use Rattle.bench_model.specs.Start.{start}
 use Rattle.session_laws.proofs.Traces.{trace_at}
 use Rattle.session_store.specs.StoreView.{row_items}

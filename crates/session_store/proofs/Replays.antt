@@ -11,7 +11,7 @@ use Rattle.bench_model.specs.Table.{Table}
 use Rattle.bench_model.specs.Lists.{View}
 use Rattle.bench_model.specs.Equal.{StandsFor}
 use Rattle.bench_model.specs.Session.{step_of, behind, trace}
-use Rattle.slow_replay.specs.Shown.{shown}
+use Rattle.bench_types.specs.Reply.{shown}
 use Rattle.list_orders.proofs.Filters.{fold-append}
 
 -- the kernel stands for the state behind the first steps; their outcomes and what the rest gives are the whole trace

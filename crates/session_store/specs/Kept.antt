@@ -6,7 +6,7 @@ use Rattle.bench_types.specs.Step.{settings_of}
 use Rattle.bench_model.specs.Edits.{IsSession}
 use Rattle.bench_model.specs.Equal.{StandsFor}
 use Rattle.bench_model.specs.Session.{trace}
-use Rattle.slow_replay.specs.Shown.{shown}
+use Rattle.bench_types.specs.Reply.{shown}
 use Rattle.bench_model.specs.Start.{start}
 use Rattle.bench_model.specs.Table.{Table}
 use Rattle.session_store.specs.declared.store.Segment.{Segment}

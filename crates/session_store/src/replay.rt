@@ -5,7 +5,7 @@ ghost use Rattle.bench_model.specs.Control.{running};
 ghost use Rattle.bench_model.specs.Edits.{IsSession};
 ghost use Rattle.bench_model.specs.Equal.{StandsFor};
 ghost use Rattle.bench_model.specs.Session.{behind, trace};
-ghost use Rattle.slow_replay.specs.Shown.{shown};
+ghost use Rattle.bench_types.specs.Reply.{shown};
 ghost use Rattle.bench_model.specs.Start.{start};
 ghost use Rattle.bench_model.specs.Table.{Table};
 ghost use Rattle.smp_kernel.specs.Kernel.{StandsForSome};

@@ -19,7 +19,7 @@ use Rattle.bench_model.specs.Table.{Stamps, Table, table_moves}
 use Rattle.bench_model.specs.Sound.{IsConsistent, IsSound}
 use Rattle.bench_model.specs.Start.{first_stamps, unstarted, started, start}
 use Rattle.bench_model.specs.Session.{step_of, outcome_at, trace}
-use Rattle.slow_replay.specs.Shown.{shown}
+use Rattle.bench_types.specs.Reply.{shown}
 use Rattle.list_orders.proofs.Filters.{fold-append}
 use Rattle.list_orders.proofs.Stamped.{range_parts}
 use Rattle.session_laws.proofs.Traces.{trace_at}

@@ -1,4 +1,3 @@
-pub mod Shown
 pub mod SlowDue
 pub mod SlowSeek
 pub mod SlowTable

@@ -9,7 +9,7 @@ ghost use Rattle.bench_model.specs.Seek.{wake, switched_and_sought};
 ghost use Rattle.bench_model.specs.Steps.{ticked, delayed_until, called, performed};
 ghost use Rattle.bench_model.specs.Sound.{IsConsistent, IsSound, IsInPlace};
 ghost use Rattle.bench_model.specs.Session.{step_of, outcome_at};
-ghost use Rattle.slow_replay.specs.Shown.{shown};
+ghost use Rattle.bench_types.specs.Reply.{shown};
 ghost use Rattle.bench_model.specs.Table.{table_moves, advance, make_ready, is_ready, goes_before, pick, row_at, stamp_of, tasks_of, wakes_at};
 ghost use Rattle.list_orders.specs.Search.{is_best, numbers};
 ghost use Rattle.bench_model.specs.Start.{first_look, ready_row, idle_control, user_control, first_control, first_stamps, unstarted, start};

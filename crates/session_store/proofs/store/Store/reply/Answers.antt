@@ -1,6 +1,6 @@
 use Rattle.std.proofs.Common.{◌≡◌, ap, ◌∙◌, map}
 use Rattle.bench_model.specs.Session.{reply_at, trace}
-use Rattle.slow_replay.specs.Shown.{shown}
+use Rattle.bench_types.specs.Reply.{shown}
 use Rattle.bench_model.specs.Start.{start}
 use Rattle.session_store.specs.StoreView.{StoreView}
 use Rattle.session_store.proofs.Places.{reply_past, reply_read}

@@ -2,7 +2,7 @@ use Rattle.std.proofs.Common.{◌≡◌, ℕ, suc, ◌-◌, List, Option, Some, 
 use Rattle.std.specs.Prelude.{option_map}
 use Rattle.arrayvec.specs.ArrayVec.{ArrayVec}
 use Rattle.bench_model.specs.Session.{running_at, trace}
-use Rattle.slow_replay.specs.Shown.{shown}
+use Rattle.bench_types.specs.Reply.{shown}
 use Rattle.bench_model.specs.Start.{start}
 use Rattle.session_store.specs.StoreView.{StoreView, row_items}
 use Rattle.session_store.proofs.Places.{row_past, row_read, row_at_start}

@@ -1,4 +1,4 @@
--- What the plain replay answers, in the words of the definitions.
+-- A reply with the tasks that run then.
 use Rattle.std.specs.Prelude.{ℕ, List}
 use Rattle.arrayvec.specs.ArrayVec.{ArrayVec}
 use Rattle.bench_types.specs.declared.reply.Reply.{Reply}

@@ -1,0 +1,94 @@
+//! Devices that give or take little, fail, or have little room, and a run over two devices.
+use bench_commands::{Counted, CountedRead, CountedWrite, DEFAULT_SPAN, Mode, Status, run};
+use std::alloc::Global;
+use std::io::{self, Read, Write};
+use std::rt::Runtime;
+
+const MOST_OUTPUT: usize = 4096;
+
+/// Gives so many bytes at a read, and is interrupted once so many reads were made.
+#[derive(Drop)]
+pub(crate) struct Source {
+    pub(crate) text: &'static [u8],
+    pub(crate) piece: usize,
+    pub(crate) reads: usize,
+}
+
+impl Read for Source {
+    fn read(&mut self, buf: &mut [u8]) -> io::Result<usize> {
+        if self.reads == 0 {
+            return Err(io::Error::from(io::ErrorKind::Interrupted));
+        }
+        self.reads -= 1;
+        let count = self.piece.min(self.text.len()).min(buf.len());
+        buf[..count].copy_from_slice(&self.text[..count]);
+        self.text = &self.text[count..];
+        Ok(count)
+    }
+}
+
+/// Takes so many bytes at a write, and has room for so many. It asks for no memory.
+#[derive(Drop)]
+pub(crate) struct Sink {
+    bytes: [u8; MOST_OUTPUT],
+    count: usize,
+    piece: usize,
+    room: usize,
+    // Whether a write fails where there is no room, or takes no byte.
+    fails: bool,
+}
+
+impl Sink {
+    pub(crate) fn new(piece: usize, room: usize, fails: bool) -> Self {
+        Sink {
+            bytes: [0; MOST_OUTPUT],
+            count: 0,
+            piece,
+            room: room.min(MOST_OUTPUT),
+            fails,
+        }
+    }
+
+    /// Takes as much as there is, at once.
+    pub(crate) fn wide() -> Self {
+        Sink::new(MOST_OUTPUT, MOST_OUTPUT, false)
+    }
+
+    pub(crate) fn taken(&self) -> &[u8] {
+        &self.bytes[..self.count.min(MOST_OUTPUT)]
+    }
+}
+
+impl Write for Sink {
+    fn write(&mut self, buf: &[u8]) -> io::Result<usize> {
+        let start = self.count.min(self.room.min(MOST_OUTPUT));
+        let count = buf
+            .len()
+            .min(self.piece)
+            .min(self.room.min(MOST_OUTPUT) - start);
+        if count == 0 && self.fails {
+            return Err(io::Error::from(io::ErrorKind::BrokenPipe));
+        }
+        self.bytes[start..start + count].copy_from_slice(&buf[..count]);
+        self.count = start + count;
+        Ok(count)
+    }
+
+    fn flush(&mut self) -> io::Result<()> {
+        Ok(())
+    }
+}
+
+/// A replay with the usual span: how it ends, and how many reads and writes failed.
+pub(crate) fn ran<R: Read, W: Write>(
+    rt: &impl Runtime,
+    alloc: Global,
+    reader: &mut R,
+    writer: &mut W,
+) -> (Status, u64, u64) {
+    let mut reader = Counted::new(reader);
+    let mut writer = Counted::new(writer);
+    let mode = Mode::Replay { span: DEFAULT_SPAN };
+    let status = run(rt, alloc, &mut reader, &mut writer, &mode);
+    (status, reader.failures(), writer.failures())
+}

@@ -1,0 +1,11 @@
+//! Tests of the bench's commands over devices in memory, and what they share. There is nothing else here.
+#![tactic(auto)]
+
+#[cfg(test)]
+mod command_lines;
+#[cfg(test)]
+mod devices;
+#[cfg(test)]
+mod documents;
+#[cfg(test)]
+mod faults;

@@ -41,17 +41,3 @@ impl<T> Items<T> {
         items
     }
 }
-
-#[cfg(test)]
-mod tests {
-    use super::*;
-    use std::test::Fail;
-
-    #[test]
-    fn keeps_the_items(rt: HostRuntime) -> Result<(), Fail> {
-        let items = Items::new(vec![in rt.alloc(); 1u32, 2, 3]?);
-        assert_eq!(rt; items.as_slice(), [1, 2, 3].as_slice());
-        assert_eq!(rt; items.into_vec().as_slice(), [1, 2, 3].as_slice());
-        Ok(())
-    }
-}

@@ -9,8 +9,6 @@ mod kernel_data;
 mod name;
 mod note;
 mod reply;
-#[cfg(test)]
-mod samples;
 mod step;
 mod tally;
 

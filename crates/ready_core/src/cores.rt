@@ -540,6 +540,3 @@ impl Cores {
         }
     }
 }
-
-#[cfg(test)]
-mod tests;

@@ -303,6 +303,3 @@ impl Store {
         Ok((given, last))
     }
 }
-
-#[cfg(test)]
-mod tests;

@@ -21,6 +21,3 @@ pub use edit::read_edit;
 pub use fault::{TextFault, Why};
 pub use path::Path;
 pub use session::read_session;
-
-#[cfg(test)]
-mod tests;

@@ -8,6 +8,3 @@ mod session;
 mod step;
 
 pub use session::write_session;
-
-#[cfg(test)]
-mod tests;

@@ -159,6 +159,3 @@ impl Kernel {
         self.scheduler.tick_count()
     }
 }
-
-#[cfg(test)]
-mod tests;

@@ -1,0 +1,36 @@
+ghost use Rattle.std.specs.Prelude.{◌≡◌, IfOk, Ok};
+ghost use Rattle.bench_types.specs.Header.{header_check};
+
+use crate::{SampleFault, header_of, numbered_header};
+use bench_types::{Config, Header};
+use std::alloc::Global;
+
+/// Two cores, 5 priorities, no time slices and no mutexes, from tick 0.
+pub const PLAIN: Config = Config {
+    cores: 2,
+    priorities: 5,
+    slicing: false,
+    tick: 0,
+    mutexes: 0,
+};
+
+/// Two cores and the tasks A, B and C on both, of the priorities 2, 1 and 1.
+pub fn three_tasks(alloc: Global, slicing: bool) -> Result<Header, SampleFault>
+    ensures checked { IfOk result (λ header. header_check header ≡ Ok tt) }
+    ensures config { IfOk result (λ header. header.config ≡ record PLAIN { slicing = slicing }) }
+{
+    let config = Config { slicing, ..PLAIN };
+    header_of(alloc, config, &[("A", 2, 3), ("B", 1, 3), ("C", 1, 3)])
+}
+
+/// Two cores and two mutexes, and the tasks L and H on both cores, of the priorities 1 and 3.
+pub fn low_and_high(alloc: Global) -> Result<Header, SampleFault>
+    ensures checked { IfOk result (λ header. header_check header ≡ Ok tt) }
+    ensures config { IfOk result (λ header. header.config ≡ record PLAIN { mutexes = 2 }) }
+{
+    let config = Config {
+        mutexes: 2,
+        ..PLAIN
+    };
+    header_of(alloc, config, &[("L", 1, 3), ("H", 3, 3)])
+}

@@ -1,0 +1,230 @@
+//! Whether a text is read, and which fault it has where.
+ghost use Rattle.std.specs.Prelude.{IfOk};
+ghost use Rattle.session_text.specs.Session.{IsChecked};
+
+use crate::benches::BENCH;
+use crate::sessions::{NO_JSON, SESSION};
+use crate::{benches, holds, mutexes, notes, sessions, sets};
+use bench_types::{Fault, Header, Step};
+use session_text::{TextFault, Why, read_bench, read_edit, read_session};
+use std::alloc::{AllocError, Global};
+use std::process::Abort;
+use std::test::Fail;
+
+/// Rows, each with a text, and after a bar the outcome of reading it: `read`, or the code of the fault and its path.
+pub struct Table {
+    pub document: Document,
+    pub base: Base,
+    pub rows: &'static str,
+}
+
+/// What a text is read as.
+#[derive(Clone, Copy)]
+pub enum Document {
+    Session,
+    Bench,
+    /// An edit of a session with so many mutexes.
+    Edit(u32),
+}
+
+/// How a row gives its text.
+#[derive(Clone, Copy)]
+pub enum Base {
+    /// As the text, with the session that tables change for `SESSION`.
+    Whole,
+    /// By changes of that session, which stand as `old => new & old => new`.
+    Session,
+    /// By changes of a bench document of it.
+    Bench,
+    /// By changes of this text.
+    Text(&'static str),
+    /// As the start tick of that session.
+    Tick,
+    /// As the steps of a session with so many mutexes.
+    Steps(u32),
+    /// As a step that an edit inserts at the start of a session with so many mutexes.
+    Inserted(u32),
+}
+
+impl Base {
+    /// The text of what a row gives.
+    pub fn text(self, alloc: Global, given: &str) -> Result<String, Fail> {
+        match self {
+            Base::Whole => whole(alloc, given),
+            Base::Session => changed(alloc, SESSION, given),
+            Base::Bench => changed(alloc, BENCH, given),
+            Base::Text(text) => changed(alloc, text, given),
+            Base::Tick => {
+                let change = format!(in alloc; "\"tick\":0 => \"tick\":{given}")?;
+                changed(alloc, SESSION, change.as_str())
+            }
+            Base::Steps(mutexes) => Ok(with_steps(alloc, mutexes, given)?),
+            Base::Inserted(mutexes) => {
+                let session = with_steps(alloc, mutexes, "")?;
+                Ok(format!(in alloc;
+                    "{{\"session\":{session},\"edits\":[{{\"edit\":\"insert\",\"at\":0,\"step\":{given}}}]}}"
+                )?)
+            }
+        }
+    }
+}
+
+fn whole(alloc: Global, given: &str) -> Result<String, Fail> {
+    match given.split_once("SESSION") {
+        Some((front, back)) => Ok(format!(in alloc; "{front}{SESSION}{back}")?),
+        None => Ok(String::from_str(alloc, given)?),
+    }
+}
+
+/// The text after each of the changes.
+fn changed(alloc: Global, text: &str, changes: &str) -> Result<String, Fail> {
+    let mut text = String::from_str(alloc, text)?;
+    for change in changes.split(" & ") {
+        text = changed_once(alloc, text.as_str(), change)?;
+    }
+    Ok(text)
+}
+
+fn changed_once(alloc: Global, text: &str, change: &str) -> Result<String, Fail> {
+    let (old, new) = change.split_once(" => ").ok_or("a change has two parts")?;
+    let (front, back) = text.split_once(old).ok_or("the part stands in the text")?;
+    Ok(format!(in alloc; "{front}{new}{back}")?)
+}
+
+/// A session with so many mutexes and these steps.
+pub fn with_steps(alloc: Global, mutexes: u32, steps: &str) -> Result<String, AllocError> {
+    format!(in alloc;
+        "{{\"format\":1,\"cores\":2,\"priorities\":5,\"slicing\":false,\"tick\":0,\"mutexes\":{mutexes},\"tasks\":[{{\"name\":\"A\",\"priority\":2,\"mask\":3}},{{\"name\":\"B\",\"priority\":1,\"mask\":3}}],\"steps\":[{steps}]}}"
+    )
+}
+
+fn code(why: Why) -> (char, u32) {
+    match why {
+        Why::NotJson => ('H', 1),
+        Why::BadShape => ('H', 2),
+        Why::Bench(Fault::BadHeader) => ('F', 1),
+        Why::Bench(Fault::BadCore) => ('F', 2),
+        Why::Bench(Fault::BadTask) => ('F', 3),
+        Why::Bench(Fault::BadMutex) => ('F', 4),
+        Why::Bench(Fault::BadArgument) => ('F', 5),
+        Why::NoMemory => ('M', 0),
+    }
+}
+
+/// `read`, or the code of the fault and its path.
+fn told<T: Drop>(alloc: Global, read: Result<T, TextFault>) -> Result<String, AllocError> {
+    let Err(fault) = read else {
+        return String::from_str(alloc, "read");
+    };
+    let (letter, number) = code(fault.why);
+    let path = fault.path.as_str();
+    let space = if path.is_empty() { "" } else { " " };
+    format!(in alloc; "{letter}{number}{space}{path}")
+}
+
+/// The session that the text is.
+pub fn session_of(alloc: Global, text: &str) -> Result<(Header, Vec<Step>), Fail>
+    ensures { IfOk result (λ session. IsChecked session.0 session.1.items) }
+{
+    match read_session(alloc, text.as_bytes()) {
+        Ok(session) => Ok(session),
+        Err(_) => Err(Fail::from("the text is a session")),
+    }
+}
+
+impl Document {
+    fn outcome(self, alloc: Global, text: &[u8]) -> Result<String, Fail> {
+        Ok(match self {
+            Document::Session => told(alloc, read_session(alloc, text))?,
+            Document::Bench => told(alloc, read_bench(alloc, text))?,
+            Document::Edit(mutexes) => {
+                let session = with_steps(alloc, mutexes, "")?;
+                let (header, _) = session_of(alloc, session.as_str())?;
+                told(alloc, read_edit(alloc, text, &header))?
+            }
+        })
+    }
+
+    /// The text has this outcome.
+    fn check(self, rt: &impl Abort, alloc: Global, text: &[u8], want: &str) -> Result<(), Fail> {
+        let got = self.outcome(alloc, text)?;
+        assert_eq!(rt; got.as_str(), want, "{text:?}");
+        Ok(())
+    }
+}
+
+fn check_table(rt: &impl Abort, alloc: Global, table: &Table) -> Result<(), Fail> {
+    for line in table.rows.trim().lines() {
+        let (given, want) = line.split_once(" | ").ok_or("a row has an outcome")?;
+        let text = table.base.text(alloc, given)?;
+        table.document.check(rt, alloc, text.as_bytes(), want)?;
+    }
+    Ok(())
+}
+
+fn check_tables(rt: &impl Abort, alloc: Global, tables: &[Table]) -> Result<(), Fail> {
+    for table in tables {
+        check_table(rt, alloc, table)?;
+    }
+    Ok(())
+}
+
+const TABLES: &[&[Table]] = &[
+    sessions::TABLES,
+    benches::TABLES,
+    sets::TABLES,
+    notes::TABLES,
+    mutexes::TABLES,
+    holds::TABLES,
+];
+
+#[test]
+fn tables(rt: HostRuntime) -> Result<(), Fail> {
+    for tables in TABLES {
+        check_tables(&rt, rt.alloc(), tables)?;
+    }
+    Ok(())
+}
+
+#[test]
+fn bytes_that_are_no_json(rt: HostRuntime) -> Result<(), Fail> {
+    for bytes in NO_JSON {
+        Document::Session.check(&rt, rt.alloc(), bytes, "H1")?;
+    }
+    Ok(())
+}
+
+#[test]
+fn prefixes_are_no_json(rt: HostRuntime) -> Result<(), Fail> {
+    let bytes = SESSION.as_bytes();
+    for end in 0..bytes.len() {
+        Document::Session.check(&rt, rt.alloc(), &bytes[..end], "H1")?;
+    }
+    Document::Session.check(&rt, rt.alloc(), bytes, "read")
+}
+
+#[test]
+fn nesting(rt: HostRuntime) -> Result<(), Fail> {
+    let alloc = rt.alloc();
+    for (depth, want) in [(126, "H2 top"), (127, "H2 top"), (128, "H1")] {
+        let text = nested(alloc, depth)?;
+        Document::Session.check(&rt, alloc, text.as_bytes(), want)?;
+        let inner = nested(alloc, depth - 1)?;
+        let change = format!(in alloc; "{{ => {{\"more\":{inner},")?;
+        let session = changed(alloc, SESSION, change.as_str())?;
+        Document::Session.check(&rt, alloc, session.as_bytes(), want)?;
+    }
+    Ok(())
+}
+
+/// So many arrays, one in another.
+fn nested(alloc: Global, depth: usize) -> Result<String, AllocError> {
+    let mut text = String::new(alloc);
+    for _ in 0..depth {
+        text.push_str("[")?;
+    }
+    for _ in 0..depth {
+        text.push_str("]")?;
+    }
+    Ok(text)
+}

@@ -3,9 +3,9 @@ ghost use Rattle.std.specs.Prelude.{◌≡◌, All, IsTrue, Ok};
 ghost use Rattle.bench_types.specs.Step.{settings_of, step_check};
 
 use crate::random::{Mix, Played, random_session};
-use slow_replay::replay_slow;
 use bench_types::{Edit, Header, Reply, Row, Step};
 use session_store::Store;
+use slow_replay::replay_slow;
 use smp_kernel::Meter;
 use std::process::Abort;
 use std::test::Fail;

@@ -5,9 +5,9 @@ ghost use Rattle.bench_types.specs.Step.{settings_of, step_check};
 
 use crate::lines::{push_reply, push_task};
 use crate::state::push_state;
-use slow_replay::replay_slow;
 use bench_types::{Header, Reply, Row, Step};
 use session_text::read_session;
+use slow_replay::replay_slow;
 use smp_kernel::{Kernel, Meter};
 use std::alloc::{AllocError, Global};
 use std::rt::Runtime;

@@ -1,13 +1,14 @@
 //! Bench documents and edits as texts, and what reading them gives: worked out by hand from the format's description.
 
-use crate::outcomes::{Base, Document, Table};
+use crate::outcomes::{Base, Document, Table, check_tables};
+use std::test::Fail;
 
 /// The document that the tables change: of the session that the other tables change.
 pub const BENCH: &str =
     "{\"session\":{\"format\":1,\"cores\":2,\"priorities\":5,\"slicing\":false,\"tick\":0,\"mutexes\":0,\"tasks\":[{\"name\":\"A\",\"priority\":2,\"mask\":3},{\"name\":\"B\",\"priority\":1,\"mask\":3}],\"steps\":[{\"do\":\"tick\"},{\"do\":\"switch\",\"core\":1},{\"do\":\"yield\",\"core\":0,\"by\":\"A\"},{\"do\":\"delay\",\"core\":0,\"by\":\"A\",\"ticks\":7},{\"do\":\"finish\",\"core\":1,\"by\":\"B\"}]},\"edits\":[{\"edit\":\"replace\",\"at\":0,\"step\":{\"do\":\"yield\",\"core\":0,\"by\":\"A\"}},{\"edit\":\"insert\",\"at\":5,\"step\":{\"do\":\"delay\",\"core\":1,\"by\":\"B\",\"ticks\":3}},{\"edit\":\"remove\",\"at\":2},{\"edit\":\"change\",\"task\":\"B\",\"priority\":3,\"mask\":1}]}";
 
-/// The tables of bench documents.
-pub const TABLES: &[Table] = &[
+// The tables of bench documents.
+const TABLES: &[Table] = &[
     Table {
         document: Document::Bench,
         base: Base::Bench,
@@ -161,3 +162,8 @@ const EDIT_TEXTS: &str = r#"
 {"edit":"change","task":"C","priority":1,"mask":1} | F3 top
 {"edit":"change","task":"A","priority":5,"mask":1} | F1 top
 "#;
+
+#[test]
+fn benches_as_texts(rt: HostRuntime) -> Result<(), Fail> {
+    check_tables(&rt, rt.alloc(), TABLES)
+}

@@ -1,12 +1,13 @@
 //! Calls that delay until a tick count, and calls that open and close a hold, as texts. What reading gives was worked out by
 //! hand from the format's description.
 
-use crate::outcomes::{Base, Document, Table};
+use crate::outcomes::{Base, Document, Table, check_tables};
 use crate::values::{Edited, Orders};
 use bench_types::{Call, Edit, Step};
+use std::test::Fail;
 
-/// The tables of these calls.
-pub const TABLES: &[Table] = &[
+// The tables of these calls.
+const TABLES: &[Table] = &[
     Table {
         document: Document::Session,
         base: Base::Steps(0),
@@ -233,3 +234,8 @@ const ROWS: &str = r#"
 {"do":"hold_close","core":1,"by":"A"} | {"by":"A","core":1,"do":"hold_close"}
 {"core":0,"do":"hold_close","by":"B"} | {"by":"B","core":0,"do":"hold_close"}
 "#;
+
+#[test]
+fn holds_as_texts(rt: HostRuntime) -> Result<(), Fail> {
+    check_tables(&rt, rt.alloc(), TABLES)
+}

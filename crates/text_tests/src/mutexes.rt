@@ -1,11 +1,12 @@
 //! Calls that take and give mutexes, as texts. What reading gives was worked out by hand from the format's description.
 
-use crate::outcomes::{Base, Document, Table};
+use crate::outcomes::{Base, Document, Table, check_tables};
 use crate::values::{Edited, Orders};
 use bench_types::{Call, Edit, Step};
+use std::test::Fail;
 
-/// The tables of these calls.
-pub const TABLES: &[Table] = &[
+// The tables of these calls.
+const TABLES: &[Table] = &[
     Table {
         document: Document::Session,
         base: Base::Steps(2),
@@ -196,3 +197,8 @@ const ROWS: &str = r#"
 {"do":"mutex_give","core":0,"by":"A","mutex":1} | {"by":"A","core":0,"do":"mutex_give","mutex":1}
 {"mutex":0,"by":"B","core":1,"do":"mutex_give"} | {"by":"B","core":1,"do":"mutex_give","mutex":0}
 "#;
+
+#[test]
+fn mutex_calls_as_texts(rt: HostRuntime) -> Result<(), Fail> {
+    check_tables(&rt, rt.alloc(), TABLES)
+}

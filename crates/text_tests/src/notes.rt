@@ -1,12 +1,13 @@
 //! Notifications as texts. What reading gives was worked out by hand from the format's description, and by a program of
 //! its own.
 
-use crate::outcomes::{Base, Document, Table};
+use crate::outcomes::{Base, Document, Table, check_tables};
 use crate::values::{Edited, Orders};
 use bench_types::{Action, Call, Edit, Note, Step};
+use std::test::Fail;
 
-/// The tables of these calls.
-pub const TABLES: &[Table] = &[
+// The tables of these calls.
+const TABLES: &[Table] = &[
     Table {
         document: Document::Session,
         base: Base::Steps(0),
@@ -369,3 +370,8 @@ const ROWS: &str = r#"
 {"do":"state_clear","core":0,"by":"A","to":"B"} | {"by":"A","core":0,"do":"state_clear","to":"B"}
 {"do":"value_clear","core":0,"by":"A","to":"B","bits":6} | {"bits":6,"by":"A","core":0,"do":"value_clear","to":"B"}
 "#;
+
+#[test]
+fn notifications_as_texts(rt: HostRuntime) -> Result<(), Fail> {
+    check_tables(&rt, rt.alloc(), TABLES)
+}

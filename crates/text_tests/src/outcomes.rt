@@ -4,7 +4,6 @@ ghost use Rattle.session_text.specs.Session.{IsChecked};
 
 use crate::benches::BENCH;
 use crate::sessions::{NO_JSON, SESSION};
-use crate::{benches, holds, mutexes, notes, sessions, sets};
 use bench_types::{Fault, Header, Step};
 use session_text::{TextFault, Why, read_bench, read_edit, read_session};
 use std::alloc::{AllocError, Global};
@@ -98,15 +97,21 @@ pub fn with_steps(alloc: Global, mutexes: u32, steps: &str) -> Result<String, Al
     )
 }
 
+fn number(fault: Fault) -> u32 {
+    match fault {
+        Fault::BadHeader => 1,
+        Fault::BadCore => 2,
+        Fault::BadTask => 3,
+        Fault::BadMutex => 4,
+        Fault::BadArgument => 5,
+    }
+}
+
 fn code(why: Why) -> (char, u32) {
     match why {
         Why::NotJson => ('H', 1),
         Why::BadShape => ('H', 2),
-        Why::Bench(Fault::BadHeader) => ('F', 1),
-        Why::Bench(Fault::BadCore) => ('F', 2),
-        Why::Bench(Fault::BadTask) => ('F', 3),
-        Why::Bench(Fault::BadMutex) => ('F', 4),
-        Why::Bench(Fault::BadArgument) => ('F', 5),
+        Why::Bench(fault) => ('F', number(fault)),
         Why::NoMemory => ('M', 0),
     }
 }
@@ -162,26 +167,10 @@ fn check_table(rt: &impl Abort, alloc: Global, table: &Table) -> Result<(), Fail
     Ok(())
 }
 
-fn check_tables(rt: &impl Abort, alloc: Global, tables: &[Table]) -> Result<(), Fail> {
+/// Checks each row of the tables.
+pub fn check_tables(rt: &impl Abort, alloc: Global, tables: &[Table]) -> Result<(), Fail> {
     for table in tables {
         check_table(rt, alloc, table)?;
-    }
-    Ok(())
-}
-
-const TABLES: &[&[Table]] = &[
-    sessions::TABLES,
-    benches::TABLES,
-    sets::TABLES,
-    notes::TABLES,
-    mutexes::TABLES,
-    holds::TABLES,
-];
-
-#[test]
-fn tables(rt: HostRuntime) -> Result<(), Fail> {
-    for tables in TABLES {
-        check_tables(&rt, rt.alloc(), tables)?;
     }
     Ok(())
 }

@@ -1,13 +1,14 @@
 //! Sessions as texts, and what reading them gives: worked out from the format's description and by a program of its own.
 
-use crate::outcomes::{Base, Document, Table};
+use crate::outcomes::{Base, Document, Table, check_tables};
+use std::test::Fail;
 
 /// The text that the tables change.
 pub const SESSION: &str =
     "{\"format\":1,\"cores\":2,\"priorities\":5,\"slicing\":false,\"tick\":0,\"mutexes\":0,\"tasks\":[{\"name\":\"A\",\"priority\":2,\"mask\":3},{\"name\":\"B\",\"priority\":1,\"mask\":3}],\"steps\":[{\"do\":\"tick\"},{\"do\":\"switch\",\"core\":1},{\"do\":\"yield\",\"core\":0,\"by\":\"A\"},{\"do\":\"delay\",\"core\":0,\"by\":\"A\",\"ticks\":7},{\"do\":\"finish\",\"core\":1,\"by\":\"B\"}]}";
 
-/// The tables of sessions.
-pub const TABLES: &[Table] = &[
+// The tables of sessions.
+const TABLES: &[Table] = &[
     Table {
         document: Document::Session,
         base: Base::Session,
@@ -327,3 +328,8 @@ pub const NO_JSON: &[&[u8]] = &[
     b"\xef\xbb\xbf{}",
     b"{\"a\":\"\t\"}",
 ];
+
+#[test]
+fn sessions_as_texts(rt: HostRuntime) -> Result<(), Fail> {
+    check_tables(&rt, rt.alloc(), TABLES)
+}

@@ -1,12 +1,13 @@
 //! Calls that set a task's priority, affinity and preemption, as texts. What reading gives was worked out by hand from
 //! the format's description, and by a program of its own.
 
-use crate::outcomes::{Base, Document, Table};
+use crate::outcomes::{Base, Document, Table, check_tables};
 use crate::values::{Edited, Orders};
 use bench_types::{Call, Edit, Step};
+use std::test::Fail;
 
-/// The tables of these calls.
-pub const TABLES: &[Table] = &[
+// The tables of these calls.
+const TABLES: &[Table] = &[
     Table {
         document: Document::Session,
         base: Base::Steps(0),
@@ -222,3 +223,8 @@ pub const SESSION_STEPS: &[Step] = &[
         call: Call::PreemptOn(3),
     },
 ];
+
+#[test]
+fn sets_as_texts(rt: HostRuntime) -> Result<(), Fail> {
+    check_tables(&rt, rt.alloc(), TABLES)
+}

@@ -9,6 +9,17 @@ pub(crate) enum Shown {
     Pair,
 }
 
+impl Shown {
+    fn by(sign: &str) -> Option<Shown> {
+        match sign {
+            "#" => Some(Shown::Replies),
+            "#!" => Some(Shown::States),
+            "#=" => Some(Shown::Pair),
+            _ => None,
+        }
+    }
+}
+
 /// A worked session, or two of them, as they stand in a file.
 #[derive(Drop)]
 pub(crate) struct Block<'a> {
@@ -23,18 +34,12 @@ pub(crate) struct Block<'a> {
 impl<'a> Block<'a> {
     /// A title line, a line of JSON and the rest. The beginning of the title says what is shown.
     pub(crate) fn read(text: &'a str) -> Option<Block<'a>> {
-        let (first, rest) = text.split_once("\n")?;
-        let (session, rest) = rest.split_once("\n")?;
+        let (first, below) = text.split_once("\n")?;
+        let (session, rest) = below.split_once("\n")?;
         let (sign, title) = first.split_once(" ")?;
-        let shown = match sign {
-            "#" => Shown::Replies,
-            "#!" => Shown::States,
-            "#=" => Shown::Pair,
-            _ => return None,
-        };
         Some(Block {
             title,
-            shown,
+            shown: Shown::by(sign)?,
             session,
             rest,
         })

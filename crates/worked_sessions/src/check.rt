@@ -39,9 +39,19 @@ fn check_part(rt: &(impl Runtime + AllocGlobal), part: &str) -> io::Result<()> {
 
 /// Where the text is not the expected one, writes the title and both.
 fn compare(rt: &impl Print, title: &str, expected: &str, found: &str) -> io::Result<()> {
-    if expected.trim_end() == found.trim_end() {
+    if is_same(expected, found) {
         return Ok(());
     }
-    println!(rt; "\n{title}\nexpected:\n{expected}\nfound:\n{found}")?;
+    show(rt, title, expected, found)?;
     Err(io::Error::from(ErrorKind::InvalidData))
+}
+
+fn is_same(expected: &str, found: &str) -> bool {
+    expected.trim_end() == found.trim_end()
+}
+
+fn show(rt: &impl Print, title: &str, expected: &str, found: &str) -> io::Result<()> {
+    println!(rt; "\n{title}")?;
+    println!(rt; "expected:\n{expected}")?;
+    println!(rt; "found:\n{found}")
 }

@@ -1,9 +1,11 @@
 use crate::samples::{A_DELAYS, SWITCH_0, SWITCH_1, assert_replay, assert_row, store_of, whole};
 use Reply::{Blocked, Done};
 use bench_types::{Call, Edit, EditFault, Fault, Refusal, Reply, Step};
-use session_store::StoreFault;
+use session_store::{Store, StoreFault};
 use smp_kernel::Meter;
 use std::alloc::AllocError;
+use std::process::Abort;
+use std::rt::Runtime;
 use std::test::Fail;
 
 const NOT_DUE: Reply = Reply::Refused(Refusal::NotDue);
@@ -30,6 +32,40 @@ fn change(task: u32, priority: u32) -> Edit {
     }
 }
 
+/// A session, its edits with how many steps each replays, and the replies and the last tasks then.
+#[derive(Clone, Copy)]
+struct Case<'a> {
+    slicing: bool,
+    steps: &'a [Step],
+    edits: &'a [(Edit, u32)],
+    replies: &'a [Reply],
+    last: [u32; 2],
+}
+
+fn check_case(rt: &(impl Runtime + AllocGlobal + Abort), case: &Case<'_>) -> Result<(), Fail> {
+    let mut meter = Meter::new(rt);
+    let mut store = store_of(rt.alloc(), case.slicing, case.steps, &mut meter)?;
+    assert_eq!(rt; meter.count(), case.steps.len() as u64);
+    for (edit, replayed) in case.edits {
+        make_edit(rt, &mut store, &mut meter, *edit, *replayed);
+    }
+    assert_replay(rt, &store, case.replies, case.last);
+    Ok(())
+}
+
+fn make_edit(
+    rt: &(impl AllocGlobal + Abort),
+    store: &mut Store,
+    meter: &mut Meter,
+    edit: Edit,
+    replayed: u32,
+) {
+    let count = meter.count().saturating_add(u64::from(replayed));
+    let answer = store.apply(rt.alloc(), edit, meter);
+    assert_eq!(rt; answer, Ok(whole(replayed)), "{edit:?}");
+    assert_eq!(rt; meter.count(), count, "{edit:?}");
+}
+
 #[test]
 fn replays_edited_sessions(rt: HostRuntime) -> Result<(), Fail> {
     let due = Reply::Refused(Refusal::SwitchDue);
@@ -43,48 +79,79 @@ fn replays_edited_sessions(rt: HostRuntime) -> Result<(), Fail> {
     let (delay, switch) = ((insert(0, A_DELAYS), 4), (insert(1, SWITCH_0), 5));
     let (remove, again) = ((Edit::Remove { at: 1 }, 2), (replace(1, SWITCH_0), 2));
     let yields = (replace(0, A_YIELDS), 8);
-    // slicing and steps, then edits and how many steps each replays, then replies and last tasks
-    let cases: [(bool, &[Step], &[(Edit, u32)], &[Reply], [u32; 2]); 10] = [
-        (true, &last, &[], &[Done, Done, Blocked], [2, 4]),
-        (true, &last, &[delay], &[Blocked, Done, Done, due], [2, 4]),
-        (
-            true,
-            &last,
-            &[delay, switch],
-            &[Blocked, Done, Done, Done, displaced],
-            [4, 3],
-        ),
-        (false, &first, &[remove], &[Blocked, NOT_DUE], [2, 3]),
-        (false, &first, &[remove, again], &[Blocked, Done], [4, 3]),
-        (
-            true,
-            &turns,
-            &[],
-            &[Blocked, Done, Done, Done, Done, Done, Done, Done],
-            [2, 4],
-        ),
-        (
-            true,
-            &turns,
-            &[yields],
-            &[Done, Done, Done, NOT_DUE, Done, Done, NOT_DUE, Done],
-            [2, 3],
-        ),
-        (true, &[], &[(change(3, 3), 0)], &[], [3, 2]),
-        (true, &[], &[(change(3, 1), 0)], &[], [2, 3]),
-        (false, &[], &[(insert(0, tick), 1)], &[Done], [2, 3]),
-    ];
-    for (slicing, steps, edits, replies, row) in cases {
-        let mut meter = Meter::new(&rt);
-        let mut store = store_of(rt.alloc(), slicing, steps, &mut meter)?;
-        let mut count = steps.len() as u64;
-        for (edit, replayed) in edits {
-            let answer = store.apply(rt.alloc(), *edit, &mut meter);
-            assert_eq!(rt; answer, Ok(whole(*replayed)), "{edit:?}");
-            count = count.saturating_add(u64::from(*replayed));
-            assert_eq!(rt; meter.count(), count, "{edit:?}");
-        }
-        assert_replay(&rt, &store, replies, row);
+    for case in &[
+        Case {
+            slicing: true,
+            steps: &last,
+            edits: &[],
+            replies: &[Done, Done, Blocked],
+            last: [2, 4],
+        },
+        Case {
+            slicing: true,
+            steps: &last,
+            edits: &[delay],
+            replies: &[Blocked, Done, Done, due],
+            last: [2, 4],
+        },
+        Case {
+            slicing: true,
+            steps: &last,
+            edits: &[delay, switch],
+            replies: &[Blocked, Done, Done, Done, displaced],
+            last: [4, 3],
+        },
+        Case {
+            slicing: false,
+            steps: &first,
+            edits: &[remove],
+            replies: &[Blocked, NOT_DUE],
+            last: [2, 3],
+        },
+        Case {
+            slicing: false,
+            steps: &first,
+            edits: &[remove, again],
+            replies: &[Blocked, Done],
+            last: [4, 3],
+        },
+        Case {
+            slicing: true,
+            steps: &turns,
+            edits: &[],
+            replies: &[Blocked, Done, Done, Done, Done, Done, Done, Done],
+            last: [2, 4],
+        },
+        Case {
+            slicing: true,
+            steps: &turns,
+            edits: &[yields],
+            replies: &[Done, Done, Done, NOT_DUE, Done, Done, NOT_DUE, Done],
+            last: [2, 3],
+        },
+        Case {
+            slicing: true,
+            steps: &[],
+            edits: &[(change(3, 3), 0)],
+            replies: &[],
+            last: [3, 2],
+        },
+        Case {
+            slicing: true,
+            steps: &[],
+            edits: &[(change(3, 1), 0)],
+            replies: &[],
+            last: [2, 3],
+        },
+        Case {
+            slicing: false,
+            steps: &[],
+            edits: &[(insert(0, tick), 1)],
+            replies: &[Done],
+            last: [2, 3],
+        },
+    ] {
+        check_case(&rt, case)?;
     }
     Ok(())
 }

@@ -1,7 +1,7 @@
 //! Random sessions against numbers that a program apart from this one computed.
 
 use crate::random::{Mix, random_session};
-use bench_types::{Refusal, Reply};
+use bench_types::{Refusal, Reply, Row};
 use std::test::Fail;
 
 fn code_of(why: Refusal) -> u32 {
@@ -32,7 +32,7 @@ fn with_reply(digest: u32, reply: Reply) -> u32 {
     }
 }
 
-// The digest with the numbers behind it.
+// The digest with the numbers after it.
 fn with(digest: u32, numbers: &[u32]) -> u32 {
     let mut digest = digest;
     for number in numbers {
@@ -44,16 +44,24 @@ fn with(digest: u32, numbers: &[u32]) -> u32 {
 // A program that was written apart from this one, over a flat table, computed the digests and the last tick counts.
 #[test]
 fn two_thousand_steps(rt: HostRuntime) -> Result<(), Fail> {
-    for (mix, expected) in [
+    for (mix, expected) in &[
         (Mix::Nothing, (370_025_982, 32, 2000)),
         (Mix::Notes, (33_837_225, 20, 2000)),
     ] {
-        let played = random_session(&rt, 2000, mix)?;
-        let mut digest = 0;
-        for (reply, tasks) in &played.outcomes {
-            digest = with(with_reply(digest, *reply), tasks.as_slice());
-        }
-        assert_eq!(rt; (digest, played.tick, played.count), expected);
+        let played = random_session(&rt, 2000, *mix)?;
+        let digest = digest_of(&played.outcomes);
+        assert_eq!(rt;
+            (digest, played.kernel.tick(), played.meter.count()),
+            *expected
+        );
     }
     Ok(())
+}
+
+fn digest_of(outcomes: &[(Reply, Row)]) -> u32 {
+    let mut digest = 0;
+    for (reply, tasks) in outcomes {
+        digest = with(with_reply(digest, *reply), tasks.as_slice());
+    }
+    digest
 }

@@ -1,9 +1,18 @@
-//! Tests that cross crates, and what they share. There is nothing else here.
+//! Tests of the kernel and of the store, and of both against the plain replay over the definitions, over worked sessions and
+//! random ones. There is nothing else here.
 #![tactic(auto)]
 
 #[cfg(test)]
 mod digest;
 #[cfg(test)]
+mod kernel;
+#[cfg(test)]
 mod random;
 #[cfg(test)]
 mod replays;
+#[cfg(test)]
+mod samples;
+#[cfg(test)]
+mod store_edits;
+#[cfg(test)]
+mod store_openings;

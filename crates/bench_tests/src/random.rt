@@ -1,5 +1,6 @@
 //! Random sessions: 8 cores, 64 tasks, and steps that are chosen by what the kernel shows.
 ghost use Rattle.std.specs.Prelude.{◌≡◌, ◌<◌, ◌^◌, IfOk};
+ghost use Rattle.bench_types.specs.Step.{settings_of};
 
 use bench_types::{Action, Call, Config, Header, Items, Name, Note, Reply, Row, Step, TaskArgs};
 use smp_kernel::{Kernel, Meter};
@@ -8,17 +9,19 @@ use std::process::Abort;
 use std::rt::Runtime;
 use std::test::Fail;
 
-/// A session, and what a kernel made of it.
+/// A session of 8 cores that is made at random, and what a kernel made of it.
 #[derive(Drop)]
 pub struct Played {
     pub header: Header,
+    pub kernel: Kernel,
+    pub meter: Meter,
+    seed: u32,
     pub steps: Vec<Step>,
-    /// Each step's reply, and the current tasks behind it.
+    /// Each step's reply, and the current tasks after it.
     pub outcomes: Vec<(Reply, Row)>,
-    /// The tick count at the end.
-    pub tick: u32,
-    /// How many steps the meter counted.
-    pub count: u64,
+    ghost fits: { kernel.settings ≡ settings_of header },
+    ghost cores: { header.config.cores ≡ 8 },
+    ghost mutexes: { header.config.mutexes ≡ 4 },
 }
 
 /// What steps of a session do beside ticks, switches, yields and delays.
@@ -41,50 +44,56 @@ pub fn random_session(
     count: usize,
     mix: Mix,
 ) -> Result<Played, Fail> {
-    let header = large_header(rt.alloc())?;
-    let mut kernel = Kernel::start(rt.alloc(), &header)?;
-    let mut meter = Meter::new(rt);
-    let mut seed = 1;
-    let mut steps = Vec::with_capacity(rt.alloc(), count)?;
-    let mut outcomes = Vec::with_capacity(rt.alloc(), count)?;
+    let mut played = Played::new(rt)?;
     for _ in 0..count {
-        let mut step = some_step(&kernel, number(&mut seed));
-        if mix != Mix::Nothing {
-            step = with_set(&kernel, step, number(&mut seed));
-        }
-        match mix {
-            Mix::Nothing | Mix::Sets => {}
-            Mix::Notes => step = with_note(step, number(&mut seed)),
-            Mix::Mutexes => step = with_mutex(&kernel, step, number(&mut seed)),
-            Mix::Holds => step = with_hold(&kernel, step, number(&mut seed)),
-        }
-        assert_eq!(rt; step.check(&header), Ok(()));
-        let reply = kernel.step(&mut meter, &step);
-        steps.push(step)?;
-        outcomes.push((reply, running(&kernel)))?;
+        let step = played.some_step(mix);
+        played.make(rt, step)?;
     }
-    Ok(Played {
-        header,
-        steps,
-        outcomes,
-        tick: kernel.tick(),
-        count: meter.count(),
-    })
+    Ok(played)
+}
+
+impl Played {
+    fn new(rt: &(impl Runtime + AllocGlobal)) -> Result<Self, Fail> {
+        let header = large_header(rt.alloc())?;
+        let kernel = Kernel::start(rt.alloc(), &header)?;
+        Ok(Played {
+            header,
+            kernel,
+            meter: Meter::new(rt),
+            seed: 1,
+            steps: Vec::new(rt.alloc()),
+            outcomes: Vec::new(rt.alloc()),
+        })
+    }
+
+    fn some_step(&mut self, mix: Mix) -> Step {
+        let kernel = &self.kernel;
+        let step = some_step(kernel, number(&mut self.seed));
+        if mix == Mix::Nothing {
+            return step;
+        }
+        let step = with_set(kernel, step, number(&mut self.seed));
+        match mix {
+            Mix::Nothing | Mix::Sets => step,
+            Mix::Notes => with_note(step, number(&mut self.seed)),
+            Mix::Mutexes => with_mutex(kernel, step, number(&mut self.seed)),
+            Mix::Holds => with_hold(kernel, step, number(&mut self.seed)),
+        }
+    }
+
+    fn make(&mut self, rt: &impl Abort, step: Step) -> Result<(), Fail> {
+        assert_eq!(rt; step.check(&self.header), Ok(()));
+        let reply = self.kernel.step(&mut self.meter, &step);
+        self.steps.push(step)?;
+        self.outcomes.push((reply, running(&self.kernel)))?;
+        Ok(())
+    }
 }
 
 // A header of 8 cores and 64 tasks with time slicing, with the last 96 ticks before the tick count wraps.
 fn large_header(alloc: Global) -> Result<Header, Fail>
     ensures { IfOk result (λ header. (header.config.cores ≡ 8) × (header.config.mutexes ≡ 4)) }
 {
-    let mut tasks = Vec::with_capacity(alloc, 64)?;
-    for task in 0..64 {
-        let text = format!(in alloc; "t{task}")?;
-        tasks.push(TaskArgs {
-            name: Name::new(text.as_str())?,
-            priority: task % 5,
-            mask: 1 << (task % 8) | task * 5 % 256,
-        })?;
-    }
     let config = Config {
         cores: 8,
         priorities: 5,
@@ -92,8 +101,27 @@ fn large_header(alloc: Global) -> Result<Header, Fail>
         tick: 4_294_967_200,
         mutexes: 4,
     };
-    let tasks = Items::new(tasks);
+    let tasks = numbered_tasks(alloc)?;
     Ok(Header { config, tasks })
+}
+
+fn numbered_tasks(alloc: Global) -> Result<Items<TaskArgs>, Fail> {
+    let mut tasks = Vec::with_capacity(alloc, 64)?;
+    for task in 0..64 {
+        tasks.push(numbered_task(alloc, task)?)?;
+    }
+    Ok(Items::new(tasks))
+}
+
+fn numbered_task(alloc: Global, task: u32) -> Result<TaskArgs, Fail>
+    requires { task < 64 }
+{
+    let name = Name::new(&format!(in alloc; "t{task}")?)?;
+    Ok(TaskArgs {
+        name,
+        priority: task % 5,
+        mask: 1 << (task % 8) | task * 5 % 256,
+    })
 }
 
 // A number of 16 bits, from a seed that moves on.

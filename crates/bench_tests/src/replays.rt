@@ -3,17 +3,24 @@ ghost use Rattle.std.specs.Prelude.{◌≡◌, All, IsTrue, Ok};
 ghost use Rattle.bench_types.specs.Step.{settings_of, step_check};
 
 use crate::random::{Mix, Played, random_session};
+use crate::samples::Opened;
 use bench_types::{Edit, Header, Reply, Row, Step};
 use session_store::Store;
 use slow_replay::replay_slow;
-use smp_kernel::Meter;
 use std::process::Abort;
+use std::rt::Runtime;
 use std::test::Fail;
+
+fn is_checked(header: &Header, step: &Step) -> bool
+    ensures { IsTrue result → step_check (settings_of header.now) step.now ≡ Ok tt }
+{
+    step.check(header).is_ok()
+}
 
 fn are_checked(header: &Header, steps: &[Step]) -> bool
     ensures { IsTrue result → All (λ step. step_check (settings_of header.now) step ≡ Ok tt) steps.now }
 {
-    steps.iter().all(|step| step.check(header).is_ok())
+    steps.iter().all(|step| is_checked(header, step))
 }
 
 // The plain replay, of a session that has to be checked.
@@ -33,10 +40,14 @@ fn by_the_definitions(
 fn check_kernel(rt: &(impl AllocGlobal + Abort), played: &Played) -> Result<(), Fail> {
     let outcomes = by_the_definitions(rt, &played.header, &played.steps)?;
     assert_eq!(rt; outcomes.len(), played.outcomes.len());
-    for (place, (made, outcome)) in played.outcomes.iter().zip(&outcomes).enumerate() {
-        assert_eq!(rt; made, outcome, "step {place}");
+    for (made, outcome) in played.outcomes.iter().zip(&outcomes) {
+        check_outcome(rt, made, outcome);
     }
     Ok(())
+}
+
+fn check_outcome(rt: &impl Abort, made: &(Reply, Row), outcome: &(Reply, Row)) {
+    assert_eq!(rt; made, outcome);
 }
 
 #[test]
@@ -68,31 +79,59 @@ fn as_the_definitions_replay_holds(rt: HostRuntime) -> Result<(), Fail> {
 fn check_store(rt: &(impl AllocGlobal + Abort), store: &Store, steps: &[Step]) -> Result<(), Fail> {
     let outcomes = by_the_definitions(rt, store.header(), steps)?;
     assert_eq!(rt; store.len() as usize, steps.len());
-    for (place, (step, (reply, row))) in (0..store.len()).zip(steps.iter().zip(outcomes)) {
-        assert_eq!(rt; store.step(place), Some(*step), "step {place}");
-        assert_eq!(rt; store.reply(place), Some(reply), "reply {place}");
-        assert_eq!(rt; store.row(place + 1), Some(row), "behind step {place}");
+    for ((place, step), outcome) in steps.iter().enumerate().zip(&outcomes) {
+        check_step(rt, store, place as u32, *step, outcome);
     }
     Ok(())
 }
 
+fn check_step(rt: &impl Abort, store: &Store, place: u32, step: Step, outcome: &(Reply, Row)) {
+    let (reply, row) = outcome;
+    assert_eq!(rt; store.step(place), Some(step), "step {place}");
+    assert_eq!(rt; store.reply(place), Some(*reply), "reply {place}");
+    assert!(rt; has_row(store, place, row), "after step {place}");
+}
+
+fn has_row(store: &Store, step: u32, row: &Row) -> bool {
+    match store.row(step.saturating_add(1)) {
+        Some(shown) => shown == *row,
+        None => false,
+    }
+}
+
 #[test]
 fn an_edited_store_is_as_the_definitions_replay_it(rt: HostRuntime) -> Result<(), Fail> {
-    let alloc = rt.alloc();
     let played = random_session(&rt, 200, Mix::Notes)?;
-    let mut steps = Vec::from_slice(alloc, &played.steps)?;
-    assert_eq!(rt; steps.len(), 200);
-    let mut meter = Meter::new(&rt);
-    let mut store = Store::open(alloc, played.header, played.steps, 64, &mut meter)?;
-    check_store(&rt, &store, &steps)?;
+    let mut opened = opened_with(&rt, &played)?;
+    check_store(&rt, &opened.store, &played.steps)?;
+    let edits = [
+        Edit::Insert {
+            at: 20,
+            step: Step::Tick,
+        },
+        Edit::Remove { at: 80 },
+        Edit::Replace {
+            at: 140,
+            step: Step::Switch { core: 3 },
+        },
+    ];
+    for edit in &edits {
+        opened.store.apply(rt.alloc(), *edit, &mut opened.meter)?;
+    }
+    check_store(&rt, &opened.store, &steps_after_edits(&rt, &played.steps)?)
+}
 
-    let step = Step::Tick;
-    store.apply(alloc, Edit::Insert { at: 20, step }, &mut meter)?;
-    steps.insert(20, step)?;
-    store.apply(alloc, Edit::Remove { at: 80 }, &mut meter)?;
+fn opened_with(rt: &(impl Runtime + AllocGlobal), played: &Played) -> Result<Opened, Fail> {
+    let header = played.header.copy(rt.alloc())?;
+    Opened::of(rt, header, Vec::from_slice(rt.alloc(), &played.steps)?, 64)
+}
+
+// A tick joins at 20, step 80 goes, and step 140 becomes a switch of core 3.
+fn steps_after_edits(rt: &(impl AllocGlobal + Abort), steps: &[Step]) -> Result<Vec<Step>, Fail> {
+    let mut steps = Vec::from_slice(rt.alloc(), steps)?;
+    assert_eq!(rt; steps.len(), 200);
+    steps.insert(20, Step::Tick)?;
     steps.remove(80);
-    let step = Step::Switch { core: 3 };
-    store.apply(alloc, Edit::Replace { at: 140, step }, &mut meter)?;
-    steps[140] = step;
-    check_store(&rt, &store, &steps)
+    steps[140] = Step::Switch { core: 3 };
+    Ok(steps)
 }

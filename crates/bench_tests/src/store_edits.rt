@@ -1,9 +1,12 @@
-use crate::samples::{A_DELAYS, SWITCH_0, SWITCH_1, assert_replay, assert_row, store_of, whole};
+//! The edits that a store makes and refuses, and its meter.
+use crate::samples::{
+    A_DELAYS, Opened, SWITCH_0, SWITCH_1, assert_replay, assert_row, assert_steps, three_tasks,
+    ticks, whole,
+};
 use Reply::{Blocked, Done};
-use bench_types::{Call, Edit, EditFault, Fault, Refusal, Reply, Step};
-use session_store::{Store, StoreFault};
-use smp_kernel::Meter;
-use std::alloc::AllocError;
+use bench_types::{Call, Edit, EditFault, Fault, MOST_STEPS, Refusal, Reply, Step};
+use session_store::{Outcome, StoreFault};
+use std::alloc::{AllocError, Global};
 use std::process::Abort;
 use std::rt::Runtime;
 use std::test::Fail;
@@ -43,27 +46,20 @@ struct Case<'a> {
 }
 
 fn check_case(rt: &(impl Runtime + AllocGlobal + Abort), case: &Case<'_>) -> Result<(), Fail> {
-    let mut meter = Meter::new(rt);
-    let mut store = store_of(rt.alloc(), case.slicing, case.steps, &mut meter)?;
-    assert_eq!(rt; meter.count(), case.steps.len() as u64);
+    let mut opened = Opened::new(rt, case.slicing, case.steps)?;
+    assert_eq!(rt; opened.meter.count(), case.steps.len() as u64);
     for (edit, replayed) in case.edits {
-        make_edit(rt, &mut store, &mut meter, *edit, *replayed);
+        make_edit(rt, rt.alloc(), &mut opened, *edit, *replayed);
     }
-    assert_replay(rt, &store, case.replies, case.last);
+    assert_replay(rt, &opened.store, case.replies, case.last);
     Ok(())
 }
 
-fn make_edit(
-    rt: &(impl AllocGlobal + Abort),
-    store: &mut Store,
-    meter: &mut Meter,
-    edit: Edit,
-    replayed: u32,
-) {
-    let count = meter.count().saturating_add(u64::from(replayed));
-    let answer = store.apply(rt.alloc(), edit, meter);
+fn make_edit(rt: &impl Abort, alloc: Global, opened: &mut Opened, edit: Edit, replayed: u32) {
+    let count = opened.meter.count().saturating_add(u64::from(replayed));
+    let answer = opened.store.apply(alloc, edit, &mut opened.meter);
     assert_eq!(rt; answer, Ok(whole(replayed)), "{edit:?}");
-    assert_eq!(rt; meter.count(), count, "{edit:?}");
+    assert_eq!(rt; opened.meter.count(), count, "{edit:?}");
 }
 
 #[test]
@@ -158,50 +154,42 @@ fn replays_edited_sessions(rt: HostRuntime) -> Result<(), Fail> {
 
 #[test]
 fn takes_edits_in_their_order(rt: HostRuntime) -> Result<(), Fail> {
-    let mut meter = Meter::new(&rt);
-    let steps = [Step::Tick, SWITCH_1, A_DELAYS];
-    let mut store = store_of(rt.alloc(), false, &steps, &mut meter)?;
+    let mut opened = Opened::new(&rt, false, &[Step::Tick, SWITCH_1, A_DELAYS])?;
     let edits = [
         insert(0, A_DELAYS),
         Edit::Remove { at: 4 },
         insert(1, SWITCH_0),
     ];
-    let given = store.apply_all(rt.alloc(), edits.as_slice(), &mut meter)?;
     let answers = [Ok(whole(4)), Err(EditFault::NoPlace), Ok(whole(5))];
-    assert_eq!(rt; given.as_slice(), answers.as_slice());
-    assert_eq!(rt; (store.len(), meter.count()), (5, 12));
-    assert_row(&rt, &store, 5, [4, 3]);
-    let [first, second, third] = steps;
-    let made = [
-        Some(A_DELAYS),
-        Some(SWITCH_0),
-        Some(first),
-        Some(second),
-        Some(third),
-        None,
-    ];
-    for (place, step) in (0..6).zip(made) {
-        assert_eq!(rt; store.step(place), step, "step {place}");
-    }
-    store.apply(rt.alloc(), Edit::Remove { at: 1 }, &mut meter)?;
-    let left = [Some(A_DELAYS), Some(first), Some(second), Some(third), None];
-    for (place, step) in (0..5).zip(left) {
-        assert_eq!(rt;
-            store.step(place),
-            step,
-            "step {place} of those that are left"
-        );
-    }
+    check_answers(&rt, rt.alloc(), &mut opened, &edits, &answers)?;
+    assert_eq!(rt; opened.meter.count(), 12);
+    assert_row(&rt, &opened.store, 5, [4, 3]);
+    let made = [A_DELAYS, SWITCH_0, Step::Tick, SWITCH_1, A_DELAYS];
+    assert_steps(&rt, &opened.store, &made);
+    make_edit(&rt, rt.alloc(), &mut opened, Edit::Remove { at: 1 }, 4);
+    let left = [A_DELAYS, Step::Tick, SWITCH_1, A_DELAYS];
+    assert_steps(&rt, &opened.store, &left);
+    Ok(())
+}
+
+fn check_answers(
+    rt: &impl Abort,
+    alloc: Global,
+    opened: &mut Opened,
+    edits: &[Edit],
+    answers: &[Result<Outcome, EditFault>],
+) -> Result<(), Fail> {
+    let given = opened.store.apply_all(alloc, edits, &mut opened.meter)?;
+    assert_eq!(rt; given.as_slice(), answers);
     Ok(())
 }
 
 #[test]
 fn refuses_edits_and_stays(rt: HostRuntime) -> Result<(), Fail> {
-    let mut meter = Meter::new(&rt);
-    let mut store = store_of(rt.alloc(), false, &[Step::Tick, SWITCH_1], &mut meter)?;
+    let mut opened = Opened::new(&rt, false, &[Step::Tick, SWITCH_1])?;
     let bad = Step::Switch { core: 2 };
     let (bad_core, no_place) = (EditFault::Bench(Fault::BadCore), EditFault::NoPlace);
-    for (edit, why) in [
+    for (edit, why) in &[
         (insert(3, Step::Tick), no_place),
         (Edit::Remove { at: 2 }, no_place),
         (replace(2, Step::Tick), no_place),
@@ -210,37 +198,86 @@ fn refuses_edits_and_stays(rt: HostRuntime) -> Result<(), Fail> {
         (change(1, 5), EditFault::Bench(Fault::BadTask)),
         (change(2, 5), EditFault::Bench(Fault::BadHeader)),
     ] {
-        let answer = store.apply(rt.alloc(), edit, &mut meter);
-        assert_eq!(rt; answer, Err(StoreFault::Edit(why)), "{edit:?}");
-        assert_replay(&rt, &store, &[Done, NOT_DUE], [2, 3]);
-        assert_eq!(rt; meter.count(), 2);
+        refuse_edit(&rt, rt.alloc(), &mut opened, *edit, *why);
+        assert_replay(&rt, &opened.store, &[Done, NOT_DUE], [2, 3]);
     }
-    let mut empty = store_of(rt.alloc(), false, &[], &mut meter)?;
-    let answer = empty.apply(rt.alloc(), Edit::Remove { at: 0 }, &mut meter);
-    assert_eq!(rt; answer, Err(StoreFault::Edit(no_place)));
+    Ok(())
+}
+
+/// The edit is refused for this, and no step is counted.
+fn refuse_edit(rt: &impl Abort, alloc: Global, opened: &mut Opened, edit: Edit, why: EditFault) {
+    let count = opened.meter.count();
+    let answer = opened.store.apply(alloc, edit, &mut opened.meter);
+    assert_eq!(rt; answer, Err(StoreFault::Edit(why)), "{edit:?}");
+    assert_eq!(rt; opened.meter.count(), count, "{edit:?}");
+}
+
+#[test]
+fn an_empty_session_has_no_step_to_remove(rt: HostRuntime) -> Result<(), Fail> {
+    let mut empty = Opened::new(&rt, false, &[])?;
+    refuse_edit(
+        &rt,
+        rt.alloc(),
+        &mut empty,
+        Edit::Remove { at: 0 },
+        EditFault::NoPlace,
+    );
     Ok(())
 }
 
 #[test]
-fn stays_where_memory_is_wanting(rt: HostRuntime) -> Result<(), Fail> {
-    let mut meter = Meter::new(&rt);
-    let mut store = store_of(rt.alloc(), false, &[Step::Tick, SWITCH_1], &mut meter)?;
-    let replies = [Done, NOT_DUE];
-    assert_replay(&rt, &store, replies.as_slice(), [2, 3]);
+fn keeps_the_most_steps_and_no_more(rt: HostRuntime) -> Result<(), Fail> {
+    let header = three_tasks(rt.alloc(), 2, false)?;
+    let mut opened = Opened::of(&rt, header, ticks(rt.alloc(), MOST_STEPS)?, 64)?;
+    for (at, why) in &[
+        (0, EditFault::TooLong),
+        (MOST_STEPS, EditFault::TooLong),
+        (MOST_STEPS + 1, EditFault::NoPlace),
+        (1_000_000, EditFault::NoPlace),
+    ] {
+        refuse_edit(&rt, rt.alloc(), &mut opened, insert(*at, Step::Tick), *why);
+    }
+    let last = MOST_STEPS - 1;
+    make_edit(
+        &rt,
+        rt.alloc(),
+        &mut opened,
+        replace(last, SWITCH_0),
+        MOST_STEPS,
+    );
+    assert_eq!(rt; opened.store.len(), MOST_STEPS);
+    assert_eq!(rt; opened.store.reply(last), Some(NOT_DUE));
+    Ok(())
+}
 
-    // With `rt try --test --fail-alloc N` the Nth allocation fails, for some N one of these calls.
+/// With `rt try --test --fail-alloc N` the Nth allocation fails, for some N one of the two calls.
+#[test]
+fn stays_where_memory_is_wanting(rt: HostRuntime) -> Result<(), Fail> {
+    let mut opened = Opened::new(&rt, false, &[Step::Tick, SWITCH_1])?;
+    assert_replay(&rt, &opened.store, &[Done, NOT_DUE], [2, 3]);
+    remove_both(&rt, rt.alloc(), &mut opened);
+    insert_one(&rt, rt.alloc(), &mut opened);
+    Ok(())
+}
+
+fn remove_both(rt: &impl Abort, alloc: Global, opened: &mut Opened) {
     let edits = [Edit::Remove { at: 0 }, Edit::Remove { at: 0 }];
-    let made = match store.apply_all(rt.alloc(), edits.as_slice(), &mut meter) {
+    let made = opened.store.apply_all(alloc, &edits, &mut opened.meter);
+    let replies = match made {
         Ok(_) => [].as_slice(),
-        Err(AllocError) => replies.as_slice(),
+        Err(AllocError) => [Done, NOT_DUE].as_slice(),
     };
-    assert_replay(&rt, &store, made, [2, 3]);
-    let before = store.len();
-    let made = store.apply(rt.alloc(), insert(0, SWITCH_1), &mut meter);
+    assert_replay(rt, &opened.store, replies, [2, 3]);
+}
+
+fn insert_one(rt: &impl Abort, alloc: Global, opened: &mut Opened) {
+    let before = opened.store.len();
+    let made = opened
+        .store
+        .apply(alloc, insert(0, SWITCH_1), &mut opened.meter);
     match made {
         Ok(outcome) => assert_eq!(rt; outcome, whole(before + 1)),
         Err(fault) => assert_eq!(rt; fault, StoreFault::NoMemory),
     }
-    assert_eq!(rt; store.len(), before + u32::from(made.is_ok()));
-    Ok(())
+    assert_eq!(rt; opened.store.len(), before + u32::from(made.is_ok()));
 }

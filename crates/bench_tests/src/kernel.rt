@@ -1,0 +1,137 @@
+//! A kernel beside the worked sessions: how it starts, two steps in a row, the deepest hold and a copy.
+ghost use Rattle.std.specs.Prelude.{◌≡◌, Ok};
+ghost use Rattle.bench_types.specs.Step.{step_check};
+ghost use Rattle.bench_model.specs.Table.{Table};
+ghost use Rattle.bench_model.specs.Session.{step_of};
+ghost use Rattle.bench_model.specs.Equal.{StandsFor};
+
+use crate::samples::{Started, three_tasks};
+use bench_types::{Call, NoteState, Refusal, Reply, Settings, Step, TaskLook};
+use smp_kernel::{Kernel, Meter, StartFault};
+use std::alloc::Global;
+use std::process::Abort;
+use std::test::Fail;
+
+const IDLE: TaskLook = TaskLook {
+    in_use: 0,
+    base: 0,
+    mask: 3,
+    preempt: true,
+    ready: true,
+    left: None,
+    held: 0,
+    in_call: false,
+    value: 0,
+    state: NoteState::NotWaiting,
+};
+
+#[test]
+fn starts_from_a_good_header(rt: HostRuntime) -> Result<(), Fail> {
+    let header = three_tasks(rt.alloc(), 2, true)?;
+    let kernel = Kernel::start(rt.alloc(), &header)?;
+    check_start(&rt, &kernel);
+    Ok(())
+}
+
+fn check_start(rt: &impl Abort, kernel: &Kernel) {
+    let settings = Settings {
+        cores: 2,
+        priorities: 5,
+        slicing: true,
+        mutexes: 0,
+        tasks: 5,
+    };
+    assert_eq!(rt; kernel.settings(), settings);
+    for task in 0..kernel.settings().cores {
+        assert_eq!(rt; kernel.look(task), IDLE, "of idle task {task}");
+    }
+}
+
+#[test]
+fn refuses_a_bad_header(rt: HostRuntime) -> Result<(), Fail> {
+    let header = three_tasks(rt.alloc(), 1, true)?;
+    let refused = Kernel::start(rt.alloc(), &header);
+    assert!(rt; matches!(refused, Err(StartFault::BadHeader)));
+    Ok(())
+}
+
+/// Two steps in a row: the kernel stands for the table of the second step after the first.
+fn make_both(kernel: &mut Kernel, meter: &mut Meter, first: &Step, second: &Step) -> (Reply, Reply)
+    requires first { step_check kernel.old.settings first.now ≡ Ok tt }
+    requires second { step_check kernel.old.settings second.now ≡ Ok tt }
+    ensures replies { (table : Table) → StandsFor kernel.old table → let between = step_of first.now table in result ≡ (between.0, (step_of second.now between.1).0) }
+    ensures state { (table : Table) → StandsFor kernel.old table → StandsFor kernel.new (step_of second.now (step_of first.now table).1).1 }
+    ensures settings { kernel.new.settings ≡ kernel.old.settings }
+{
+    let reply = kernel.step(meter, first);
+    (reply, kernel.step(meter, second))
+}
+
+#[test]
+fn two_steps(rt: HostRuntime) -> Result<(), Fail> {
+    let header = three_tasks(rt.alloc(), 2, true)?;
+    let mut started = Started::new(&rt, &header)?;
+    check_both(&rt, &mut started);
+    Ok(())
+}
+
+fn check_both(rt: &impl Abort, started: &mut Started<'_>) {
+    let tick = Step::Tick;
+    let (first, second) = make_both(&mut started.kernel, &mut started.meter, &tick, &tick);
+    assert_eq!(rt; first, Reply::Done);
+    assert_eq!(rt; second, Reply::Done);
+    assert_eq!(rt; (started.kernel.tick(), started.meter.count()), (2, 2));
+}
+
+/// A call of A on core 0.
+fn call(call: Call) -> Step {
+    let (core, task) = (0, 2);
+    Step::Call { core, task, call }
+}
+
+fn make(rt: &impl Abort, started: &mut Started<'_>, step: Step, reply: Reply) {
+    assert_eq!(rt; started.step(rt, &step), reply, "{step:?}");
+}
+
+#[test]
+fn a_hold_is_255_deep(rt: HostRuntime) -> Result<(), Fail> {
+    let header = three_tasks(rt.alloc(), 2, true)?;
+    let mut started = Started::new(&rt, &header)?;
+    check_depths(&rt, &mut started);
+    Ok(())
+}
+
+fn check_depths(rt: &impl Abort, started: &mut Started<'_>) {
+    assert_eq!(rt; started.kernel.hold(), None);
+    for depth in 1..=255 {
+        make(rt, started, call(Call::HoldOpen), Reply::Done);
+        assert_eq!(rt; started.kernel.hold(), Some((0, depth)));
+    }
+    let too_deep = Reply::Refused(Refusal::HoldDeep);
+    make(rt, started, call(Call::HoldOpen), too_deep);
+    assert_eq!(rt; started.kernel.hold(), Some((0, 255)));
+    assert_eq!(rt; started.meter.count(), 256);
+}
+
+#[test]
+fn a_copy_goes_its_own_way(rt: HostRuntime) -> Result<(), Fail> {
+    let header = three_tasks(rt.alloc(), 2, true)?;
+    let mut started = Started::new(&rt, &header)?;
+    check_copy(&rt, rt.alloc(), &mut started)
+}
+
+fn check_copy(rt: &impl Abort, alloc: Global, started: &mut Started<'_>) -> Result<(), Fail> {
+    make(rt, started, call(Call::HoldOpen), Reply::Done);
+    make(rt, started, call(Call::HoldOpen), Reply::Done);
+    let copy = started.kernel.copy(alloc)?;
+    check_ways(rt, started, &copy);
+    Ok(())
+}
+
+fn check_ways(rt: &impl Abort, started: &mut Started<'_>, copy: &Kernel) {
+    assert!(rt; copy.same(&started.kernel) && started.kernel.same(copy));
+    make(rt, started, call(Call::HoldClose), Reply::Done);
+    make(rt, started, Step::Tick, Reply::Done);
+    assert_eq!(rt; (copy.hold(), copy.tick()), (Some((0, 2)), 0));
+    assert!(rt; !copy.same(&started.kernel) && !started.kernel.same(copy));
+}

@@ -1,0 +1,149 @@
+//! Headers, steps, kernels and stores of tests.
+ghost use Rattle.std.specs.Prelude.{◌≡◌};
+ghost use Rattle.bench_types.specs.Step.{settings_of};
+
+use bench_types::{Call, Config, Header, Items, Name, Reply, Step, TaskArgs};
+use session_store::{Outcome, Store};
+use smp_kernel::{Kernel, Meter};
+use std::alloc::{AllocError, Global};
+use std::process::Abort;
+use std::rt::Runtime;
+use std::test::Fail;
+
+/// A waits 2 ticks on core 0.
+pub const A_DELAYS: Step = Step::Call {
+    core: 0,
+    task: 2,
+    call: Call::Delay(2),
+};
+
+pub const SWITCH_0: Step = Step::Switch { core: 0 };
+
+pub const SWITCH_1: Step = Step::Switch { core: 1 };
+
+/// So many cores, and A (of priority 2), B and C (of priority 1), which may run on cores 0 and 1 and are numbered after the
+/// idle tasks.
+pub fn three_tasks(alloc: Global, cores: u32, slicing: bool) -> Result<Header, Fail> {
+    let config = Config {
+        cores,
+        priorities: 5,
+        slicing,
+        tick: 0,
+        mutexes: 0,
+    };
+    let mut tasks = Vec::new(alloc);
+    for (name, priority) in &[("A", 2), ("B", 1), ("C", 1)] {
+        tasks.push(task_args(name, *priority)?)?;
+    }
+    Ok(Header {
+        config,
+        tasks: Items::new(tasks),
+    })
+}
+
+fn task_args(name: &str, priority: u32) -> Result<TaskArgs, Fail> {
+    Ok(TaskArgs {
+        name: Name::new(name)?,
+        priority,
+        mask: 3,
+    })
+}
+
+/// A kernel that was started from a header, with the meter of its steps.
+#[derive(Drop)]
+pub struct Started<'a> {
+    header: &'a Header,
+    pub kernel: Kernel,
+    pub meter: Meter,
+    ghost fits: { kernel.settings ≡ settings_of header.now },
+}
+
+impl<'a> Started<'a> {
+    pub fn new(rt: &(impl Runtime + AllocGlobal), header: &'a Header) -> Result<Started<'a>, Fail> {
+        Ok(Started {
+            header,
+            kernel: Kernel::start(rt.alloc(), header)?,
+            meter: Meter::new(rt),
+        })
+    }
+
+    pub fn step(&mut self, rt: &impl Abort, step: &Step) -> Reply {
+        assert_eq!(rt; step.check(self.header), Ok(()));
+        self.kernel.step(&mut self.meter, step)
+    }
+}
+
+/// A store that was opened, with the meter of its steps.
+#[derive(Drop)]
+pub struct Opened {
+    pub store: Store,
+    pub meter: Meter,
+}
+
+impl Opened {
+    /// Of these steps of A, B and C on two cores.
+    pub fn new(
+        rt: &(impl Runtime + AllocGlobal),
+        slicing: bool,
+        steps: &[Step],
+    ) -> Result<Self, Fail> {
+        let header = three_tasks(rt.alloc(), 2, slicing)?;
+        Opened::of(rt, header, Vec::from_slice(rt.alloc(), steps)?, 64)
+    }
+
+    pub fn of(
+        rt: &(impl Runtime + AllocGlobal),
+        header: Header,
+        steps: Vec<Step>,
+        span: u32,
+    ) -> Result<Self, Fail> {
+        let mut meter = Meter::new(rt);
+        let store = Store::open(rt.alloc(), header, steps, span, &mut meter)?;
+        Ok(Opened { store, meter })
+    }
+}
+
+pub fn ticks(alloc: Global, count: u32) -> Result<Vec<Step>, AllocError> {
+    let mut steps = Vec::with_capacity(alloc, count as usize)?;
+    for _step in 0..count {
+        steps.push(Step::Tick)?;
+    }
+    Ok(steps)
+}
+
+/// What a whole replay of so many steps led to.
+pub fn whole(steps: u32) -> Outcome {
+    Outcome {
+        from: 0,
+        met: steps,
+        replayed: steps,
+    }
+}
+
+/// The store has these replies and no more, and these tasks run at the last place.
+pub fn assert_replay(rt: &impl Abort, store: &Store, replies: &[Reply], last: [u32; 2]) {
+    let len = store.len();
+    assert_eq!(rt; len as usize, replies.len());
+    for (i, reply) in replies.iter().enumerate() {
+        assert_eq!(rt; store.reply(i as u32), Some(*reply), "step {i}");
+    }
+    assert_eq!(rt; store.reply(len), None);
+    assert_row(rt, store, len, last);
+}
+
+/// The store has these steps and no more.
+pub fn assert_steps(rt: &impl Abort, store: &Store, steps: &[Step]) {
+    let len = store.len();
+    assert_eq!(rt; len as usize, steps.len());
+    for (i, step) in steps.iter().enumerate() {
+        assert_eq!(rt; store.step(i as u32), Some(*step), "step {i}");
+    }
+    assert_eq!(rt; store.step(len), None);
+}
+
+pub fn assert_row(rt: &impl Abort, store: &Store, place: u32, tasks: [u32; 2]) {
+    match store.row(place) {
+        Some(row) => assert_eq!(rt; row.as_slice(), tasks.as_slice(), "place {place}"),
+        None => panic!(rt; "no place {place}"),
+    }
+}

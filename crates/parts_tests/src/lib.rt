@@ -1,4 +1,6 @@
-//! Tests of the kernel's parts: cores and ready lists, mutexes, notifications and delays. There is nothing else here.
+//! Tests of the kernel's parts: cores and ready lists, mutexes, notifications and delays.
+//!
+//! There is nothing else here.
 #![tactic(auto)]
 
 #[cfg(test)]

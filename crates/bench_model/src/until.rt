@@ -20,27 +20,3 @@ pub fn is_ahead(now: u32, prev: u32, wake: u32) -> bool
         wake < prev || now < wake
     }
 }
-
-#[cfg(test)]
-mod tests {
-    use super::*;
-
-    #[test]
-    fn finds_the_next_wake(rt: HostRuntime) {
-        for (now, prev, inc, wake, ahead) in [
-            (10, 10, 5, 15, true),
-            (10, 0, 5, 5, false),
-            (10, 5, 5, 10, false),
-            (3, 5, 2, 7, false),
-            (10, 10, 4_294_967_295, 9, true),
-            (4_294_967_290, 4_294_967_290, 10, 4, true),
-            (3, 4_294_967_290, 5, 4_294_967_295, false),
-            (3, 4_294_967_290, 10, 4, true),
-            (4, 4_294_967_290, 10, 4, false),
-            (5, 4_294_967_290, 10, 4, false),
-        ] {
-            assert_eq!(rt; next_wake(prev, inc), wake);
-            assert_eq!(rt; is_ahead(now, prev, wake), ahead, "at {now} for {wake}");
-        }
-    }
-}

@@ -250,6 +250,3 @@ fn held_by(holders: &[Option<u32>], task: u32) -> u32
     }
     held
 }
-
-#[cfg(test)]
-mod tests;

@@ -182,6 +182,3 @@ fn at_rest(value: u32) -> Notification
         state: NoteState::NotWaiting,
     }
 }
-
-#[cfg(test)]
-mod tests;

@@ -1,45 +1,9 @@
-ghost use Rattle.std.specs.Prelude.{◌≡◌, Ok, IsTrue};
-ghost use Rattle.bench_types.specs.Header.{header_check};
+//! Cores and ready lists.
 
-use bench_types::{Config, Header, Items, Name, TaskArgs};
+use crate::started::{select, started};
 use ready_core::Cores;
-use std::alloc::{AllocError, Global};
 use std::process::Abort;
 use std::test::Fail;
-
-fn header_of(alloc: Global, slicing: bool, args: &[(u32, u32)]) -> Result<Header, Fail> {
-    let mut tasks = Vec::with_capacity(alloc, args.len())?;
-    for (number, (priority, mask)) in args.iter().enumerate() {
-        let name = Name::new(&format!(in alloc; "T{number}")?)?;
-        tasks.push(TaskArgs {
-            name,
-            priority: *priority,
-            mask: *mask,
-        })?;
-    }
-    let config = Config {
-        cores: 2,
-        priorities: 5,
-        slicing,
-        tick: 0,
-        mutexes: 0,
-    };
-    Ok(Header {
-        config,
-        tasks: Items::new(tasks),
-    })
-}
-
-fn is_checked(header: &Header) -> bool
-    ensures { IsTrue result → header_check header.now ≡ Ok tt }
-{
-    header.check().is_ok()
-}
-
-fn select(rt: &impl Abort, cores: &mut Cores, core: u32) {
-    assert!(rt; cores.has_core(core));
-    cores.select(core);
-}
 
 fn make_ready(rt: &impl Abort, cores: &mut Cores, task: u32) {
     assert!(rt; cores.has_task(task));
@@ -62,118 +26,112 @@ fn set_preempt(rt: &impl Abort, cores: &mut Cores, task: u32, on: bool) {
     cores.set_preempt(task, on);
 }
 
-// Task 2 and so on with these priorities and masks, behind the choice of each of two cores.
-fn started(rt: &impl Abort, alloc: Global, args: &[(u32, u32)]) -> Result<Cores, Fail> {
-    started_from(rt, alloc, &header_of(alloc, false, args)?)
-}
+// A core's task, and whether it asked itself or was asked.
+type Look = (u32, bool, bool);
 
-fn started_from(rt: &impl Abort, alloc: Global, header: &Header) -> Result<Cores, Fail> {
-    assert!(rt; is_checked(header));
-    let mut cores = Cores::new(alloc, header)?;
-    select(rt, &mut cores, 0);
-    select(rt, &mut cores, 1);
-    Ok(cores)
-}
-
-// What is seen of a core: its task, and whether it asked itself or was asked.
-fn look(rt: &impl Abort, cores: &Cores, core: u32) -> (u32, bool, bool) {
+fn look(rt: &impl Abort, cores: &Cores, core: u32) -> Look {
     assert!(rt; cores.has_core(core));
     let look = cores.flags(core);
-    assert_eq!(rt; cores.running(core), look.current);
-    (look.current, look.pend, look.asked)
+    (cores.running(core), look.pend, look.asked)
 }
 
-fn looks(rt: &impl Abort, cores: &Cores) -> [(u32, bool, bool); 2] {
-    [look(rt, cores, 0), look(rt, cores, 1)]
+fn expect(rt: &impl Abort, cores: &Cores, one: Look, other: Look) {
+    assert_eq!(rt; look(rt, cores, 0), one);
+    assert_eq!(rt; look(rt, cores, 1), other);
 }
 
 #[test]
 fn start(rt: HostRuntime) -> Result<(), Fail> {
-    let cores = started(&rt, rt.alloc(), &[(2, 3), (1, 3), (1, 0xFFFF_FFFE)])?;
-    assert_eq!(&rt; looks(&rt, &cores), [(2, false, false), (3, false, false)]);
-    assert!(&rt; cores.has_task(4));
-    assert_eq!(&rt; (cores.base(4), cores.in_use(4), cores.mask(4)), (1, 1, 2));
-    assert!(&rt; cores.preempt(4) && cores.ready(4));
+    let cores = started(&rt, rt.alloc(), false, &[(2, 3), (1, 3), (1, 0xFFFF_FFFE)])?;
+    expect(&rt, &cores, (2, false, false), (3, false, false));
+    assert!(&rt; cores.has_core(1) && !cores.has_core(2));
+    assert!(&rt; cores.has_priority(4) && !cores.has_priority(5));
+    assert!(&rt; cores.has_task(4) && !cores.has_task(5));
+    assert_eq!(&rt; cores.base(4), 1);
+    assert_eq!(&rt; cores.in_use(4), 1);
+    assert_eq!(&rt; cores.mask(4), 2);
+    assert!(&rt; cores.preempt(4));
+    assert!(&rt; cores.ready(4));
     Ok(())
 }
 
 #[test]
 fn woken_task_is_sought_a_core(rt: HostRuntime) -> Result<(), Fail> {
-    let mut cores = started(&rt, rt.alloc(), &[(2, 3), (1, 3), (1, 3)])?;
+    let mut cores = started(&rt, rt.alloc(), false, &[(2, 3), (1, 3), (1, 3)])?;
     cores.unready(2);
     assert!(&rt; !cores.ready(2));
     select(&rt, &mut cores, 0);
-    assert_eq!(&rt; looks(&rt, &cores), [(4, false, false), (3, false, false)]);
+    expect(&rt, &cores, (4, false, false), (3, false, false));
     let mut other = cores.copy(rt.alloc())?;
     // Of two cores of one priority that of the greater number is asked.
     make_ready(&rt, &mut cores, 2);
-    assert_eq!(&rt; looks(&rt, &cores), [(4, false, false), (3, false, true)]);
+    expect(&rt, &cores, (4, false, false), (3, false, true));
     // The task there is not to be preempted.
     set_preempt(&rt, &mut other, 3, false);
     make_ready(&rt, &mut other, 2);
-    assert_eq!(&rt; looks(&rt, &other), [(4, true, false), (3, false, false)]);
+    expect(&rt, &other, (4, true, false), (3, false, false));
     Ok(())
 }
 
 #[test]
 fn idle_is_below_priority_0(rt: HostRuntime) -> Result<(), Fail> {
-    let mut cores = started(&rt, rt.alloc(), &[(0, 3), (1, 3)])?;
+    let mut cores = started(&rt, rt.alloc(), false, &[(0, 3), (1, 3)])?;
     cores.unready(3);
     select(&rt, &mut cores, 0);
-    assert_eq!(&rt; looks(&rt, &cores), [(0, false, false), (2, false, false)]);
+    expect(&rt, &cores, (0, false, false), (2, false, false));
     make_ready(&rt, &mut cores, 3);
-    assert_eq!(&rt; looks(&rt, &cores), [(0, true, false), (2, false, false)]);
+    expect(&rt, &cores, (0, true, false), (2, false, false));
     Ok(())
 }
 
 #[test]
 fn yields_for_a_task_among_cores(rt: HostRuntime) -> Result<(), Fail> {
-    let mut cores = started(&rt, rt.alloc(), &[(1, 3), (1, 3), (1, 3)])?;
+    let mut cores = started(&rt, rt.alloc(), false, &[(1, 3), (1, 3), (1, 3)])?;
     set_in_use(&rt, &mut cores, 4, 3);
     assert!(&rt; cores.has_task(4));
     assert!(&rt; cores.ready(4));
     cores.yield_for(1, 4, 0);
-    assert_eq!(&rt; looks(&rt, &cores), [(2, false, false), (3, false, false)]);
+    expect(&rt, &cores, (2, false, false), (3, false, false));
     assert!(&rt; cores.has_task(4));
     assert!(&rt; cores.ready(4));
     cores.yield_for(1, 4, 1);
-    assert_eq!(&rt; looks(&rt, &cores), [(2, false, true), (3, false, false)]);
+    expect(&rt, &cores, (2, false, true), (3, false, false));
     Ok(())
 }
 
 #[test]
 fn displaced_task_finds_another_core(rt: HostRuntime) -> Result<(), Fail> {
-    let mut cores = started(&rt, rt.alloc(), &[(3, 1), (2, 1), (1, 3)])?;
+    let mut cores = started(&rt, rt.alloc(), false, &[(3, 1), (2, 1), (1, 3)])?;
     cores.unready(2);
     select(&rt, &mut cores, 0);
     set_mask(&rt, &mut cores, 3, 0xFFFF_FFFF);
     assert!(&rt; cores.has_task(3));
     assert_eq!(&rt; cores.mask(3), 3);
     make_ready(&rt, &mut cores, 2);
-    assert_eq!(&rt; looks(&rt, &cores), [(3, true, false), (4, false, false)]);
+    expect(&rt, &cores, (3, true, false), (4, false, false));
     select(&rt, &mut cores, 0);
-    assert_eq!(&rt; looks(&rt, &cores), [(2, false, false), (4, false, true)]);
+    expect(&rt, &cores, (2, false, false), (4, false, true));
     select(&rt, &mut cores, 1);
-    assert_eq!(&rt; looks(&rt, &cores), [(2, false, false), (3, false, false)]);
+    expect(&rt, &cores, (2, false, false), (3, false, false));
     Ok(())
 }
 
 #[test]
 fn asked_cores_are_due(rt: HostRuntime) -> Result<(), Fail> {
-    let mut cores = started(&rt, rt.alloc(), &[(1, 3), (1, 3), (1, 3)])?;
+    let mut cores = started(&rt, rt.alloc(), false, &[(1, 3), (1, 3), (1, 3)])?;
     for core in 0..2 {
         assert!(&rt; cores.has_core(core));
         cores.ask(1, core);
     }
-    assert_eq!(&rt; looks(&rt, &cores), [(2, false, true), (3, true, false)]);
+    expect(&rt, &cores, (2, false, true), (3, true, false));
     select(&rt, &mut cores, 1);
-    assert_eq!(&rt; looks(&rt, &cores), [(2, false, true), (4, false, false)]);
+    expect(&rt, &cores, (2, false, true), (4, false, false));
     Ok(())
 }
 
 #[test]
 fn priority_in_use(rt: HostRuntime) -> Result<(), Fail> {
-    let mut cores = started(&rt, rt.alloc(), &[(1, 3), (1, 3), (1, 3), (1, 3)])?;
+    let mut cores = started(&rt, rt.alloc(), false, &[(1, 3), (1, 3), (1, 3), (1, 3)])?;
     // The priority that it has: the task goes to the end of its list.
     set_in_use(&rt, &mut cores, 4, 1);
     select(&rt, &mut cores, 0);
@@ -190,46 +148,33 @@ fn priority_in_use(rt: HostRuntime) -> Result<(), Fail> {
 
 #[test]
 fn core_of_a_running_task_is_asked(rt: HostRuntime) -> Result<(), Fail> {
-    let mut cores = started(&rt, rt.alloc(), &[(2, 3), (1, 3), (1, 3)])?;
+    let mut cores = started(&rt, rt.alloc(), false, &[(2, 3), (1, 3), (1, 3)])?;
     // It runs on none.
     cores.ask_its_core(0, 4);
-    assert_eq!(&rt; looks(&rt, &cores), [(2, false, false), (3, false, false)]);
+    expect(&rt, &cores, (2, false, false), (3, false, false));
     cores.ask_its_core(0, 3);
-    assert_eq!(&rt; looks(&rt, &cores), [(2, false, false), (3, false, true)]);
+    expect(&rt, &cores, (2, false, false), (3, false, true));
     // A core that another asked is asked no more.
     cores.ask_its_core(1, 3);
-    assert_eq!(&rt; looks(&rt, &cores), [(2, false, false), (3, false, true)]);
+    expect(&rt, &cores, (2, false, false), (3, false, true));
     cores.ask_its_core(0, 2);
-    assert_eq!(&rt; looks(&rt, &cores), [(2, true, false), (3, false, true)]);
-    Ok(())
-}
-
-#[test]
-fn what_there_is(rt: HostRuntime) -> Result<(), Fail> {
-    let cores = started(&rt, rt.alloc(), &[(2, 3), (1, 3)])?;
-    assert!(&rt; cores.has_core(1) && !cores.has_core(2));
-    assert!(&rt; cores.has_task(3) && !cores.has_task(4));
-    assert!(&rt; cores.has_priority(4) && !cores.has_priority(5));
+    expect(&rt, &cores, (2, true, false), (3, false, true));
     Ok(())
 }
 
 #[test]
 fn time_slices(rt: HostRuntime) -> Result<(), Fail> {
     for slicing in [false, true] {
-        let header = header_of(rt.alloc(), slicing, &[(2, 3), (1, 3), (1, 3)])?;
-        let mut cores = started_from(&rt, rt.alloc(), &header)?;
+        let mut cores = started(&rt, rt.alloc(), slicing, &[(2, 3), (1, 3), (1, 3)])?;
         cores.slice();
-        assert_eq!(&rt;
-            looks(&rt, &cores),
-            [(2, false, false), (3, false, slicing)]
-        );
+        expect(&rt, &cores, (2, false, false), (3, false, slicing));
     }
     Ok(())
 }
 
 #[test]
 fn same_lists_in_another_turn(rt: HostRuntime) -> Result<(), Fail> {
-    let mut one = started(&rt, rt.alloc(), &[(2, 3), (1, 3), (1, 3)])?;
+    let mut one = started(&rt, rt.alloc(), false, &[(2, 3), (1, 3), (1, 3)])?;
     let mut other = one.copy(rt.alloc())?;
     assert!(&rt; one.same(&other));
     set_in_use(&rt, &mut one, 3, 1);

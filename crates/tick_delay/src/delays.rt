@@ -197,6 +197,3 @@ fn left_of(waiting: &[Delayed], task: u32) -> Option<u32>
         .find(|entry| entry.task == task)
         .map(|entry| entry.left)
 }
-
-#[cfg(test)]
-mod tests;

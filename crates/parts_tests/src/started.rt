@@ -1,0 +1,37 @@
+//! Cores at the start of a session.
+ghost use Rattle.std.specs.Prelude.{◌≡◌, Ok, IsTrue};
+ghost use Rattle.bench_types.specs.Header.{header_check};
+
+use bench_samples::{PLAIN, numbered_header};
+use bench_types::{Config, Header};
+use ready_core::Cores;
+use std::alloc::Global;
+use std::process::Abort;
+use std::test::Fail;
+
+fn is_checked(header: &Header) -> bool
+    ensures { IsTrue result → header_check header.now ≡ Ok tt }
+{
+    header.check().is_ok()
+}
+
+pub(crate) fn select(rt: &impl Abort, cores: &mut Cores, core: u32) {
+    assert!(rt; cores.has_core(core));
+    cores.select(core);
+}
+
+/// Task 2 and so on with these priorities and masks, after the choice of each of two cores.
+pub(crate) fn started(
+    rt: &impl Abort,
+    alloc: Global,
+    slicing: bool,
+    args: &[(u32, u32)],
+) -> Result<Cores, Fail> {
+    let config = Config { slicing, ..PLAIN };
+    let header = numbered_header(alloc, config, args)?;
+    assert!(rt; is_checked(&header));
+    let mut cores = Cores::new(alloc, &header)?;
+    select(rt, &mut cores, 0);
+    select(rt, &mut cores, 1);
+    Ok(cores)
+}

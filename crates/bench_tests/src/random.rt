@@ -201,17 +201,25 @@ fn with_note(step: Step, choice: u32) -> Step
 {
     match step {
         Step::Switch { core } if choice > 60_000 => interrupt(core, choice),
+        Step::Call { core, call, .. } if is_yield(call) => interrupt(core, choice),
+        _ => in_place_of(step, choice, some_note_call(choice)),
+    }
+}
+
+// The step, or the call in place of a yield and of most calls that set something.
+fn in_place_of(step: Step, choice: u32, call: Call) -> Step {
+    match step {
         Step::Call {
             core,
-            call: Call::Yield,
-            ..
-        } => interrupt(core, choice),
-        Step::Call { core, task, call } if is_set(call) && choice % 16 < 13 => {
-            let call = some_note_call(choice);
-            Step::Call { core, task, call }
-        }
+            task,
+            call: old,
+        } if is_yield(old) || is_set(old) && choice % 16 < 13 => Step::Call { core, task, call },
         _ => step,
     }
+}
+
+fn is_yield(call: Call) -> bool {
+    matches!(call, Call::Yield)
 }
 
 fn is_set(call: Call) -> bool {
@@ -231,10 +239,8 @@ fn with_mutex(kernel: &Kernel, step: Step, choice: u32) -> Step
     requires choice { choice < 2 ^ 16 }
 {
     match step {
-        Step::Call { core, task, call }
-            if call == Call::Yield || is_set(call) && choice % 16 < 13 => {
-            let call = some_mutex_call(kernel, task, choice);
-            Step::Call { core, task, call }
+        Step::Call { task, .. } => {
+            in_place_of(step, choice, some_mutex_call(kernel, task, choice))
         }
         _ => step,
     }
@@ -268,22 +274,12 @@ fn with_hold(kernel: &Kernel, step: Step, choice: u32) -> Step
     requires choice { choice < 2 ^ 16 }
 {
     let call = some_hold_call(kernel, choice);
-    match (kernel.hold(), step) {
-        (Some((core, _)), _) if core < 8 && choice % 16 < 12 => {
+    match kernel.hold() {
+        Some((core, _)) if core < 8 && choice % 16 < 12 => {
             let task = kernel.running(core);
             Step::Call { core, task, call }
         }
-        (
-            _,
-            Step::Call {
-                core,
-                task,
-                call: made,
-            },
-        ) if made == Call::Yield || is_set(made) && choice % 16 < 13 => {
-            Step::Call { core, task, call }
-        }
-        _ => step,
+        _ => in_place_of(step, choice, call),
     }
 }
 

@@ -102,23 +102,42 @@ fn has_row(store: &Store, step: u32, row: &Row) -> bool {
 #[test]
 fn an_edited_store_is_as_the_definitions_replay_it(rt: HostRuntime) -> Result<(), Fail> {
     let played = random_session(&rt, 200, Mix::Notes)?;
-    let mut opened = opened_with(&rt, &played)?;
-    check_store(&rt, &opened.store, &played.steps)?;
-    let edits = [
-        Edit::Insert {
-            at: 20,
-            step: Step::Tick,
-        },
-        Edit::Remove { at: 80 },
-        Edit::Replace {
-            at: 140,
-            step: Step::Switch { core: 3 },
-        },
-    ];
-    for edit in &edits {
-        opened.store.apply(rt.alloc(), *edit, &mut opened.meter)?;
+    check_edited(&rt, &played)
+}
+
+fn check_edited(rt: &(impl Runtime + AllocGlobal + Abort), played: &Played) -> Result<(), Fail> {
+    let mut opened = opened_with(rt, played)?;
+    check_store(rt, &opened.store, &played.steps)?;
+    make_edits(rt, &mut opened);
+    check_after_edits(rt, &opened.store, &played.steps)
+}
+
+fn check_after_edits(
+    rt: &(impl AllocGlobal + Abort),
+    store: &Store,
+    steps: &[Step],
+) -> Result<(), Fail> {
+    let steps = steps_after_edits(rt, steps)?;
+    check_store(rt, store, &steps)
+}
+
+const EDITS: [Edit; 3] = [
+    Edit::Insert {
+        at: 20,
+        step: Step::Tick,
+    },
+    Edit::Remove { at: 80 },
+    Edit::Replace {
+        at: 140,
+        step: Step::Switch { core: 3 },
+    },
+];
+
+fn make_edits(rt: &(impl AllocGlobal + Abort), opened: &mut Opened) {
+    for edit in &EDITS {
+        let made = opened.store.apply(rt.alloc(), *edit, &mut opened.meter);
+        assert!(rt; made.is_ok());
     }
-    check_store(&rt, &opened.store, &steps_after_edits(&rt, &played.steps)?)
 }
 
 fn opened_with(rt: &(impl Runtime + AllocGlobal), played: &Played) -> Result<Opened, Fail> {
@@ -126,7 +145,7 @@ fn opened_with(rt: &(impl Runtime + AllocGlobal), played: &Played) -> Result<Ope
     Opened::of(rt, header, Vec::from_slice(rt.alloc(), &played.steps)?, 64)
 }
 
-// A tick joins at 20, step 80 goes, and step 140 becomes a switch of core 3.
+// What the edits make of the steps.
 fn steps_after_edits(rt: &(impl AllocGlobal + Abort), steps: &[Step]) -> Result<Vec<Step>, Fail> {
     let mut steps = Vec::from_slice(rt.alloc(), steps)?;
     assert_eq!(rt; steps.len(), 200);

@@ -145,7 +145,8 @@ impl Store {
         ensures meter { OnOk result (meter.new ≡ counted (all_replayed self.old.session edits.now) meter.old) }
         ensures some { OnErr result (CountsUpTo (all_replayed self.old.session edits.now) meter.old meter.new) }
     {
-        let (given, last) = self.edited_by_all(alloc, edits, meter)?;
+        let mut last = None;
+        let given = self.edited_by_all(alloc, &mut last, edits, meter)?;
         if let Some(next) = last {
             *self = next;
         }
@@ -260,46 +261,49 @@ impl Store {
         Ok((outcome, store))
     }
 
-    // The answer to an edit of the store that was made last, this one where none was, and the store made last then.
+    // The answer to an edit of the store that was made last, or of this one where none was. What the edit makes is then
+    // the store made last.
     fn edited_last(
         &self,
         alloc: Global,
-        last: Option<Store>,
+        last: &mut Option<Store>,
         edit: Edit,
         meter: &mut Meter,
-    ) -> Result<(Result<Outcome, EditFault>, Option<Store>), AllocError>
-        ensures answer { IfOk result (λ made. made.0 ≡ answer (unwrap_or last self.now).session edit) }
-        ensures session { IfOk result (λ made. let old = unwrap_or last self.now in unwrap_or made.1 self.now ≡ record old { session = after_edit old.session edit }) }
-        ensures meter { OnOk result (meter.new ≡ counted (replayed_for (answer (unwrap_or last self.now).session edit)) meter.old) }
-        ensures some { OnErr result (CountsUpTo (replayed_for (answer (unwrap_or last self.now).session edit)) meter.old meter.new) }
+    ) -> Result<Result<Outcome, EditFault>, AllocError>
+        ensures answer { IfOk result (λ given. given ≡ answer (unwrap_or last.old self.now).session edit) }
+        ensures session { OnOk result (let old = unwrap_or last.old self.now in unwrap_or last.new self.now ≡ record old { session = after_edit old.session edit }) }
+        ensures meter { OnOk result (meter.new ≡ counted (replayed_for (answer (unwrap_or last.old self.now).session edit)) meter.old) }
+        ensures some { OnErr result (CountsUpTo (replayed_for (answer (unwrap_or last.old self.now).session edit)) meter.old meter.new) }
     {
         let store = last.as_ref().unwrap_or(self);
         match store.edited(alloc, edit, meter) {
-            Ok((outcome, next)) => Ok((Ok(outcome), Some(next))),
-            Err(StoreFault::Edit(why)) => Ok((Err(why), last)),
+            Ok((outcome, next)) => {
+                *last = Some(next);
+                Ok(Ok(outcome))
+            }
+            Err(StoreFault::Edit(why)) => Ok(Err(why)),
             Err(StoreFault::NoMemory) => Err(AllocError),
         }
     }
 
-    // The answers to the edits, and the store made last.
+    // The answers to the edits, the first of which is of the store that was made last, or of this one where none was.
     fn edited_by_all(
         &self,
         alloc: Global,
+        last: &mut Option<Store>,
         edits: &[Edit],
         meter: &mut Meter,
-    ) -> Result<(Vec<Result<Outcome, EditFault>>, Option<Store>), AllocError>
-        ensures answers { IfOk result (λ made. made.0.items ≡ answers self.now.session edits.now) }
-        ensures session { IfOk result (λ made. unwrap_or made.1 self.now ≡ record self.now { session = after_edits self.now.session edits.now }) }
-        ensures meter { OnOk result (meter.new ≡ counted (all_replayed self.now.session edits.now) meter.old) }
-        ensures some { OnErr result (CountsUpTo (all_replayed self.now.session edits.now) meter.old meter.new) }
+    ) -> Result<Vec<Result<Outcome, EditFault>>, AllocError>
+        ensures answers { IfOk result (λ given. given.items ≡ answers (unwrap_or last.old self.now).session edits.now) }
+        ensures session { OnOk result (let old = unwrap_or last.old self.now in unwrap_or last.new self.now ≡ record old { session = after_edits old.session edits.now }) }
+        ensures meter { OnOk result (meter.new ≡ counted (all_replayed (unwrap_or last.old self.now).session edits.now) meter.old) }
+        ensures some { OnErr result (CountsUpTo (all_replayed (unwrap_or last.old self.now).session edits.now) meter.old meter.new) }
     {
         let mut given = Vec::with_capacity(alloc, edits.len())?;
-        let mut last = None;
         for edit in edits {
-            let (answer, made) = self.edited_last(alloc, last, *edit, meter)?;
-            last = made;
+            let answer = self.edited_last(alloc, last, *edit, meter)?;
             given.push(answer)?;
         }
-        Ok((given, last))
+        Ok(given)
     }
 }

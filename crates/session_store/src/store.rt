@@ -124,9 +124,8 @@ impl Store {
         ensures uncounted { (why : Why) → result ≡ Err (StoreFault.Edit why) → meter.new ≡ meter.old }
         ensures some { OnErr result (CountsUpTo (length (edited edit self.old.session).steps) meter.old meter.new) }
     {
-        let (outcome, next) = self.edited(alloc, edit, meter)?;
-        *self = next;
-        Ok(outcome)
+        *self = self.edited(alloc, edit, meter)?;
+        Ok(Outcome::whole(self.len()))
     }
 
     /// Makes edits one after another, each of the session that those before it left. An edit that is not accepted is
@@ -147,9 +146,7 @@ impl Store {
     {
         let mut last = None;
         let given = self.edited_by_all(alloc, &mut last, edits, meter)?;
-        if let Some(next) = last {
-            *self = next;
-        }
+        self.take_up(last);
         Ok(given)
     }
 
@@ -225,19 +222,22 @@ impl Store {
         Ok(Some(kernel))
     }
 
-    // What the edit leads to, and the store behind it, beside this one.
-    fn edited(
-        &self,
-        alloc: Global,
-        edit: Edit,
-        meter: &mut Meter,
-    ) -> Result<(Outcome, Store), StoreFault>
+    // Becomes the store made last, where one was made.
+    fn take_up(&mut self, last: Option<Store>)
+        ensures { self.new ≡ unwrap_or last self.old }
+    {
+        if let Some(next) = last {
+            *self = next;
+        }
+    }
+
+    // The store after the edit, beside this one.
+    fn edited(&self, alloc: Global, edit: Edit, meter: &mut Meter) -> Result<Store, StoreFault>
         ensures refused { (why : Why) → (result ≡ Err (StoreFault.Edit why)) ↔ (accepted self.now.session edit ≡ Err why) }
-        ensures session { IfOk result (λ made. made.1 ≡ record self.now { session = edited edit self.now.session }) }
-        ensures outcome { IfOk result (λ made. made.0 ≡ whole_replay (length (edited edit self.now.session).steps)) }
+        ensures session { IfOk result (λ next. next ≡ record self.now { session = edited edit self.now.session }) }
         ensures taken { OnOk result (accepted self.now.session edit ≡ Ok tt) }
         ensures wanting { result ≡ Err StoreFault.NoMemory → accepted self.now.session edit ≡ Ok tt }
-        ensures meter { IfOk result (λ made. meter.new ≡ counted made.0.replayed meter.old) }
+        ensures meter { OnOk result (meter.new ≡ counted (length (edited edit self.now.session).steps) meter.old) }
         ensures uncounted { (why : Why) → result ≡ Err (StoreFault.Edit why) → meter.new ≡ meter.old }
         ensures some { OnErr result (CountsUpTo (length (edited edit self.now.session).steps) meter.old meter.new) }
     {
@@ -246,19 +246,17 @@ impl Store {
         let header = edited_header(alloc, &self.header, &edit)?;
         let steps = edited_steps(alloc, kept, &edit)?;
         let (kernel, outcomes) = replayed(alloc, &header, steps.as_slice(), meter)?;
-        let outcome = Outcome::whole(steps.len() as u32);
         let segment = Segment {
             from: 0,
             kernel,
             steps,
             outcomes,
         };
-        let store = Store {
+        Ok(Store {
             header,
             span: self.span,
             segment,
-        };
-        Ok((outcome, store))
+        })
     }
 
     // The answer to an edit of the store that was made last, or of this one where none was. What the edit makes is then
@@ -277,7 +275,8 @@ impl Store {
     {
         let store = last.as_ref().unwrap_or(self);
         match store.edited(alloc, edit, meter) {
-            Ok((outcome, next)) => {
+            Ok(next) => {
+                let outcome = Outcome::whole(next.len());
                 *last = Some(next);
                 Ok(Ok(outcome))
             }

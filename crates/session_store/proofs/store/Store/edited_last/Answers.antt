@@ -1,23 +1,26 @@
-use Rattle.std.proofs.Common.{◌≡◌, Result, Ok, Err, length, ap, subst, ◌∙◌}
+use Rattle.std.proofs.Common.{◌≡◌, Result, Ok, Err, length, ap, subst, sym, ◌∙◌}
 use Rattle.std.specs.Prelude.{unwrap_or, OnErr}
 use Rattle.bench_model.specs.Edits.{accepted, edited}
 use Rattle.session_store.specs.declared.outcome.Outcome.{Outcome}
 use Rattle.session_store.specs.declared.fault.StoreFault.{StoreFault}
-use Rattle.session_store.specs.Counting.{CountsUpTo}
-use Rattle.session_store.specs.Outcomes.{answer, replayed_for}
+use Rattle.session_store.specs.Counting.{counted, CountsUpTo}
+use Rattle.session_store.specs.Outcomes.{answer, replayed_for, whole_replay}
 use Rattle.session_store.specs.StoreView.{StoreView}
 use Rattle.session_store.proofs.EditLists.{IsMade, made_ok, made_err, made_some}
 use Rattle.session_store.proofs.Views.{lent_or}
 use Rattle.session_store.proofs.store.Store.edited_last.Goals as goal
 
-told : StoreFault → Result (Outcome × StoreView) StoreFault
+told : StoreFault → Result StoreView StoreFault
 told fault = Err fault
 
 pub returns-in-Ok : goal.returns-in-Ok
 returns-in-Ok c =
     let current : c.unwrap_or-store.result.now ≡ unwrap_or c.args.last.now c.args.self.now = lent_or c.as_ref.result c.args.self c.unwrap_or-store.result c.args.last.now c.unwrap_or-store.ensures c.as_ref.ensures.value in
-    let made = made_ok c.unwrap_or-store.result.now c.in-Ok.next c.args.edit c.in-Ok.outcome c.args.meter.now c.edited.new.meter c.in-Ok.ensures.taken c.in-Ok.ensures.outcome c.in-Ok.ensures.session c.in-Ok.ensures.meter in
-    let same = subst (λ (old : StoreView). IsMade old c.args.edit (Ok c.in-Ok.outcome) c.in-Ok.next c.args.meter.now c.edited.new.meter) current made in
+    let steps = λ (view : StoreView). length view.session.steps in
+    let whole = c.whole-outcome.ensures ∙ ap whole_replay (c.len.ensures.steps ∙ ap steps c.in-Ok.ensures.session) in
+    let meter = c.in-Ok.ensures.meter ∙ ap (λ (o : Outcome). counted o.replayed c.args.meter.now) (sym whole) in
+    let made = made_ok c.unwrap_or-store.result.now c.in-Ok.next c.args.edit c.whole-outcome.result c.args.meter.now c.edited.new.meter c.in-Ok.ensures.taken whole c.in-Ok.ensures.session meter in
+    let same = subst (λ (old : StoreView). IsMade old c.args.edit (Ok c.whole-outcome.result) c.in-Ok.next c.args.meter.now c.edited.new.meter) current made in
     record { answer = same.given; session = same.stored; meter = same.meter; some = tt }
 
 pub returns-in-Err-Edit : goal.returns-in-Err-Edit
@@ -36,7 +39,7 @@ returns-in-Err-NoMemory c =
     let current : store ≡ unwrap_or c.args.last.now c.args.self.now = lent_or c.as_ref.result c.args.self c.unwrap_or-store.result c.args.last.now c.unwrap_or-store.ensures c.as_ref.ensures.value in
     let is = c.in-Err-NoMemory.is ∙ ap told c.in-Err-NoMemory.field-0-is in
     let some : CountsUpTo (length (edited c.args.edit store.session).steps) c.args.meter.now c.edited.new.meter =
-    subst (λ (r : Result (Outcome × StoreView) StoreFault). OnErr r (CountsUpTo (length (edited c.args.edit store.session).steps) c.args.meter.now c.edited.new.meter)) is c.edited.ensures.some in
+    subst (λ (r : Result StoreView StoreFault). OnErr r (CountsUpTo (length (edited c.args.edit store.session).steps) c.args.meter.now c.edited.new.meter)) is c.edited.ensures.some in
     record {
       answer = tt;
       session = tt;

@@ -1,6 +1,6 @@
 -- What is written for a text that was not read.
 use Rattle.std.proofs.Common.{◌≡◌, ◌⊎◌, ℕ, ◌≤◌, List, [], length, Bool, true, false, Result, Ok, Err, IfOk, nat_lt, nat_le, codes, if◌then◌else◌, refl, sym, ap, ◌∙◌, arith, inl, inr}
-use Rattle.std.specs.Prelude.{IsErr}
+use Rattle.std.specs.Prelude.{IsErr, OnOk}
 use Rattle.std.proofs.lemmas.Bool.Decides.{nat_tests}
 use Rattle.bench_types.specs.declared.edit.TheConstants.{MOST_STEPS}
 use Rattle.bench_types.specs.Name.{is_within}
@@ -40,3 +40,9 @@ too_long_output bench span why checked within memory long = go (nat_lt MOST_STEP
     go false few =
         let fits : nat_le (length bench.steps) MOST_STEPS ≡ true = grind (arith, nat_tests, few) in
         absurd (cc (memory (opens bench.header bench.steps span (header_fits bench.header checked.session_checked.header_fits) checked.session_checked.steps_pass within fits), long))
+
+-- what is told of a session that was not opened
+pub not_opened_output : {E : Type 0} (bench : Bench) (why : OpenRefusal) (result : Result Output E) → OnOk result (why ≡ TooLong) → IfOk result (λ answer. answer ≡ refused (codes "J2") [])
+    → (why ≡ TooLong → refused (codes "J2") [] ≡ output_of_bench bench) → IfOk result (λ answer. answer ≡ output_of_bench bench)
+not_opened_output bench why (Err e) long line told = tt
+not_opened_output bench why (Ok answer) long line told = line ∙ told long

@@ -1,12 +1,14 @@
-ghost use Rattle.std.specs.Prelude.{◌≡◌, ◌++◌, IfOk, OnOk, string_bytes, true, IsErr};
+ghost use Rattle.std.specs.Prelude.{◌≡◌, ◌++◌, [], IfOk, OnOk, codes, string_bytes, true, false, IsErr};
 ghost use Rattle.bench_types.specs.Name.{is_within};
+ghost use Rattle.session_store.specs.declared.fault.OpenRefusal.TheVariants.{TooLong};
 ghost use Rattle.session_store.specs.declared.store.TheConstants.{MOST_SPAN};
 ghost use Rattle.session_text.specs.declared.fault.Why.TheVariants.{NoMemory};
 ghost use Rattle.session_text.specs.Bench.{IsCheckedBench};
-ghost use Rattle.bench_commands.specs.Answer.{why_text, path_text, refusal_line, output, output_of_bench, Output};
+ghost use Rattle.bench_commands.specs.Answer.{why_text, path_text, refusal_line, refused, edited_text, output, output_of_bench, Output};
 
 use crate::lines::{fault_text, push_spaced};
 use crate::replay::edited_replay;
+use bench_types::Edit;
 use session_store::{OpenRefusal, Store};
 use session_text::{Bench, TextFault, Why, read_bench};
 use smp_kernel::Meter;
@@ -52,7 +54,34 @@ fn refused_for(alloc: Global, fault: TextFault) -> Result<Answer, AllocError>
     }
 }
 
-// The lines of the edits and of the edited session. Texts may have any number of steps, so J2 is found here.
+// The lines of the edits and of the edited session.
+fn answer_of_store(
+    alloc: Global,
+    meter: &mut Meter,
+    store: &mut Store,
+    edits: &[Edit],
+) -> Result<Answer, AllocError>
+    ensures { IfOk result (λ answer. answer ≡ record { is_refused = false; text = edited_text store.old.session edits.now }) }
+{
+    let text = edited_replay(alloc, meter, store, edits)?;
+    Ok(Answer {
+        is_refused: false,
+        text,
+    })
+}
+
+// The answer where no store was opened, which is one only for J2.
+fn not_opened(alloc: Global, why: OpenRefusal) -> Result<Answer, AllocError>
+    ensures why { OnOk result (why ≡ TooLong) }
+    ensures line { IfOk result (λ answer. answer ≡ refused (codes "J2") []) }
+{
+    match why {
+        OpenRefusal::TooLong => refused(alloc, "J2", ""),
+        _ => Err(AllocError),
+    }
+}
+
+// The output of a bench document that was read. Texts may have any number of steps, so J2 is found here.
 fn answer_of_bench(
     alloc: Global,
     meter: &mut Meter,
@@ -69,17 +98,8 @@ fn answer_of_bench(
         edits,
     } = bench;
     match Store::open(alloc, header, steps.into_vec(), span, meter) {
-        Ok(mut store) => {
-            let text = edited_replay(alloc, meter, &mut store, edits.as_slice())?;
-            Ok(Answer {
-                is_refused: false,
-                text,
-            })
-        }
-        Err(fault) => match fault.why {
-            OpenRefusal::TooLong => refused(alloc, "J2", ""),
-            _ => Err(AllocError),
-        },
+        Ok(mut store) => answer_of_store(alloc, meter, &mut store, edits.as_slice()),
+        Err(fault) => not_opened(alloc, fault.why),
     }
 }
 

@@ -1,4 +1,4 @@
-ghost use Rattle.std.specs.Prelude.{◌≡◌, ◌+◌, ◌<◌, ◌≤◌, length, IfOk};
+ghost use Rattle.std.specs.Prelude.{◌≡◌, ◌+◌, ◌<◌, ◌≤◌, [], length, IfOk, OnOk};
 ghost use Rattle.bench_commands.specs.Device.{counted, reads_on, ReadsInput, ReadsOn, ReadsSome};
 
 use crate::answer::MOST_INPUT;
@@ -56,19 +56,35 @@ fn read_on<R: CountedRead>(
     }
 }
 
+// Reads through the chunk to the end of the input, or one byte past the most that is a session.
+fn read_all<R: CountedRead>(
+    reader: &mut R,
+    chunk: &mut [u8],
+    input: &mut Vec<u8>,
+) -> Result<(), Stop>
+    requires room { length chunk.old ≡ CHUNK }
+    requires empty { input.old.items ≡ [] }
+    ensures input { OnOk result (ReadsInput (R.Read.remaining reader.old) (R.Read.remaining reader.new) input.new.items) }
+    ensures some { ReadsSome (R.Read.remaining reader.old) (R.Read.remaining reader.new) (MOST_INPUT + 1) }
+    ensures failures { R.CountedRead.failures reader.new ≡ counted (reads_on result) (R.CountedRead.failures reader.old) }
+{
+    while input.len() <= MOST_INPUT {
+        let most = CHUNK.min(MOST_INPUT + 1 - input.len());
+        if read_on(reader, chunk, most, input)? == 0 {
+            return Ok(());
+        }
+    }
+    Ok(())
+}
+
 /// Reads to the end of the input, or one byte past the most that is a session.
 pub(crate) fn read_input<R: CountedRead>(alloc: Global, reader: &mut R) -> Result<Vec<u8>, Stop>
     ensures input { IfOk result (λ input. ReadsInput (R.Read.remaining reader.old) (R.Read.remaining reader.new) input.items) }
     ensures some { ReadsSome (R.Read.remaining reader.old) (R.Read.remaining reader.new) (MOST_INPUT + 1) }
     ensures failures { R.CountedRead.failures reader.new ≡ counted (reads_on result) (R.CountedRead.failures reader.old) }
 {
-    let mut input = Vec::new(alloc);
     let mut chunk = room_for(alloc, CHUNK)?;
-    while input.len() <= MOST_INPUT {
-        let most = CHUNK.min(MOST_INPUT + 1 - input.len());
-        if read_on(reader, &mut chunk, most, &mut input)? == 0 {
-            return Ok(input);
-        }
-    }
+    let mut input = Vec::new(alloc);
+    read_all(reader, &mut chunk, &mut input)?;
     Ok(input)
 }

@@ -64,27 +64,43 @@ pub(crate) fn advance(kernel: &mut Kernel, steps: &[Step], meter: &mut Meter)
 }
 
 /// The replies that the kernel gives to the steps, each with the tasks that run behind it.
-pub(crate) fn outcomes_of(
+fn outcomes_of(
     alloc: Global,
-    mut kernel: Kernel,
+    kernel: &mut Kernel,
     cores: u32,
     steps: &[Step],
     meter: &mut Meter,
 ) -> Result<Vec<(Reply, Row)>, AllocError>
-    requires stands { StandsForSome kernel }
-    requires cores { cores ≡ kernel.settings.cores }
+    requires stands { StandsForSome kernel.old }
+    requires cores { cores ≡ kernel.old.settings.cores }
     requires few { cores ≤ 8 }
-    requires steps { All (λ step. step_check kernel.settings step ≡ Ok tt) steps.now }
-    ensures outcomes { IfOk result (λ outcomes. (table : Table) → StandsFor kernel table → map shown outcomes.items ≡ trace table steps.now) }
+    requires steps { All (λ step. step_check kernel.old.settings step ≡ Ok tt) steps.now }
+    ensures outcomes { IfOk result (λ outcomes. (table : Table) → StandsFor kernel.old table → map shown outcomes.items ≡ trace table steps.now) }
     ensures meter { OnOk result (meter.new ≡ counted (length steps.now) meter.old) }
     ensures some { OnErr result (CountsUpTo (length steps.now) meter.old meter.new) }
 {
     let mut outcomes = Vec::with_capacity(alloc, steps.len())?;
     for step in steps {
         let reply = kernel.step(meter, step);
-        outcomes.push((reply, row_of(&kernel, cores)))?;
+        outcomes.push((reply, row_of(kernel, cores)))?;
     }
     Ok(outcomes)
+}
+
+// The outcomes of the steps from the start.
+fn outcomes_from_start(
+    alloc: Global,
+    header: &Header,
+    steps: &[Step],
+    meter: &mut Meter,
+) -> Result<Vec<(Reply, Row)>, AllocError>
+    requires { IsSession (record { header = header.now; steps = steps.now }) }
+    ensures outcomes { IfOk result (λ outcomes. map shown outcomes.items ≡ trace (start header.now) steps.now) }
+    ensures meter { OnOk result (meter.new ≡ counted (length steps.now) meter.old) }
+    ensures some { OnErr result (CountsUpTo (length steps.now) meter.old meter.new) }
+{
+    let mut kernel = started(alloc, header)?;
+    outcomes_of(alloc, &mut kernel, header.config.cores, steps, meter)
 }
 
 /// A kernel at the start, and the outcomes of the steps from there.
@@ -102,7 +118,6 @@ pub(crate) fn replayed(
     ensures some { OnErr result (CountsUpTo (length steps.now) meter.old meter.new) }
 {
     let kernel = started(alloc, header)?;
-    let runner = started(alloc, header)?;
-    let outcomes = outcomes_of(alloc, runner, header.config.cores, steps, meter)?;
+    let outcomes = outcomes_from_start(alloc, header, steps, meter)?;
     Ok((kernel, outcomes))
 }

@@ -124,9 +124,8 @@ impl Store {
         ensures uncounted { (why : Why) → result ≡ Err (StoreFault.Edit why) → meter.new ≡ meter.old }
         ensures some { OnErr result (CountsUpTo (length (edited edit self.old.session).steps) meter.old meter.new) }
     {
-        let (outcome, next) = self.edited(alloc, edit, meter)?;
-        *self = next;
-        Ok(outcome)
+        *self = self.edited(alloc, edit, meter)?;
+        Ok(Outcome::whole(self.len()))
     }
 
     /// Makes edits one after another, each of the session that those before it left. An edit that is not accepted is
@@ -145,10 +144,9 @@ impl Store {
         ensures meter { OnOk result (meter.new ≡ counted (all_replayed self.old.session edits.now) meter.old) }
         ensures some { OnErr result (CountsUpTo (all_replayed self.old.session edits.now) meter.old meter.new) }
     {
-        let (given, last) = self.edited_by_all(alloc, edits, meter)?;
-        if let Some(next) = last {
-            *self = next;
-        }
+        let mut last = None;
+        let given = self.edited_by_all(alloc, &mut last, edits, meter)?;
+        self.take_up(last);
         Ok(given)
     }
 
@@ -224,19 +222,22 @@ impl Store {
         Ok(Some(kernel))
     }
 
-    // What the edit leads to, and the store behind it, beside this one.
-    fn edited(
-        &self,
-        alloc: Global,
-        edit: Edit,
-        meter: &mut Meter,
-    ) -> Result<(Outcome, Store), StoreFault>
+    // Becomes the store made last, where one was made.
+    fn take_up(&mut self, last: Option<Store>)
+        ensures { self.new ≡ unwrap_or last self.old }
+    {
+        if let Some(next) = last {
+            *self = next;
+        }
+    }
+
+    // The store after the edit, beside this one.
+    fn edited(&self, alloc: Global, edit: Edit, meter: &mut Meter) -> Result<Store, StoreFault>
         ensures refused { (why : Why) → (result ≡ Err (StoreFault.Edit why)) ↔ (accepted self.now.session edit ≡ Err why) }
-        ensures session { IfOk result (λ made. made.1 ≡ record self.now { session = edited edit self.now.session }) }
-        ensures outcome { IfOk result (λ made. made.0 ≡ whole_replay (length (edited edit self.now.session).steps)) }
+        ensures session { IfOk result (λ next. next ≡ record self.now { session = edited edit self.now.session }) }
         ensures taken { OnOk result (accepted self.now.session edit ≡ Ok tt) }
         ensures wanting { result ≡ Err StoreFault.NoMemory → accepted self.now.session edit ≡ Ok tt }
-        ensures meter { IfOk result (λ made. meter.new ≡ counted made.0.replayed meter.old) }
+        ensures meter { OnOk result (meter.new ≡ counted (length (edited edit self.now.session).steps) meter.old) }
         ensures uncounted { (why : Why) → result ≡ Err (StoreFault.Edit why) → meter.new ≡ meter.old }
         ensures some { OnErr result (CountsUpTo (length (edited edit self.now.session).steps) meter.old meter.new) }
     {
@@ -245,61 +246,63 @@ impl Store {
         let header = edited_header(alloc, &self.header, &edit)?;
         let steps = edited_steps(alloc, kept, &edit)?;
         let (kernel, outcomes) = replayed(alloc, &header, steps.as_slice(), meter)?;
-        let outcome = Outcome::whole(steps.len() as u32);
         let segment = Segment {
             from: 0,
             kernel,
             steps,
             outcomes,
         };
-        let store = Store {
+        Ok(Store {
             header,
             span: self.span,
             segment,
-        };
-        Ok((outcome, store))
+        })
     }
 
-    // The answer to an edit of the store that was made last, this one where none was, and the store made last then.
+    // The answer to an edit of the store that was made last, or of this one where none was. What the edit makes is then
+    // the store made last.
     fn edited_last(
         &self,
         alloc: Global,
-        last: Option<Store>,
+        last: &mut Option<Store>,
         edit: Edit,
         meter: &mut Meter,
-    ) -> Result<(Result<Outcome, EditFault>, Option<Store>), AllocError>
-        ensures answer { IfOk result (λ made. made.0 ≡ answer (unwrap_or last self.now).session edit) }
-        ensures session { IfOk result (λ made. let old = unwrap_or last self.now in unwrap_or made.1 self.now ≡ record old { session = after_edit old.session edit }) }
-        ensures meter { OnOk result (meter.new ≡ counted (replayed_for (answer (unwrap_or last self.now).session edit)) meter.old) }
-        ensures some { OnErr result (CountsUpTo (replayed_for (answer (unwrap_or last self.now).session edit)) meter.old meter.new) }
+    ) -> Result<Result<Outcome, EditFault>, AllocError>
+        ensures answer { IfOk result (λ given. given ≡ answer (unwrap_or last.old self.now).session edit) }
+        ensures session { OnOk result (let old = unwrap_or last.old self.now in unwrap_or last.new self.now ≡ record old { session = after_edit old.session edit }) }
+        ensures meter { OnOk result (meter.new ≡ counted (replayed_for (answer (unwrap_or last.old self.now).session edit)) meter.old) }
+        ensures some { OnErr result (CountsUpTo (replayed_for (answer (unwrap_or last.old self.now).session edit)) meter.old meter.new) }
     {
         let store = last.as_ref().unwrap_or(self);
         match store.edited(alloc, edit, meter) {
-            Ok((outcome, next)) => Ok((Ok(outcome), Some(next))),
-            Err(StoreFault::Edit(why)) => Ok((Err(why), last)),
+            Ok(next) => {
+                let outcome = Outcome::whole(next.len());
+                *last = Some(next);
+                Ok(Ok(outcome))
+            }
+            Err(StoreFault::Edit(why)) => Ok(Err(why)),
             Err(StoreFault::NoMemory) => Err(AllocError),
         }
     }
 
-    // The answers to the edits, and the store made last.
+    // The answers to the edits, the first of which is of the store that was made last, or of this one where none was.
     fn edited_by_all(
         &self,
         alloc: Global,
+        last: &mut Option<Store>,
         edits: &[Edit],
         meter: &mut Meter,
-    ) -> Result<(Vec<Result<Outcome, EditFault>>, Option<Store>), AllocError>
-        ensures answers { IfOk result (λ made. made.0.items ≡ answers self.now.session edits.now) }
-        ensures session { IfOk result (λ made. unwrap_or made.1 self.now ≡ record self.now { session = after_edits self.now.session edits.now }) }
-        ensures meter { OnOk result (meter.new ≡ counted (all_replayed self.now.session edits.now) meter.old) }
-        ensures some { OnErr result (CountsUpTo (all_replayed self.now.session edits.now) meter.old meter.new) }
+    ) -> Result<Vec<Result<Outcome, EditFault>>, AllocError>
+        ensures answers { IfOk result (λ given. given.items ≡ answers (unwrap_or last.old self.now).session edits.now) }
+        ensures session { OnOk result (let old = unwrap_or last.old self.now in unwrap_or last.new self.now ≡ record old { session = after_edits old.session edits.now }) }
+        ensures meter { OnOk result (meter.new ≡ counted (all_replayed (unwrap_or last.old self.now).session edits.now) meter.old) }
+        ensures some { OnErr result (CountsUpTo (all_replayed (unwrap_or last.old self.now).session edits.now) meter.old meter.new) }
     {
         let mut given = Vec::with_capacity(alloc, edits.len())?;
-        let mut last = None;
         for edit in edits {
-            let (answer, made) = self.edited_last(alloc, last, *edit, meter)?;
-            last = made;
+            let answer = self.edited_last(alloc, last, *edit, meter)?;
             given.push(answer)?;
         }
-        Ok((given, last))
+        Ok(given)
     }
 }

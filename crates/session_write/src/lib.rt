@@ -4,6 +4,7 @@
 mod caller;
 pub mod laws;
 mod notes;
+mod object;
 mod session;
 mod step;
 

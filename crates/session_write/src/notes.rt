@@ -4,8 +4,9 @@ ghost use Rattle.bench_types.specs.Step.{IsActionOfWord};
 ghost use Rattle.session_write.specs.Written.{action_word, interrupt_data, notify_data, take_data, value_clear_data, wait_data};
 
 use crate::caller::Caller;
+use crate::object::{put_flag, put_text, put_whole};
 use bench_types::Action;
-use serde_json::{Value, json};
+use serde_json::{Map, Value};
 use std::alloc::{AllocError, Global};
 
 fn action_word(action: Action) -> &'static str
@@ -29,14 +30,17 @@ pub(crate) fn interrupt_value(
     ensures value { IfOk result (λ value. view value ≡ interrupt_data core to.now action) }
     ensures typed { OnOk result (IsActionOfWord action) }
 {
-    let word = action_word(action);
+    let mut object = Map::new(alloc);
+    put_text(&mut object, alloc, "action", action_word(action))?;
+    put_whole(&mut object, alloc, "core", core)?;
+    put_text(&mut object, alloc, "do", "isr_notify")?;
+    put_text(&mut object, alloc, "to", to)?;
     match action {
-        Action::Nothing | Action::Increment => json!(in alloc; {
-            "action": word, "core": core, "do": "isr_notify", "to": to
-        }),
-        Action::SetBits(value) | Action::Set(value) | Action::SetNew(value) => json!(in alloc; {
-            "action": word, "core": core, "do": "isr_notify", "to": to, "value": value
-        }),
+        Action::Nothing | Action::Increment => Ok(Value::Object(object)),
+        Action::SetBits(value) | Action::Set(value) | Action::SetNew(value) => {
+            put_whole(&mut object, alloc, "value", value)?;
+            Ok(Value::Object(object))
+        }
     }
 }
 
@@ -46,16 +50,17 @@ impl Caller<'_> {
             (λ value. view value ≡ notify_data self.now.by.now self.now.core to.now action) }
         ensures typed { OnOk result (IsActionOfWord action) }
     {
-        let word = action_word(action);
+        let mut object = Map::new(self.alloc);
+        put_text(&mut object, self.alloc, "action", action_word(action))?;
+        put_text(&mut object, self.alloc, "by", self.by)?;
+        put_whole(&mut object, self.alloc, "core", self.core)?;
+        put_text(&mut object, self.alloc, "do", "notify")?;
+        put_text(&mut object, self.alloc, "to", to)?;
         match action {
-            Action::Nothing | Action::Increment => json!(in self.alloc; {
-                "action": word, "by": self.by, "core": self.core, "do": "notify", "to": to
-            }),
+            Action::Nothing | Action::Increment => Ok(Value::Object(object)),
             Action::SetBits(value) | Action::Set(value) | Action::SetNew(value) => {
-                json!(in self.alloc; {
-                    "action": word, "by": self.by, "core": self.core, "do": "notify", "to": to,
-                    "value": value
-                })
+                put_whole(&mut object, self.alloc, "value", value)?;
+                Ok(Value::Object(object))
             }
         }
     }
@@ -64,27 +69,36 @@ impl Caller<'_> {
         ensures { IfOk result
             (λ value. view value ≡ wait_data self.now.by.now self.now.core entry exit ticks) }
     {
-        json!(in self.alloc; {
-            "by": self.by, "core": self.core, "do": "notify_wait", "entry": entry, "exit": exit,
-            "ticks": ticks
-        })
+        let mut object = self.members("notify_wait")?;
+        put_whole(&mut object, self.alloc, "entry", entry)?;
+        put_whole(&mut object, self.alloc, "exit", exit)?;
+        put_whole(&mut object, self.alloc, "ticks", ticks)?;
+        Ok(Value::Object(object))
     }
 
     pub(crate) fn take(&self, clear: bool, ticks: u32) -> Result<Value, AllocError>
         ensures { IfOk result
             (λ value. view value ≡ take_data self.now.by.now self.now.core clear ticks) }
     {
-        json!(in self.alloc; {
-            "by": self.by, "clear": clear, "core": self.core, "do": "notify_take", "ticks": ticks
-        })
+        let mut object = Map::new(self.alloc);
+        put_text(&mut object, self.alloc, "by", self.by)?;
+        put_flag(&mut object, self.alloc, "clear", clear)?;
+        put_whole(&mut object, self.alloc, "core", self.core)?;
+        put_text(&mut object, self.alloc, "do", "notify_take")?;
+        put_whole(&mut object, self.alloc, "ticks", ticks)?;
+        Ok(Value::Object(object))
     }
 
     pub(crate) fn value_clear(&self, to: &str, bits: u32) -> Result<Value, AllocError>
         ensures { IfOk result
             (λ value. view value ≡ value_clear_data self.now.by.now self.now.core to.now bits) }
     {
-        json!(in self.alloc; {
-            "bits": bits, "by": self.by, "core": self.core, "do": "value_clear", "to": to
-        })
+        let mut object = Map::new(self.alloc);
+        put_whole(&mut object, self.alloc, "bits", bits)?;
+        put_text(&mut object, self.alloc, "by", self.by)?;
+        put_whole(&mut object, self.alloc, "core", self.core)?;
+        put_text(&mut object, self.alloc, "do", "value_clear")?;
+        put_text(&mut object, self.alloc, "to", to)?;
+        Ok(Value::Object(object))
     }
 }

@@ -19,7 +19,7 @@ row_of-requires-clause-stands c =
 
 pub loop-step-init : goal.loop-step-init
 loop-step-init c = record {
-  so_far = λ table stands. replayed_starts table c.args.steps.now c.args.kernel c.in_ok-outcomes.outcomes.items stands c.in_ok-outcomes.ensures.items;
+  so_far = λ table stands. replayed_starts table c.args.steps.now c.args.kernel.now c.in_ok-outcomes.outcomes.items stands c.in_ok-outcomes.ensures.items;
   shape = refl;
   meter = refl;
 }

@@ -1,5 +1,5 @@
-use Rattle.std.proofs.Common.{◌≡◌, ◌≤◌, Ok, refl, ap, ◌∙◌, rules, arith}
-use Rattle.bench_model.specs.Edits.{Session, IsSession, accepted}
+use Rattle.std.proofs.Common.{◌≡◌, Ok, refl, ap, ◌∙◌, rules}
+use Rattle.bench_model.specs.Edits.{Session, accepted}
 use Rattle.bench_model.specs.Session.{trace}
 use Rattle.bench_model.specs.Start.{start}
 use Rattle.session_store.proofs.Views.{next_session}
@@ -12,17 +12,8 @@ replayed-requires c =
     next_session kept.header c.in_ok-header.header c.self.inside.segment.steps.items kept.steps c.as_slice.result.now c.args.edit c.self.invariant.session c.as_slice-kept.ensures.value accepts
     (c.in_ok-header.ensures kept.steps) (c.as_slice.ensures.value ∙ c.in_ok-steps.ensures kept.header)
 
-pub overflow_cast-len : goal.overflow_cast-len
-overflow_cast-len c =
-    let kept : Session = record { header = c.self.inside.header; steps = c.as_slice-kept.result.now } in
-    let accepts : accepted kept c.args.edit ≡ Ok tt = search rules in
-    let next : IsSession (record { header = c.in_ok-header.header; steps = c.as_slice.result.now }) = next_session kept.header c.in_ok-header.header c.self.inside.segment.steps.items kept.steps c.as_slice.result.now c.args.edit c.self.invariant.session c.as_slice-kept.ensures.value accepts
-    (c.in_ok-header.ensures kept.steps) (c.as_slice.ensures.value ∙ c.in_ok-steps.ensures kept.header) in
-    let few : c.len.result ≤ 100000 = omega (arith, next.few_steps, c.as_slice.ensures.len, c.len.ensures) in
-    search rules
-
-pub invariant_of-store : goal.invariant_of-store
-invariant_of-store c =
+pub invariant_of-result : goal.invariant_of-result
+invariant_of-result c =
     let kept : Session = record { header = c.self.inside.header; steps = c.as_slice-kept.result.now } in
     let accepts : accepted kept c.args.edit ≡ Ok tt = search rules in
     record {

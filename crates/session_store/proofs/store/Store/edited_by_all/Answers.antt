@@ -10,30 +10,32 @@ use Rattle.session_store.proofs.store.Store.edited_by_all.Goals as goal
 
 pub returns-in_err-answer-clause-some : goal.returns-in_err-answer-clause-some
 returns-in_err-answer-clause-some c =
+    let old = unwrap_or c.args.last.now c.args.self.now in
     let current = unwrap_or c.loop-edit.last c.args.self.now in
-    let within = replayed_within c.args.self.now c.args.edits.now c.loop-edit.edit-index current c.loop-edit.given.items (omega arith) c.loop-edit.invariant.so_far in
-    let some = counts_on c.loop-edit.given.items c.args.meter.now c.loop-edit.meter c.edited_last.new.meter _ (all_replayed c.args.self.now.session c.args.edits.now) c.loop-edit.invariant.meter c.in_err-answer.ensures.some within in
-    counts_some c.from_residual-in_err-answer.result some.0 (all_replayed c.args.self.now.session c.args.edits.now) c.args.meter.now c.edited_last.new.meter some.1 some.2
+    let within = replayed_within old c.args.edits.now c.loop-edit.edit-index current c.loop-edit.given.items (omega arith) c.loop-edit.invariant.so_far in
+    let some = counts_on c.loop-edit.given.items c.args.meter.now c.loop-edit.meter c.edited_last.new.meter _ (all_replayed old.session c.args.edits.now) c.loop-edit.invariant.meter c.in_err-answer.ensures.some within in
+    counts_some c.from_residual-in_err-answer.result some.0 (all_replayed old.session c.args.edits.now) c.args.meter.now c.edited_last.new.meter some.1 some.2
 
 pub returns-in_err-push-clause-some : goal.returns-in_err-push-clause-some
 returns-in_err-push-clause-some c =
+    let old = unwrap_or c.args.last.now c.args.self.now in
     let current = unwrap_or c.loop-edit.last c.args.self.now in
     let edit = edit_at c.args.edits.now c.loop-edit.edit-index in
-    let within = replayed_within c.args.self.now c.args.edits.now c.loop-edit.edit-index current c.loop-edit.given.items (omega arith) c.loop-edit.invariant.so_far in
+    let within = replayed_within old c.args.edits.now c.loop-edit.edit-index current c.loop-edit.given.items (omega arith) c.loop-edit.invariant.so_far in
     let count = c.in_ok-answer.ensures.meter ∙ ap (counted (replayed_for (answer current.session edit))) c.loop-edit.invariant.meter ∙ counted_twice (sum_by replayed_for c.loop-edit.given.items) (replayed_for (answer current.session edit)) c.args.meter.now in
-    counts_some c.from_residual-in_err-push.result (sum_by replayed_for c.loop-edit.given.items + replayed_for (answer current.session edit)) (all_replayed c.args.self.now.session c.args.edits.now) c.args.meter.now c.edited_last.new.meter within count
+    counts_some c.from_residual-in_err-push.result (sum_by replayed_for c.loop-edit.given.items + replayed_for (answer current.session edit)) (all_replayed old.session c.args.edits.now) c.args.meter.now c.edited_last.new.meter within count
 
 pub loop-edit-preserved : goal.loop-edit-preserved
 loop-edit-preserved c =
-    let old = c.args.self.now in
+    let old = unwrap_or c.args.last.now c.args.self.now in
     let edits = c.args.edits.now in
     let place = c.loop-edit.edit-index in
-    let current = unwrap_or c.loop-edit.last old in
+    let current = unwrap_or c.loop-edit.last c.args.self.now in
     let given = c.loop-edit.given.items in
     let one = c.in_ok-answer.answer in
     let count = c.in_ok-answer.ensures.meter ∙ ap (λ (o : Result Outcome EditFault). counted (replayed_for o) c.loop-edit.meter) (sym c.in_ok-answer.ensures.answer) in
     record {
-      so_far = subst (λ (all : List (Result Outcome EditFault)). IsEditing old edits (place + 1) (unwrap_or c.in_ok-answer.made old) all) (sym c.in_ok-push.ensures.items)
-          (editing_goes old edits place current (unwrap_or c.in_ok-answer.made old) given one (omega arith) c.loop-edit.invariant.so_far c.in_ok-answer.ensures.answer c.in_ok-answer.ensures.session);
+      so_far = subst (λ (all : List (Result Outcome EditFault)). IsEditing old edits (place + 1) (unwrap_or c.edited_last.new.last c.args.self.now) all) (sym c.in_ok-push.ensures.items)
+          (editing_goes old edits place current (unwrap_or c.edited_last.new.last c.args.self.now) given one (omega arith) c.loop-edit.invariant.so_far c.in_ok-answer.ensures.answer c.in_ok-answer.ensures.session);
       meter = counted_on given one c.args.meter.now c.loop-edit.meter c.edited_last.new.meter c.loop-edit.invariant.meter count ∙ ap (λ (all : List (Result Outcome EditFault)). counted (sum_by replayed_for all) c.args.meter.now) (sym c.in_ok-push.ensures.items);
     }

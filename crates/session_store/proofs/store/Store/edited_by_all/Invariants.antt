@@ -7,6 +7,6 @@ use Rattle.session_store.proofs.store.Store.edited_by_all.Given as goal
 
 abbrev pub invariant-loop-edit : goal.invariant-loop-edit
 invariant-loop-edit l = record {
-  so_far : IsEditing l.self l.edits l.edit-index (unwrap_or l.last l.self) l.given.items;
+  so_far : IsEditing (unwrap_or l.fn.last l.self) l.edits l.edit-index (unwrap_or l.last l.self) l.given.items;
   meter : l.meter ≡ counted (sum_by replayed_for l.given.items) l.fn.meter;
 }

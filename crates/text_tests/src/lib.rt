@@ -1,12 +1,21 @@
-//! Tests of the texts of sessions, benches and edits: as they are read, and as sessions are written.
+//! Tests of the types of a session, and of the texts of sessions, benches and edits: as they are
+//! read, and as sessions are written.
 #![tactic(auto)]
 
 #[cfg(test)]
+mod answers;
+#[cfg(test)]
 mod benches;
+#[cfg(test)]
+mod edits;
+#[cfg(test)]
+mod headers;
 #[cfg(test)]
 mod holds;
 #[cfg(test)]
 mod mutexes;
+#[cfg(test)]
+mod names;
 #[cfg(test)]
 mod notes;
 #[cfg(test)]
@@ -15,6 +24,8 @@ mod outcomes;
 mod sessions;
 #[cfg(test)]
 mod sets;
+#[cfg(test)]
+mod steps;
 #[cfg(test)]
 mod values;
 #[cfg(test)]

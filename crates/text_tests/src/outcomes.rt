@@ -1,5 +1,6 @@
 //! Whether a text is read, and which fault it has where.
-ghost use Rattle.std.specs.Prelude.{IfOk};
+ghost use Rattle.std.specs.Prelude.{IfOk, IsTrue};
+ghost use Rattle.bench_types.specs.Header.{is_header};
 ghost use Rattle.session_text.specs.Session.{IsChecked};
 
 use crate::benches::BENCH;
@@ -137,14 +138,22 @@ pub fn session_of(alloc: Global, text: &str) -> Result<(Header, Vec<Step>), Fail
     }
 }
 
+/// The header of a session with so many mutexes.
+pub fn header_with(alloc: Global, mutexes: u32) -> Result<Header, Fail>
+    ensures { IfOk result (λ header. IsTrue (is_header header)) }
+{
+    let session = with_steps(alloc, mutexes, "")?;
+    let (header, _) = session_of(alloc, session.as_str())?;
+    Ok(header)
+}
+
 impl Document {
     fn outcome(self, alloc: Global, text: &[u8]) -> Result<String, Fail> {
         Ok(match self {
             Document::Session => told(alloc, read_session(alloc, text))?,
             Document::Bench => told(alloc, read_bench(alloc, text))?,
             Document::Edit(mutexes) => {
-                let session = with_steps(alloc, mutexes, "")?;
-                let (header, _) = session_of(alloc, session.as_str())?;
+                let header = header_with(alloc, mutexes)?;
                 told(alloc, read_edit(alloc, text, &header))?
             }
         })
@@ -192,20 +201,6 @@ fn prefixes_are_no_json(rt: HostRuntime) -> Result<(), Fail> {
     Document::Session.check(&rt, rt.alloc(), bytes, "read")
 }
 
-#[test]
-fn nesting(rt: HostRuntime) -> Result<(), Fail> {
-    let alloc = rt.alloc();
-    for (depth, want) in [(126, "H2 top"), (127, "H2 top"), (128, "H1")] {
-        let text = nested(alloc, depth)?;
-        Document::Session.check(&rt, alloc, text.as_bytes(), want)?;
-        let inner = nested(alloc, depth - 1)?;
-        let change = format!(in alloc; "{{ => {{\"more\":{inner},")?;
-        let session = changed(alloc, SESSION, change.as_str())?;
-        Document::Session.check(&rt, alloc, session.as_bytes(), want)?;
-    }
-    Ok(())
-}
-
 /// So many arrays, one in another.
 fn nested(alloc: Global, depth: usize) -> Result<String, AllocError> {
     let mut text = String::new(alloc);
@@ -216,4 +211,31 @@ fn nested(alloc: Global, depth: usize) -> Result<String, AllocError> {
         text.push_str("]")?;
     }
     Ok(text)
+}
+
+/// A session with an unknown member, which is so many arrays.
+fn nesting_session(alloc: Global, depth: usize) -> Result<String, Fail> {
+    let inner = nested(alloc, depth)?;
+    let change = format!(in alloc; "{{ => {{\"more\":{inner},")?;
+    changed(alloc, SESSION, change.as_str())
+}
+
+fn check_arrays(rt: &impl Abort, alloc: Global, depth: usize, want: &str) -> Result<(), Fail> {
+    let text = nested(alloc, depth)?;
+    Document::Session.check(rt, alloc, text.as_bytes(), want)
+}
+
+fn check_member(rt: &impl Abort, alloc: Global, depth: usize, want: &str) -> Result<(), Fail> {
+    let text = nesting_session(alloc, depth)?;
+    Document::Session.check(rt, alloc, text.as_bytes(), want)
+}
+
+#[test]
+fn nesting(rt: HostRuntime) -> Result<(), Fail> {
+    check_arrays(&rt, rt.alloc(), 126, "H2 top")?;
+    check_arrays(&rt, rt.alloc(), 127, "H2 top")?;
+    check_arrays(&rt, rt.alloc(), 128, "H1")?;
+    check_member(&rt, rt.alloc(), 125, "H2 top")?;
+    check_member(&rt, rt.alloc(), 126, "H2 top")?;
+    check_member(&rt, rt.alloc(), 127, "H1")
 }

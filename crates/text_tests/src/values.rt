@@ -1,11 +1,14 @@
 //! What texts are read as.
+ghost use Rattle.std.specs.Prelude.{IsTrue};
+ghost use Rattle.bench_types.specs.Header.{is_header};
 
+use crate::answers::check_task;
 use crate::benches::BENCH;
-use crate::outcomes::{Base, session_of, with_steps};
+use crate::outcomes::{Base, header_with, session_of};
 use crate::sessions::SESSION;
 use crate::{holds, mutexes, notes, sets};
-use bench_types::{Call, Config, Edit, Step};
-use session_text::{read_bench, read_edit};
+use bench_types::{Call, Config, Edit, Header, Step};
+use session_text::{Bench, read_bench, read_edit};
 use std::alloc::Global;
 use std::process::Abort;
 use std::test::Fail;
@@ -34,6 +37,7 @@ const CONFIG: Config = Config {
     mutexes: 0,
 };
 
+// Each task's name, priority and mask.
 const TASKS: &[(&str, u32, u32)] = &[("A", 2, 3), ("B", 1, 3)];
 
 // The steps of the session that the tables change.
@@ -105,20 +109,39 @@ const EDITS: &[&Edited] = &[
 ];
 
 /// The text is a session of these steps.
-fn check_steps(rt: &impl Abort, alloc: Global, text: &str, steps: &[Step]) -> Result<(), Fail> {
+pub fn check_steps(rt: &impl Abort, alloc: Global, text: &str, steps: &[Step]) -> Result<(), Fail> {
     let (_, read) = session_of(alloc, text)?;
     assert_eq!(rt; read.as_slice(), steps, "{text}");
     Ok(())
 }
 
+fn check_given(
+    rt: &impl Abort,
+    alloc: Global,
+    base: Base,
+    given: &str,
+    step: Step,
+) -> Result<(), Fail> {
+    let text = base.text(alloc, given)?;
+    check_steps(rt, alloc, text.as_str(), &[step])
+}
+
+fn check_order(
+    rt: &impl Abort,
+    alloc: Global,
+    base: Base,
+    line: &str,
+    step: Step,
+) -> Result<(), Fail> {
+    let (one, other) = line.split_once(" | ").ok_or("a row has two orders")?;
+    check_given(rt, alloc, base, one, step)?;
+    check_given(rt, alloc, base, other, step)
+}
+
 fn check_orders(rt: &impl Abort, alloc: Global, orders: &Orders) -> Result<(), Fail> {
     assert_eq!(rt; orders.rows.trim().lines().count(), orders.steps.len());
     for (line, step) in orders.rows.trim().lines().zip(orders.steps) {
-        let (one, other) = line.split_once(" | ").ok_or("a row has two orders")?;
-        for given in [one, other] {
-            let text = orders.base.text(alloc, given)?;
-            check_steps(rt, alloc, text.as_str(), &[*step])?;
-        }
+        check_order(rt, alloc, orders.base, line, *step)?;
     }
     Ok(())
 }
@@ -136,43 +159,60 @@ fn steps(rt: HostRuntime) -> Result<(), Fail> {
     check_steps(&rt, rt.alloc(), SESSION, SESSION_STEPS)
 }
 
+/// Read under this header, the text is this edit.
+fn check_edit(rt: &impl Abort, alloc: Global, edited: &Edited, header: &Header)
+    requires { IsTrue (is_header header.now) }
+{
+    let read = read_edit(alloc, edited.text.as_bytes(), header).ok();
+    assert_eq!(rt; read, Some(edited.edit), "{}", edited.text);
+}
+
+fn check_edited(rt: &impl Abort, alloc: Global, edited: &Edited) -> Result<(), Fail> {
+    let header = header_with(alloc, edited.mutexes)?;
+    check_edit(rt, alloc, edited, &header);
+    Ok(())
+}
+
 #[test]
 fn edits(rt: HostRuntime) -> Result<(), Fail> {
-    let alloc = rt.alloc();
     for edited in EDITS {
-        let session = with_steps(alloc, edited.mutexes, "")?;
-        let (header, _) = session_of(alloc, session.as_str())?;
-        let read = read_edit(alloc, edited.text.as_bytes(), &header);
-        assert_eq!(rt; read.ok(), Some(edited.edit), "{}", edited.text);
+        check_edited(&rt, rt.alloc(), edited)?;
     }
     Ok(())
+}
+
+fn check_header(rt: &impl Abort, header: &Header) {
+    assert_eq!(rt; header.config, CONFIG);
+    assert_eq!(rt; header.tasks.as_slice().len(), TASKS.len());
+    for (task, (name, priority, mask)) in header.tasks.as_slice().iter().zip(TASKS) {
+        check_task(rt, task, name, *priority, *mask);
+    }
 }
 
 #[test]
 fn header(rt: HostRuntime) -> Result<(), Fail> {
     let (header, _) = session_of(rt.alloc(), SESSION)?;
-    assert_eq!(rt; header.config, CONFIG);
-    let tasks = header.tasks.as_slice();
-    assert_eq!(rt; tasks.len(), TASKS.len());
-    for (task, wanted) in tasks.iter().zip(TASKS) {
-        assert_eq!(rt; (task.name.as_str(), task.priority, task.mask), *wanted);
+    check_header(&rt, &header);
+    Ok(())
+}
+
+/// The document is of the session that the tables change, with these edits.
+fn check_bench(rt: &impl Abort, bench: &Bench, edits: &[Edit]) {
+    assert_eq!(rt; bench.edits.as_slice(), edits);
+    assert_eq!(rt; bench.steps.as_slice(), SESSION_STEPS);
+    check_header(rt, &bench.header);
+}
+
+fn check_document(rt: &impl Abort, alloc: Global, text: &str, edits: &[Edit]) -> Result<(), Fail> {
+    match read_bench(alloc, text.as_bytes()) {
+        Ok(bench) => check_bench(rt, &bench, edits),
+        Err(_) => return Err(Fail::from("the text is a bench document")),
     }
     Ok(())
 }
 
-// Documents of that session, and their edits.
-const BENCHES: &[(&str, &[Edit])] = &[(BENCH, BENCH_EDITS), (SESSION, &[])];
-
 #[test]
 fn benches(rt: HostRuntime) -> Result<(), Fail> {
-    for (text, edits) in BENCHES {
-        let Ok(bench) = read_bench(rt.alloc(), text.as_bytes()) else {
-            return Err(Fail::from("the text is a bench document"));
-        };
-        assert_eq!(rt; bench.edits.as_slice(), *edits);
-        assert_eq!(rt; bench.steps.as_slice(), SESSION_STEPS);
-        assert_eq!(rt; bench.header.config, CONFIG);
-        assert_eq!(rt; bench.header.tasks.as_slice().len(), 2);
-    }
-    Ok(())
+    check_document(&rt, rt.alloc(), BENCH, BENCH_EDITS)?;
+    check_document(&rt, rt.alloc(), SESSION, &[])
 }

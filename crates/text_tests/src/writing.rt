@@ -1,6 +1,9 @@
 //! Sessions that are written, and read back.
+ghost use Rattle.session_text.specs.Session.{IsChecked};
+
 use crate::outcomes::{session_of, with_steps};
-use bench_types::Header;
+use crate::values::check_steps;
+use bench_types::{Header, Step};
 use session_write::write_session;
 use std::alloc::{AllocError, Global};
 use std::process::Abort;
@@ -83,14 +86,25 @@ fn written_of(alloc: Global, steps: &str) -> Result<String, AllocError> {
     )
 }
 
-/// The text is written in this way, and what is written has the same steps.
+/// The session is written in this way, and what is written has the same steps.
+fn check_session(
+    rt: &impl Abort,
+    alloc: Global,
+    header: &Header,
+    steps: &[Step],
+    want: &str,
+) -> Result<(), Fail>
+    requires { IsChecked header.now steps.now }
+{
+    let written = write_session(alloc, header, steps)?;
+    assert_eq!(rt; written.as_slice(), want.as_bytes(), "{want}");
+    check_steps(rt, alloc, want, steps)
+}
+
+/// The session that the text is, is written in this way.
 fn check_written(rt: &impl Abort, alloc: Global, text: &str, want: &str) -> Result<(), Fail> {
     let (header, steps) = session_of(alloc, text)?;
-    let written = write_session(alloc, &header, &steps)?;
-    assert_eq!(rt; written.as_slice(), want.as_bytes(), "{text}");
-    let (_, again) = session_of(alloc, want)?;
-    assert_eq!(rt; again.as_slice(), steps.as_slice(), "{text}");
-    Ok(())
+    check_session(rt, alloc, &header, &steps, want)
 }
 
 #[test]
@@ -101,37 +115,55 @@ fn known_texts(rt: HostRuntime) -> Result<(), Fail> {
     Ok(())
 }
 
+fn check_step(rt: &impl Abort, alloc: Global, step: &str, want: &str) -> Result<(), Fail> {
+    let text = with_steps(alloc, 2, step)?;
+    check_written(rt, alloc, text.as_str(), want)
+}
+
+/// As it may stand in a text, and as it is written, the step is written in this way.
+fn check_kind(rt: &impl Abort, alloc: Global, step: &str, written: &str) -> Result<(), Fail> {
+    let want = written_of(alloc, written)?;
+    check_step(rt, alloc, step, want.as_str())?;
+    check_step(rt, alloc, written, want.as_str())
+}
+
 #[test]
 fn steps_of_every_kind(rt: HostRuntime) -> Result<(), Fail> {
-    let alloc = rt.alloc();
     for line in STEPS.trim().lines() {
         let (step, written) = line.split_once(" | ").ok_or("a row has two parts")?;
-        let want = written_of(alloc, written)?;
-        for step in [step, written] {
-            let text = with_steps(alloc, 2, step)?;
-            check_written(&rt, alloc, text.as_str(), want.as_str())?;
-        }
+        check_kind(&rt, rt.alloc(), step, written)?;
     }
     Ok(())
 }
 
-#[test]
-fn steps_in_their_order(rt: HostRuntime) -> Result<(), Fail> {
-    let alloc = rt.alloc();
-    let mut steps = String::new(alloc);
-    let mut written = String::new(alloc);
-    for line in STEPS.trim().lines() {
-        let (one, other) = line.split_once(" | ").ok_or("a row has two parts")?;
-        let comma = if steps.is_empty() { "" } else { "," };
-        write!(steps, "{comma}{one}")?;
-        write!(written, "{comma}{other}")?;
-    }
-    let text = with_steps(alloc, 2, steps.as_str())?;
-    let want = written_of(alloc, written.as_str())?;
-    check_written(&rt, alloc, text.as_str(), want.as_str())
+fn push_item(list: &mut String, item: &str) -> Result<(), AllocError> {
+    let comma = if list.is_empty() { "" } else { "," };
+    write!(list, "{comma}{item}")
 }
 
-/// The names of the tasks, one behind another.
+/// All the steps, as they may stand in a text or as they are written.
+fn all_steps(alloc: Global, are_written: bool) -> Result<String, Fail> {
+    let mut steps = String::new(alloc);
+    for line in STEPS.trim().lines() {
+        let (step, written) = line.split_once(" | ").ok_or("a row has two parts")?;
+        push_item(&mut steps, if are_written { written } else { step })?;
+    }
+    Ok(steps)
+}
+
+fn check_all(rt: &impl Abort, alloc: Global, want: &str) -> Result<(), Fail> {
+    let steps = all_steps(alloc, false)?;
+    check_step(rt, alloc, steps.as_str(), want)
+}
+
+#[test]
+fn steps_in_their_order(rt: HostRuntime) -> Result<(), Fail> {
+    let written = all_steps(rt.alloc(), true)?;
+    let want = written_of(rt.alloc(), written.as_str())?;
+    check_all(&rt, rt.alloc(), want.as_str())
+}
+
+/// The names of the tasks, one after another.
 fn names(alloc: Global, header: &Header) -> Result<String, AllocError> {
     let mut names = String::new(alloc);
     for task in header.tasks.as_slice() {
@@ -140,13 +172,18 @@ fn names(alloc: Global, header: &Header) -> Result<String, AllocError> {
     Ok(names)
 }
 
+/// The seven tasks' names have every byte that a name may have.
+fn check_names(rt: &impl Abort, alloc: Global, header: &Header) -> Result<(), Fail> {
+    assert_eq!(rt; header.tasks.as_slice().len(), 7);
+    let names = names(alloc, header)?;
+    assert!(rt; names.bytes().eq(b'!'..=b'~'), "{names}");
+    Ok(())
+}
+
 #[test]
 fn names_of_every_byte(rt: HostRuntime) -> Result<(), Fail> {
     let (text, want) = ALL_BYTES;
     check_written(&rt, rt.alloc(), text, want)?;
     let (header, _) = session_of(rt.alloc(), want)?;
-    assert_eq!(rt; header.tasks.as_slice().len(), 7);
-    let names = names(rt.alloc(), &header)?;
-    assert!(rt; names.bytes().eq(b'!'..=b'~'), "{names}");
-    Ok(())
+    check_names(&rt, rt.alloc(), &header)
 }

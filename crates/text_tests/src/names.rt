@@ -1,5 +1,6 @@
 //! Names of tasks, and lists.
 
+use crate::answers::check_text;
 use bench_types::{Fault, Items, Name};
 use std::process::Abort;
 use std::test::Fail;
@@ -32,16 +33,24 @@ const PAIRS: &[(&str, &str, bool)] = &[
     ("ABC", "ABD", false),
 ];
 
-// The text is a name, and the name spells it; or it is none.
+// The name spells the text, and so does its copy.
+fn check_spelling(rt: &impl Abort, name: &Name, text: &str) {
+    check_text(rt, name.as_str(), text);
+    let copy = name.copy();
+    check_text(rt, copy.as_str(), text);
+}
+
+// The text is a name, or it is none.
 fn check_name(rt: &impl Abort, text: &str, is_name: bool) {
     match Name::new(text) {
         Ok(name) => {
             assert!(rt; is_name, "at {text:?}");
-            assert_eq!(rt; name.as_str(), text);
-            let copy = name.copy();
-            assert_eq!(rt; copy.as_str(), text);
+            check_spelling(rt, &name, text);
         }
-        Err(fault) => assert_eq!(rt; (is_name, fault), (false, Fault::BadHeader), "at {text:?}"),
+        Err(fault) => {
+            assert!(rt; !is_name, "at {text:?}");
+            assert_eq!(rt; fault, Fault::BadHeader);
+        }
     }
 }
 
@@ -52,19 +61,29 @@ fn names(rt: HostRuntime) {
     }
 }
 
+fn check_pair(rt: &impl Abort, left: &str, right: &str, is_same: bool) -> Result<(), Fail> {
+    let left = Name::new(left)?;
+    let right = Name::new(right)?;
+    assert_eq!(rt; left == right, is_same);
+    Ok(())
+}
+
 #[test]
 fn same_names(rt: HostRuntime) -> Result<(), Fail> {
     for (left, right, is_same) in PAIRS {
-        let same = Name::new(left)? == Name::new(right)?;
-        assert_eq!(rt; same, *is_same, "at {left:?} and {right:?}");
+        check_pair(&rt, left, right, *is_same)?;
     }
     Ok(())
+}
+
+fn check_items(rt: &impl Abort, items: &[u32]) {
+    assert_eq!(rt; items, [1, 2, 3].as_slice());
 }
 
 #[test]
 fn lists_keep_their_items(rt: HostRuntime) -> Result<(), Fail> {
     let items = Items::new(vec![in rt.alloc(); 1u32, 2, 3]?);
-    assert_eq!(rt; items.as_slice(), [1, 2, 3].as_slice());
-    assert_eq!(rt; items.into_vec().as_slice(), [1, 2, 3].as_slice());
+    check_items(&rt, items.as_slice());
+    check_items(&rt, items.into_vec().as_slice());
     Ok(())
 }

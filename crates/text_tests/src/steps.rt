@@ -1,14 +1,18 @@
 //! Steps and calls: which fault each has under a header.
 
+use crate::answers::{Answer, check_answer};
 use Fault::{BadArgument, BadCore, BadMutex, BadTask};
 use bench_samples::{PLAIN, crowd};
-use bench_types::{Action, Call, Config, Fault, Note, Step};
+use bench_types::{Action, Call, Config, Fault, Header, Note, Step};
+use std::alloc::Global;
+use std::process::Abort;
 use std::test::Fail;
 
 const LAST: u32 = 4_294_967_295;
 
-/// The number of tasks that the header has, the core, the caller, its call, and the answer for that step.
-type CallRow = (usize, u32, u32, Call, Result<(), Fault>);
+/// The number of tasks that the header has, the core, the caller, its call, and the answer for
+/// that step.
+type CallRow = (usize, u32, u32, Call, Answer);
 
 // The cores and the callers of calls, then their arguments.
 const CALLS: &[CallRow] = &[
@@ -235,7 +239,7 @@ const CALLS: &[CallRow] = &[
 ];
 
 // Steps by no task, under a header of three.
-const STEPS: &[(Step, Result<(), Fault>)] = &[
+const STEPS: &[(Step, Answer)] = &[
     (Step::Tick, Ok(())),
     (Step::Switch { core: 0 }, Ok(())),
     (Step::Switch { core: 1 }, Ok(())),
@@ -302,20 +306,30 @@ const STEPS: &[(Step, Result<(), Fault>)] = &[
     ),
 ];
 
+const TWO_MUTEXES: Config = Config {
+    mutexes: 2,
+    ..PLAIN
+};
+
+fn check_step(rt: &impl Abort, header: &Header, step: Step, want: Answer) {
+    check_answer(rt, &step, step.check(header), want);
+}
+
+// The call by the first task on core 0 answers by itself as its step does.
+fn check_call(rt: &impl Abort, alloc: Global, row: &CallRow) -> Result<(), Fail> {
+    let (tasks, core, task, call, want) = *row;
+    let header = crowd(alloc, TWO_MUTEXES, tasks)?;
+    check_step(rt, &header, Step::Call { core, task, call }, want);
+    if core == 0 && task == 2 {
+        check_answer(rt, &call, call.check(&header), want);
+    }
+    Ok(())
+}
+
 #[test]
 fn calls(rt: HostRuntime) -> Result<(), Fail> {
-    let config = Config {
-        mutexes: 2,
-        ..PLAIN
-    };
     for row in CALLS {
-        let (tasks, core, task, call, answer) = *row;
-        let header = crowd(rt.alloc(), config, tasks)?;
-        let step = Step::Call { core, task, call };
-        assert_eq!(rt; step.check(&header), answer, "at {step:?}");
-        if (core, task) == (0, 2) {
-            assert_eq!(rt; call.check(&header), answer, "at {call:?}");
-        }
+        check_call(&rt, rt.alloc(), row)?;
     }
     Ok(())
 }
@@ -323,8 +337,8 @@ fn calls(rt: HostRuntime) -> Result<(), Fail> {
 #[test]
 fn steps_by_no_task(rt: HostRuntime) -> Result<(), Fail> {
     let header = crowd(rt.alloc(), PLAIN, 3)?;
-    for (step, answer) in STEPS {
-        assert_eq!(rt; step.check(&header), *answer, "at {step:?}");
+    for (step, want) in STEPS {
+        check_step(&rt, &header, *step, *want);
     }
     Ok(())
 }

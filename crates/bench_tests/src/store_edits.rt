@@ -48,11 +48,15 @@ struct Case<'a> {
 fn check_case(rt: &(impl Runtime + AllocGlobal + Abort), case: &Case<'_>) -> Result<(), Fail> {
     let mut opened = Opened::new(rt, case.slicing, case.steps)?;
     assert_eq!(rt; opened.meter.count(), case.steps.len() as u64);
-    for (edit, replayed) in case.edits {
-        make_edit(rt, rt.alloc(), &mut opened, *edit, *replayed);
-    }
+    make_edits(rt, rt.alloc(), &mut opened, case.edits);
     assert_replay(rt, &opened.store, case.replies, case.last);
     Ok(())
+}
+
+fn make_edits(rt: &impl Abort, alloc: Global, opened: &mut Opened, edits: &[(Edit, u32)]) {
+    for (edit, replayed) in edits {
+        make_edit(rt, alloc, opened, *edit, *replayed);
+    }
 }
 
 fn make_edit(rt: &impl Abort, alloc: Global, opened: &mut Opened, edit: Edit, replayed: u32) {
@@ -155,20 +159,24 @@ fn replays_edited_sessions(rt: HostRuntime) -> Result<(), Fail> {
 #[test]
 fn takes_edits_in_their_order(rt: HostRuntime) -> Result<(), Fail> {
     let mut opened = Opened::new(&rt, false, &[Step::Tick, SWITCH_1, A_DELAYS])?;
+    check_order(&rt, rt.alloc(), &mut opened)
+}
+
+fn check_order(rt: &impl Abort, alloc: Global, opened: &mut Opened) -> Result<(), Fail> {
     let edits = [
         insert(0, A_DELAYS),
         Edit::Remove { at: 4 },
         insert(1, SWITCH_0),
     ];
     let answers = [Ok(whole(4)), Err(EditFault::NoPlace), Ok(whole(5))];
-    check_answers(&rt, rt.alloc(), &mut opened, &edits, &answers)?;
+    check_answers(rt, alloc, opened, &edits, &answers)?;
     assert_eq!(rt; opened.meter.count(), 12);
-    assert_row(&rt, &opened.store, 5, [4, 3]);
+    assert_row(rt, &opened.store, 5, [4, 3]);
     let made = [A_DELAYS, SWITCH_0, Step::Tick, SWITCH_1, A_DELAYS];
-    assert_steps(&rt, &opened.store, &made);
-    make_edit(&rt, rt.alloc(), &mut opened, Edit::Remove { at: 1 }, 4);
+    assert_steps(rt, &opened.store, &made);
+    make_edit(rt, alloc, opened, Edit::Remove { at: 1 }, 4);
     let left = [A_DELAYS, Step::Tick, SWITCH_1, A_DELAYS];
-    assert_steps(&rt, &opened.store, &left);
+    assert_steps(rt, &opened.store, &left);
     Ok(())
 }
 
@@ -187,6 +195,11 @@ fn check_answers(
 #[test]
 fn refuses_edits_and_stays(rt: HostRuntime) -> Result<(), Fail> {
     let mut opened = Opened::new(&rt, false, &[Step::Tick, SWITCH_1])?;
+    check_refusals(&rt, rt.alloc(), &mut opened);
+    Ok(())
+}
+
+fn check_refusals(rt: &impl Abort, alloc: Global, opened: &mut Opened) {
     let bad = Step::Switch { core: 2 };
     let (bad_core, no_place) = (EditFault::Bench(Fault::BadCore), EditFault::NoPlace);
     for (edit, why) in &[
@@ -198,10 +211,9 @@ fn refuses_edits_and_stays(rt: HostRuntime) -> Result<(), Fail> {
         (change(1, 5), EditFault::Bench(Fault::BadTask)),
         (change(2, 5), EditFault::Bench(Fault::BadHeader)),
     ] {
-        refuse_edit(&rt, rt.alloc(), &mut opened, *edit, *why);
-        assert_replay(&rt, &opened.store, &[Done, NOT_DUE], [2, 3]);
+        refuse_edit(rt, alloc, opened, *edit, *why);
+        assert_replay(rt, &opened.store, &[Done, NOT_DUE], [2, 3]);
     }
-    Ok(())
 }
 
 /// The edit is refused for this, and no step is counted.
@@ -229,25 +241,23 @@ fn an_empty_session_has_no_step_to_remove(rt: HostRuntime) -> Result<(), Fail> {
 fn keeps_the_most_steps_and_no_more(rt: HostRuntime) -> Result<(), Fail> {
     let header = three_tasks(rt.alloc(), 2, false)?;
     let mut opened = Opened::of(&rt, header, ticks(rt.alloc(), MOST_STEPS)?, 64)?;
+    check_fullness(&rt, rt.alloc(), &mut opened);
+    Ok(())
+}
+
+fn check_fullness(rt: &impl Abort, alloc: Global, opened: &mut Opened) {
     for (at, why) in &[
         (0, EditFault::TooLong),
         (MOST_STEPS, EditFault::TooLong),
         (MOST_STEPS + 1, EditFault::NoPlace),
         (1_000_000, EditFault::NoPlace),
     ] {
-        refuse_edit(&rt, rt.alloc(), &mut opened, insert(*at, Step::Tick), *why);
+        refuse_edit(rt, alloc, opened, insert(*at, Step::Tick), *why);
     }
     let last = MOST_STEPS - 1;
-    make_edit(
-        &rt,
-        rt.alloc(),
-        &mut opened,
-        replace(last, SWITCH_0),
-        MOST_STEPS,
-    );
+    make_edit(rt, alloc, opened, replace(last, SWITCH_0), MOST_STEPS);
     assert_eq!(rt; opened.store.len(), MOST_STEPS);
     assert_eq!(rt; opened.store.reply(last), Some(NOT_DUE));
-    Ok(())
 }
 
 /// With `rt try --test --fail-alloc N` the Nth allocation fails, for some N one of the two calls.

@@ -7,6 +7,7 @@ use session_store::{MOST_SPAN, OpenFault, OpenRefusal, Store};
 use smp_kernel::Meter;
 use std::alloc::Global;
 use std::process::Abort;
+use std::rt::Runtime;
 use std::test::Fail;
 
 const STEPS: [Step; 5] = [
@@ -45,13 +46,17 @@ fn check_shown(rt: &impl Abort, store: &Store) {
 #[test]
 fn gives_the_kernel_at_a_place(rt: HostRuntime) -> Result<(), Fail> {
     let mut opened = Opened::new(&rt, false, &[A_DELAYS, SWITCH_0, Step::Tick])?;
+    check_places(&rt, rt.alloc(), &mut opened)
+}
+
+fn check_places(rt: &impl Abort, alloc: Global, opened: &mut Opened) -> Result<(), Fail> {
     for (place, tick, count) in &[
         (0, Some(0), 3),
         (2, Some(0), 5),
         (3, Some(1), 8),
         (4, None, 8),
     ] {
-        let shown = tick_at(rt.alloc(), &mut opened, *place)?;
+        let shown = tick_at(alloc, opened, *place)?;
         assert_eq!(rt; shown, *tick, "place {place}");
         assert_eq!(rt; opened.meter.count(), *count, "place {place}");
     }
@@ -65,11 +70,14 @@ fn tick_at(alloc: Global, opened: &mut Opened, place: u32) -> Result<Option<u32>
 
 #[test]
 fn opens_with_each_span(rt: HostRuntime) -> Result<(), Fail> {
-    for span in &[1, MOST_SPAN] {
-        let header = three_tasks(rt.alloc(), 2, false)?;
-        let opened = Opened::of(&rt, header, Vec::new(rt.alloc()), *span)?;
-        assert_replay(&rt, &opened.store, &[], [2, 3]);
-    }
+    check_span(&rt, 1)?;
+    check_span(&rt, MOST_SPAN)
+}
+
+fn check_span(rt: &(impl Runtime + AllocGlobal + Abort), span: u32) -> Result<(), Fail> {
+    let header = three_tasks(rt.alloc(), 2, false)?;
+    let opened = Opened::of(rt, header, Vec::new(rt.alloc()), span)?;
+    assert_replay(rt, &opened.store, &[], [2, 3]);
     Ok(())
 }
 

@@ -1,70 +1,72 @@
 //! Command lines: what is asked for by each, and how the program ends with it.
-use Wanted::{Help, Mistake, Replay};
-use bench_commands::{Counted, Mode, Request, carry_out, request_of};
+use crate::devices::Sink;
+use bench_commands::{Counted, Ending, Mode, Request, carry_out, request_of};
+use std::alloc::{AllocError, Global};
+use std::process::Abort;
+use std::rt::Runtime;
 use std::test::Fail;
 
-/// What a command line asks for, and of help how it begins.
+/// Command lines, and what each asks for: a replay with this span, help that begins so, or nothing
+/// that the program does.
+const COMMAND_LINES: &str = "\
+smp_bench replay => 64
+smp_bench replay -- => 64
+smp_bench replay --span 1 => 1
+smp_bench replay --span 5 => 5
+smp_bench replay --span 64 => 64
+smp_bench replay --span 1000 => 1000
+smp_bench replay --span 007 => 7
+smp_bench replay --span +5 => 5
+smp_bench replay --span 5 -- => 5
+smp_bench replay --span=5 => 5
+smp_bench replay --span=+0005 -- => 5
+smp_bench --help => Replays FreeRTOS
+smp_bench -hx => Replays FreeRTOS
+smp_bench replay -h again => Replays the session
+smp_bench replay --span 5 --help => Replays the session
+smp_bench replay --span=5 -hx => Replays the session
+smp_bench replay --help --span 0 => Replays the session
+smp_bench => a mistake
+smp_bench help => a mistake
+smp_bench -- replay => a mistake
+smp_bench replay again => a mistake
+smp_bench replay -- again => a mistake
+smp_bench --help=1 => a mistake
+smp_bench replay --span => a mistake
+smp_bench replay --span= => a mistake
+smp_bench replay --span 0 => a mistake
+smp_bench replay --span 1001 => a mistake
+smp_bench replay --span 4294967297 => a mistake
+smp_bench replay --span -1 => a mistake
+smp_bench replay --span=-1 => a mistake
+smp_bench replay --span x => a mistake
+smp_bench replay --span - => a mistake
+smp_bench replay --span -- => a mistake
+smp_bench replay --span -- 5 => a mistake
+smp_bench replay --span -h => a mistake
+smp_bench replay --span 0 --help => a mistake
+smp_bench replay --span=0 --help => a mistake
+smp_bench replay --span 5 6 => a mistake
+smp_bench replay --span 5 -- 6 => a mistake
+smp_bench replay --span 5 --span 5 => a mistake
+smp_bench replay --span 5 --span=5 => a mistake
+smp_bench replay --span=5 --span => a mistake
+smp_bench replay --span 5 --span --help => a mistake
+smp_bench replay --spam 5 => a mistake
+smp_bench replay --spa 5 => a mistake
+smp_bench replay --span=5=6 => a mistake
+smp_bench replay  --span 5 => a mistake
+smp_bench --span 5 replay => a mistake
+";
+
+/// What a command line asks for, how the program ends, and how what it writes begins.
 #[derive(Clone, Copy)]
-enum Wanted {
-    Replay(u32),
-    Help(&'static str),
-    Mistake,
+struct Wanted<'a> {
+    span: Option<u32>,
+    code: u8,
+    output: &'a str,
+    message: &'a str,
 }
-
-const ALL: &str = "Replays FreeRTOS";
-
-const OF_REPLAY: &str = "Replays the session";
-
-const COMMAND_LINES: [(&str, Wanted); 48] = [
-    ("smp_bench replay", Replay(64)),
-    ("smp_bench replay --", Replay(64)),
-    ("smp_bench replay --span 1", Replay(1)),
-    ("smp_bench replay --span 5", Replay(5)),
-    ("smp_bench replay --span 64", Replay(64)),
-    ("smp_bench replay --span 1000", Replay(1000)),
-    ("smp_bench replay --span 007", Replay(7)),
-    ("smp_bench replay --span +5", Replay(5)),
-    ("smp_bench replay --span 5 --", Replay(5)),
-    ("smp_bench replay --span=5", Replay(5)),
-    ("smp_bench replay --span=+0005 --", Replay(5)),
-    ("smp_bench --help", Help(ALL)),
-    ("smp_bench -hx", Help(ALL)),
-    ("smp_bench replay -h again", Help(OF_REPLAY)),
-    ("smp_bench replay --span 5 --help", Help(OF_REPLAY)),
-    ("smp_bench replay --span=5 -hx", Help(OF_REPLAY)),
-    ("smp_bench replay --help --span 0", Help(OF_REPLAY)),
-    ("smp_bench", Mistake),
-    ("smp_bench help", Mistake),
-    ("smp_bench -- replay", Mistake),
-    ("smp_bench replay again", Mistake),
-    ("smp_bench replay -- again", Mistake),
-    ("smp_bench --help=1", Mistake),
-    ("smp_bench replay --span", Mistake),
-    ("smp_bench replay --span=", Mistake),
-    ("smp_bench replay --span 0", Mistake),
-    ("smp_bench replay --span 1001", Mistake),
-    ("smp_bench replay --span 4294967297", Mistake),
-    ("smp_bench replay --span -1", Mistake),
-    ("smp_bench replay --span=-1", Mistake),
-    ("smp_bench replay --span x", Mistake),
-    ("smp_bench replay --span -", Mistake),
-    ("smp_bench replay --span --", Mistake),
-    ("smp_bench replay --span -- 5", Mistake),
-    ("smp_bench replay --span -h", Mistake),
-    ("smp_bench replay --span 0 --help", Mistake),
-    ("smp_bench replay --span=0 --help", Mistake),
-    ("smp_bench replay --span 5 6", Mistake),
-    ("smp_bench replay --span 5 -- 6", Mistake),
-    ("smp_bench replay --span 5 --span 5", Mistake),
-    ("smp_bench replay --span 5 --span=5", Mistake),
-    ("smp_bench replay --span=5 --span", Mistake),
-    ("smp_bench replay --span 5 --span --help", Mistake),
-    ("smp_bench replay --spam 5", Mistake),
-    ("smp_bench replay --spa 5", Mistake),
-    ("smp_bench replay --span=5=6", Mistake),
-    ("smp_bench replay  --span 5", Mistake),
-    ("smp_bench --span 5 replay", Mistake),
-];
 
 /// The span of a run, if one is asked for.
 fn span_of(request: &Request) -> Option<u32> {
@@ -74,29 +76,67 @@ fn span_of(request: &Request) -> Option<u32> {
     }
 }
 
+fn span_asked(alloc: Global, words: &[&str]) -> Result<Option<u32>, AllocError> {
+    Ok(span_of(&request_of(alloc, Some(words))?))
+}
+
+/// Whether a text begins so, and is empty where nothing is wanted.
+fn begins(text: &[u8], start: &str) -> bool {
+    text.starts_with(start.as_bytes()) && text.is_empty() == start.is_empty()
+}
+
+fn ends(ending: &Ending, output: &[u8], wanted: &Wanted<'_>) -> bool {
+    ending.code() == wanted.code
+        && begins(ending.message().as_bytes(), wanted.message)
+        && begins(output, wanted.output)
+}
+
 /// The input is empty, so that a replay is refused.
+fn check_words(rt: &(impl Runtime + AllocGlobal + Abort), words: &[&str], wanted: &Wanted<'_>) {
+    assert_eq!(rt; span_asked(rt.alloc(), words), Ok(wanted.span), "{words:?}");
+    let mut sink = Sink::wide();
+    let mut reader = Counted::new("".as_bytes());
+    let mut writer = Counted::new(&mut sink);
+    let ending = carry_out(rt, rt.alloc(), Some(words), &mut reader, &mut writer);
+    assert!(rt;
+        ends(&ending, sink.taken(), wanted),
+        "{words:?}: {ending:?}"
+    );
+}
+
+fn check_line(
+    rt: &(impl Runtime + AllocGlobal + Abort),
+    line: &str,
+    wanted: &Wanted<'_>,
+) -> Result<(), AllocError> {
+    let words: Vec<&str> = line.split(' ').collect(rt.alloc())?;
+    check_words(rt, words.as_slice(), wanted);
+    Ok(())
+}
+
+fn wanted_of(asked: &str) -> Wanted<'_> {
+    let (span, is_mistake) = (asked.parse().ok(), asked == "a mistake");
+    if span.is_some() {
+        return Wanted {
+            span,
+            code: 1,
+            output: "refused H1\n",
+            message: "",
+        };
+    }
+    Wanted {
+        span,
+        code: if is_mistake { 2 } else { 0 },
+        output: if is_mistake { "" } else { asked },
+        message: if is_mistake { "error: " } else { "" },
+    }
+}
+
 #[test]
 fn command_lines(rt: HostRuntime) -> Result<(), Fail> {
-    for (line, wanted) in COMMAND_LINES {
-        let (span, code, output, message) = match wanted {
-            Replay(span) => (Some(span), 1, "refused H1\n", ""),
-            Help(start) => (None, 0, start, ""),
-            Mistake => (None, 2, "", "error: "),
-        };
-        let words: Vec<&str> = line.split(' ').collect(rt.alloc())?;
-        let words = Some(words.as_slice());
-        let request = request_of(rt.alloc(), words)?;
-        assert_eq!(rt; span_of(&request), span, "{line}");
-
-        let mut reader = Counted::new("".as_bytes());
-        let mut taken = Vec::new(rt.alloc());
-        let mut writer = Counted::new(&mut taken);
-        let ending = carry_out(&rt, rt.alloc(), words, &mut reader, &mut writer);
-        assert_eq!(rt; ending.code(), code, "{line}");
-        assert!(rt; ending.message().starts_with(message), "{line}");
-        assert_eq!(rt; ending.message().is_empty(), message.is_empty(), "{line}");
-        assert!(rt; taken.starts_with(output.as_bytes()), "{line}");
-        assert_eq!(rt; taken.is_empty(), output.is_empty(), "{line}");
+    for row in COMMAND_LINES.lines() {
+        let (line, asked) = row.split_once(" => ").unwrap_or((row, ""));
+        check_line(&rt, line, &wanted_of(asked))?;
     }
     Ok(())
 }

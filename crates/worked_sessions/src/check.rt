@@ -1,8 +1,11 @@
 //! Whether sessions go as expected.
 use crate::block::{Block, Shown};
 use crate::replay::Played;
+use std::alloc::AllocError;
 use std::io::{self, ErrorKind};
 use std::rt::Runtime;
+
+const NO_SESSION: &str = "no session";
 
 /// Checks each session of a file's text, and says how many there are.
 pub(crate) fn check_text(
@@ -19,22 +22,63 @@ pub(crate) fn check_text(
 }
 
 fn check_part(rt: &(impl Runtime + AllocGlobal), part: &str) -> io::Result<()> {
-    let Some(block) = Block::read(part) else {
-        return compare(rt, part, "a session", "none");
-    };
-    let title = block.title;
-    let Some(first) = Played::of(rt, block.session, matches!(block.shown, Shown::States))? else {
-        return compare(rt, title, "a session", block.session);
-    };
-    if !matches!(block.shown, Shown::Pair) {
-        return compare(rt, title, block.rest, first.lines.as_str());
+    match Block::read(part) {
+        Some(block) => check_block(rt, &block),
+        None => compare(rt, part, "a session", "none"),
     }
+}
+
+fn check_block(rt: &(impl Runtime + AllocGlobal), block: &Block<'_>) -> io::Result<()> {
+    match block.shown {
+        Shown::Replies => check_lines(rt, block, false),
+        Shown::States => check_lines(rt, block, true),
+        Shown::Pair => check_pair(rt, block),
+    }
+}
+
+fn check_lines(
+    rt: &(impl Runtime + AllocGlobal),
+    block: &Block<'_>,
+    with_state: bool,
+) -> io::Result<()> {
+    let found = Played::of(rt, block.session, with_state)?;
+    compare(rt, block.title, block.rest, lines_of(&found))
+}
+
+fn lines_of(played: &Option<Played>) -> &str {
+    match played {
+        Some(played) => played.lines.as_str(),
+        None => NO_SESSION,
+    }
+}
+
+fn check_pair(rt: &(impl Runtime + AllocGlobal), block: &Block<'_>) -> io::Result<()> {
     let (session, expected) = block.rest.split_once("\n").unwrap_or(("", ""));
-    let Some(second) = Played::of(rt, session, false)? else {
-        return compare(rt, title, "a session", session);
-    };
-    let found = first.beside(rt.alloc(), &second)?;
-    compare(rt, title, expected, found)
+    let found = told_of(rt, block.session, session)?;
+    compare(rt, block.title, expected, found)
+}
+
+/// Whether two sessions end alike.
+fn told_of(
+    rt: &(impl Runtime + AllocGlobal),
+    one: &str,
+    two: &str,
+) -> Result<&'static str, AllocError> {
+    match Played::of(rt, one, false)? {
+        Some(played) => told_beside(rt, &played, two),
+        None => Ok(NO_SESSION),
+    }
+}
+
+fn told_beside(
+    rt: &(impl Runtime + AllocGlobal),
+    played: &Played,
+    session: &str,
+) -> Result<&'static str, AllocError> {
+    match Played::of(rt, session, false)? {
+        Some(other) => played.beside(rt.alloc(), &other),
+        None => Ok(NO_SESSION),
+    }
 }
 
 /// Where the text is not the expected one, writes the title and both.

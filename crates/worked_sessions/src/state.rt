@@ -1,6 +1,6 @@
 //! All that can be seen of a kernel, as indented lines.
 use crate::lines::push_task;
-use bench_types::{Header, NoteState, TaskLook};
+use bench_types::{CoreLook, Header, NoteState, TaskLook};
 use smp_kernel::Kernel;
 use std::alloc::AllocError;
 
@@ -21,14 +21,24 @@ pub(crate) fn push_state(
 
 fn push_cores(text: &mut String, kernel: &Kernel) -> Result<(), AllocError> {
     for core in 0..kernel.settings().cores {
-        let look = kernel.core_look(core);
-        let flags = match (look.pend, look.asked) {
-            (false, false) => continue,
-            (true, false) => "pend",
-            (false, true) => "asked",
-            (true, true) => "pend asked",
-        };
-        write!(text, "  core {core} {flags}\n")?;
+        push_core(text, core, kernel.core_look(core))?;
+    }
+    Ok(())
+}
+
+fn push_core(text: &mut String, core: u32, look: CoreLook) -> Result<(), AllocError> {
+    if !look.pend && !look.asked {
+        return Ok(());
+    }
+    write!(text, "  core {core}")?;
+    push_if(text, look.pend, " pend")?;
+    push_if(text, look.asked, " asked")?;
+    text.push_str("\n")
+}
+
+fn push_if(text: &mut String, is_shown: bool, word: &str) -> Result<(), AllocError> {
+    if is_shown {
+        text.push_str(word)?;
     }
     Ok(())
 }
@@ -45,29 +55,33 @@ fn push_tasks(text: &mut String, header: &Header, kernel: &Kernel) -> Result<(),
 
 fn push_look(text: &mut String, look: &TaskLook) -> Result<(), AllocError> {
     let (in_use, base, mask) = (look.in_use, look.base, look.mask);
-    let preempt = if look.preempt { "" } else { " preempt_off" };
-    let ready = if look.ready { " ready" } else { " blocked" };
-    let note = match look.state {
-        NoteState::NotWaiting => "",
-        NoteState::Waiting => " waiting",
-        NoteState::Received => " received",
-    };
-    let in_call = if look.in_call { " in_call" } else { "" };
-    write!(
-        text,
-        " in_use {in_use} base {base} mask {mask}{preempt}{ready}"
-    )?;
+    write!(text, " in_use {in_use} base {base} mask {mask}")?;
+    push_if(text, !look.preempt, " preempt_off")?;
+    text.push_str(if look.ready { " ready" } else { " blocked" })?;
     if let Some(left) = look.left {
         write!(text, " left {left}")?;
     }
-    if look.value != 0 {
-        write!(text, " value {}", look.value)?;
+    push_number(text, " value", look.value)?;
+    text.push_str(note_text(look.state))?;
+    push_number(text, " held", look.held)?;
+    push_if(text, look.in_call, " in_call")?;
+    text.push_str("\n")
+}
+
+fn note_text(state: NoteState) -> &'static str {
+    match state {
+        NoteState::NotWaiting => "",
+        NoteState::Waiting => " waiting",
+        NoteState::Received => " received",
     }
-    text.push_str(note)?;
-    if look.held != 0 {
-        write!(text, " held {}", look.held)?;
+}
+
+/// The word and the number, where there is one.
+fn push_number(text: &mut String, word: &str, number: u32) -> Result<(), AllocError> {
+    if number != 0 {
+        write!(text, "{word} {number}")?;
     }
-    write!(text, "{in_call}\n")
+    Ok(())
 }
 
 fn push_holders(text: &mut String, header: &Header, kernel: &Kernel) -> Result<(), AllocError> {

@@ -13,7 +13,7 @@ use Rattle.clap.specs.declared.error.kind.ErrorKind.TheVariants.{DisplayHelp, Ou
 use Rattle.clap.proofs.FaultLemmas.{stopped_fault}
 use Rattle.clap.proofs.WalkLemmas.{both}
 use Rattle.bench_types.specs.Name.{is_within}
-use Rattle.session_store.specs.declared.store.TheConstants.{MOST_SPAN}
+use Rattle.bench_types.specs.Limits.{max_span}
 use Rattle.bench_commands.specs.declared.bench.Mode.TheVariants.{Replay}
 use Rattle.bench_commands.specs.declared.command.Request.{Request}
 use Rattle.bench_commands.specs.Command.{Asked, a_run, help, a_mistake, GivesSpan, asked_behind, asked_by, asked_in, asked_of_replay, asks_help, bench_app, value_found}
@@ -140,16 +140,16 @@ kind_asked help k kinds value says among = go (subst (λ ks. IsAmong k ks) says 
     go (inr none) = absurd none
 kind_asked a_mistake k kinds value says among = mistake_among k kinds says among
 
-given_within : (value : Option Text) (span : ℕ) → GivesSpan value span → is_within 1 MOST_SPAN span ≡ true
-given_within None span gives = ap (λ n. is_within 1 MOST_SPAN n) gives
+given_within : (value : Option Text) (span : ℕ) → GivesSpan value span → is_within 1 max_span span ≡ true
+given_within None span gives = ap (λ n. is_within 1 max_span n) gives
 given_within (Some text) span gives = span_is_within text span gives
 
 -- where clap gives matches, a replay was asked for, by the span that they give
 pub matches_asked : (asked : Asked) (kinds : Kinds) (value : Option Text) (given : ℕ) → Says asked kinds value → kinds ≡ [] → ((span : ℕ) → GivesSpan value span → given ≡ span)
-    → (is_within 1 MOST_SPAN given ≡ true) × (a_run (Replay given) ≡ asked)
+    → (is_within 1 max_span given ≡ true) × (a_run (Replay given) ≡ asked)
 matches_asked (a_run (Replay span)) kinds value given says none gives =
     let is : given ≡ span = gives span says.1 in
-    (ap (λ n. is_within 1 MOST_SPAN n) is ∙ given_within value span says.1, ap (λ n. a_run (Replay n)) is)
+    (ap (λ n. is_within 1 max_span n) is ∙ given_within value span says.1, ap (λ n. a_run (Replay n)) is)
 matches_asked help kinds value given says none gives = absurd (some_kinds (sym none ∙ says))
   where
     some_kinds : [] ≡ DisplayHelp ∷ [] → ⊥
@@ -159,7 +159,7 @@ matches_asked a_mistake kinds value given says none gives = absurd (true≢false
 -- so it is where the commands are those of the program, and the span was read of what clap found
 pub words_run : (words : List Text) (app : App) (found : Option (Text × List Row)) (given : ℕ) → app ≡ bench_app → (is_simple_and_free app ≡ true → fault_of app words ≡ [])
     → (is_simple app ≡ true → found ≡ subcommand_of app words) → ((span : ℕ) → GivesSpan (value_found found) span → given ≡ span)
-    → (is_within 1 MOST_SPAN given ≡ true) × (a_run (Replay given) ≡ asked_behind (drop 1 words))
+    → (is_within 1 max_span given ≡ true) × (a_run (Replay given) ≡ asked_behind (drop 1 words))
 words_run words app found given is kinds finds gives =
     let same : found ≡ subcommand_of bench_app words = finds (ap is_simple is) ∙ ap (λ app. subcommand_of app words) is in
     matches_asked (asked_behind (drop 1 words)) (fault_of bench_app words) (value_found (subcommand_of bench_app words)) given (words_say words)

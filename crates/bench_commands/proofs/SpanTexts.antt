@@ -13,7 +13,7 @@ use Rattle.clap.specs.Faults.{values_fault}
 use Rattle.clap.specs.declared.builder.value_parser.ValueParser.TheVariants.{Signed}
 use Rattle.clap.proofs.WalkLemmas.{both}
 use Rattle.bench_types.specs.Name.{is_within}
-use Rattle.session_store.specs.declared.store.TheConstants.{MOST_SPAN}
+use Rattle.bench_types.specs.Limits.{max_span}
 use Rattle.bench_commands.specs.Command.{has_value, span_of, span_rule, value_in}
 use Rattle.bench_commands.proofs.CommandWords.{are_mistakes, before_whole, text_is}
 
@@ -71,11 +71,11 @@ unfolding span_of
 hyphen_no_span xs = rw (hyphen_no_numeral xs) refl
 
 -- a number in the range of a span is one that clap takes
-in_range : (is : Bool) (n : ℕ) → (is && (nat_lt n (2 ^ 63) && (int_le (pos 1) (pos n) && int_le (pos n) (pos MOST_SPAN)))) ≡ is_some (if is && is_within 1 MOST_SPAN n then Some n else None)
+in_range : (is : Bool) (n : ℕ) → (is && (nat_lt n (2 ^ 63) && (int_le (pos 1) (pos n) && int_le (pos n) (pos max_span)))) ≡ is_some (if is && is_within 1 max_span n then Some n else None)
 in_range false n = refl
-in_range true n = go (nat_le 1 n) (nat_le n MOST_SPAN) refl refl
+in_range true n = go (nat_le 1 n) (nat_le n max_span) refl refl
   where
-    go : (low high : Bool) → nat_le 1 n ≡ low → nat_le n MOST_SPAN ≡ high → (nat_lt n (2 ^ 63) && (nat_le 1 n && nat_le n MOST_SPAN)) ≡ is_some (if is_within 1 MOST_SPAN n then Some n else None)
+    go : (low high : Bool) → nat_le 1 n ≡ low → nat_le n max_span ≡ high → (nat_lt n (2 ^ 63) && (nat_le 1 n && nat_le n max_span)) ≡ is_some (if is_within 1 max_span n then Some n else None)
     go true true l h =
         let small : nat_lt n (2 ^ 63) ≡ true = grind (arith, nat_tests) in
         rw (small, l, h) refl
@@ -87,12 +87,12 @@ not_below zero = refl
 not_below (suc n) = refl
 
 abbrev accepted : Text → Bool
-accepted = accepts false (Signed (pos 1) (pos MOST_SPAN))
+accepted = accepts false (Signed (pos 1) (pos max_span))
 
 hyphen_refused : (xs : Text) → accepted (45 ∷ xs) ≡ false
 hyphen_refused xs =
     let z = neg_ℤ (pos (digits_value 10 xs)) in
-    ap (λ low. is_numeral xs && (fits_i64 z && (low && int_le z (pos MOST_SPAN)))) (not_below (digits_value 10 xs)) ∙ and_false (is_numeral xs) (fits_i64 z && false) (and_false (fits_i64 z) false refl)
+    ap (λ low. is_numeral xs && (fits_i64 z && (low && int_le z (pos max_span)))) (not_below (digits_value 10 xs)) ∙ and_false (is_numeral xs) (fits_i64 z && false) (and_false (fits_i64 z) false refl)
 
 accepts_spans : (text : Text) → accepted text ≡ is_some (span_of text)
 unfolding span_of
@@ -140,12 +140,12 @@ numeral_from ds e =
 -- a text with a span is a numeral in its range
 record Reading (text : Text) (span : ℕ) : Type 0 where
   numeral : is_numeral (without_leading_plus text) ≡ true
-  within : is_within 1 MOST_SPAN (digits_value 10 (without_leading_plus text)) ≡ true
+  within : is_within 1 max_span (digits_value 10 (without_leading_plus text)) ≡ true
   number : digits_value 10 (without_leading_plus text) ≡ span
 
 reading : (text : Text) (span : ℕ) → span_of text ≡ Some span → Reading text span
 unfolding span_of
-reading text span e = go (is_numeral digits) (is_within 1 MOST_SPAN n) refl refl
+reading text span e = go (is_numeral digits) (is_within 1 max_span n) refl refl
   where
     digits : Text
     digits = without_leading_plus text
@@ -153,7 +153,7 @@ reading text span e = go (is_numeral digits) (is_within 1 MOST_SPAN n) refl refl
     n : ℕ
     n = digits_value 10 digits
 
-    go : (is fits : Bool) → is_numeral digits ≡ is → is_within 1 MOST_SPAN n ≡ fits → Reading text span
+    go : (is fits : Bool) → is_numeral digits ≡ is → is_within 1 max_span n ≡ fits → Reading text span
     go false fits i f = absurd (true≢false (sym (ap is_some (rw i at e))))
     go true false i f = absurd (true≢false (sym (ap is_some (rw (i, f) at e))))
     go true true i f = record {
@@ -162,15 +162,15 @@ reading text span e = go (is_numeral digits) (is_within 1 MOST_SPAN n) refl refl
       number = ap (λ found. unwrap_or found 0) (rw (i, f) at e);
     }
 
-pub span_is_within : (text : Text) (span : ℕ) → span_of text ≡ Some span → is_within 1 MOST_SPAN span ≡ true
+pub span_is_within : (text : Text) (span : ℕ) → span_of text ≡ Some span → is_within 1 max_span span ≡ true
 span_is_within text span e =
     let read = reading text span e in
-    ap (λ n. is_within 1 MOST_SPAN n) (sym read.number) ∙ read.within
+    ap (λ n. is_within 1 max_span n) (sym read.number) ∙ read.within
 
 -- so `u32` reads it
 pub span_is_read : (text : Text) (span : ℕ) → span_of text ≡ Some span
     → (IsNumeral 10 (without_leading_plus text) × (digits_value 10 (without_leading_plus text) < 2 ^ 32)) × (digits_value 10 (without_leading_plus text) ≡ span)
 span_is_read text span e =
     let read = reading text span e in
-    let most : digits_value 10 (without_leading_plus text) ≤ MOST_SPAN = leb-true _ _ (both (nat_le 1 (digits_value 10 (without_leading_plus text))) (nat_le (digits_value 10 (without_leading_plus text)) MOST_SPAN) read.within).1 in
+    let most : digits_value 10 (without_leading_plus text) ≤ max_span = leb-true _ _ (both (nat_le 1 (digits_value 10 (without_leading_plus text))) (nat_le (digits_value 10 (without_leading_plus text)) max_span) read.within).1 in
     ((numeral_from (without_leading_plus text) read.numeral, omega arith), read.number)

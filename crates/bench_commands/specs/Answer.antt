@@ -1,10 +1,11 @@
 -- What the program writes for the bytes that it read.
 use Rattle.std.specs.Prelude.{ℕ, List, [], ◌∷◌, ◌++◌, length, flat_map, codes, Bool, true, false, nat_lt, if◌then◌else◌, Result, Ok, Err}
 use Rattle.std.specs.Option.{option_map_or}
-use Rattle.bench_types.specs.declared.edit.TheConstants.{MOST_STEPS}
+use Rattle.bench_types.specs.Codes.{fault_code}
 use Rattle.bench_types.specs.declared.edit.Edit.{Edit}
 use Rattle.bench_types.specs.declared.header.Header.{Header}
 use Rattle.bench_types.specs.declared.step.Step.{Step}
+use Rattle.bench_types.specs.Limits.{max_input, max_steps}
 use Rattle.list_orders.specs.Search.{numbers}
 use Rattle.bench_model.specs.Control.{running}
 use Rattle.bench_model.specs.Start.{start}
@@ -17,8 +18,7 @@ use Rattle.session_text.specs.declared.fault.Why.TheVariants.{NotJson, BadShape,
 use Rattle.session_text.specs.declared.fault.Why.TheVariants as why
 use Rattle.session_text.specs.declared.fault.TextFault.{TextFault}
 use Rattle.session_text.specs.Bench.{bench_text}
-use Rattle.bench_commands.specs.declared.answer.TheConstants.{MOST_INPUT}
-use Rattle.bench_commands.specs.Lines.{spaced, fault_text, edit_lines, start_line, step_line}
+use Rattle.bench_commands.specs.Lines.{spaced, edit_lines, start_line, step_line}
 
 -- the line of the step at a place
 abbrev pub line_at : Header → List Step → ℕ → List ℕ
@@ -36,7 +36,7 @@ replay_text header steps = first_line header ++ flat_map (line_at header steps) 
 abbrev pub why_text : Why → List ℕ
 why_text NotJson = codes "H1"
 why_text BadShape = codes "H2"
-why_text (why.Bench fault) = fault_text fault
+why_text (why.Bench fault) = fault_code fault
 why_text NoMemory = []
 
 -- a path is left out where it is empty
@@ -62,7 +62,7 @@ edited_text session edits = let last = after_edits session edits in edit_lines 0
 -- J2 comes behind all other refusals
 abbrev pub output_of_bench : Bench → Output
 output_of_bench bench =
-    if nat_lt MOST_STEPS (length bench.steps) then refused (codes "J2") []
+    if nat_lt max_steps (length bench.steps) then refused (codes "J2") []
     else record { is_refused = false; text = edited_text (record { header = bench.header; steps = bench.steps }) bench.edits }
 
 abbrev pub output_of : Result Bench TextFault → Output
@@ -70,4 +70,4 @@ output_of (Ok bench) = output_of_bench bench
 output_of (Err fault) = refused (why_text fault.why) fault.path
 
 unfoldable pub output : List ℕ → Output
-output input = if nat_lt MOST_INPUT (length input) then refused (codes "H3") [] else output_of (bench_text input)
+output input = if nat_lt max_input (length input) then refused (codes "H3") [] else output_of (bench_text input)

@@ -11,7 +11,7 @@ use Rattle.clap.specs.declared.builder.value_parser.ValueParser.TheVariants.{Sig
 use Rattle.clap.specs.declared.error.kind.ErrorKind.{ErrorKind}
 use Rattle.clap.specs.declared.error.kind.ErrorKind.TheVariants as kind
 use Rattle.bench_types.specs.Name.{is_within}
-use Rattle.session_store.specs.declared.store.TheConstants.{MOST_SPAN}
+use Rattle.bench_types.specs.Limits.{max_span}
 use Rattle.bench_commands.specs.declared.bench.Mode.{Mode}
 use Rattle.bench_commands.specs.declared.bench.Mode.TheVariants.{Replay}
 use Rattle.bench_commands.specs.declared.command.Request.{Request}
@@ -32,12 +32,12 @@ begins_with_h letters = option_map_or (λ letter. letter == 104) (slice_get (cha
 abbrev pub asks_help : Text → Bool
 asks_help word = bytes_eq word (codes "--help") || option_map_or begins_with_h (short_of word) false
 
--- the span that decimal digits write, with or without a plus sign before them; none where a text is no number from 1 to MOST_SPAN
+-- the span that decimal digits write, with or without a plus sign before them; none where a text is no number from 1 to max_span
 unfoldable pub span_of : Text → Option ℕ
 span_of text =
     let digits = without_leading_plus text in
     let span = digits_value 10 digits in
-    if is_numeral digits && is_within 1 MOST_SPAN span then Some span else None
+    if is_numeral digits && is_within 1 max_span span then Some span else None
 
 -- the span of a replay where none is given
 abbrev pub default_span : ℕ
@@ -112,7 +112,7 @@ GivesSpan (Some value) span = span_of value ≡ Some span
 
 -- the option `--span` as clap is told it: a whole number, which help has a name for
 abbrev pub span_rule : Rule
-span_rule = record (new_rule (codes "span")) { long = Some (codes "span"); value_names = 1; parser = Some (Signed (pos 1) (pos MOST_SPAN)) }
+span_rule = record (new_rule (codes "span")) { long = Some (codes "span"); value_names = 1; parser = Some (Signed (pos 1) (pos max_span)) }
 
 -- the commands as clap is told them
 abbrev pub bench_app : App

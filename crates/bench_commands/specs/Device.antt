@@ -1,7 +1,7 @@
 -- What is known of reads and writes that are counted.
 use Rattle.std.specs.Prelude.{◌≡◌, ◌⊎◌, ℕ, zero, suc, ◌+◌, ◌-◌, ◌≤◌, ◌^◌, min, List, ◌++◌, length, take, Option, Bool, true, false, Result, Ok, Err, if◌then◌else◌}
 use Rattle.std.specs.Io.KnownBytes.{Appends, Consumes, IsAtEnd}
-use Rattle.bench_commands.specs.declared.answer.TheConstants.{MOST_INPUT}
+use Rattle.bench_types.specs.Limits.{max_input}
 use Rattle.bench_commands.specs.declared.input.Stop.{Stop}
 use Rattle.bench_commands.specs.declared.input.Stop.TheVariants.{Memory, Read}
 
@@ -22,8 +22,8 @@ counted succeeds failures = if succeeds then failures else one_more failures
 -- all that was left was read, or as much as is ever read
 pub record ReadsInput (old new : Option (List ℕ)) (input : List ℕ) : Type 0 where
   pub consumes : Consumes old new input
-  pub within : length input ≤ MOST_INPUT + 1
-  pub whole : (length input ≡ MOST_INPUT + 1) ⊎ IsAtEnd new
+  pub within : length input ≤ max_input + 1
+  pub whole : (length input ≡ max_input + 1) ⊎ IsAtEnd new
 
 -- at most so many bytes were read
 pub record ReadsSome (old new : Option (List ℕ)) (most : ℕ) : Type 0 where

@@ -1,9 +1,8 @@
 -- What a run has read and written when it ends.
 use Rattle.std.specs.Prelude.{◌≡◌, ℕ, ◌+◌, List, Option, Bool, true, false}
 use Rattle.std.specs.Io.KnownBytes.{Appends}
-use Rattle.bench_commands.specs.declared.answer.TheConstants.{MOST_INPUT}
 use Rattle.bench_types.specs.Name.{is_within}
-use Rattle.session_store.specs.declared.store.TheConstants.{MOST_SPAN}
+use Rattle.bench_types.specs.Limits.{max_input, max_span}
 use Rattle.bench_commands.specs.declared.bench.Mode.{Mode}
 use Rattle.bench_commands.specs.declared.bench.Mode.TheVariants.{Replay}
 use Rattle.bench_commands.specs.declared.bench.Status.{Status}
@@ -14,7 +13,7 @@ use Rattle.bench_commands.specs.Answer.{output}
 
 -- a span of checkpoints that a session may be opened with
 abbrev pub has_span : Mode → Bool
-has_span (Replay span) = is_within 1 MOST_SPAN span
+has_span (Replay span) = is_within 1 max_span span
 
 -- the input was read, and its whole output written
 pub record Wrote (read_old read_new write_old write_new : Option (List ℕ)) (is_refused : Bool) : Type 0 where
@@ -31,7 +30,7 @@ pub record WrotePart (read_old read_new write_old write_new : Option (List ℕ))
 
 -- no more was read than is ever read, and nothing written
 pub record WroteNothing (read_old read_new write_old write_new : Option (List ℕ)) : Type 0 where
-  pub reads : ReadsSome read_old read_new (MOST_INPUT + 1)
+  pub reads : ReadsSome read_old read_new (max_input + 1)
   pub writes : write_new ≡ write_old
 
 -- by the status, what was read and written

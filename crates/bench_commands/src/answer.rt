@@ -1,22 +1,19 @@
 ghost use Rattle.std.specs.Prelude.{◌≡◌, ◌++◌, [], IfOk, OnOk, codes, string_bytes, true, false, IsErr};
 ghost use Rattle.bench_types.specs.Name.{is_within};
+ghost use Rattle.bench_types.specs.Limits.{max_span};
 ghost use Rattle.session_store.specs.declared.fault.OpenRefusal.TheVariants.{TooLong};
-ghost use Rattle.session_store.specs.declared.store.TheConstants.{MOST_SPAN};
 ghost use Rattle.session_text.specs.declared.fault.Why.TheVariants.{NoMemory};
 ghost use Rattle.session_text.specs.Bench.{IsCheckedBench};
 ghost use Rattle.bench_commands.specs.Answer.{why_text, path_text, refusal_line, refused, edited_text, output, output_of_bench, Output};
 
-use crate::lines::{fault_text, push_spaced};
+use crate::lines::push_spaced;
 use crate::replay::edited_replay;
-use bench_types::Edit;
+use bench_types::{Edit, EditFault, MAX_INPUT};
 use session_store::{OpenRefusal, Store};
 use session_text::{Bench, TextFault, Why, read_bench};
 use smp_kernel::Meter;
 use std::alloc::{AllocError, Global};
 use std::marker::Model;
-
-/// The most bytes of input that are read as a bench document. One more is H3.
-pub const MOST_INPUT: usize = 67_108_864;
 
 /// What the program writes, and whether its input was refused.
 #[derive(Drop)]
@@ -76,7 +73,7 @@ fn not_opened(alloc: Global, why: OpenRefusal) -> Result<Answer, AllocError>
     ensures line { IfOk result (λ answer. answer ≡ refused (codes "J2") []) }
 {
     match why {
-        OpenRefusal::TooLong => refused(alloc, "J2", ""),
+        OpenRefusal::TooLong => refused(alloc, EditFault::TooLong.code(), ""),
         _ => Err(AllocError),
     }
 }
@@ -89,7 +86,7 @@ fn answer_of_bench(
     span: u32,
 ) -> Result<Answer, AllocError>
     requires checked { IsCheckedBench bench }
-    requires span { is_within 1 MOST_SPAN span ≡ true }
+    requires span { is_within 1 max_span span ≡ true }
     ensures { IfOk result (λ answer. answer ≡ output_of_bench bench) }
 {
     let Bench {
@@ -103,7 +100,7 @@ fn answer_of_bench(
     }
 }
 
-/// The whole output for the input. Each step is counted on the meter.
+/// The whole output for the input.
 #[tactic(auto, unfolding(crate::specs::Answer::output))]
 pub(crate) fn answer_to(
     alloc: Global,
@@ -111,10 +108,10 @@ pub(crate) fn answer_to(
     input: &[u8],
     span: u32,
 ) -> Result<Answer, AllocError>
-    requires { is_within 1 MOST_SPAN span ≡ true }
+    requires { is_within 1 max_span span ≡ true }
     ensures { IfOk result (λ answer. answer ≡ output input.now) }
 {
-    if input.len() > MOST_INPUT {
+    if input.len() > MAX_INPUT {
         return refused(alloc, "H3", "");
     }
     match read_bench(alloc, input) {
@@ -129,7 +126,7 @@ fn why_text(why: Why) -> &'static str
     match why {
         Why::NotJson => "H1",
         Why::BadShape => "H2",
-        Why::Bench(fault) => fault_text(fault),
+        Why::Bench(fault) => fault.code(),
         Why::NoMemory => "",
     }
 }

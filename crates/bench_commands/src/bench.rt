@@ -8,24 +8,27 @@ use crate::input::{Stop, read_input};
 use crate::writing::write_text;
 use smp_kernel::Meter;
 use std::alloc::Global;
-use std::rt::Runtime;
+use thiserror::Error;
 
 /// What the program is asked to do with its input.
 #[derive(Clone, Copy, Debug, PartialEq, Eq)]
 pub enum Mode {
     /// Replay a session or a bench document, and print the tasks that run after each step. A checkpoint is to be kept
-    /// every `span` steps, 1 to [`MOST_SPAN`](session_store::MOST_SPAN).
+    /// every `span` steps, 1 to [`MAX_SPAN`](bench_types::MAX_SPAN).
     Replay { span: u32 },
 }
 
 /// What kept a run from its end.
-#[derive(Clone, Copy, Debug, PartialEq, Eq)]
+#[derive(Clone, Copy, Debug, PartialEq, Eq, Error)]
 pub enum RunFault {
     /// Memory was refused. Nothing was written.
+    #[error("out of memory")]
     Memory,
     /// A read failed. Nothing was written.
+    #[error("the input can't be read")]
     Read,
     /// A write failed or took no byte. Some first bytes of the output went out, or none.
+    #[error("the output can't be written")]
     Write,
 }
 
@@ -40,8 +43,8 @@ pub enum Status {
 }
 
 /// Reads the input to its end, or one byte past the most that is a bench document, then writes its whole output.
-pub fn run<T: Runtime, R: CountedRead, W: CountedWrite>(
-    rt: &T,
+pub fn run<R: CountedRead, W: CountedWrite>(
+    rt: &HostRuntime,
     alloc: Global,
     reader: &mut R,
     writer: &mut W,

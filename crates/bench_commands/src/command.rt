@@ -4,9 +4,9 @@ ghost use Rattle.clap.specs.declared.error.kind.ErrorKind.TheVariants.{OutOfMemo
 ghost use Rattle.bench_commands.specs.Command.{GivesSpan, a_mistake, asked, asked_behind, asked_by, asked_in, bench_app, can_run, span_rule, value_found};
 
 use crate::bench::Mode;
+use bench_types::MAX_SPAN;
 use clap::error::ErrorKind;
 use clap::{Arg, ArgMatches, Command, Error, value_parser};
-use session_store::MOST_SPAN;
 use std::alloc::{AllocError, Global};
 use std::convert::AsStr;
 
@@ -31,7 +31,7 @@ fn span_option<'a>(alloc: Global) -> Arg<'a>
         .long("span")
         .value_name("STEPS")
         .help("Steps from one checkpoint to the next, 1 to 1000, or 64 if left out")
-        .value_parser(value_parser!(u32).range(1..=i64::from(MOST_SPAN)))
+        .value_parser(value_parser!(u32).range(1..=i64::from(MAX_SPAN)))
 }
 
 // The program's commands. Help for one of them is asked for by its `--help`, so `help` is no command.

@@ -1,8 +1,9 @@
 ghost use Rattle.std.specs.Prelude.{◌≡◌, ◌+◌, ◌<◌, ◌≤◌, [], length, IfOk, OnOk};
+ghost use Rattle.bench_types.specs.Limits.{max_input};
 ghost use Rattle.bench_commands.specs.Device.{counted, reads_on, ReadsInput, ReadsOn, ReadsSome};
 
-use crate::answer::MOST_INPUT;
 use crate::device::CountedRead;
+use bench_types::MAX_INPUT;
 use std::alloc::{AllocError, Global};
 
 // How many bytes are read at once.
@@ -65,11 +66,11 @@ fn read_all<R: CountedRead>(
     requires room { length chunk.old ≡ CHUNK }
     requires empty { input.old.items ≡ [] }
     ensures input { OnOk result (ReadsInput (R.Read.remaining reader.old) (R.Read.remaining reader.new) input.new.items) }
-    ensures some { ReadsSome (R.Read.remaining reader.old) (R.Read.remaining reader.new) (MOST_INPUT + 1) }
+    ensures some { ReadsSome (R.Read.remaining reader.old) (R.Read.remaining reader.new) (max_input + 1) }
     ensures failures { R.CountedRead.failures reader.new ≡ counted (reads_on result) (R.CountedRead.failures reader.old) }
 {
-    while input.len() <= MOST_INPUT {
-        let most = CHUNK.min(MOST_INPUT + 1 - input.len());
+    while input.len() <= MAX_INPUT {
+        let most = CHUNK.min(MAX_INPUT + 1 - input.len());
         if read_on(reader, chunk, most, input)? == 0 {
             return Ok(());
         }
@@ -80,7 +81,7 @@ fn read_all<R: CountedRead>(
 /// Reads to the end of the input, or one byte past the most that is a session.
 pub(crate) fn read_input<R: CountedRead>(alloc: Global, reader: &mut R) -> Result<Vec<u8>, Stop>
     ensures input { IfOk result (λ input. ReadsInput (R.Read.remaining reader.old) (R.Read.remaining reader.new) input.items) }
-    ensures some { ReadsSome (R.Read.remaining reader.old) (R.Read.remaining reader.new) (MOST_INPUT + 1) }
+    ensures some { ReadsSome (R.Read.remaining reader.old) (R.Read.remaining reader.new) (max_input + 1) }
     ensures failures { R.CountedRead.failures reader.new ≡ counted (reads_on result) (R.CountedRead.failures reader.old) }
 {
     let mut chunk = room_for(alloc, CHUNK)?;

@@ -11,7 +11,6 @@ mod program;
 mod replay;
 mod writing;
 
-pub use answer::MOST_INPUT;
 pub use bench::{Mode, RunFault, Status, run};
 pub use command::{DEFAULT_SPAN, Request, request_of};
 pub use device::{Counted, CountedRead, CountedWrite};

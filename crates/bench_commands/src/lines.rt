@@ -1,27 +1,10 @@
 ghost use Rattle.std.specs.Prelude.{◌≡◌, ◌++◌, OnOk, string_bytes};
 ghost use Rattle.bench_types.specs.Header.{name_of};
-ghost use Rattle.bench_commands.specs.Lines.{spaced, reply_text, refusal_text, row_text, start_line, step_line, fault_text, edit_fault_text, answer_text, edit_line, edit_lines};
+ghost use Rattle.bench_commands.specs.Lines.{spaced, reply_text, row_text, start_line, step_line, answer_text, edit_line, edit_lines};
 
-use bench_types::{EditFault, Fault, Header, Refusal, Reply};
+use bench_types::{EditFault, Header, Reply};
 use session_store::Outcome;
 use std::alloc::AllocError;
-
-fn refusal_text(why: Refusal) -> &'static str
-    ensures { result.now ≡ refusal_text why }
-{
-    match why {
-        Refusal::Held => "E1",
-        Refusal::Displaced => "E2",
-        Refusal::SwitchDue => "E3",
-        Refusal::InCall => "E4",
-        Refusal::NotInCall => "E5",
-        Refusal::HoldBlock => "E6",
-        Refusal::NoHold => "E7",
-        Refusal::HoldDeep => "E8",
-        Refusal::NotHolder => "E9",
-        Refusal::NotDue => "E10",
-    }
-}
 
 pub(crate) fn push_spaced(text: &mut String, word: &str) -> Result<(), AllocError>
     ensures { OnOk result (string_bytes text.new ≡ string_bytes text.old ++ spaced word.now) }
@@ -43,7 +26,7 @@ fn push_reply(text: &mut String, reply: Reply) -> Result<(), AllocError>
         Reply::Isr { pass, pend } => write!(text, "isr {pass} {pend}"),
         Reply::Refused(why) => {
             text.push_str("refused")?;
-            push_spaced(text, refusal_text(why))
+            push_spaced(text, why.code())
         }
     }
 }
@@ -91,28 +74,6 @@ pub(crate) fn push_step_line(
     text.push_str("\n")
 }
 
-pub(crate) fn fault_text(fault: Fault) -> &'static str
-    ensures { result.now ≡ fault_text fault }
-{
-    match fault {
-        Fault::BadHeader => "F1",
-        Fault::BadCore => "F2",
-        Fault::BadTask => "F3",
-        Fault::BadMutex => "F4",
-        Fault::BadArgument => "F5",
-    }
-}
-
-fn edit_fault_text(why: EditFault) -> &'static str
-    ensures { result.now ≡ edit_fault_text why }
-{
-    match why {
-        EditFault::Bench(fault) => fault_text(fault),
-        EditFault::NoPlace => "J1",
-        EditFault::TooLong => "J2",
-    }
-}
-
 fn push_answer(text: &mut String, answer: &Result<Outcome, EditFault>) -> Result<(), AllocError>
     ensures { OnOk result (string_bytes text.new ≡ string_bytes text.old ++ answer_text answer.now) }
 {
@@ -126,7 +87,7 @@ fn push_answer(text: &mut String, answer: &Result<Outcome, EditFault>) -> Result
         ) => write!(text, "from {from} met {met} replayed {replayed}"),
         Err(why) => {
             text.push_str("refused")?;
-            push_spaced(text, edit_fault_text(*why))
+            push_spaced(text, why.code())
         }
     }
 }

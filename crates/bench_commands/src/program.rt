@@ -10,7 +10,6 @@ use crate::device::{CountedRead, CountedWrite};
 use crate::writing::write_text;
 use std::alloc::Global;
 use std::convert::AsStr;
-use std::rt::Runtime;
 
 /// How the program ends.
 #[derive(Debug, Drop)]
@@ -60,8 +59,8 @@ fn show_help<W: CountedWrite>(writer: &mut W, text: &str) -> Status
 
 /// Does what the words of the command line ask for: they are `None` where one of them is no text. Only a run
 /// reads, once the words are known to ask for it.
-pub fn carry_out<T: Runtime, S: AsStr, R: CountedRead, W: CountedWrite>(
-    rt: &T,
+pub fn carry_out<S: AsStr, R: CountedRead, W: CountedWrite>(
+    rt: &HostRuntime,
     alloc: Global,
     words: Option<&[S]>,
     reader: &mut R,

@@ -1,5 +1,5 @@
 ghost use Rattle.std.specs.Prelude.{◌≡◌, ◌++◌, ◌<◌, IfOk, OnOk, string_bytes};
-ghost use Rattle.bench_types.specs.declared.edit.TheConstants.{MOST_STEPS};
+ghost use Rattle.bench_types.specs.Limits.{max_steps};
 ghost use Rattle.bench_commands.specs.Answer.{edited_text, first_line, line_at, replay_text};
 
 use crate::lines::{push_edit_lines, push_start_line, push_step_line};
@@ -10,7 +10,7 @@ use std::alloc::{AllocError, Global};
 
 // The line of the step at the place, none past the last.
 fn push_line(text: &mut String, store: &Store, place: u32) -> Result<(), AllocError>
-    requires { place < MOST_STEPS }
+    requires { place < max_steps }
     ensures { OnOk result (string_bytes text.new ≡ string_bytes text.old ++ line_at store.now.session.header store.now.session.steps place) }
 {
     let Some(reply) = store.reply(place) else {

@@ -5,12 +5,12 @@ use Rattle.bench_types.specs.declared.edit.Edit.{Edit}
 use Rattle.bench_types.specs.declared.edit.Edit.TheVariants.{Insert, Remove, Replace, ChangeTask}
 use Rattle.bench_types.specs.declared.edit.EditFault.{EditFault}
 use Rattle.bench_types.specs.declared.edit.EditFault.TheVariants.{Bench, NoPlace, TooLong}
-use Rattle.bench_types.specs.declared.edit.TheConstants.{MOST_STEPS}
 use Rattle.bench_types.specs.declared.header.Header.{Header}
 use Rattle.bench_types.specs.declared.header.TaskArgs.{TaskArgs}
 use Rattle.bench_types.specs.declared.step.Step.{Step}
 use Rattle.bench_types.specs.Edit.{edit_check}
 use Rattle.bench_types.specs.Header.{header_check}
+use Rattle.bench_types.specs.Limits.{max_steps}
 use Rattle.bench_types.specs.Step.{settings_of, step_check, ◌>>◌}
 
 pub record Session : Type 0 where
@@ -21,7 +21,7 @@ pub record Session : Type 0 where
 pub record IsSession (session : Session) : Type 0 where
   pub header_fits : header_check session.header ≡ Ok tt
   pub steps_pass : All (λ step. step_check (settings_of session.header) step ≡ Ok tt) session.steps
-  pub few_steps : length session.steps ≤ MOST_STEPS
+  pub few_steps : length session.steps ≤ max_steps
 
 -- J1: a step is inserted before one of the steps or behind the last; one of the steps is removed or replaced
 abbrev pub has_place : List Step → Edit → Bool
@@ -32,7 +32,7 @@ has_place steps (ChangeTask task priority mask) = true
 
 -- J2: an inserted step is not one too many
 abbrev pub has_room : List Step → Edit → Bool
-has_room steps (Insert at step) = nat_lt (length steps) MOST_STEPS
+has_room steps (Insert at step) = nat_lt (length steps) max_steps
 has_room steps (Remove at) = true
 has_room steps (Replace at step) = true
 has_room steps (ChangeTask task priority mask) = true

@@ -41,6 +41,25 @@ waits_first a b = nat_lt a.wait.mutex b.wait.mutex || (a.wait.mutex == b.wait.mu
 abbrev pub without_waiter : ℕ → List Waiter → List Waiter
 without_waiter task waiters = filter (λ waiter. not (waiter.task == task)) waiters
 
+-- a task that begins to wait stands behind those that wait as long or shorter
+abbrev pub with_delay : ℕ → ℕ → List Delayed → List Delayed
+with_delay task ticks delayed = placed wakes_first (record { task = task; left = ticks }) delayed
+
+abbrev pub without_delay : ℕ → List Delayed → List Delayed
+without_delay task delayed = filter (λ entry. not (entry.task == task)) delayed
+
+-- a waiting task one tick later
+abbrev pub one_tick_less : Delayed → Delayed
+one_tick_less entry = record entry { left = entry.left - 1 }
+
+-- the tasks that have waited long enough, in the order in which they began to wait
+unfoldable pub due_tasks : List Delayed → List ℕ
+due_tasks delayed = map (λ entry. entry.task) (filter (λ entry. entry.left == 0) delayed)
+
+-- the tick count wraps
+abbrev pub next_tick : ℕ → ℕ
+next_tick tick = (tick + 1) % 2 ^ 32
+
 abbrev pub is_ready : ℕ → Lists → Bool
 is_ready task lists = has task lists.ready
 
@@ -51,7 +70,7 @@ pick control core lists = find (may_select control core) lists.ready
 unfoldable pub make_ready : Control → ℕ → Lists → Lists
 make_ready control task lists = record lists {
   ready = placed (outranks control) task (without task lists.ready);
-  delayed = filter (λ entry. not (entry.task == task)) lists.delayed;
+  delayed = without_delay task lists.delayed;
   waiters = without_waiter task lists.waiters;
 }
 
@@ -59,7 +78,7 @@ make_ready control task lists = record lists {
 unfoldable pub delay : ℕ → Option ℕ → Option MutexWait → Lists → Lists
 delay task ticks wait lists = record lists {
   ready = without task lists.ready;
-  delayed = option_map_or (λ left. placed wakes_first (record { task = task; left = left }) lists.delayed) ticks lists.delayed;
+  delayed = option_map_or (λ left. with_delay task left lists.delayed) ticks lists.delayed;
   waiters = option_map_or (λ wait. placed waits_first (record { task = task; wait = wait }) lists.waiters) wait lists.waiters;
   deadlines = slice_set lists.deadlines task (if is_some wait then ticks else None);
 }
@@ -70,13 +89,13 @@ tick_count lists = lists.tick
 -- the tick count wraps, and each waiting task has one tick less left; a deadline that is reached stays so
 unfoldable pub advance : Lists → Lists
 advance lists = record lists {
-  tick = (lists.tick + 1) % 2 ^ 32;
-  delayed = map (λ (entry : Delayed). record entry { left = entry.left - 1 }) lists.delayed;
+  tick = next_tick lists.tick;
+  delayed = map one_tick_less lists.delayed;
   deadlines = map (option_map (λ left. left - 1)) lists.deadlines;
 }
 
-unfoldable pub due : Lists → List ℕ
-due lists = map (λ entry. entry.task) (filter (λ entry. entry.left == 0) lists.delayed)
+abbrev pub due : Lists → List ℕ
+due lists = due_tasks lists.delayed
 
 -- the first of waiters that waits for the mutex
 abbrev pub first_of : ℕ → List Waiter → Option Waiter

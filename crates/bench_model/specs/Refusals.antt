@@ -9,6 +9,7 @@ use Rattle.bench_types.specs.declared.step.Step.TheVariants as steps
 use Rattle.bench_types.specs.declared.step.Call.{Call}
 use Rattle.bench_types.specs.declared.step.Call.TheVariants.{Delay, DelayUntil, NotifyWait, NotifyTake, MutexTake, MutexGive, Finish, HoldOpen, HoldClose}
 use Rattle.bench_types.specs.declared.step.Unfinished.{Unfinished}
+use Rattle.bench_types.specs.Limits.{max_depth}
 use Rattle.bench_model.specs.Control.{current, is_due}
 use Rattle.bench_model.specs.Holds.{is_held_by, is_held_elsewhere, depth_of}
 use Rattle.bench_model.specs.Notes.{note_at, wait_begun, take_begun}
@@ -46,12 +47,12 @@ module _ {Orders : Type 0} (moves : Moves Orders) where
   would_block task (MutexTake mutex ticks) state = is_some (holder_at state.holders mutex) && nat_lt 0 ticks
   would_block task call state = false
 
-  -- a core that holds the kernel lets no task wait and holds it at most 255 times over, and one that doesn't can't free it
+  -- a core that holds the kernel lets no task wait and holds it at most so many times over as it may, and one that doesn't can't free it
   -- (FreeRTOS Reference Manual, taskENTER_CRITICAL: no API call that could block)
   abbrev pub hold_refusal : ℕ → ℕ → Call → State Orders → Option Refusal
   hold_refusal core task call state =
       if is_held_by core state.hold
-      then (if would_block task call state then Some HoldBlock else (if opens_hold call && depth_of state.hold == 255 then Some HoldDeep else None))
+      then (if would_block task call state then Some HoldBlock else (if opens_hold call && depth_of state.hold == max_depth then Some HoldDeep else None))
       else (if closes_hold call then Some NoHold else None)
 
   -- Why a call of a core's task is refused that no other core keeps out, the first reason that applies.

@@ -1,5 +1,5 @@
 -- What the table of every kernel keeps: that it is sound.
-use Rattle.std.specs.Prelude.{◌≡◌, ℕ, ◌+◌, ◌<◌, ◌≤◌, ◌^◌, List, length, Bool, true, false, Option, Some, None, IfSome}
+use Rattle.std.specs.Prelude.{◌≡◌, ℕ, suc, ◌+◌, ◌<◌, ◌≤◌, ◌^◌, List, length, Bool, true, false, Option, Some, None, IfSome}
 use Rattle.std.specs.Option.{ForSome}
 use Rattle.bench_types.specs.declared.kernel_data.Hold.{Hold}
 use Rattle.bench_types.specs.declared.kernel_data.TaskControl.{TaskControl}
@@ -11,6 +11,7 @@ use Rattle.bench_types.specs.declared.kernel_data.MutexWait.{MutexWait}
 use Rattle.bench_types.specs.declared.kernel_data.Settings.{Settings}
 use Rattle.bench_types.specs.declared.step.Unfinished.{Unfinished}
 use Rattle.bench_types.specs.declared.step.Unfinished.TheVariants.{Take}
+use Rattle.bench_types.specs.Limits.{max_depth}
 use Rattle.bench_types.specs.Step.{IsCheckedUnfinished}
 use Rattle.bench_model.specs.Control.{Control, current, is_due, task_at}
 use Rattle.bench_model.specs.Notes.{note_at}
@@ -46,13 +47,19 @@ pub record IsPlaced (control : Control) (stamps : Stamps) : Type 0 where
 abbrev pub IsWait : Option ℕ → Type 0
 IsWait ticks = IfSome ticks (λ ticks. (0 < ticks) × (ticks < 2 ^ 32))
 
+-- a wait for a mutex is for at most 4294967294 ticks, or without end (FreeRTOS Reference Manual, xSemaphoreTake, portMAX_DELAY)
+abbrev pub IsMutexTime : Option ℕ → Type 0
+IsMutexTime ticks = IfSome ticks (λ ticks. suc ticks < 2 ^ 32)
+
 -- a blocked task is woken after 1 to 4294967295 ticks, or waits without end
 abbrev pub WakesInTime : Stamps → Type 0
 WakesInTime stamps = (i wake : ℕ) → i < length stamps.rows → wake_in (row_at stamps i).standing ≡ Some wake → (stamps.tick < wake) × (wake < stamps.tick + 2 ^ 32)
 
--- the priority in use and the base priority are below the number of priorities
-abbrev pub IsBelow : ℕ → TaskControl → Type 0
-IsBelow priorities task = (task.in_use < priorities) × (task.base < priorities)
+-- the priority in use and the base priority are below the number of priorities, and the mask has bits of cores alone
+pub record IsControlBlock (settings : Settings) (task : TaskControl) : Type 0 where
+  pub in_use : task.in_use < settings.priorities
+  pub base : task.base < settings.priorities
+  pub mask : task.mask < 2 ^ settings.cores
 
 -- each notification value is a number of 32 bits
 abbrev pub HasWords : List Notification → Type 0
@@ -66,12 +73,12 @@ abbrev pub takes_mutex : Option Unfinished → Bool
 takes_mutex (Some (Take mutex mark)) = true
 takes_mutex unfinished = false
 
--- what is kept of mutexes: tasks hold them, tasks wait for them, and a deadline is that of an unfinished wait, less than 4294967296
--- ticks ahead
+-- what is kept of mutexes: tasks hold them, tasks wait for them, and a deadline is that of an unfinished wait, at most 4294967294
+-- ticks ahead, since a wait for 4294967295 has none
 pub record HasMutexes (settings : Settings) (calls : List (Option Unfinished)) (holders : List (Option ℕ)) (stamps : Stamps) : Type 0 where
   pub held_by_tasks : (mutex task : ℕ) → holder_at holders mutex ≡ Some task → task < settings.tasks
   pub waits : (i : ℕ) (wait : MutexWait) → i < length stamps.rows → wait_in (row_at stamps i).standing ≡ Some wait → IsMutexWait settings wait
-  pub deadlines : (i deadline : ℕ) → deadline_at stamps i ≡ Some deadline → (deadline < stamps.tick + 2 ^ 32) × (takes_mutex (call_at calls i) ≡ true)
+  pub deadlines : (i deadline : ℕ) → deadline_at stamps i ≡ Some deadline → (suc deadline < stamps.tick + 2 ^ 32) × (takes_mutex (call_at calls i) ≡ true)
 
 -- all of it that says nothing of a hold
 pub record IsConsistent (table : Table) : Type 0 where
@@ -79,15 +86,15 @@ pub record IsConsistent (table : Table) : Type 0 where
   pub stamped : IsStamped table.orders
   pub in_place : IsPlaced table.control table.orders
   pub in_time : WakesInTime table.orders
-  pub priorities : (i : ℕ) → i < table.settings.tasks → IsBelow table.settings.priorities (task_at table.control i)
+  pub blocks : (i : ℕ) → i < table.settings.tasks → IsControlBlock table.settings (task_at table.control i)
   pub calls : (i : ℕ) (call : Unfinished) → call_at table.calls i ≡ Some call → IsCheckedUnfinished table.settings call
   pub notes : HasWords table.notes
   pub mutexes : HasMutexes table.settings table.calls table.holders table.orders
 
--- an open hold is open 1 to 255 times over, and the current task of its core is a ready user task without an unfinished call
+-- an open hold is open at least once and not too many times over, and the current task of its core is a ready user task without an unfinished call
 pub record IsHeldWell (table : Table) (hold : Hold) : Type 0 where
   pub core_below : hold.core < table.settings.cores
-  pub depth : (0 < hold.depth) × (hold.depth ≤ 255)
+  pub depth : (0 < hold.depth) × (hold.depth ≤ max_depth)
   pub user : table.settings.cores ≤ current table.control hold.core
   pub ready : is_ready (current table.control hold.core) table.orders ≡ true
   pub no_call : call_at table.calls (current table.control hold.core) ≡ None

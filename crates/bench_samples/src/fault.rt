@@ -1,12 +1,15 @@
 use bench_types::Fault;
 use std::alloc::AllocError;
+use thiserror::Error;
 
 /// Why there is no header of what a test gave.
-#[derive(Clone, Copy, Debug, PartialEq, Eq, Hash)]
+#[derive(Clone, Copy, Debug, PartialEq, Eq, Hash, Error)]
 pub enum SampleFault {
     /// A text is no name of a user task.
+    #[error("a text is no name of a task")]
     BadName,
     /// Memory was refused.
+    #[error("out of memory")]
     NoMemory,
 }
 

@@ -48,7 +48,7 @@ fn two_thousand_steps(rt: HostRuntime) -> Result<(), Fail> {
         (Mix::Nothing, (370_025_982, 32, 2000)),
         (Mix::Notes, (33_837_225, 20, 2000)),
     ] {
-        let played = random_session(&rt, 2000, *mix)?;
+        let played = random_session(&rt, &rt, 2000, *mix)?;
         let digest = digest_of(&played.outcomes);
         assert_eq!(rt;
             (digest, played.kernel.tick(), played.meter.count()),

@@ -7,6 +7,8 @@ mod digest;
 #[cfg(test)]
 mod kernel;
 #[cfg(test)]
+mod largest;
+#[cfg(test)]
 mod random;
 #[cfg(test)]
 mod replays;

@@ -6,7 +6,6 @@ use bench_types::{Action, Call, Config, Header, Items, Name, Note, Reply, Row, S
 use smp_kernel::{Kernel, Meter};
 use std::alloc::Global;
 use std::process::Abort;
-use std::rt::Runtime;
 use std::test::Fail;
 
 /// A session of 8 cores that is made at random, and what a kernel made of it.
@@ -40,11 +39,12 @@ pub enum Mix {
 
 /// A session of so many steps, of which most are not refused.
 pub fn random_session(
-    rt: &(impl Runtime + AllocGlobal + Abort),
+    rt: &impl Abort,
+    host: &HostRuntime,
     count: usize,
     mix: Mix,
 ) -> Result<Played, Fail> {
-    let mut played = Played::new(rt)?;
+    let mut played = Played::new(host)?;
     for _ in 0..count {
         let step = played.some_step(mix);
         played.make(rt, step)?;
@@ -53,16 +53,16 @@ pub fn random_session(
 }
 
 impl Played {
-    fn new(rt: &(impl Runtime + AllocGlobal)) -> Result<Self, Fail> {
-        let header = large_header(rt.alloc())?;
-        let kernel = Kernel::start(rt.alloc(), &header)?;
+    fn new(host: &HostRuntime) -> Result<Self, Fail> {
+        let header = large_header(host.alloc())?;
+        let kernel = Kernel::start(host.alloc(), &header)?;
         Ok(Played {
             header,
             kernel,
-            meter: Meter::new(rt),
+            meter: Meter::new(host),
             seed: 1,
-            steps: Vec::new(rt.alloc()),
-            outcomes: Vec::new(rt.alloc()),
+            steps: Vec::new(host.alloc()),
+            outcomes: Vec::new(host.alloc()),
         })
     }
 

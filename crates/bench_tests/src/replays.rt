@@ -7,8 +7,8 @@ use crate::samples::Opened;
 use bench_types::{Edit, Header, Reply, Row, Step};
 use session_store::Store;
 use slow_replay::replay_slow;
+use std::alloc::Global;
 use std::process::Abort;
-use std::rt::Runtime;
 use std::test::Fail;
 
 fn is_checked(header: &Header, step: &Step) -> bool
@@ -25,20 +25,21 @@ fn are_checked(header: &Header, steps: &[Step]) -> bool
 
 // The plain replay, of a session that has to be checked.
 fn by_the_definitions(
-    rt: &(impl AllocGlobal + Abort),
+    rt: &impl Abort,
+    host: &HostRuntime,
     header: &Header,
     steps: &[Step],
 ) -> Result<Vec<(Reply, Row)>, Fail> {
     header.check()?;
     assert!(rt; are_checked(header, steps));
-    let outcomes = replay_slow(rt, rt.alloc(), header, steps)?;
+    let outcomes = replay_slow(host, host.alloc(), header, steps)?;
     assert_eq!(rt; outcomes.len(), steps.len());
     Ok(outcomes)
 }
 
 // The kernel's replies and current tasks are those of the definitions.
-fn check_kernel(rt: &(impl AllocGlobal + Abort), played: &Played) -> Result<(), Fail> {
-    let outcomes = by_the_definitions(rt, &played.header, &played.steps)?;
+fn check_kernel(rt: &impl Abort, host: &HostRuntime, played: &Played) -> Result<(), Fail> {
+    let outcomes = by_the_definitions(rt, host, &played.header, &played.steps)?;
     assert_eq!(rt; outcomes.len(), played.outcomes.len());
     for (made, outcome) in played.outcomes.iter().zip(&outcomes) {
         check_outcome(rt, made, outcome);
@@ -52,32 +53,37 @@ fn check_outcome(rt: &impl Abort, made: &(Reply, Row), outcome: &(Reply, Row)) {
 
 #[test]
 fn as_the_definitions_replay_it(rt: HostRuntime) -> Result<(), Fail> {
-    check_kernel(&rt, &random_session(&rt, 2000, Mix::Nothing)?)
+    check_kernel(&rt, &rt, &random_session(&rt, &rt, 2000, Mix::Nothing)?)
 }
 
 #[test]
 fn as_the_definitions_replay_sets(rt: HostRuntime) -> Result<(), Fail> {
-    check_kernel(&rt, &random_session(&rt, 2000, Mix::Sets)?)
+    check_kernel(&rt, &rt, &random_session(&rt, &rt, 2000, Mix::Sets)?)
 }
 
 #[test]
 fn as_the_definitions_replay_notifications(rt: HostRuntime) -> Result<(), Fail> {
-    check_kernel(&rt, &random_session(&rt, 2000, Mix::Notes)?)
+    check_kernel(&rt, &rt, &random_session(&rt, &rt, 2000, Mix::Notes)?)
 }
 
 #[test]
 fn as_the_definitions_replay_mutexes(rt: HostRuntime) -> Result<(), Fail> {
-    check_kernel(&rt, &random_session(&rt, 2000, Mix::Mutexes)?)
+    check_kernel(&rt, &rt, &random_session(&rt, &rt, 2000, Mix::Mutexes)?)
 }
 
 #[test]
 fn as_the_definitions_replay_holds(rt: HostRuntime) -> Result<(), Fail> {
-    check_kernel(&rt, &random_session(&rt, 2000, Mix::Holds)?)
+    check_kernel(&rt, &rt, &random_session(&rt, &rt, 2000, Mix::Holds)?)
 }
 
 // The steps of the store are these, and their replies and current tasks those of the definitions.
-fn check_store(rt: &(impl AllocGlobal + Abort), store: &Store, steps: &[Step]) -> Result<(), Fail> {
-    let outcomes = by_the_definitions(rt, store.header(), steps)?;
+fn check_store(
+    rt: &impl Abort,
+    host: &HostRuntime,
+    store: &Store,
+    steps: &[Step],
+) -> Result<(), Fail> {
+    let outcomes = by_the_definitions(rt, host, store.header(), steps)?;
     assert_eq!(rt; store.len() as usize, steps.len());
     for ((place, step), outcome) in steps.iter().enumerate().zip(&outcomes) {
         check_step(rt, store, place as u32, *step, outcome);
@@ -101,24 +107,25 @@ fn has_row(store: &Store, step: u32, row: &Row) -> bool {
 
 #[test]
 fn an_edited_store_is_as_the_definitions_replay_it(rt: HostRuntime) -> Result<(), Fail> {
-    let played = random_session(&rt, 200, Mix::Notes)?;
-    check_edited(&rt, &played)
+    let played = random_session(&rt, &rt, 200, Mix::Notes)?;
+    check_edited(&rt, &rt, &played)
 }
 
-fn check_edited(rt: &(impl Runtime + AllocGlobal + Abort), played: &Played) -> Result<(), Fail> {
-    let mut opened = opened_with(rt, played)?;
-    check_store(rt, &opened.store, &played.steps)?;
-    make_edits(rt, &mut opened);
-    check_after_edits(rt, &opened.store, &played.steps)
+fn check_edited(rt: &impl Abort, host: &HostRuntime, played: &Played) -> Result<(), Fail> {
+    let mut opened = opened_with(host, played)?;
+    check_store(rt, host, &opened.store, &played.steps)?;
+    make_edits(rt, host.alloc(), &mut opened);
+    check_after_edits(rt, host, &opened.store, &played.steps)
 }
 
 fn check_after_edits(
-    rt: &(impl AllocGlobal + Abort),
+    rt: &impl Abort,
+    host: &HostRuntime,
     store: &Store,
     steps: &[Step],
 ) -> Result<(), Fail> {
-    let steps = steps_after_edits(rt, steps)?;
-    check_store(rt, store, &steps)
+    let steps = steps_after_edits(rt, host.alloc(), steps)?;
+    check_store(rt, host, store, &steps)
 }
 
 const EDITS: [Edit; 3] = [
@@ -133,21 +140,26 @@ const EDITS: [Edit; 3] = [
     },
 ];
 
-fn make_edits(rt: &(impl AllocGlobal + Abort), opened: &mut Opened) {
+fn make_edits(rt: &impl Abort, alloc: Global, opened: &mut Opened) {
     for edit in &EDITS {
-        let made = opened.store.apply(rt.alloc(), *edit, &mut opened.meter);
+        let made = opened.store.apply(alloc, *edit, &mut opened.meter);
         assert!(rt; made.is_ok());
     }
 }
 
-fn opened_with(rt: &(impl Runtime + AllocGlobal), played: &Played) -> Result<Opened, Fail> {
-    let header = played.header.copy(rt.alloc())?;
-    Opened::of(rt, header, Vec::from_slice(rt.alloc(), &played.steps)?, 64)
+fn opened_with(host: &HostRuntime, played: &Played) -> Result<Opened, Fail> {
+    let header = played.header.copy(host.alloc())?;
+    Opened::of(
+        host,
+        header,
+        Vec::from_slice(host.alloc(), &played.steps)?,
+        64,
+    )
 }
 
 // What the edits make of the steps.
-fn steps_after_edits(rt: &(impl AllocGlobal + Abort), steps: &[Step]) -> Result<Vec<Step>, Fail> {
-    let mut steps = Vec::from_slice(rt.alloc(), steps)?;
+fn steps_after_edits(rt: &impl Abort, alloc: Global, steps: &[Step]) -> Result<Vec<Step>, Fail> {
+    let mut steps = Vec::from_slice(alloc, steps)?;
     assert_eq!(rt; steps.len(), 200);
     steps.insert(20, Step::Tick)?;
     steps.remove(80);

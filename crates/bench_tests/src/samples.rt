@@ -7,7 +7,6 @@ use session_store::{Outcome, Store};
 use smp_kernel::{Kernel, Meter};
 use std::alloc::{AllocError, Global};
 use std::process::Abort;
-use std::rt::Runtime;
 use std::test::Fail;
 
 /// A waits 2 ticks on core 0.
@@ -59,7 +58,7 @@ pub struct Started<'a> {
 }
 
 impl<'a> Started<'a> {
-    pub fn new(rt: &(impl Runtime + AllocGlobal), header: &'a Header) -> Result<Started<'a>, Fail> {
+    pub fn new(rt: &HostRuntime, header: &'a Header) -> Result<Started<'a>, Fail> {
         Ok(Started {
             header,
             kernel: Kernel::start(rt.alloc(), header)?,
@@ -82,21 +81,12 @@ pub struct Opened {
 
 impl Opened {
     /// Of these steps of A, B and C on two cores.
-    pub fn new(
-        rt: &(impl Runtime + AllocGlobal),
-        slicing: bool,
-        steps: &[Step],
-    ) -> Result<Self, Fail> {
+    pub fn new(rt: &HostRuntime, slicing: bool, steps: &[Step]) -> Result<Self, Fail> {
         let header = three_tasks(rt.alloc(), 2, slicing)?;
         Opened::of(rt, header, Vec::from_slice(rt.alloc(), steps)?, 64)
     }
 
-    pub fn of(
-        rt: &(impl Runtime + AllocGlobal),
-        header: Header,
-        steps: Vec<Step>,
-        span: u32,
-    ) -> Result<Self, Fail> {
+    pub fn of(rt: &HostRuntime, header: Header, steps: Vec<Step>, span: u32) -> Result<Self, Fail> {
         let mut meter = Meter::new(rt);
         let store = Store::open(rt.alloc(), header, steps, span, &mut meter)?;
         Ok(Opened { store, meter })

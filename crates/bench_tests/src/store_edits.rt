@@ -4,11 +4,10 @@ use crate::samples::{
     ticks, whole,
 };
 use Reply::{Blocked, Done};
-use bench_types::{Call, Edit, EditFault, Fault, MOST_STEPS, Refusal, Reply, Step};
+use bench_types::{Call, Edit, EditFault, Fault, MAX_STEPS, Refusal, Reply, Step};
 use session_store::{Outcome, StoreFault};
 use std::alloc::{AllocError, Global};
 use std::process::Abort;
-use std::rt::Runtime;
 use std::test::Fail;
 
 const NOT_DUE: Reply = Reply::Refused(Refusal::NotDue);
@@ -45,10 +44,10 @@ struct Case<'a> {
     last: [u32; 2],
 }
 
-fn check_case(rt: &(impl Runtime + AllocGlobal + Abort), case: &Case<'_>) -> Result<(), Fail> {
-    let mut opened = Opened::new(rt, case.slicing, case.steps)?;
+fn check_case(rt: &impl Abort, host: &HostRuntime, case: &Case<'_>) -> Result<(), Fail> {
+    let mut opened = Opened::new(host, case.slicing, case.steps)?;
     assert_eq!(rt; opened.meter.count(), case.steps.len() as u64);
-    make_edits(rt, rt.alloc(), &mut opened, case.edits);
+    make_edits(rt, host.alloc(), &mut opened, case.edits);
     assert_replay(rt, &opened.store, case.replies, case.last);
     Ok(())
 }
@@ -151,7 +150,7 @@ fn replays_edited_sessions(rt: HostRuntime) -> Result<(), Fail> {
             last: [2, 3],
         },
     ] {
-        check_case(&rt, case)?;
+        check_case(&rt, &rt, case)?;
     }
     Ok(())
 }
@@ -240,7 +239,7 @@ fn an_empty_session_has_no_step_to_remove(rt: HostRuntime) -> Result<(), Fail> {
 #[test]
 fn keeps_the_most_steps_and_no_more(rt: HostRuntime) -> Result<(), Fail> {
     let header = three_tasks(rt.alloc(), 2, false)?;
-    let mut opened = Opened::of(&rt, header, ticks(rt.alloc(), MOST_STEPS)?, 64)?;
+    let mut opened = Opened::of(&rt, header, ticks(rt.alloc(), MAX_STEPS)?, 64)?;
     check_fullness(&rt, rt.alloc(), &mut opened);
     Ok(())
 }
@@ -248,15 +247,15 @@ fn keeps_the_most_steps_and_no_more(rt: HostRuntime) -> Result<(), Fail> {
 fn check_fullness(rt: &impl Abort, alloc: Global, opened: &mut Opened) {
     for (at, why) in &[
         (0, EditFault::TooLong),
-        (MOST_STEPS, EditFault::TooLong),
-        (MOST_STEPS + 1, EditFault::NoPlace),
+        (MAX_STEPS, EditFault::TooLong),
+        (MAX_STEPS + 1, EditFault::NoPlace),
         (1_000_000, EditFault::NoPlace),
     ] {
         refuse_edit(rt, alloc, opened, insert(*at, Step::Tick), *why);
     }
-    let last = MOST_STEPS - 1;
-    make_edit(rt, alloc, opened, replace(last, SWITCH_0), MOST_STEPS);
-    assert_eq!(rt; opened.store.len(), MOST_STEPS);
+    let last = MAX_STEPS - 1;
+    make_edit(rt, alloc, opened, replace(last, SWITCH_0), MAX_STEPS);
+    assert_eq!(rt; opened.store.len(), MAX_STEPS);
     assert_eq!(rt; opened.store.reply(last), Some(NOT_DUE));
 }
 

@@ -2,12 +2,11 @@
 use crate::samples::{
     A_DELAYS, Opened, SWITCH_0, assert_replay, assert_row, assert_steps, three_tasks, ticks,
 };
-use bench_types::{Call, Fault, Header, Items, MOST_STEPS, Reply, Step};
-use session_store::{MOST_SPAN, OpenFault, OpenRefusal, Store};
+use bench_types::{Call, Fault, Header, Items, MAX_SPAN, MAX_STEPS, Reply, Step};
+use session_store::{OpenFault, OpenRefusal, Store};
 use smp_kernel::Meter;
 use std::alloc::Global;
 use std::process::Abort;
-use std::rt::Runtime;
 use std::test::Fail;
 
 const STEPS: [Step; 5] = [
@@ -70,13 +69,13 @@ fn tick_at(alloc: Global, opened: &mut Opened, place: u32) -> Result<Option<u32>
 
 #[test]
 fn opens_with_each_span(rt: HostRuntime) -> Result<(), Fail> {
-    check_span(&rt, 1)?;
-    check_span(&rt, MOST_SPAN)
+    check_span(&rt, &rt, 1)?;
+    check_span(&rt, &rt, MAX_SPAN)
 }
 
-fn check_span(rt: &(impl Runtime + AllocGlobal + Abort), span: u32) -> Result<(), Fail> {
-    let header = three_tasks(rt.alloc(), 2, false)?;
-    let opened = Opened::of(rt, header, Vec::new(rt.alloc()), span)?;
+fn check_span(rt: &impl Abort, host: &HostRuntime, span: u32) -> Result<(), Fail> {
+    let header = three_tasks(host.alloc(), 2, false)?;
+    let opened = Opened::of(host, header, Vec::new(host.alloc()), span)?;
     assert_replay(rt, &opened.store, &[], [2, 3]);
     Ok(())
 }
@@ -96,7 +95,7 @@ struct Case<'a> {
 #[test]
 fn refuses_what_is_no_session(rt: HostRuntime) -> Result<(), Fail> {
     let bad = Step::Switch { core: 2 };
-    let (bad_steps, too_many) = ([Step::Tick, bad, bad], MOST_STEPS + 1);
+    let (bad_steps, too_many) = ([Step::Tick, bad, bad], MAX_STEPS + 1);
     let bad_header = OpenRefusal::Bench(Fault::BadHeader);
     let (bad_span, too_long) = (OpenRefusal::BadSpan, OpenRefusal::TooLong);
     let bad_core = OpenRefusal::Bench(Fault::BadCore);
@@ -105,7 +104,7 @@ fn refuses_what_is_no_session(rt: HostRuntime) -> Result<(), Fail> {
         (0, 0, [].as_slice(), 64, bad_header, None),
         (0, too_many, &[], 0, bad_header, None),
         (3, 0, &[], 0, bad_span, None),
-        (3, 0, &[], MOST_SPAN + 1, bad_span, None),
+        (3, 0, &[], MAX_SPAN + 1, bad_span, None),
         (3, too_many, &[], 0, bad_span, None),
         (3, too_many, &[], 64, too_long, None),
         (3, too_many, &bad_steps[1..], 64, too_long, None),

@@ -6,6 +6,7 @@ use Rattle.std.proofs.lemmas.Bool.Decides.{nat_tests}
 use Rattle.bench_types.specs.declared.header.Header.{Header}
 use Rattle.bench_types.specs.declared.kernel_data.Settings.{Settings}
 use Rattle.bench_types.specs.Header.{header_check, is_header, has_valid_config, has_valid_args, repeats_name}
+use Rattle.bench_types.specs.Limits.{max_cores, max_priorities, max_tasks, max_mutexes}
 use Rattle.bench_types.specs.Name.{is_within}
 use Rattle.bench_types.specs.Step.{core_check, task_check, mutex_check, ◌>>◌}
 
@@ -41,18 +42,18 @@ checked_mutex settings mutex passes = at (ltb mutex settings.mutexes) refl
 -- what a checked header says of its numbers and names
 pub record IsCheckedHeader (header : Header) : Type 0 where
   pub some_core : 0 < header.config.cores
-  pub few_cores : header.config.cores ≤ 8
+  pub few_cores : header.config.cores ≤ max_cores
   pub some_priority : 0 < header.config.priorities
-  pub few_priorities : header.config.priorities ≤ 32
-  pub few_mutexes : header.config.mutexes ≤ 32
-  pub few_tasks : length header.tasks ≤ 64
+  pub few_priorities : header.config.priorities ≤ max_priorities
+  pub few_mutexes : header.config.mutexes ≤ max_mutexes
+  pub few_tasks : length header.tasks ≤ max_tasks
   pub args : list_all (has_valid_args header.config) header.tasks ≡ true
   pub once : repeats_name header.tasks ≡ false
 
 pub header_facts : (header : Header) → is_header header ≡ true → IsCheckedHeader header
 header_facts header all =
     let config = has_valid_config header.config in
-    let some = is_within 1 64 (length header.tasks) in
+    let some = is_within 1 max_tasks (length header.tasks) in
     let args = list_all (has_valid_args header.config) header.tasks in
     let three = and_parts (config && some && args) (not (repeats_name header.tasks)) all in
     let two = and_parts (config && some) args three.0 in

@@ -2,6 +2,7 @@
 -- `configMAX_PRIORITIES` and the arguments of `xTaskCreateAffinitySet` (FreeRTOS SMP documentation).
 use Rattle.std.specs.Prelude.{ℕ, ◌-◌, ◌%◌, ◌^◌, List, [], ◌∷◌, ◌++◌, length, Bool, false, not, ◌&&◌, ◌||◌, nat_lt, nat_le, bytes_eq, codes, decimal, slice_index_or, Result, Ok, Err, if◌then◌else◌, ⊤}
 use Rattle.std.specs.List.{list_all, list_any}
+use Rattle.bench_types.specs.Limits.{min_cores, max_cores, max_priorities, max_tasks, max_mutexes}
 use Rattle.bench_types.specs.Name.{is_within}
 use Rattle.bench_types.specs.declared.fault.Fault.{Fault}
 use Rattle.bench_types.specs.declared.fault.Fault.TheVariants.{BadHeader}
@@ -9,9 +10,9 @@ use Rattle.bench_types.specs.declared.header.Config.{Config}
 use Rattle.bench_types.specs.declared.header.TaskArgs.{TaskArgs}
 use Rattle.bench_types.specs.declared.header.Header.{Header}
 
--- 2 to 8 cores, 1 to 32 priorities, at most 32 mutexes
+-- the numbers of cores, priorities and mutexes are within their limits
 abbrev pub has_valid_config : Config → Bool
-has_valid_config config = is_within 2 8 config.cores && is_within 1 32 config.priorities && nat_le config.mutexes 32
+has_valid_config config = is_within min_cores max_cores config.cores && is_within 1 max_priorities config.priorities && nat_le config.mutexes max_mutexes
 
 -- the bits of a core affinity mask that mean a core
 abbrev pub cores_of_mask : ℕ → ℕ → ℕ
@@ -34,9 +35,9 @@ abbrev pub repeats_name : List TaskArgs → Bool
 repeats_name [] = false
 repeats_name (task ∷ tasks) = is_taken task.name tasks || repeats_name tasks
 
--- 1 to 64 user tasks with valid arguments and distinct names under valid settings
+-- some user tasks, not too many, with valid arguments and distinct names under valid settings
 abbrev pub is_header : Header → Bool
-is_header header = has_valid_config header.config && is_within 1 64 (length header.tasks) && list_all (has_valid_args header.config) header.tasks && not (repeats_name header.tasks)
+is_header header = has_valid_config header.config && is_within 1 max_tasks (length header.tasks) && list_all (has_valid_args header.config) header.tasks && not (repeats_name header.tasks)
 
 -- F1 is the one fault of a header
 abbrev pub header_check : Header → Result ⊤ Fault

@@ -4,18 +4,19 @@ ghost use Rattle.bench_types.specs.Edit.{edit_check};
 use crate::header::allows_numbers;
 use crate::step::check_task;
 use crate::{Fault, Header, Step};
-
-/// How many steps a session has at most.
-pub const MOST_STEPS: u32 = 100_000;
+use thiserror::Error;
 
 /// Why an edit of a session is not accepted, with the code that the texts give it.
-#[derive(Clone, Copy, Debug, PartialEq, Eq, Hash)]
+#[derive(Clone, Copy, Debug, PartialEq, Eq, Hash, Error)]
 pub enum EditFault {
     /// F1 to F5: the edit does not fit the header of the session.
+    #[error(transparent)]
     Bench(Fault),
     /// J1: the session has no such place.
+    #[error("the session has no such place")]
     NoPlace,
-    /// J2: the session would have more than [`MOST_STEPS`] steps.
+    /// J2: the session would have more than [`MAX_STEPS`](crate::MAX_STEPS) steps.
+    #[error("the session would have too many steps")]
     TooLong,
 }
 

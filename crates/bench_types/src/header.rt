@@ -1,22 +1,24 @@
 ghost use Rattle.std.specs.Prelude.{◌≡◌, nat_lt, ◌<◌, ◌≤◌, ◌^◌, ◌+◌, ◌++◌, IfOk, OnOk, length, string_bytes};
 ghost use Rattle.std.specs.List.{list_all};
-ghost use Rattle.bench_types.specs.Header.{header_check, has_valid_config, has_valid_args, has_valid_numbers, cores_of_mask, is_taken, repeats_name, name_of};
+ghost use Rattle.bench_types.specs.Header.{header_check, has_valid_config, has_valid_args, has_valid_numbers, cores_of_mask as cores_in, is_taken, repeats_name, name_of};
 
-use crate::{Fault, Items, Name};
+use crate::mask::cores_of_mask;
+use crate::{Fault, Items, MAX_CORES, MAX_MUTEXES, MAX_PRIORITIES, MAX_TASKS, MIN_CORES, Name};
 use std::alloc::{AllocError, Global};
 
 /// The settings of a session.
 #[derive(Clone, Copy, Debug, PartialEq, Eq, Hash)]
 pub struct Config {
-    /// How many cores there are, 2 to 8 (`configNUMBER_OF_CORES`).
+    /// How many cores there are, [`MIN_CORES`] to [`MAX_CORES`] (`configNUMBER_OF_CORES`).
     pub cores: u32,
-    /// How many priorities there are, 1 to 32 (`configMAX_PRIORITIES`). A larger number is a higher priority.
+    /// How many priorities there are, 1 to [`MAX_PRIORITIES`] (`configMAX_PRIORITIES`). A larger number is a higher
+    /// priority.
     pub priorities: u32,
     /// Whether tasks of one priority share the cores by turns (`configUSE_TIME_SLICING`).
     pub slicing: bool,
     /// The tick count at the start, in ticks.
     pub tick: u32,
-    /// How many mutexes there are, 0 to 32.
+    /// How many mutexes there are, 0 to [`MAX_MUTEXES`].
     pub mutexes: u32,
 }
 
@@ -36,7 +38,7 @@ pub struct TaskArgs {
 #[derive(Debug, Drop)]
 pub struct Header {
     pub config: Config,
-    /// The user tasks, 1 to 64 of them, with distinct names.
+    /// The user tasks, 1 to [`MAX_TASKS`] of them, with distinct names.
     pub tasks: Items<TaskArgs>,
 }
 
@@ -62,7 +64,7 @@ impl Header {
         let tasks = self.tasks.as_slice();
         let fits = is_valid_config(&self.config)
             && 1 <= tasks.len()
-            && tasks.len() <= 64
+            && tasks.len() <= MAX_TASKS as usize
             && are_valid_args(&self.config, tasks)
             && !has_repeated_name(tasks);
         if fits { Ok(()) } else { Err(Fault::BadHeader) }
@@ -101,11 +103,11 @@ impl Header {
 fn is_valid_config(config: &Config) -> bool
     ensures { result ≡ has_valid_config config.now }
 {
-    2 <= config.cores
-        && config.cores <= 8
+    MIN_CORES <= config.cores
+        && config.cores <= MAX_CORES
         && 1 <= config.priorities
-        && config.priorities <= 32
-        && config.mutexes <= 32
+        && config.priorities <= MAX_PRIORITIES
+        && config.mutexes <= MAX_MUTEXES
 }
 
 fn are_valid_args(config: &Config, tasks: &[TaskArgs]) -> bool
@@ -127,15 +129,11 @@ pub(crate) fn allows_numbers(config: &Config, priority: u32, mask: u32) -> bool
     priority < config.priorities && allows_core(config.cores, mask)
 }
 
-/// Whether a bit of the mask means one of so many cores. A mask has no bit for a core of number 32 or more.
+/// Whether a bit of the mask means one of so many cores.
 pub(crate) fn allows_core(cores: u32, mask: u32) -> bool
-    ensures { result ≡ nat_lt 0 (cores_of_mask cores mask) }
+    ensures { result ≡ nat_lt 0 (cores_in cores mask) }
 {
-    if cores < 32 {
-        mask % (1 << cores) != 0
-    } else {
-        mask != 0
-    }
+    cores_of_mask(cores, mask) != 0
 }
 
 fn has_repeated_name(tasks: &[TaskArgs]) -> bool

@@ -1,24 +1,32 @@
 //! What a session is made of: its settings and tasks, its steps, their replies, edits of it, and the checks of their limits.
 #![tactic(auto)]
 
+mod code;
 mod edit;
 mod fault;
 mod header;
 mod items;
 mod kernel_data;
+mod limits;
+mod mask;
 mod name;
 mod note;
 mod reply;
 mod step;
 mod tally;
 
-pub use edit::{Edit, EditFault, MOST_STEPS};
+pub use edit::{Edit, EditFault};
 pub use fault::Fault;
 pub use header::{Config, Header, TaskArgs};
 pub use items::Items;
 pub use kernel_data::{
     CoreLook, Delayed, Hold, MutexWait, Settings, TaskControl, TaskLook, Waiter,
 };
+pub use limits::{
+    MAX_CORES, MAX_DEPTH, MAX_INPUT, MAX_MUTEXES, MAX_PRIORITIES, MAX_SPAN, MAX_STEPS, MAX_TASKS,
+    MIN_CORES, laws_of_limits,
+};
+pub use mask::cores_of_mask;
 pub use name::Name;
 pub use note::{Action, Note, NoteState, Notification};
 pub use reply::{Refusal, Reply, Row};

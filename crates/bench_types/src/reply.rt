@@ -1,7 +1,11 @@
+use crate::MAX_CORES;
 use arrayvec::ArrayVec;
 
 /// The current task of each core, core 0 first.
-pub type Row = ArrayVec<u32, 8>;
+pub type Row = ArrayVec<u32, ROW>;
+
+// How many cores a row has room for.
+const ROW: usize = MAX_CORES as usize;
 
 /// What a step answers.
 #[derive(Clone, Copy, Debug, PartialEq, Eq, Hash)]
@@ -41,7 +45,7 @@ pub enum Refusal {
     HoldBlock,
     /// E7: the core does not hold the kernel that it would free.
     NoHold,
-    /// E8: the core holds the kernel 255 times over already.
+    /// E8: the core holds the kernel [`MAX_DEPTH`](crate::MAX_DEPTH) times over already.
     HoldDeep,
     /// E9: another task holds the mutex that the task would give.
     NotHolder,

@@ -2,7 +2,7 @@
 use Rattle.std.proofs.Common.{◌≡◌, ℕ, ◌<◌, ◌^◌, Bool, true, false, cond, not, eqb, ◌||◌, List, [], ◌∷◌, ◌++◌, map, replicate, Option, Some, None, refl, sym, ap, subst, ◌∙◌, arith}
 use Rattle.std.specs.Prelude.{option_map}
 use Rattle.std.specs.Option.{ForSome}
-use Rattle.std.specs.List.{find, IsDistinct, AllByRecursion}
+use Rattle.std.specs.List.{find, All, IsDistinct, AllByRecursion}
 use Rattle.std.proofs.lemmas.List.{length-replicate}
 use Rattle.std.proofs.lemmas.List.Elements.{All-nil, All-replicate, recursion_from_All}
 use Rattle.std.proofs.lemmas.Option.{same_Some}
@@ -21,43 +21,44 @@ use Rattle.mutex_inherit.specs.Shape.{IsMutexShape}
 abbrev task_of : Waiter → ℕ
 task_of waiter = waiter.task
 
-abbrev part_from : ℕ → List (Option ℕ) → List Waiter → MutexPart
-part_from tasks holders waiters = record { tasks = tasks; holders = holders; waiters = waiters }
+abbrev part_from : ℕ → ℕ → List (Option ℕ) → List Waiter → MutexPart
+part_from tasks priorities holders waiters = record { tasks = tasks; priorities = priorities; holders = holders; waiters = waiters }
 
 abbrev the_none : Option ℕ
 the_none = None
 
 -- the start
-pub free_shape : (tasks mutexes places : ℕ) → mutexes < 2 ^ 32 → places ≡ tasks → IsMutexShape tasks (replicate mutexes None) [] places
+pub free_shape : (tasks priorities mutexes places : ℕ) → mutexes < 2 ^ 32 → places ≡ tasks → IsMutexShape tasks priorities (replicate mutexes None) [] places
 unfolding IsDistinct
-free_shape tasks mutexes places few room = record {
+free_shape tasks priorities mutexes places few room = record {
   few_mutexes = omega (arith, length-replicate mutexes (the_none), few);
   held_by_tasks = All-replicate (λ holder. ForSome holder (λ task. task < tasks)) mutexes None (λ task is. absurd (cc (is)));
   waiting_tasks = record { below = All-nil (λ i. i < tasks); once = tt };
+  waiting_priorities = All-nil (λ (waiter : Waiter). waiter.wait.priority < priorities);
   room = omega (arith, room);
 }
 
-pub seen_free_mutexes : (tasks mutexes : ℕ) → seen_mutexes tasks (replicate mutexes None) [] ≡ free_mutexes tasks mutexes
+pub seen_free_mutexes : (tasks priorities mutexes : ℕ) → seen_mutexes tasks priorities (replicate mutexes None) [] ≡ free_mutexes tasks priorities mutexes
 unfolding ranked
-seen_free_mutexes tasks mutexes = refl
+seen_free_mutexes tasks priorities mutexes = refl
 
 -- a waiter comes, and one goes
-pub seen_enter : (tasks : ℕ) (holders : List (Option ℕ)) (waiters : List Waiter) (waiter : Waiter) (view : MutexPart) → seen_mutexes tasks holders waiters ≡ view → seen_mutexes tasks holders (waiters ++ waiter ∷ []) ≡ record view { waiters = with_waiter waiter view.waiters }
-seen_enter tasks holders waiters waiter view shows =
-    ap (part_from tasks holders) (ranked-push waits_first waiters waiter)
-    ∙ ap (λ (v : MutexPart). part_from v.tasks v.holders (with_waiter waiter v.waiters)) shows
+pub seen_enter : (tasks priorities : ℕ) (holders : List (Option ℕ)) (waiters : List Waiter) (waiter : Waiter) (view : MutexPart) → seen_mutexes tasks priorities holders waiters ≡ view → seen_mutexes tasks priorities holders (waiters ++ waiter ∷ []) ≡ record view { waiters = with_waiter waiter view.waiters }
+seen_enter tasks priorities holders waiters waiter view shows =
+    ap (part_from tasks priorities holders) (ranked-push waits_first waiters waiter)
+    ∙ ap (λ (v : MutexPart). part_from v.tasks v.priorities v.holders (with_waiter waiter v.waiters)) shows
 
 pub map-left : (task : ℕ) (waiters : List Waiter) → map task_of (without_waiter task waiters) ≡ without task (map task_of waiters)
 map-left task waiters = sym (filter-map (λ m. not (eqb m task)) task_of waiters)
 
-pub seen_leave : (tasks : ℕ) (holders : List (Option ℕ)) (waiters : List Waiter) (task : ℕ) (view : MutexPart) → seen_mutexes tasks holders waiters ≡ view → seen_mutexes tasks holders (without_waiter task waiters) ≡ record view { waiters = without_waiter task view.waiters }
-seen_leave tasks holders waiters task view shows =
-    ap (part_from tasks holders) (sym (filter-ranked waits_first waits_first-IsRank (λ waiter. not (eqb waiter.task task)) waiters))
-    ∙ ap (λ (v : MutexPart). part_from v.tasks v.holders (without_waiter task v.waiters)) shows
+pub seen_leave : (tasks priorities : ℕ) (holders : List (Option ℕ)) (waiters : List Waiter) (task : ℕ) (view : MutexPart) → seen_mutexes tasks priorities holders waiters ≡ view → seen_mutexes tasks priorities holders (without_waiter task waiters) ≡ record view { waiters = without_waiter task view.waiters }
+seen_leave tasks priorities holders waiters task view shows =
+    ap (part_from tasks priorities holders) (sym (filter-ranked waits_first waits_first-IsRank (λ waiter. not (eqb waiter.task task)) waiters))
+    ∙ ap (λ (v : MutexPart). part_from v.tasks v.priorities v.holders (without_waiter task v.waiters)) shows
 
 -- what the task waits for
-pub seen_wait : (tasks : ℕ) (holders : List (Option ℕ)) (waiters : List Waiter) (task : ℕ) (view : MutexPart) → IsListing tasks (map task_of waiters) → seen_mutexes tasks holders waiters ≡ view → wait_of task waiters ≡ wait_of task view.waiters
-seen_wait tasks holders waiters task view listing shows =
+pub seen_wait : (tasks priorities : ℕ) (holders : List (Option ℕ)) (waiters : List Waiter) (task : ℕ) (view : MutexPart) → IsListing tasks (map task_of waiters) → seen_mutexes tasks priorities holders waiters ≡ view → wait_of task waiters ≡ wait_of task view.waiters
+seen_wait tasks priorities holders waiters task view listing shows =
     ap (option_map (λ (waiter : Waiter). waiter.wait)) (find-ranked task_of waits_first waits_first-IsRank task waiters listing.once)
     ∙ ap (λ (v : MutexPart). wait_of task v.waiters) shows
 
@@ -70,8 +71,8 @@ no_entry task (waiter ∷ waiters) none = at (eqb waiter.task task) none (no_ent
     at false others rest = rest others
 
 -- a task that is not seen to wait has no entry
-pub seen_free : (tasks : ℕ) (holders : List (Option ℕ)) (waiters : List Waiter) (task : ℕ) (view : MutexPart) → IsListing tasks (map task_of waiters) → seen_mutexes tasks holders waiters ≡ view → wait_of task view.waiters ≡ None → has task (map task_of waiters) ≡ false
-seen_free tasks holders waiters task view listing shows free = no_entry task waiters (seen_wait tasks holders waiters task view listing shows ∙ free)
+pub seen_free : (tasks priorities : ℕ) (holders : List (Option ℕ)) (waiters : List Waiter) (task : ℕ) (view : MutexPart) → IsListing tasks (map task_of waiters) → seen_mutexes tasks priorities holders waiters ≡ view → wait_of task view.waiters ≡ None → has task (map task_of waiters) ≡ false
+seen_free tasks priorities holders waiters task view listing shows free = no_entry task waiters (seen_wait tasks priorities holders waiters task view listing shows ∙ free)
 
 found : (P : Waiter → Type 0) (p : Waiter → Bool) (waiters : List Waiter) → AllByRecursion P waiters → ForSome (find p waiters) P
 found P p [] all = λ waiter is. absurd (cc (is))
@@ -82,3 +83,9 @@ pub first_below : (n mutex : ℕ) (waiters : List Waiter) → IsListing n (map t
 first_below n mutex waiters listing =
     found (λ waiter. waiter.task < n) (λ waiter. eqb waiter.wait.mutex mutex) (ranked waits_first waiters)
     (All-ranked waits_first (λ waiter. waiter.task < n) waiters (each_entry task_of (λ m. m < n) (λ m. m < n) (λ m low. low) waiters (recursion_from_All (λ i. i < n) (map task_of waiters) listing.below)))
+
+-- and it waits with a priority that there is
+pub first_priority : (priorities mutex : ℕ) (waiters : List Waiter) → All (λ waiter. waiter.wait.priority < priorities) waiters → ForSome (first_of mutex (ranked waits_first waiters)) (λ waiter. waiter.wait.priority < priorities)
+first_priority priorities mutex waiters all =
+    found (λ waiter. waiter.wait.priority < priorities) (λ waiter. eqb waiter.wait.mutex mutex) (ranked waits_first waiters)
+    (All-ranked waits_first (λ waiter. waiter.wait.priority < priorities) waiters (recursion_from_All (λ waiter. waiter.wait.priority < priorities) waiters all))

@@ -7,8 +7,9 @@ use Rattle.bench_model.specs.State.{holder_at}
 use Rattle.bench_model.specs.Lists.{waits_first}
 
 pub record MutexPart : Type 0 where
-  -- how many tasks there are
+  -- how many tasks and how many priorities there are
   pub tasks : ℕ
+  pub priorities : ℕ
   -- per mutex the task that holds it, if there is one
   pub holders : List (Option ℕ)
   -- the tasks that wait for mutexes: mutex 0 first, of one mutex the greatest waiting priority first, those of one priority in
@@ -16,12 +17,12 @@ pub record MutexPart : Type 0 where
   pub waiters : List Waiter
 
 -- what can be seen of waiters in the order in which they began to wait
-abbrev pub seen_mutexes : ℕ → List (Option ℕ) → List Waiter → MutexPart
-seen_mutexes tasks holders waiters = record { tasks = tasks; holders = holders; waiters = ranked waits_first waiters }
+abbrev pub seen_mutexes : ℕ → ℕ → List (Option ℕ) → List Waiter → MutexPart
+seen_mutexes tasks priorities holders waiters = record { tasks = tasks; priorities = priorities; holders = holders; waiters = ranked waits_first waiters }
 
 -- no task holds a mutex or waits for one
-abbrev pub free_mutexes : ℕ → ℕ → MutexPart
-free_mutexes tasks mutexes = record { tasks = tasks; holders = replicate mutexes None; waiters = [] }
+abbrev pub free_mutexes : ℕ → ℕ → ℕ → MutexPart
+free_mutexes tasks priorities mutexes = record { tasks = tasks; priorities = priorities; holders = replicate mutexes None; waiters = [] }
 
 -- the task that holds a mutex which is held
 abbrev pub holder_of : List (Option ℕ) → ℕ → ℕ

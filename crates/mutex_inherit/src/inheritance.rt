@@ -1,5 +1,6 @@
 //! Priority inheritance: how a holder takes over a priority in use, and gives it up.
-ghost use Rattle.std.specs.Prelude.{◌≡◌, ◌<◌, length};
+ghost use Rattle.std.specs.Prelude.{◌≡◌, ℕ, ◌<◌, length};
+ghost use Rattle.std.specs.Option.{ForSome};
 ghost use Rattle.bench_model.specs.Lists.{list_moves};
 ghost use Rattle.bench_model.specs.Mutexes.{is_marked, owed_to, inherited, lowered};
 ghost use Rattle.bench_model.specs.Changes.{in_use_set};
@@ -61,7 +62,8 @@ pub(crate) fn lower(cores: &mut Cores, acting: u32, task: u32, priority: u32)
 
 /// The greater of the base priority and the waiting priority of a waiter, if there is one.
 pub(crate) fn owed_to(first: Option<Waiter>, base: u32) -> u32
-    ensures { result ≡ owed_to first base }
+    ensures owed { result ≡ owed_to first base }
+    ensures below { (bound : ℕ) → base < bound → ForSome first (λ waiter. waiter.wait.priority < bound) → result < bound }
 {
     match first {
         Some(waiter) if base < waiter.wait.priority => waiter.wait.priority,

@@ -21,6 +21,7 @@ use std::marker::Model;
 #[derive(Debug, Drop)]
 pub struct Mutexes {
     tasks: u32,
+    priorities: u32,
     /// Per mutex the task that holds it.
     holders: Vec<Option<u32>>,
     /// The longer a task has been waiting, the earlier it stands here.
@@ -34,18 +35,19 @@ impl Model for Mutexes {
 
     ghost Value = { MutexPart };
 
-    ghost view = { λ part. seen_mutexes part.tasks part.holders.items part.waiters.items };
+    ghost view = { λ part. seen_mutexes part.tasks part.priorities part.holders.items part.waiters.items };
 
-    ghost invariant = { λ part. IsMutexShape part.tasks part.holders.items part.waiters.items (vec_capacity part.waiters) };
+    ghost invariant = { λ part. IsMutexShape part.tasks part.priorities part.holders.items part.waiters.items (vec_capacity part.waiters) };
 }
 
 impl Mutexes {
-    /// No mutex is held, and no task waits. There is room for so many tasks to wait.
-    pub fn new(alloc: Global, tasks: u32, mutexes: u32) -> Result<Self, AllocError>
-        ensures { IfOk result (λ part. part ≡ free_mutexes tasks mutexes) }
+    /// No mutex is held, and no task waits. There is room for so many tasks to wait, each with a priority below their number.
+    pub fn new(alloc: Global, tasks: u32, priorities: u32, mutexes: u32) -> Result<Self, AllocError>
+        ensures { IfOk result (λ part. part ≡ free_mutexes tasks priorities mutexes) }
     {
         Ok(Mutexes {
             tasks,
+            priorities,
             holders: free_holders(alloc, mutexes)?,
             waiters: Vec::with_capacity(alloc, tasks as usize)?,
         })
@@ -57,6 +59,7 @@ impl Mutexes {
     {
         Ok(Mutexes {
             tasks: self.tasks,
+            priorities: self.priorities,
             holders: Vec::from_slice(alloc, &self.holders)?,
             waiters: copy_with_room(alloc, &self.waiters, self.tasks as usize)?,
         })
@@ -66,7 +69,7 @@ impl Mutexes {
     pub fn same(&self, other: &Self) -> bool
         ensures { IsTrue result ↔ (self.now ≡ other.now) }
     {
-        self.tasks == other.tasks
+        self.has_same_sizes(other)
             && (self.has_same_holders(other) && have_same_order(&self.waiters, &other.waiters))
     }
 
@@ -88,6 +91,7 @@ impl Mutexes {
 
     /// The mutex that the task waits for; none where it waits for none.
     pub fn waits_on(&self, task: u32) -> Option<u32>
+        requires { task < self.now.tasks }
         ensures { result ≡ option_map (λ (wait : MutexWait). wait.mutex) (wait_of task self.now.waiters) }
     {
         self.wait(task).map(|wait| wait.mutex)
@@ -112,6 +116,7 @@ impl Mutexes {
     pub fn wait_on(&mut self, cores: &mut Cores, acting: u32, task: u32, mutex: u32) -> bool
         requires task { task < self.old.tasks }
         requires tasks { length cores.old.control.tasks ≡ self.old.tasks }
+        requires priorities { cores.old.priorities ≡ self.old.priorities }
         requires mutex { mutex < length self.old.holders }
         requires held { IsSome (holder_at self.old.holders mutex) }
         requires free { wait_of task self.old.waiters ≡ None }
@@ -134,7 +139,6 @@ impl Mutexes {
         requires tasks { length cores.old.control.tasks ≡ self.old.tasks }
         requires mutex { mutex < length self.old.holders }
         requires held { holder_at self.old.holders mutex ≡ Some task }
-        requires base { (task_at cores.old.control task).base < cores.old.priorities }
         ensures first { result ≡ option_map (λ (waiter : Waiter). waiter.task) (first_of mutex self.old.waiters) }
         ensures task { IfSome result (λ waiter. waiter < self.old.tasks) }
         ensures holders { self.new ≡ record self.old { holders = slice_set self.old.holders mutex None } }
@@ -151,10 +155,9 @@ impl Mutexes {
     /// what it owes to those that still wait (V11 tasks.c, vTaskPriorityDisinheritAfterTimeout).
     pub fn after_timeout(&self, cores: &mut Cores, acting: u32, task: u32, mutex: u32)
         requires tasks { length cores.old.control.tasks ≡ self.now.tasks }
+        requires priorities { cores.old.priorities ≡ self.now.priorities }
         requires mutex { mutex < length self.now.holders }
         requires held { IsSome (holder_at self.now.holders mutex) }
-        requires base { (task_at cores.old.control (holder_of self.now.holders mutex)).base < cores.old.priorities }
-        requires priority { ForSome (first_of mutex self.now.waiters) (λ waiter. waiter.wait.priority < cores.old.priorities) }
         ensures { let holder = holder_of self.now.holders mutex in cores.new ≡ (if not (holder == task) && held_by self.now.holders holder == 1 then on_cores (lowered list_moves acting holder (owed_to (first_of mutex self.now.waiters) (task_at cores.old.control holder).base)) cores.old else cores.old) }
     {
         let holder = self.holder_of(mutex);
@@ -166,9 +169,17 @@ impl Mutexes {
 
     /// The task waits for no mutex any more.
     pub fn leave(&mut self, task: u32)
+        requires { task < self.old.tasks }
         ensures { self.new ≡ record self.old { waiters = without_waiter task self.old.waiters } }
     {
         remove_waiter(&mut self.waiters, task);
+    }
+
+    // Whether the numbers of tasks and of priorities are equal.
+    fn has_same_sizes(&self, other: &Self) -> bool
+        ensures { IsTrue result ↔ ((self.now.tasks ≡ other.now.tasks) × (self.now.priorities ≡ other.now.priorities)) }
+    {
+        self.tasks == other.tasks && self.priorities == other.priorities
     }
 
     fn has_same_holders(&self, other: &Self) -> bool
@@ -204,6 +215,7 @@ impl Mutexes {
     // The task waits for the mutex with the priority.
     fn enter(&mut self, task: u32, mutex: u32, priority: u32)
         requires task { task < self.old.tasks }
+        requires priority { priority < self.old.priorities }
         requires free { wait_of task self.old.waiters ≡ None }
         ensures { self.new ≡ record self.old { waiters = with_waiter (record { task = task; wait = record { mutex = mutex; priority = priority } }) self.old.waiters } }
     {
@@ -215,6 +227,7 @@ impl Mutexes {
     fn first_waiter(&self, mutex: u32) -> Option<Waiter>
         ensures first { result ≡ first_of mutex self.now.waiters }
         ensures task { ForSome result (λ waiter. waiter.task < self.now.tasks) }
+        ensures priority { ForSome result (λ waiter. waiter.wait.priority < self.now.priorities) }
     {
         first_of(&self.waiters, mutex)
     }

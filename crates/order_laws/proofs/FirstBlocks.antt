@@ -1,8 +1,11 @@
--- The control blocks of a start: how many there are, and their priorities.
-use Rattle.std.proofs.Common.{◌≡◌, ℕ, zero, suc, ◌+◌, ◌-◌, ◌<◌, true, false, List, [], ◌∷◌, length, map, replicate, get_or, ap, ◌∙◌, arith, inl, inr}
+-- The control blocks of a start: how many there are, their priorities and their masks.
+use Rattle.std.proofs.Common.{◌≡◌, ℕ, zero, suc, ◌+◌, ◌-◌, ◌^◌, ◌<◌, true, false, List, [], ◌∷◌, length, map, replicate, get_or, sym, ap, subst, ◌∙◌, arith, inl, inr}
 use Rattle.std.specs.List.{list_all}
 use Rattle.std.proofs.lemmas.Bool.Decides.{nat_tests}
 use Rattle.std.proofs.lemmas.Bool.{cases_lt}
+use Rattle.std.proofs.lemmas.Nat.{pow_pos}
+use Rattle.std.proofs.Math.Nat.{mod-lt}
+use Rattle.std.proofs.Math.Pow.{pow-sub-lt}
 use Rattle.std.proofs.lemmas.List.{length-append, length-map, length-replicate, get_or_append_left, get_or-append_right, get_or-replicate, get_or-map}
 use Rattle.bench_types.specs.declared.header.Config.{Config}
 use Rattle.bench_types.specs.declared.header.Header.{Header}
@@ -10,8 +13,9 @@ use Rattle.bench_types.specs.declared.header.TaskArgs.{TaskArgs}
 use Rattle.bench_types.specs.declared.kernel_data.TaskControl.{TaskControl}
 use Rattle.bench_types.proofs.Passes.{IsCheckedHeader}
 use Rattle.bench_types.specs.Header.{has_valid_args}
+use Rattle.bench_types.specs.Step.{settings_of}
 use Rattle.bench_model.specs.Control.{task_at}
-use Rattle.bench_model.specs.Sound.{IsBelow}
+use Rattle.bench_model.specs.Sound.{IsControlBlock}
 use Rattle.bench_model.specs.Start.{idle_control, user_control, first_control}
 
 no_args : TaskArgs
@@ -32,13 +36,21 @@ module _ (header : Header) where
   pub first_tasks : length (first_control header).tasks ≡ cores + users
   first_tasks = omega (arith, length-append (replicate cores (idle_control cores)) (map (user_control cores) header.tasks), length-replicate cores (idle_control cores), length-map header.tasks (user_control cores))
 
-  pub first_priorities : IsCheckedHeader header → (i : ℕ) → i < cores + users → IsBelow header.config.priorities (task_at (first_control header) i)
-  first_priorities valid i low = elim (cases_lt i cores) [
+  pub first_blocks : IsCheckedHeader header → (i : ℕ) → i < cores + users → IsControlBlock (settings_of header) (task_at (first_control header) i)
+  first_blocks valid i low = elim (cases_lt i cores) [
     | inl idle ↦
         let at = get_or_append_left (replicate cores (idle_control cores)) (map (user_control cores) header.tasks) (record { base = 0; in_use = 0; mask = 0; preempt = false }) i (omega (arith, length-replicate cores (idle_control cores))) ∙ get_or-replicate cores i (idle_control cores) (record { base = 0; in_use = 0; mask = 0; preempt = false }) idle in
-        (omega (arith, ap (λ (t : TaskControl). t.in_use) at, valid.some_priority), omega (arith, ap (λ (t : TaskControl). t.base) at, valid.some_priority))
+        record {
+          in_use = omega (arith, ap (λ (t : TaskControl). t.in_use) at, valid.some_priority);
+          base = omega (arith, ap (λ (t : TaskControl). t.base) at, valid.some_priority);
+          mask = subst (λ mask. mask < 2 ^ cores) (sym (ap (λ (t : TaskControl). t.mask) at)) (pow-sub-lt cores (omega arith));
+        }
     | inr user ↦
         let at = get_or-append_right (replicate cores (idle_control cores)) (map (user_control cores) header.tasks) cores i (record { base = 0; in_use = 0; mask = 0; preempt = false }) (length-replicate cores (idle_control cores)) user ∙ get_or-map (user_control cores) header.tasks (i - cores) no_args (record { base = 0; in_use = 0; mask = 0; preempt = false }) (omega arith) in
         let limit = valid_priority header.config header.tasks valid.args (i - cores) (omega arith) in
-        (omega (arith, ap (λ (t : TaskControl). t.in_use) at, limit), omega (arith, ap (λ (t : TaskControl). t.base) at, limit))
+        record {
+          in_use = omega (arith, ap (λ (t : TaskControl). t.in_use) at, limit);
+          base = omega (arith, ap (λ (t : TaskControl). t.base) at, limit);
+          mask = subst (λ mask. mask < 2 ^ cores) (sym (ap (λ (t : TaskControl). t.mask) at)) (mod-lt (get_or header.tasks (i - cores) no_args).mask (pow_pos cores));
+        }
   ]

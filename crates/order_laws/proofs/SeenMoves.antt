@@ -198,7 +198,7 @@ due_at tick (Some at) near = grind (arith, nat_tests, near at refl)
 
 -- the tasks whose wake is now
 pub due_seen : (control : Control) (stamps : Stamps) → IsNotPast stamps → seen.due (lists_of control stamps) ≡ due stamps
-unfolding lists_of due seen.due
+unfolding lists_of due seen.due_tasks
 due_seen control stamps near =
     let waiting = standing_so waits stamps in
     let none_left = λ (e : Delayed). eqb e.left 0 in

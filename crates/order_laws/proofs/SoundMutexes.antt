@@ -1,5 +1,5 @@
 -- What is kept of mutexes where tasks are made ready, where a tick passes, and where a task waits, ends its wait, takes or gives.
-use Rattle.std.proofs.Common.{◌≡◌, ◌≢◌, ℕ, ◌+◌, ◌<◌, ◌^◌, true, cond, List, length, Option, Some, None, refl, sym, ap, subst, ◌∙◌, arith, inl, inr}
+use Rattle.std.proofs.Common.{◌≡◌, ◌≢◌, ℕ, suc, ◌+◌, ◌<◌, ◌^◌, true, cond, List, length, Option, Some, None, refl, sym, ap, subst, ◌∙◌, arith, inl, inr}
 use Rattle.std.specs.Prelude.{slice_set, is_some, option_map, IfSome}
 use Rattle.std.proofs.lemmas.Bool.{cases_eq}
 use Rattle.std.proofs.lemmas.List.{get_or-set_same, get_or-set_other}
@@ -11,7 +11,7 @@ use Rattle.bench_model.specs.declared.row.Standing.TheVariants.{Ready, Blocked}
 use Rattle.bench_model.specs.declared.row.TaskRow.{TaskRow}
 use Rattle.bench_model.specs.State.{call_at, holder_at}
 use Rattle.bench_model.specs.Table.{Stamps, row_at, wait_in, ahead, deadline_at, restamped, make_ready, delay, forget_deadline, advance}
-use Rattle.bench_model.specs.Sound.{IsWait, IsMutexWait, HasMutexes, takes_mutex}
+use Rattle.bench_model.specs.Sound.{IsMutexWait, IsMutexTime, HasMutexes, takes_mutex}
 use Rattle.order_laws.proofs.Restamps.{moved_length, row_same, row_other}
 
 -- a task that was set to stand so, and the others
@@ -78,21 +78,21 @@ from_some P None value if_some same = absurd (cc (same))
 from_some P (Some other) value if_some same = subst P (cc (same)) if_some
 
 -- the deadline of a wait that begins now
-begun_near : (tick deadline : ℕ) (ticks : Option ℕ) (wait : Option MutexWait) → IsWait ticks → cond (is_some wait) (option_map (λ ticks. tick + ticks) ticks) None ≡ Some deadline → (deadline < tick + 2 ^ 32) × (is_some wait ≡ true)
+begun_near : (tick deadline : ℕ) (ticks : Option ℕ) (wait : Option MutexWait) → (is_some wait ≡ true → IsMutexTime ticks) → cond (is_some wait) (option_map (λ ticks. tick + ticks) ticks) None ≡ Some deadline → (suc deadline < tick + 2 ^ 32) × (is_some wait ≡ true)
 begun_near tick deadline ticks None fits same = absurd (cc (same))
 begun_near tick deadline None (Some wait) fits same = absurd (cc (same))
 begun_near tick deadline (Some ticks) (Some wait) fits same =
     let at : tick + ticks ≡ deadline = cc (same) in
-    (omega (arith, at, fits.1), refl)
+    (omega (arith, at, fits refl), refl)
 
 -- a task that waits from now on
 module _ (settings : Settings) (calls : List (Option Unfinished)) (holders : List (Option ℕ)) (stamps : Stamps) (kept : HasMutexes settings calls holders stamps) (task : ℕ) (call : Unfinished) (ticks : Option ℕ) (wait : Option MutexWait) where
   abbrev later_calls : List (Option Unfinished)
   later_calls = slice_set calls task (Some call)
 
-  pub waiting_mutexes : task < length stamps.rows → task < length calls → task < length stamps.deadlines → IsWait ticks → IfSome wait (IsMutexWait settings) → (is_some wait ≡ true → takes_mutex (Some call) ≡ true) → HasMutexes settings later_calls holders (delay task ticks wait stamps)
+  pub waiting_mutexes : task < length stamps.rows → task < length calls → task < length stamps.deadlines → IfSome wait (IsMutexWait settings) → (is_some wait ≡ true → (takes_mutex (Some call) ≡ true) × IsMutexTime ticks) → HasMutexes settings later_calls holders (delay task ticks wait stamps)
   unfolding delay
-  waiting_mutexes below in_calls in_deadlines fits there takes = record {
+  waiting_mutexes below in_calls in_deadlines there takes = record {
     held_by_tasks = kept.held_by_tasks;
     waits = λ i wanted low has. elim (cases_eq i task) [
       | inl here ↦ from_some (IsMutexWait settings) wait wanted there (ap wait_in (sym (standing_same stamps task standing below)) ∙ ap (λ j. wait_in (row_at moved j).standing) (sym here) ∙ has)
@@ -100,8 +100,8 @@ module _ (settings : Settings) (calls : List (Option Unfinished)) (holders : Lis
     ];
     deadlines = λ i deadline has. elim (cases_eq i task) [
       | inl here ↦
-          let near = begun_near stamps.tick deadline ticks wait fits (sym (get_or-set_same stamps.deadlines task ends None in_deadlines) ∙ ap (deadline_at (delay task ticks wait stamps)) (sym here) ∙ has) in
-          (near.0, ap takes_mutex (ap (call_at later_calls) here ∙ get_or-set_same calls task (Some call) None in_calls) ∙ takes near.1)
+          let near = begun_near stamps.tick deadline ticks wait (λ is. (takes is).1) (sym (get_or-set_same stamps.deadlines task ends None in_deadlines) ∙ ap (deadline_at (delay task ticks wait stamps)) (sym here) ∙ has) in
+          (near.0, ap takes_mutex (ap (call_at later_calls) here ∙ get_or-set_same calls task (Some call) None in_calls) ∙ (takes near.1).0)
       | inr away ↦
           let near = kept.deadlines i deadline (sym (get_or-set_other stamps.deadlines task i ends None away) ∙ has) in
           (near.0, ap takes_mutex (get_or-set_other calls task i (Some call) None away) ∙ near.1)

@@ -18,7 +18,7 @@ use Rattle.list_orders.specs.Search.{numbers, has}
 use Rattle.bench_model.specs.Control.{Control, core_at, task_at, with_core, current, is_due, may_select, asked_by, ask, run_on}
 use Rattle.bench_model.specs.State.{selected, call_at, switched, yielded, blocked}
 use Rattle.bench_model.specs.Table.{Stamps, Table, table_moves, row_at, stamp_of, is_ready, stands_ready, wake_in, ahead, wakes_at, tasks_of, restamped, pick, make_ready, delay, advance, due}
-use Rattle.bench_model.specs.Sound.{IsCaller, IsStamped, IsPlaced, IsWait, IsMutexWait, WakesInTime, IsBelow, HasMutexes, IsConsistent, takes_mutex}
+use Rattle.bench_model.specs.Sound.{IsCaller, IsStamped, IsPlaced, IsWait, IsMutexWait, IsMutexTime, WakesInTime, IsControlBlock, HasMutexes, IsConsistent, takes_mutex}
 use Rattle.list_orders.proofs.Filters.{All-weaker}
 use Rattle.list_orders.proofs.Stamped.{numbers_have, has-by_stamp}
 use Rattle.order_laws.proofs.Restamps.{moved_length, moved_once}
@@ -144,7 +144,7 @@ ready_sound table task sound low =
       stamped = make_ready_once table.orders task sound.stamped below;
       in_place = make_ready_placed table.control table.orders task below sound.in_place;
       in_time = make_ready_in_time table.orders task below sound.in_time;
-      priorities = sound.priorities;
+      blocks = sound.blocks;
       calls = sound.calls;
       notes = sound.notes;
       mutexes = readied_mutexes table.settings table.calls table.holders table.orders sound.mutexes task below;
@@ -211,7 +211,7 @@ switched_sound core table sound below =
       stamped = queued_once table.orders left sound.stamped low;
       in_place = subst (λ task. IsPlaced (run_on core task control) orders) (sym now) (run_placed control core found.0 orders place below found.2 found.3 found.4);
       in_time = queued_in_time table.orders left low sound.in_time;
-      priorities = sound.priorities;
+      blocks = sound.blocks;
       calls = sound.calls;
       notes = sound.notes;
       mutexes = queued_mutexes table left low sound.mutexes;
@@ -320,7 +320,7 @@ readied_sound table sound =
       stamped = readied_stamped (due later) later low (advanced_stamped table.orders sound.stamped);
       in_place = readied_placed table.control (due later) later low (advanced_placed table.control table.orders sound.in_place);
       in_time = still_in_time table.orders sound.stamped sound.in_time;
-      priorities = sound.priorities;
+      blocks = sound.blocks;
       calls = sound.calls;
       notes = sound.notes;
       mutexes = all_readied_mutexes table (due later) later low (advanced_mutexes table.settings table.calls table.holders table.orders sound.mutexes);
@@ -361,7 +361,7 @@ more_sound table other more sound = record {
   stamped = sound.stamped;
   in_place = more_placed table.control other table.orders more sound.in_place;
   in_time = sound.in_time;
-  priorities = λ i low. subst (λ (tasks : List TaskControl). IsBelow table.settings.priorities (task_at (record { cores = other.cores; tasks = tasks }) i)) (sym more.tasks) (sound.priorities i low);
+  blocks = λ i low. subst (λ (tasks : List TaskControl). IsControlBlock table.settings (task_at (record { cores = other.cores; tasks = tasks }) i)) (sym more.tasks) (sound.blocks i low);
   calls = sound.calls;
   notes = sound.notes;
   mutexes = sound.mutexes;
@@ -472,7 +472,7 @@ module _ (stamps : Stamps) (task : ℕ) (ticks : Option ℕ) (wait : Option Mute
       let moved = waiting_placed control core core low stamps task (waiting_for stamps ticks wait) below here user place in
       record { is_task = moved.is_task; on_one_core = moved.on_one_core; blocked_is_due = moved.blocked_is_due; idle_is_ready = moved.idle_is_ready }
 
-pub blocked_sound : (core task : ℕ) (call : Unfinished) (ticks : Option ℕ) (wait : Option MutexWait) (table : Table) → IsConsistent table → IsCaller table core task → IsCheckedUnfinished table.settings call → length table.control.cores ≤ task → IsWait ticks → IfSome wait (IsMutexWait table.settings) → (is_some wait ≡ true → takes_mutex (Some call) ≡ true) → IsConsistent (blocked table_moves core task call ticks wait table)
+pub blocked_sound : (core task : ℕ) (call : Unfinished) (ticks : Option ℕ) (wait : Option MutexWait) (table : Table) → IsConsistent table → IsCaller table core task → IsCheckedUnfinished table.settings call → length table.control.cores ≤ task → IsWait ticks → IfSome wait (IsMutexWait table.settings) → (is_some wait ≡ true → (takes_mutex (Some call) ≡ true) × IsMutexTime ticks) → IsConsistent (blocked table_moves core task call ticks wait table)
 unfolding blocked
 blocked_sound core task call ticks wait table sound place checked user fits there takes =
     let low : task < table.settings.tasks = omega (arith, sound.sized.rows, place.2) in
@@ -492,10 +492,10 @@ blocked_sound core task call ticks wait table sound place checked user fits ther
       stamped = delayed_stamped table.orders task ticks wait place.2 sound.stamped;
       in_place = delayed_placed table.orders task ticks wait place.2 table.control core place.0 place.1 user sound.in_place;
       in_time = delayed_in_time table.orders task ticks wait place.2 fits sound.in_time;
-      priorities = sound.priorities;
+      blocks = sound.blocks;
       calls = call_set table.settings table.calls task (Some call) in_calls (λ other same. subst (IsCheckedUnfinished table.settings) (call_of call other same) checked) sound.calls;
       notes = sound.notes;
-      mutexes = waiting_mutexes table.settings table.calls table.holders table.orders sound.mutexes task call ticks wait place.2 in_calls (omega (arith, sound.sized.deadlines, low)) fits there takes;
+      mutexes = waiting_mutexes table.settings table.calls table.holders table.orders sound.mutexes task call ticks wait place.2 in_calls (omega (arith, sound.sized.deadlines, low)) there takes;
     }
   where
     call_of : (one other : Unfinished) → Some one ≡ Some other → one ≡ other

@@ -1,8 +1,38 @@
 //! Delays of tasks, and the parts of the rule of a delay until a tick count.
+ghost use Rattle.std.specs.Prelude.{◌≡◌, ◌<◌, [], false, MatchOption, ⊤};
+ghost use Rattle.bench_model.specs.Lists.{due_tasks};
+ghost use Rattle.tick_delay.specs.Parts.{is_waiting};
 
 use bench_model::until::{is_ahead, next_wake};
 use std::test::Fail;
 use tick_delay::Delays;
+
+#[tactic(auto, unfolding(tick_delay::specs::Parts::advanced))]
+fn advance(delays: &mut Delays)
+    requires { due_tasks delays.old.delayed ≡ [] }
+    ensures { delays.new.tasks ≡ delays.old.tasks }
+{
+    delays.advance();
+}
+
+fn pop_due(delays: &mut Delays) -> Option<u32>
+    ensures tasks { delays.new.tasks ≡ delays.old.tasks }
+    ensures none { MatchOption result (due_tasks delays.new.delayed ≡ []) (λ _. ⊤) }
+{
+    match delays.pop_due() {
+        Some(task) => Some(task),
+        None => None,
+    }
+}
+
+#[tactic(auto, unfolding(tick_delay::specs::Parts::until_delayed))]
+fn delay_until(delays: &mut Delays, task: u32, prev: u32, inc: u32) -> (bool, u32)
+    requires task { task < delays.old.tasks }
+    requires free { is_waiting task delays.old.delayed ≡ false }
+    ensures { delays.new.tasks ≡ delays.old.tasks }
+{
+    delays.delay_until(task, prev, inc)
+}
 
 #[test]
 fn delays(rt: HostRuntime) -> Result<(), Fail> {
@@ -10,13 +40,13 @@ fn delays(rt: HostRuntime) -> Result<(), Fail> {
     delays.delay(0, 1);
     let copy = delays.copy(rt.alloc())?;
     assert!(&rt; copy.same(&delays));
-    let due = delays.pop_due();
+    let due = pop_due(&mut delays);
     assert!(&rt; due.is_none());
-    delays.advance();
+    advance(&mut delays);
     assert_eq!(&rt; delays.tick(), 0);
     assert_eq!(&rt; delays.left(0), Some(0));
     assert!(&rt; !copy.same(&delays));
-    assert_eq!(&rt; delays.pop_due(), Some(0));
+    assert_eq!(&rt; pop_due(&mut delays), Some(0));
     assert_eq!(&rt; delays.left(0), None);
     Ok(())
 }
@@ -26,7 +56,7 @@ fn delays_until_a_tick_count(rt: HostRuntime) -> Result<(), Fail> {
     assert_eq!(&rt; next_wake(4_294_967_290, 10), 4);
     assert!(&rt; is_ahead(3, 4_294_967_290, 4) && !is_ahead(4, 4_294_967_290, 4));
     let mut delays = Delays::new(rt.alloc(), 3, 1)?;
-    assert_eq!(&rt; delays.delay_until(0, 4_294_967_290, 10), (true, 4));
+    assert_eq!(&rt; delay_until(&mut delays, 0, 4_294_967_290, 10), (true, 4));
     assert_eq!(&rt; delays.left(0), Some(1));
     delays.cancel(0);
     assert_eq!(&rt; delays.left(0), None);

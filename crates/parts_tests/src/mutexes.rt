@@ -1,5 +1,5 @@
 //! Mutexes, and the priorities that their holders inherit.
-ghost use Rattle.std.specs.Prelude.{◌≡◌, [], length, IsTrue};
+ghost use Rattle.std.specs.Prelude.{◌≡◌, length, IsTrue};
 
 use crate::started::started;
 use mutex_inherit::Mutexes;
@@ -13,14 +13,22 @@ fn has_four_tasks(cores: &Cores) -> bool
     cores.has_task(3) && !cores.has_task(4)
 }
 
+fn has_five_priorities(cores: &Cores) -> bool
+    ensures { IsTrue result → cores.now.priorities ≡ 5 }
+{
+    cores.has_priority(4) && !cores.has_priority(5)
+}
+
 // Task 3 waits for mutex 0. Answers the mark.
 fn wait(rt: &impl Abort, cores: &mut Cores, mutexes: &mut Mutexes) -> bool
     requires tasks { mutexes.old.tasks ≡ 4 }
+    requires priorities { mutexes.old.priorities ≡ 5 }
     requires mutexes { length mutexes.old.holders ≡ 2 }
     ensures tasks { mutexes.new.tasks ≡ 4 }
     ensures mutexes { length mutexes.new.holders ≡ 2 }
 {
     assert!(rt; has_four_tasks(cores));
+    assert!(rt; has_five_priorities(cores));
     let is_held = mutexes.holder(0).is_some();
     assert!(rt; is_held);
     let is_free = mutexes.waits_on(3).is_none();
@@ -32,26 +40,24 @@ fn wait(rt: &impl Abort, cores: &mut Cores, mutexes: &mut Mutexes) -> bool
 fn give(rt: &impl Abort, cores: &mut Cores, mutexes: &mut Mutexes) -> Option<u32>
     requires tasks { mutexes.old.tasks ≡ 4 }
     requires mutexes { length mutexes.old.holders ≡ 2 }
+    ensures { mutexes.new.tasks ≡ 4 }
 {
     assert!(rt; has_four_tasks(cores));
     let is_holder = mutexes.holder(0) == Some(2);
     assert!(rt; is_holder);
-    let has_base = cores.has_priority(cores.base(2));
-    assert!(rt; has_base);
     mutexes.give(cores, 1, 2, 0)
 }
 
 // The wait of task 3 for mutex 0 has ended in vain, and no other task waits.
 fn time_out(rt: &impl Abort, cores: &mut Cores, mutexes: &Mutexes)
     requires tasks { mutexes.now.tasks ≡ 4 }
+    requires priorities { mutexes.now.priorities ≡ 5 }
     requires mutexes { length mutexes.now.holders ≡ 2 }
-    requires waiters { mutexes.now.waiters ≡ [] }
 {
     assert!(rt; has_four_tasks(cores));
+    assert!(rt; has_five_priorities(cores));
     let is_holder = mutexes.holder(0) == Some(2);
     assert!(rt; is_holder);
-    let has_base = cores.has_priority(cores.base(2));
-    assert!(rt; has_base);
     mutexes.after_timeout(cores, 0, 3, 0);
 }
 
@@ -63,7 +69,7 @@ fn in_use(rt: &impl Abort, cores: &Cores) -> u32 {
 #[test]
 fn holder_inherits(rt: HostRuntime) -> Result<(), Fail> {
     let mut cores = started(&rt, rt.alloc(), false, &[(1, 3), (3, 3)])?;
-    let mut mutexes = Mutexes::new(rt.alloc(), 4, 2)?;
+    let mut mutexes = Mutexes::new(rt.alloc(), 4, 5, 2)?;
     assert_eq!(&rt; mutexes.holder(0), None);
     assert!(&rt; mutexes.try_take(2, 0));
     assert_eq!(&rt; mutexes.held(2), 1);
@@ -83,7 +89,7 @@ fn holder_inherits(rt: HostRuntime) -> Result<(), Fail> {
 #[test]
 fn holder_is_lowered(rt: HostRuntime) -> Result<(), Fail> {
     let mut cores = started(&rt, rt.alloc(), false, &[(1, 3), (3, 3)])?;
-    let mut mutexes = Mutexes::new(rt.alloc(), 4, 2)?;
+    let mut mutexes = Mutexes::new(rt.alloc(), 4, 5, 2)?;
     assert!(&rt; mutexes.try_take(2, 0));
     assert!(&rt; cores.has_task(2));
     assert!(&rt; cores.has_priority(3));

@@ -26,6 +26,27 @@ fn set_preempt(rt: &impl Abort, cores: &mut Cores, task: u32, on: bool) {
     cores.set_preempt(task, on);
 }
 
+fn set_base(rt: &impl Abort, cores: &mut Cores, task: u32, priority: u32) {
+    assert!(rt; cores.has_task(task));
+    assert!(rt; cores.has_priority(priority));
+    cores.set_base(task, priority);
+}
+
+fn unready(rt: &impl Abort, cores: &mut Cores, task: u32) {
+    assert!(rt; cores.has_task(task));
+    cores.unready(task);
+}
+
+fn is_ready(rt: &impl Abort, cores: &Cores, task: u32) -> bool {
+    assert!(rt; cores.has_task(task));
+    cores.ready(task)
+}
+
+fn ask_its_core(rt: &impl Abort, cores: &mut Cores, acting: u32, task: u32) {
+    assert!(rt; cores.has_task(task));
+    cores.ask_its_core(acting, task);
+}
+
 // A core's task, and whether it asked itself or was asked.
 type Look = (u32, bool, bool);
 
@@ -58,8 +79,8 @@ fn start(rt: HostRuntime) -> Result<(), Fail> {
 #[test]
 fn woken_task_is_sought_a_core(rt: HostRuntime) -> Result<(), Fail> {
     let mut cores = started(&rt, rt.alloc(), false, &[(2, 3), (1, 3), (1, 3)])?;
-    cores.unready(2);
-    assert!(&rt; !cores.ready(2));
+    unready(&rt, &mut cores, 2);
+    assert!(&rt; !is_ready(&rt, &cores, 2));
     select(&rt, &mut cores, 0);
     expect(&rt, &cores, (4, false, false), (3, false, false));
     let mut other = cores.copy(rt.alloc())?;
@@ -76,7 +97,7 @@ fn woken_task_is_sought_a_core(rt: HostRuntime) -> Result<(), Fail> {
 #[test]
 fn idle_is_below_priority_0(rt: HostRuntime) -> Result<(), Fail> {
     let mut cores = started(&rt, rt.alloc(), false, &[(0, 3), (1, 3)])?;
-    cores.unready(3);
+    unready(&rt, &mut cores, 3);
     select(&rt, &mut cores, 0);
     expect(&rt, &cores, (0, false, false), (2, false, false));
     make_ready(&rt, &mut cores, 3);
@@ -102,7 +123,7 @@ fn yields_for_a_task_among_cores(rt: HostRuntime) -> Result<(), Fail> {
 #[test]
 fn displaced_task_finds_another_core(rt: HostRuntime) -> Result<(), Fail> {
     let mut cores = started(&rt, rt.alloc(), false, &[(3, 1), (2, 1), (1, 3)])?;
-    cores.unready(2);
+    unready(&rt, &mut cores, 2);
     select(&rt, &mut cores, 0);
     set_mask(&rt, &mut cores, 3, 0xFFFF_FFFF);
     assert!(&rt; cores.has_task(3));
@@ -136,8 +157,7 @@ fn priority_in_use(rt: HostRuntime) -> Result<(), Fail> {
     set_in_use(&rt, &mut cores, 4, 1);
     select(&rt, &mut cores, 0);
     assert_eq!(&rt; look(&rt, &cores, 0), (5, false, false));
-    assert!(&rt; cores.has_task(4));
-    cores.set_base(4, 3);
+    set_base(&rt, &mut cores, 4, 3);
     set_in_use(&rt, &mut cores, 4, 3);
     assert!(&rt; cores.has_task(4));
     assert_eq!(&rt; (cores.base(4), cores.in_use(4)), (3, 3));
@@ -150,14 +170,14 @@ fn priority_in_use(rt: HostRuntime) -> Result<(), Fail> {
 fn core_of_a_running_task_is_asked(rt: HostRuntime) -> Result<(), Fail> {
     let mut cores = started(&rt, rt.alloc(), false, &[(2, 3), (1, 3), (1, 3)])?;
     // It runs on none.
-    cores.ask_its_core(0, 4);
+    ask_its_core(&rt, &mut cores, 0, 4);
     expect(&rt, &cores, (2, false, false), (3, false, false));
-    cores.ask_its_core(0, 3);
+    ask_its_core(&rt, &mut cores, 0, 3);
     expect(&rt, &cores, (2, false, false), (3, false, true));
     // A core that another asked is asked no more.
-    cores.ask_its_core(1, 3);
+    ask_its_core(&rt, &mut cores, 1, 3);
     expect(&rt, &cores, (2, false, false), (3, false, true));
-    cores.ask_its_core(0, 2);
+    ask_its_core(&rt, &mut cores, 0, 2);
     expect(&rt, &cores, (2, true, false), (3, false, true));
     Ok(())
 }

@@ -3,7 +3,6 @@ use crate::devices::Sink;
 use bench_commands::{Counted, Ending, Mode, Request, carry_out, request_of};
 use std::alloc::{AllocError, Global};
 use std::process::Abort;
-use std::rt::Runtime;
 use std::test::Fail;
 
 /// Command lines, and what each asks for: a replay with this span, help that begins so, or nothing
@@ -92,12 +91,16 @@ fn ends(ending: &Ending, output: &[u8], wanted: &Wanted<'_>) -> bool {
 }
 
 /// The input is empty, so that a replay is refused.
-fn check_words(rt: &(impl Runtime + AllocGlobal + Abort), words: &[&str], wanted: &Wanted<'_>) {
-    assert_eq!(rt; span_asked(rt.alloc(), words), Ok(wanted.span), "{words:?}");
+fn check_words(rt: &impl Abort, host: &HostRuntime, words: &[&str], wanted: &Wanted<'_>) {
+    assert_eq!(rt;
+        span_asked(host.alloc(), words),
+        Ok(wanted.span),
+        "{words:?}"
+    );
     let mut sink = Sink::wide();
     let mut reader = Counted::new("".as_bytes());
     let mut writer = Counted::new(&mut sink);
-    let ending = carry_out(rt, rt.alloc(), Some(words), &mut reader, &mut writer);
+    let ending = carry_out(host, host.alloc(), Some(words), &mut reader, &mut writer);
     assert!(rt;
         ends(&ending, sink.taken(), wanted),
         "{words:?}: {ending:?}"
@@ -105,12 +108,13 @@ fn check_words(rt: &(impl Runtime + AllocGlobal + Abort), words: &[&str], wanted
 }
 
 fn check_line(
-    rt: &(impl Runtime + AllocGlobal + Abort),
+    rt: &impl Abort,
+    host: &HostRuntime,
     line: &str,
     wanted: &Wanted<'_>,
 ) -> Result<(), AllocError> {
-    let words: Vec<&str> = line.split(' ').collect(rt.alloc())?;
-    check_words(rt, words.as_slice(), wanted);
+    let words: Vec<&str> = line.split(' ').collect(host.alloc())?;
+    check_words(rt, host, words.as_slice(), wanted);
     Ok(())
 }
 
@@ -136,7 +140,7 @@ fn wanted_of(asked: &str) -> Wanted<'_> {
 fn command_lines(rt: HostRuntime) -> Result<(), Fail> {
     for row in COMMAND_LINES.lines() {
         let (line, asked) = row.split_once(" => ").unwrap_or((row, ""));
-        check_line(&rt, line, &wanted_of(asked))?;
+        check_line(&rt, &rt, line, &wanted_of(asked))?;
     }
     Ok(())
 }

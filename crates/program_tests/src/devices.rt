@@ -1,8 +1,6 @@
 //! Devices that give or take little, fail, or have little room, and a run over two devices.
 use bench_commands::{Counted, CountedRead, CountedWrite, DEFAULT_SPAN, Mode, Status, run};
-use std::alloc::Global;
 use std::io::{self, Read, Write};
-use std::rt::Runtime;
 
 const MOST_OUTPUT: usize = 4096;
 
@@ -81,14 +79,13 @@ impl Write for Sink {
 
 /// A replay with the usual span: how it ends, and how many reads and writes failed.
 pub(crate) fn ran<R: Read, W: Write>(
-    rt: &impl Runtime,
-    alloc: Global,
+    rt: &HostRuntime,
     reader: &mut R,
     writer: &mut W,
 ) -> (Status, u64, u64) {
     let mut reader = Counted::new(reader);
     let mut writer = Counted::new(writer);
     let mode = Mode::Replay { span: DEFAULT_SPAN };
-    let status = run(rt, alloc, &mut reader, &mut writer, &mode);
+    let status = run(rt, rt.alloc(), &mut reader, &mut writer, &mode);
     (status, reader.failures(), writer.failures())
 }

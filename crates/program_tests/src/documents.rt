@@ -1,11 +1,10 @@
 //! Runs over documents: what each writes, and whether it is refused.
 use crate::devices::{Sink, ran};
-use bench_commands::{MOST_INPUT, Status};
-use bench_types::MOST_STEPS;
+use bench_commands::Status;
+use bench_types::{MAX_INPUT, MAX_STEPS};
 use std::alloc::{AllocError, Global};
 use std::io::{self, Read};
 use std::process::Abort;
-use std::rt::Runtime;
 use std::test::Fail;
 
 /// The members of a header that stand for `$ABC` in a document.
@@ -304,18 +303,14 @@ const BAD_EDIT: &str = r#"{"edit":"insert","at":0,"step":{"do":"switch","core":2
 
 /// Asks that a run over this input writes this output, and ends by its status as refused where
 /// the output says so.
-fn expect<R: Read>(rt: &(impl Runtime + Abort), alloc: Global, reader: &mut R, output: &str) {
+fn expect<R: Read>(rt: &impl Abort, host: &HostRuntime, reader: &mut R, output: &str) {
     let mut sink = Sink::wide();
     let status = if output.starts_with("refused") {
         Status::Refused
     } else {
         Status::Fine
     };
-    assert_eq!(rt;
-        ran(rt, alloc, reader, &mut sink),
-        (status, 0, 0),
-        "{output}"
-    );
+    assert_eq!(rt; ran(host, reader, &mut sink), (status, 0, 0), "{output}");
     assert_eq!(rt; sink.taken(), output.as_bytes(), "{output}");
 }
 
@@ -325,23 +320,20 @@ fn filled(alloc: Global, text: &str) -> Result<String, AllocError> {
     text.as_str().replace(alloc, "$FIRST", FIRST)
 }
 
-fn check_documents(
-    rt: &(impl Runtime + AllocGlobal + Abort),
-    documents: &str,
-) -> Result<(), AllocError> {
+fn check_documents(rt: &impl Abort, host: &HostRuntime, documents: &str) -> Result<(), AllocError> {
     for document in documents.split("==\n") {
         let (text, output) = document.split_once("\n=>\n").unwrap_or((document, ""));
-        let input = filled(rt.alloc(), text)?;
-        expect(rt, rt.alloc(), &mut input.as_bytes(), output);
+        let input = filled(host.alloc(), text)?;
+        expect(rt, host, &mut input.as_bytes(), output);
     }
     Ok(())
 }
 
 #[test]
 fn documents(rt: HostRuntime) -> Result<(), Fail> {
-    check_documents(&rt, SESSIONS)?;
-    check_documents(&rt, BENCHES)?;
-    check_documents(&rt, TEXTS)?;
+    check_documents(&rt, &rt, SESSIONS)?;
+    check_documents(&rt, &rt, BENCHES)?;
+    check_documents(&rt, &rt, TEXTS)?;
     Ok(())
 }
 
@@ -360,7 +352,7 @@ fn many_steps(rt: HostRuntime) -> Result<(), Fail> {
     held.push_str("255 refused E8 A B\n")?;
     let tick = r#"{"do":"tick"}"#;
     let hold = r#"{"do":"hold_open","core":0,"by":"A"}"#;
-    let most = MOST_STEPS as usize;
+    let most = MAX_STEPS as usize;
     let table = [
         (most, tick, "", "refused J2\n"),
         (most, tick, BAD_EDIT, "refused F2 edits[0]\n"),
@@ -368,21 +360,21 @@ fn many_steps(rt: HostRuntime) -> Result<(), Fail> {
     ];
     for (times, step, edits, output) in &table {
         let input = repeated(rt.alloc(), *times, step, edits)?;
-        expect(&rt, rt.alloc(), &mut input.as_bytes(), output);
+        expect(&rt, &rt, &mut input.as_bytes(), output);
     }
     Ok(())
 }
 
 #[test]
 fn long_inputs(rt: HostRuntime) -> Result<(), Fail> {
-    let most = MOST_INPUT as u64;
+    let most = MAX_INPUT as u64;
     let table = [
         (most, "refused H1\n"),
         (most + 1, "refused H3\n"),
         (u64::MAX, "refused H3\n"),
     ];
     for (count, output) in &table {
-        expect(&rt, rt.alloc(), &mut io::repeat(b' ').take(*count), output);
+        expect(&rt, &rt, &mut io::repeat(b' ').take(*count), output);
     }
     Ok(())
 }

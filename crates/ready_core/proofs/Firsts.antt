@@ -14,7 +14,7 @@ use Rattle.bench_model.specs.Start.{first_look, first_control, first_lists, unst
 use Rattle.bench_model.specs.Cores.{cores_of}
 use Rattle.list_orders.proofs.Filters.{list_any-append}
 use Rattle.list_orders.proofs.Stamped.{numbers_below, range_parts}
-use Rattle.order_laws.proofs.FirstBlocks.{first_tasks, first_priorities}
+use Rattle.order_laws.proofs.FirstBlocks.{first_tasks, first_blocks}
 use Rattle.ready_core.specs.Fields.{seen_of}
 use Rattle.list_orders.specs.Listings.{IsListing}
 use Rattle.ready_core.specs.Shape.{IsShape}
@@ -67,7 +67,8 @@ first_shape header places limits room =
     record {
       few_cores = omega (arith, limits.few_cores, length-map (numbers cores) first_look, length-range_with_len 0 cores);
       running = All-map (λ (core : CoreLook). core.current < length (first_control header).tasks) first_look (numbers cores) (All-weaker (λ i. i < cores) (λ i. i < length (first_control header).tasks) (λ i h. omega (arith, h, controls)) (numbers cores) (All-from_recursion (λ i. i < cores) (numbers cores) (numbers_below cores)));
-      in_use = All-from_get_or (λ (task : TaskControl). task.in_use < header.config.priorities) (first_control header).tasks (record { base = 0; in_use = 0; mask = 0; preempt = false }) (λ i low. (first_priorities header limits i (omega (arith, controls, low))).0);
+      in_use = All-from_get_or (λ (task : TaskControl). task.in_use < header.config.priorities) (first_control header).tasks (record { base = 0; in_use = 0; mask = 0; preempt = false }) (λ i low. (first_blocks header limits i (omega (arith, controls, low))).in_use);
+      base = All-from_get_or (λ (task : TaskControl). task.base < header.config.priorities) (first_control header).tasks (record { base = 0; in_use = 0; mask = 0; preempt = false }) (λ i low. (first_blocks header limits i (omega (arith, controls, low))).base);
       ready = subst (λ n. IsListing n (first_ready header)) (sym controls) (first_listing cores (length header.tasks));
       room = omega (arith, controls, room);
     }

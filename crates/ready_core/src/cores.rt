@@ -1,6 +1,7 @@
 ghost use Rattle.std.specs.Prelude.{◌≡◌, ℕ, ◌↔◌, ◌<◌, ◌≤◌, ◌==◌, ◌&&◌, nat_lt, if◌then◌else◌, length, true, not, find, unwrap_or, IsTrue, IfOk, IfSome, Ok};
 ghost use Rattle.std.specs.Option.{ForSome};
 ghost use Rattle.bench_types.specs.Header.{header_check};
+ghost use Rattle.bench_types.specs.Limits.{max_cores};
 ghost use Rattle.list_orders.specs.Search.{placed, without, has};
 ghost use Rattle.bench_model.specs.Control.{core_at, task_at, current, is_idle, is_elsewhere, may_select, ask, run_on};
 ghost use Rattle.bench_model.specs.State.{switched};
@@ -13,9 +14,9 @@ ghost use Rattle.bench_model.specs.Cores.{cores_of, alone, on_cores, has_core};
 ghost use Rattle.list_orders.specs.Scans.{better_of};
 ghost use Rattle.ready_core.specs.Fields.{may_be_asked, stays_asked};
 
-use crate::first::{cut_mask, first_controls, first_looks, first_queue};
+use crate::first::{first_controls, first_looks, first_queue};
 use crate::ready_list::{copy_with_room, has_company, have_same_lists, remove_task, requeue};
-use bench_types::{CoreLook, Header, TaskControl};
+use bench_types::{CoreLook, Header, TaskControl, cores_of_mask};
 use std::alloc::{AllocError, Global};
 use std::marker::Model;
 use std::ops::Range;
@@ -126,7 +127,8 @@ impl Cores {
     /// The base priority of the task.
     pub fn base(&self, task: u32) -> u32
         requires { task < length self.now.control.tasks }
-        ensures { result ≡ (task_at self.now.control task).base }
+        ensures base { result ≡ (task_at self.now.control task).base }
+        ensures below { result < self.now.priorities }
     {
         self.control(task).base
     }
@@ -158,6 +160,7 @@ impl Cores {
 
     /// Whether the task is in a ready list.
     pub fn ready(&self, task: u32) -> bool
+        requires { task < length self.now.control.tasks }
         ensures { result ≡ has task self.now.ready }
     {
         self.ready.contains(&task)
@@ -178,6 +181,7 @@ impl Cores {
     /// The core that the task runs on is asked, if there is one.
     #[tactic(auto, unfolding(bench_model::specs::Sets::ask_its_core))]
     pub fn ask_its_core(&mut self, acting: u32, task: u32)
+        requires { task < length self.old.control.tasks }
         ensures { self.new ≡ record self.old { control = ask_its_core acting task self.old.control } }
     {
         if let Some(core) = self.its_core(task) {
@@ -206,6 +210,7 @@ impl Cores {
 
     /// The task leaves the ready lists. No flag of a core changes.
     pub fn unready(&mut self, task: u32)
+        requires { task < length self.old.control.tasks }
         ensures { self.new ≡ record self.old { ready = without task self.old.ready } }
     {
         remove_task(&mut self.ready, task);
@@ -254,7 +259,8 @@ impl Cores {
 
     /// The base priority of the task becomes this one; its priority in use stays.
     pub fn set_base(&mut self, task: u32, priority: u32)
-        requires { task < length self.old.control.tasks }
+        requires task { task < length self.old.control.tasks }
+        requires priority { priority < self.old.priorities }
         ensures { self.new ≡ record self.old { control = with_base task priority self.old.control } }
     {
         self.tasks[task as usize].base = priority;
@@ -265,7 +271,7 @@ impl Cores {
         requires { task < length self.old.control.tasks }
         ensures { self.new ≡ record self.old { control = with_affinity task mask self.old.control } }
     {
-        let cut = cut_mask(mask, self.core_numbers().end);
+        let cut = cores_of_mask(self.core_numbers().end, mask);
         self.tasks[task as usize].mask = cut;
     }
 
@@ -280,14 +286,15 @@ impl Cores {
     fn control(&self, task: u32) -> TaskControl
         requires { task < length self.now.control.tasks }
         ensures control { result ≡ task_at self.now.control task }
-        ensures below { result.in_use < self.now.priorities }
+        ensures in_use { result.in_use < self.now.priorities }
+        ensures base { result.base < self.now.priorities }
     {
         self.tasks[task as usize]
     }
 
     fn core_numbers(&self) -> Range<u32>
         ensures numbers { result ≡ record { start = 0; end = length self.now.control.cores } }
-        ensures few { length self.now.control.cores ≤ 8 }
+        ensures few { length self.now.control.cores ≤ max_cores }
     {
         0..self.cores.len() as u32
     }
@@ -310,7 +317,7 @@ impl Cores {
     fn has_bit(&self, mask: u32, core: u32) -> bool
         requires { core < length self.now.control.cores }
         ensures bit { result ≡ has_core mask core }
-        ensures few { length self.now.control.cores ≤ 8 }
+        ensures few { length self.now.control.cores ≤ max_cores }
     {
         core < self.core_numbers().end && (mask >> core) & 1 == 1
     }

@@ -2,11 +2,11 @@
 ghost use Rattle.std.specs.Prelude.{◌≡◌, ◌≤◌, ◌+◌, ◌-◌, ◌++◌, map, replicate, IfOk, OnOk};
 ghost use Rattle.std.specs.Vec.{vec_capacity};
 ghost use Rattle.std.specs.List.{range_with_len};
-ghost use Rattle.bench_types.specs.Header.{cores_of_mask};
+ghost use Rattle.bench_types.specs.Limits.{max_cores, max_tasks};
 ghost use Rattle.list_orders.specs.Search.{numbers};
 ghost use Rattle.bench_model.specs.Start.{first_look, idle_control, first_control};
 
-use bench_types::{CoreLook, Header, TaskControl};
+use bench_types::{CoreLook, Header, TaskControl, cores_of_mask};
 use std::alloc::{AllocError, Global};
 
 pub(crate) fn first_looks(alloc: Global, cores: u32) -> Result<Vec<CoreLook>, AllocError>
@@ -25,7 +25,7 @@ pub(crate) fn first_looks(alloc: Global, cores: u32) -> Result<Vec<CoreLook>, Al
 
 // The control blocks of the idle tasks, and behind them those of the user tasks.
 pub(crate) fn first_controls(alloc: Global, header: &Header) -> Result<Vec<TaskControl>, AllocError>
-    requires { header.now.config.cores ≤ 8 }
+    requires { header.now.config.cores ≤ max_cores }
     ensures { IfOk result (λ tasks. tasks.items ≡ (first_control header.now).tasks) }
 {
     let cores = header.config.cores;
@@ -34,7 +34,7 @@ pub(crate) fn first_controls(alloc: Global, header: &Header) -> Result<Vec<TaskC
         tasks.push(TaskControl {
             base: args.priority,
             in_use: args.priority,
-            mask: cut_mask(args.mask, cores),
+            mask: cores_of_mask(cores, args.mask),
             preempt: true,
         })?;
     }
@@ -42,26 +42,32 @@ pub(crate) fn first_controls(alloc: Global, header: &Header) -> Result<Vec<TaskC
 }
 
 fn idle_controls(alloc: Global, cores: u32) -> Result<Vec<TaskControl>, AllocError>
-    requires { cores ≤ 8 }
+    requires { cores ≤ max_cores }
     ensures { IfOk result (λ tasks. tasks.items ≡ replicate cores (idle_control cores)) }
 {
-    let idle = TaskControl {
-        base: 0,
-        in_use: 0,
-        mask: (1 << cores) - 1,
-        preempt: true,
-    };
     let mut tasks = Vec::new(alloc);
     for _core in 0..cores {
-        tasks.push(idle)?;
+        tasks.push(idle_control(cores))?;
     }
     Ok(tasks)
 }
 
+fn idle_control(cores: u32) -> TaskControl
+    requires { cores ≤ max_cores }
+    ensures { result ≡ idle_control cores }
+{
+    TaskControl {
+        base: 0,
+        in_use: 0,
+        mask: cores_of_mask(cores, u32::MAX),
+        preempt: true,
+    }
+}
+
 // The user tasks and behind them the idle tasks, with a place for each.
 pub(crate) fn first_queue(alloc: Global, cores: u32, users: u32) -> Result<Vec<u32>, AllocError>
-    requires cores { cores ≤ 8 }
-    requires users { users ≤ 64 }
+    requires cores { cores ≤ max_cores }
+    requires users { users ≤ max_tasks }
     ensures items { IfOk result (λ queue. queue.items ≡ range_with_len cores users ++ numbers cores) }
     ensures room { IfOk result (λ queue. cores + users ≤ vec_capacity queue) }
 {
@@ -80,12 +86,4 @@ fn push_numbers(queue: &mut Vec<u32>, from: u32, to: u32) -> Result<(), AllocErr
         queue.push(number)?;
     }
     Ok(())
-}
-
-/// The bits of a mask that mean one of so many cores.
-pub(crate) fn cut_mask(mask: u32, cores: u32) -> u32
-    requires { cores ≤ 8 }
-    ensures { result ≡ cores_of_mask cores mask }
-{
-    mask % (1 << cores)
 }

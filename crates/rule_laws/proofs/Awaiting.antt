@@ -20,7 +20,7 @@ use Rattle.bench_model.specs.State.{State, blocked}
 use Rattle.bench_model.specs.Table.{Table, table_moves, is_ready}
 use Rattle.bench_model.specs.Lists.{View, list_moves, image}
 use Rattle.bench_model.specs.Lists.{seen_of}
-use Rattle.bench_model.specs.Sound.{IsCaller, IsConsistent, IsWait}
+use Rattle.bench_model.specs.Sound.{IsCaller, IsConsistent, IsWait, IsMutexTime}
 use Rattle.rule_laws.proofs.Notifying.{notify_seen, notify_sound, ruled_sound}
 use Rattle.order_laws.proofs.SeenSteps.{blocked_seen}
 use Rattle.order_laws.proofs.SoundSteps.{blocked_sound}
@@ -185,6 +185,14 @@ waits_on ticks some low = either (eqb ticks (2 ^ 32 - 1))
     either : (b : Bool) → IsWait (cond b None (Some ticks))
     either true = tt
     either false = (some, low)
+
+-- and of a wait for a mutex
+pub waits_short : (ticks : ℕ) → ticks < 2 ^ 32 → IsMutexTime (awaited_for ticks)
+waits_short ticks low = either (eqb ticks (2 ^ 32 - 1)) refl
+  where
+    either : (b : Bool) → eqb ticks (2 ^ 32 - 1) ≡ b → IsMutexTime (cond b None (Some ticks))
+    either true endless = tt
+    either false short = grind (arith, nat_tests, short, low)
 
 pub awaited_sound : (table : Table) (core task : ℕ) (call : Call) (ticks : ℕ) (begun : Bool × List Notification) → IsConsistent (record table { notes = begun.1 }) → IsCaller table core task → IsCheckedCall table.settings call → length table.control.cores ≤ task → ticks < 2 ^ 32 →
     IsConsistent (awaited table_moves core task call ticks begun table).1

@@ -10,7 +10,7 @@ use Rattle.bench_model.specs.Changes.{with_task, with_in_use, in_use_set}
 use Rattle.bench_model.specs.Table.{Stamps, Table, table_moves, stands_ready, is_ready, make_ready}
 use Rattle.bench_model.specs.Lists as seen
 use Rattle.bench_model.specs.Lists.{Lists, list_moves, lists_of, outranks, image}
-use Rattle.bench_model.specs.Sound.{IsBelow, IsConsistent}
+use Rattle.bench_model.specs.Sound.{IsControlBlock, IsConsistent}
 use Rattle.order_laws.proofs.Entries.{without_absent}
 use Rattle.order_laws.proofs.Restamps.{standing_so}
 use Rattle.order_laws.proofs.SeenMoves.{is_ready_seen, make_ready_seen}
@@ -29,7 +29,7 @@ pub change_apart : (control : Control) (stamps : Stamps) (task : ℕ) (block : T
 change_apart control stamps task block kept =
     lists_of_by (with_task task block control) stamps ∙ ap (λ front. lists_by front stamps) (outranks_kept control task block kept) ∙ sym (lists_of_by control stamps)
 
-pub change_sound : (table : Table) (task : ℕ) (block : TaskControl) → IsConsistent table → IsBelow table.settings.priorities block → IsConsistent (record table { control = with_task task block table.control })
+pub change_sound : (table : Table) (task : ℕ) (block : TaskControl) → IsConsistent table → IsControlBlock table.settings block → IsConsistent (record table { control = with_task task block table.control })
 change_sound table task block sound low = record {
   sized = record {
     cores = sound.sized.cores;
@@ -50,9 +50,9 @@ change_sound table task block sound low = record {
     idle_is_ready = sound.in_place.idle_is_ready;
   };
   in_time = sound.in_time;
-  priorities = λ i within. elim (cases_eq i task) [
-    | inl here ↦ subst (IsBelow table.settings.priorities) (sym (ap (task_at (with_task task block table.control)) here ∙ block_same table.control task block (omega (arith, sound.sized.controls, here, within)))) low
-    | inr away ↦ subst (IsBelow table.settings.priorities) (sym (block_other table.control task block i away)) (sound.priorities i within)
+  blocks = λ i within. elim (cases_eq i task) [
+    | inl here ↦ subst (IsControlBlock table.settings) (sym (ap (task_at (with_task task block table.control)) here ∙ block_same table.control task block (omega (arith, sound.sized.controls, here, within)))) low
+    | inr away ↦ subst (IsControlBlock table.settings) (sym (block_other table.control task block i away)) (sound.blocks i within)
   ];
   calls = sound.calls;
   notes = sound.notes;
@@ -110,7 +110,7 @@ in_use_sound table task priority sound low below = at (is_ready task table.order
     changed = record table { control = with_in_use task priority table.control }
 
     still : IsConsistent changed
-    still = change_sound table task _ sound (below, (sound.priorities task low).1)
+    still = let block = sound.blocks task low in change_sound table task _ sound (record { in_use = below; base = block.base; mask = block.mask })
 
     at : (b : Bool) → IsConsistent (record changed { orders = cond b (make_ready task changed.orders) changed.orders })
     at true = ready_sound changed task still low

@@ -1,5 +1,5 @@
 -- Mutexes with priority inheritance: each rule as lists, and that it keeps a table sound.
-use Rattle.std.proofs.Common.{◌≡◌, ℕ, ◌+◌, ◌-◌, ◌<◌, ◌≤◌, ◌^◌, Bool, true, false, cond, not, eqb, ltb, ◌&&◌, length, Option, Some, None, refl, sym, ap, subst, ◌∙◌, arith}
+use Rattle.std.proofs.Common.{◌≡◌, suc, ℕ, ◌+◌, ◌-◌, ◌<◌, ◌≤◌, ◌^◌, Bool, true, false, cond, not, eqb, ltb, ◌&&◌, length, Option, Some, None, refl, sym, ap, subst, ◌∙◌, arith}
 use Rattle.std.specs.Prelude.{slice_set, option_map}
 use Rattle.std.specs.Option.{option_map_or}
 use Rattle.std.proofs.lemmas.Bool.Decides.{nat_tests}
@@ -21,10 +21,10 @@ use Rattle.bench_model.specs.Seek.{seek, wake}
 use Rattle.rule_laws.specs.SeekLaws.{sought}
 use Rattle.rule_laws.specs.SetLaws.{on_control}
 use Rattle.bench_model.specs.Sets.{ask_its_core}
-use Rattle.bench_model.specs.Sound.{IsCaller, IsConsistent, IsWait}
+use Rattle.bench_model.specs.Sound.{IsCaller, IsConsistent, IsWait, IsMutexTime}
 use Rattle.bench_model.specs.State.{State, holder_at, blocked}
 use Rattle.bench_model.specs.Table.{Stamps, Table, table_moves, is_ready, make_ready, deadline_at, deadline_left, forget_deadline, first_waiter}
-use Rattle.rule_laws.proofs.Awaiting.{waits_on, completed_seen, completed_sound}
+use Rattle.rule_laws.proofs.Awaiting.{waits_on, waits_short, completed_seen, completed_sound}
 use Rattle.rule_laws.proofs.Changes.{in_use_seen, in_use_sound}
 use Rattle.order_laws.proofs.FirstWaiters.{first_waiter_seen, first_waiter_waits}
 use Rattle.order_laws.proofs.SeenMoves.{deadline_left_seen, forget_deadline_seen}
@@ -57,7 +57,7 @@ given_sound table mutex given sound low one = record {
   stamped = sound.stamped;
   in_place = sound.in_place;
   in_time = sound.in_time;
-  priorities = sound.priorities;
+  blocks = sound.blocks;
   calls = sound.calls;
   notes = sound.notes;
   mutexes = held_mutexes table.settings table.calls table.holders table.orders sound.mutexes mutex given (omega (arith, sound.sized.holders)) one;
@@ -179,7 +179,7 @@ module _ (table : Table) (core task mutex holder : ℕ) (ticks : Option ℕ) (so
   caller_low = omega (arith, sound.sized.rows, place.2)
 
   raised_sound : IsConsistent raised
-  raised_sound = inherited_sound table core holder mine sound low (sound.priorities task caller_low).0
+  raised_sound = inherited_sound table core holder mine sound low (sound.blocks task caller_low).in_use
 
   raised_place : IsCaller raised core task
   raised_place =
@@ -192,13 +192,13 @@ module _ (table : Table) (core task mutex holder : ℕ) (ticks : Option ℕ) (so
   unfolding waited_at
   waited_seen = blocked_seen core task marked ticks wait raised raised_sound.stamped.given raised_place.2 raised_place.3 ∙ ap (blocked list_moves core task marked ticks wait) (inherited_seen table core holder mine sound low)
 
-  pub waited_sound : length table.control.cores ≤ task → IsWait ticks → mutex < table.settings.mutexes → IsConsistent (waited_at table_moves core task mutex holder ticks table)
+  pub waited_sound : length table.control.cores ≤ task → IsWait ticks → IsMutexTime ticks → mutex < table.settings.mutexes → IsConsistent (waited_at table_moves core task mutex holder ticks table)
   unfolding waited_at
-  waited_sound user fits below =
+  waited_sound user fits short below =
       let same = sym (inherited_settings table core holder mine) in
       let there : mutex < raised.settings.mutexes = subst (λ s. mutex < s.mutexes) same below in
-      let rank : mine < raised.settings.priorities = subst (λ s. mine < s.priorities) same (sound.priorities task caller_low).0 in
-      blocked_sound core task marked ticks wait raised raised_sound raised_place there (omega (arith, (inherited_kept table core holder mine sound low).cores, user)) fits (there, rank) (λ is. refl)
+      let rank : mine < raised.settings.priorities = subst (λ s. mine < s.priorities) same (sound.blocks task caller_low).in_use in
+      blocked_sound core task marked ticks wait raised raised_sound raised_place there (omega (arith, (inherited_kept table core holder mine sound low).cores, user)) fits (there, rank) (λ is. (refl, short))
 
 -- ---- taking
 
@@ -221,7 +221,7 @@ module _ (table : Table) (core task mutex ticks : ℕ) (sound : IsConsistent tab
     where
       either : (b : Bool) → eqb ticks 0 ≡ b → (holder : ℕ) → holder < table.settings.tasks → IsConsistent (cond {A = Reply × Table} b (Flag false, table) (Blocked, waited_at table_moves core task mutex holder (awaited_for ticks) table)).1
       either true none holder low = sound
-      either false some holder low = waited_sound table core task mutex holder (awaited_for ticks) sound place low user (waits_on ticks (grind (arith, nat_tests, some)) few) below
+      either false some holder low = waited_sound table core task mutex holder (awaited_for ticks) sound place low user (waits_on ticks (grind (arith, nat_tests, some)) few) (waits_short ticks few) below
 
       from : (held : Option ℕ) → holder_at table.holders mutex ≡ held → IsConsistent (option_map_or {U = Reply × Table} (λ holder. cond (eqb ticks 0) (Flag false, table) (Blocked, waited_at table_moves core task mutex holder (awaited_for ticks) table)) held (Flag true, taken task mutex table)).1
       from None free = taken_sound table task mutex sound (omega (arith, sound.sized.rows, place.2)) below
@@ -259,7 +259,7 @@ forgotten_sound table task sound low = record {
     idle_is_ready = sound.in_place.idle_is_ready;
   };
   in_time = sound.in_time;
-  priorities = sound.priorities;
+  blocks = sound.blocks;
   calls = call_set table.settings table.calls task None (omega (arith, sound.sized.calls)) (λ other same. absurd (cc (same))) sound.calls;
   notes = sound.notes;
   mutexes = freed_mutexes table.settings table.calls table.holders table.orders sound.mutexes task (omega (arith, sound.sized.calls)) (omega (arith, sound.sized.deadlines));
@@ -300,10 +300,10 @@ owed_below table task mutex sound low = from (first_waiter mutex table.orders) r
     base = (task_at table.control task).base
 
     from : (first : Option Waiter) → first_waiter mutex table.orders ≡ first → owed_to first base < table.settings.priorities
-    from None none = greater_below base base table.settings.priorities (sound.priorities task low).1 (sound.priorities task low).1
+    from None none = greater_below base base table.settings.priorities (sound.blocks task low).base (sound.blocks task low).base
     from (Some waiter) some =
         let waits = first_waiter_waits mutex table.orders waiter some in
-        greater_below base waiter.wait.priority table.settings.priorities (sound.priorities task low).1 (sound.mutexes.waits waiter.task waiter.wait waits.0 waits.1).1
+        greater_below base waiter.wait.priority table.settings.priorities (sound.blocks task low).base (sound.mutexes.waits waiter.task waiter.wait waits.0 waits.1).1
 
 module _ (table : Table) (acting task mutex : ℕ) (mark : Bool) (holder : ℕ) (sound : IsConsistent table) (low : holder < table.settings.tasks) where
   abbrev gives_back : Bool
@@ -329,11 +329,13 @@ abbrev is_over : Option ℕ → Bool
 is_over left = option_map_or (λ ticks. eqb ticks 0) left false
 
 -- the ticks of a wait that goes on
-goes_on : (tick : ℕ) (deadline : Option ℕ) → ((at : ℕ) → deadline ≡ Some at → at < tick + 2 ^ 32) → is_over (option_map (λ at. at - tick) deadline) ≡ false → IsWait (option_map (λ at. at - tick) deadline)
-goes_on tick None near on = tt
-goes_on tick (Some at) near on = (grind (arith, nat_tests, on), omega (arith, near at refl))
+goes_on : (tick : ℕ) (deadline : Option ℕ) → ((at : ℕ) → deadline ≡ Some at → suc at < tick + 2 ^ 32) → is_over (option_map (λ at. at - tick) deadline) ≡ false → IsWait (option_map (λ at. at - tick) deadline) × IsMutexTime (option_map (λ at. at - tick) deadline)
+goes_on tick None near on = (tt, tt)
+goes_on tick (Some at) near on =
+    let some : 0 < at - tick = grind (arith, nat_tests, on) in
+    ((some, omega (arith, near at refl)), omega (arith, near at refl, some))
 
-still_waits : (table : Table) (task : ℕ) → IsConsistent table → is_over (deadline_left task table.orders) ≡ false → IsWait (deadline_left task table.orders)
+still_waits : (table : Table) (task : ℕ) → IsConsistent table → is_over (deadline_left task table.orders) ≡ false → IsWait (deadline_left task table.orders) × IsMutexTime (deadline_left task table.orders)
 unfolding deadline_left
 still_waits table task sound on = goes_on table.orders.tick (deadline_at table.orders task) (λ at is. (sound.mutexes.deadlines task at is).0) on
 
@@ -387,7 +389,9 @@ module _ (table : Table) (core task mutex : ℕ) (mark : Bool) (sound : IsConsis
 
       either : (b : Bool) → is_over left ≡ b → (holder : ℕ) → holder < table.settings.tasks → IsConsistent (cond {A = Reply × Table} b (Flag false, timed_out table_moves core task mutex mark holder over) (Blocked, waited_at table_moves core task mutex holder left table)).1
       either true is holder low = timed_out_sound over core task mutex mark holder over_sound low
-      either false on holder low = waited_sound table core task mutex holder left sound place low user (still_waits table task sound on) below
+      either false on holder low =
+          let waits = still_waits table task sound on in
+          waited_sound table core task mutex holder left sound place low user waits.0 waits.1 below
 
       from : (held : Option ℕ) → holder_at table.holders mutex ≡ held → IsConsistent (finished_by left held).1
       from None free = taken_sound over task mutex over_sound over_low below
@@ -437,7 +441,7 @@ module _ (table : Table) (core task : ℕ) (sound : IsConsistent table) (low : t
   disinherited_sound =
       let base = (task_at table.control task).base in
       either_sound (eqb (held_by table.holders task) 0) (lowered table_moves core task base table) table
-      (lowered_sound table core task base sound low (sound.priorities task low).1) sound
+      (lowered_sound table core task base sound low (sound.blocks task low).base) sound
 
 module _ (table : Table) (core task mutex : ℕ) (sound : IsConsistent table) (low : task < table.settings.tasks) (below : mutex < table.settings.mutexes) where
   abbrev freed : Table

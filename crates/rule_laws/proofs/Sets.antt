@@ -1,10 +1,13 @@
 -- The calls that set a task's priority, core affinity mask and preemption: how each is seen, and that each keeps soundness.
-use Rattle.std.proofs.Common.{◌≡◌, ℕ, ◌-◌, ◌<◌, Bool, true, false, cond, not, eqb, ltb, ◌&&◌, ◌||◌, List, [], ◌∷◌, length, Option, Some, None, refl, sym, ap, ◌∙◌, arith}
+use Rattle.std.proofs.Common.{◌≡◌, ℕ, ◌-◌, ◌%◌, ◌^◌, ◌<◌, Bool, true, false, cond, not, eqb, ltb, ◌&&◌, ◌||◌, List, [], ◌∷◌, length, Option, Some, None, refl, sym, ap, subst, ◌∙◌, arith}
 use Rattle.std.specs.Prelude.{is_some}
 use Rattle.std.specs.List.{find, list_any}
 use Rattle.std.specs.Option.{option_map_or}
 use Rattle.std.proofs.lemmas.Bool.Decides.{nat_tests}
+use Rattle.std.proofs.lemmas.Nat.{pow_pos}
+use Rattle.std.proofs.Math.Nat.{mod-lt}
 use Rattle.bench_types.specs.declared.kernel_data.TaskControl.{TaskControl}
+use Rattle.bench_types.specs.Header.{cores_of_mask}
 use Rattle.list_orders.specs.Search.{numbers}
 use Rattle.bench_model.specs.Control.{Control, core_at, task_at, current, in_mask, ask}
 use Rattle.bench_model.specs.Table.{Stamps, Table, table_moves, is_ready}
@@ -14,7 +17,7 @@ use Rattle.bench_model.specs.Seek.{is_running, seek}
 use Rattle.bench_model.specs.Changes.{with_task, with_base, with_affinity, with_preemption, in_use_set}
 use Rattle.bench_model.specs.Sets.{runs_on, ask_its_core, capped, in_use_behind, ranked_anew, masked_anew, priority_set, affinity_set, preemption_off, preemption_on}
 use Rattle.rule_laws.specs.SetLaws.{on_control}
-use Rattle.bench_model.specs.Sound.{IsConsistent}
+use Rattle.bench_model.specs.Sound.{IsControlBlock, IsConsistent}
 use Rattle.list_orders.proofs.Bests.{found}
 use Rattle.rule_laws.proofs.Changes.{change_apart, change_sound, in_use_seen, in_use_sound}
 use Rattle.list_orders.proofs.Filters.{All-has}
@@ -110,13 +113,26 @@ masked_sound table acting task ready sound = more_sound table (masked_anew actin
 change_seen : (table : Table) (task : ℕ) (block : TaskControl) → block.in_use ≡ (task_at table.control task).in_use → image (with_control table (with_task task block table.control)) ≡ record (image table) { control = with_task task block table.control }
 change_seen table task block kept = same_state table.settings _ _ table.calls table.notes table.holders table.hold _ _ refl (change_apart table.control table.orders task block kept)
 
+-- a control block with another preemption flag, and one with a mask that was cut
+flagged : (table : Table) (task : ℕ) → IsConsistent table → task < table.settings.tasks → (on : Bool) → IsControlBlock table.settings (record (task_at table.control task) { preempt = on })
+flagged table task sound low on = let block = sound.blocks task low in record { in_use = block.in_use; base = block.base; mask = block.mask }
+
+masked : (table : Table) (task mask : ℕ) → IsConsistent table → task < table.settings.tasks → IsControlBlock table.settings (record (task_at table.control task) { mask = cores_of_mask (length table.control.cores) mask })
+masked table task mask sound low =
+    let block = sound.blocks task low in
+    record {
+      in_use = block.in_use;
+      base = block.base;
+      mask = subst (λ cores. mask % 2 ^ length table.control.cores < 2 ^ cores) sound.sized.cores (mod-lt mask (pow_pos (length table.control.cores)));
+    }
+
 pub off_seen : (table : Table) (task : ℕ) → image (preemption_off table_moves task table) ≡ preemption_off list_moves task (image table)
 unfolding preemption_off
 off_seen table task = change_seen table task (record (task_at table.control task) { preempt = false }) refl
 
 pub off_sound : (table : Table) (task : ℕ) → IsConsistent table → task < table.settings.tasks → IsConsistent (preemption_off table_moves task table)
 unfolding preemption_off
-off_sound table task sound low = change_sound table task (record (task_at table.control task) { preempt = false }) sound (sound.priorities task low)
+off_sound table task sound low = change_sound table task (record (task_at table.control task) { preempt = false }) sound (flagged table task sound low false)
 
 pub on_seen : (table : Table) (acting task : ℕ) → image (preemption_on table_moves acting task table) ≡ preemption_on list_moves acting task (image table)
 unfolding preemption_on
@@ -127,7 +143,7 @@ on_seen table acting task =
 pub on_sound : (table : Table) (acting task : ℕ) → IsConsistent table → task < table.settings.tasks → IsConsistent (preemption_on table_moves acting task table)
 unfolding preemption_on
 on_sound table acting task sound low =
-    its_core_sound (with_control table (with_preemption task true table.control)) acting task (change_sound table task (record (task_at table.control task) { preempt = true }) sound (sound.priorities task low))
+    its_core_sound (with_control table (with_preemption task true table.control)) acting task (change_sound table task (record (task_at table.control task) { preempt = true }) sound (flagged table task sound low true))
 
 pub ready_seen : (table : Table) (task : ℕ) → IsConsistent table → task < table.settings.tasks → is_ready task table.orders ≡ seen.is_ready task (lists_of table.control table.orders)
 ready_seen table task sound low = sym (is_ready_seen table.control table.orders task sound.stamped.given (omega (arith, sound.sized.rows)))
@@ -143,7 +159,7 @@ affinity_seen table acting task mask sound low =
 pub affinity_sound : (table : Table) (acting task mask : ℕ) → IsConsistent table → task < table.settings.tasks → IsConsistent (affinity_set table_moves acting task mask table)
 unfolding affinity_set
 affinity_sound table acting task mask sound low =
-    masked_sound (with_control table (with_affinity task mask table.control)) acting task (is_ready task table.orders) (change_sound table task _ sound (sound.priorities task low))
+    masked_sound (with_control table (with_affinity task mask table.control)) acting task (is_ready task table.orders) (change_sound table task _ sound (masked table task mask sound low))
 
 either_below : (x y bound : ℕ) (b : Bool) → x < bound → y < bound → cond b x y < bound
 either_below x y bound true here there = here
@@ -179,10 +195,10 @@ module _ (table : Table) (task priority : ℕ) (sound : IsConsistent table) (low
   based_view = record (image table) { control = with_base task new table.control }
 
   new_below : new < table.settings.priorities
-  new_below = capped_below table.settings.priorities priority (omega (arith, (sound.priorities task low).0))
+  new_below = capped_below table.settings.priorities priority (omega (arith, (sound.blocks task low).in_use))
 
   based_sound : IsConsistent based
-  based_sound = change_sound table task (record block { base = new }) sound ((sound.priorities task low).0, new_below)
+  based_sound = change_sound table task (record block { base = new }) sound (record { in_use = (sound.blocks task low).in_use; base = new_below; mask = (sound.blocks task low).mask })
 
   later_seen : image (in_use_set table_moves task (in_use_behind block new) based) ≡ in_use_set list_moves task (in_use_behind block new) based_view
   later_seen =
@@ -190,7 +206,7 @@ module _ (table : Table) (task priority : ℕ) (sound : IsConsistent table) (low
       ∙ ap (in_use_set list_moves task (in_use_behind block new)) (change_seen table task (record block { base = new }) refl)
 
   later_sound : IsConsistent (in_use_set table_moves task (in_use_behind block new) based)
-  later_sound = in_use_sound based task (in_use_behind block new) based_sound low (either_below new block.in_use table.settings.priorities (eqb block.in_use block.base || ltb block.in_use new) new_below (sound.priorities task low).0)
+  later_sound = in_use_sound based task (in_use_behind block new) based_sound low (either_below new block.in_use table.settings.priorities (eqb block.in_use block.base || ltb block.in_use new) new_below (sound.blocks task low).in_use)
 
 pub priority_seen : (table : Table) (acting task priority : ℕ) → IsConsistent table → task < table.settings.tasks → image (priority_set table_moves acting task priority table) ≡ priority_set list_moves acting task priority (image table)
 unfolding priority_set

@@ -10,7 +10,7 @@ use Rattle.bench_model.specs.Seek.{seek, wake, switched_and_sought, sliced}
 use Rattle.rule_laws.specs.SeekLaws.{sought}
 use Rattle.bench_model.specs.Changes.{with_task, in_use_set}
 use Rattle.bench_model.specs.Cores.{CoresView, cores_of, on_cores}
-use Rattle.bench_model.specs.Sound.{IsStamped, IsBelow, IsConsistent}
+use Rattle.bench_model.specs.Sound.{IsStamped, IsControlBlock, IsConsistent}
 
 -- the cores and ready lists that are seen of a table
 abbrev pub cores_seen : Table → CoresView
@@ -21,9 +21,9 @@ abbrev pub ChangeIsApart : Type 0
 ChangeIsApart = (control : Control) (stamps : Stamps) (task : ℕ) (block : TaskControl) → block.in_use ≡ (task_at control task).in_use →
     lists_of (with_task task block control) stamps ≡ lists_of control stamps
 
--- and it keeps a table sound where both its priorities are below their number
+-- and it keeps a table sound where both its priorities are below their number and its mask has bits of cores alone
 abbrev pub ChangeKeepsConsistent : Type 0
-ChangeKeepsConsistent = (table : Table) (task : ℕ) (block : TaskControl) → IsConsistent table → IsBelow table.settings.priorities block →
+ChangeKeepsConsistent = (table : Table) (task : ℕ) (block : TaskControl) → IsConsistent table → IsControlBlock table.settings block →
     IsConsistent (record table { control = with_task task block table.control })
 
 -- seen as lists, setting the priority in use in a table is setting it over lists

@@ -11,7 +11,6 @@ use Rattle.bench_types.specs.declared.edit.Edit.{Edit}
 use Rattle.bench_types.specs.declared.edit.Edit.TheVariants.{Insert, Remove, Replace, ChangeTask}
 use Rattle.bench_types.specs.declared.edit.EditFault.{EditFault}
 use Rattle.bench_types.specs.declared.edit.EditFault.TheVariants.{Bench, NoPlace, TooLong}
-use Rattle.bench_types.specs.declared.edit.TheConstants.{MOST_STEPS}
 use Rattle.bench_types.specs.declared.fault.Fault.{Fault}
 use Rattle.bench_types.specs.declared.fault.Fault.TheVariants.{BadHeader}
 use Rattle.bench_types.specs.declared.header.Config.{Config}
@@ -22,6 +21,7 @@ use Rattle.bench_types.specs.Edit.{edit_check, numbers_check}
 use Rattle.bench_types.specs.Header.{header_check, is_header, has_valid_config, has_valid_numbers, has_valid_args, is_taken, repeats_name}
 use Rattle.bench_types.specs.Name.{is_within}
 use Rattle.bench_types.specs.Step.{settings_of, step_check, task_check, ◌>>◌}
+use Rattle.bench_types.specs.Limits.{max_steps, max_tasks}
 use Rattle.bench_model.specs.Edits.{Session, IsSession, has_place, has_room, accepted, args_of, changed, edited}
 
 -- what an accepted edit has passed
@@ -120,7 +120,7 @@ changed_fits header task priority mask fits numbers =
     let next = changed task priority mask header in
     let i = task - header.config.cores in
     let config = has_valid_config header.config in
-    let some = is_within 1 64 (length header.tasks) in
+    let some = is_within 1 max_tasks (length header.tasks) in
     let args = list_all (has_valid_args header.config) header.tasks in
     let names = not (repeats_name header.tasks) in
     let all = chosen_passes (is_header header) BadHeader fits in
@@ -129,8 +129,8 @@ changed_fits header task priority mask fits numbers =
     let one = and_parts config some two.0 in
     let same_names : repeats_name next.tasks ≡ repeats_name header.tasks = repeats_by_name next.tasks ∙ ap repeats (names_stay header task priority mask) ∙ sym (repeats_by_name header.tasks) in
     let same_length : length next.tasks ≡ length header.tasks = length-set header.tasks i _ in
-    let passes : is_header next ≡ true = all_pass (has_valid_config next.config) (is_within 1 64 (length next.tasks)) (list_all (has_valid_args next.config) next.tasks) (not (repeats_name next.tasks))
-    one.0 (ap (is_within 1 64) same_length ∙ one.1) (list_all-set (has_valid_args header.config) header.tasks i _ numbers two.1) (ap not same_names ∙ three.1) in
+    let passes : is_header next ≡ true = all_pass (has_valid_config next.config) (is_within 1 max_tasks (length next.tasks)) (list_all (has_valid_args next.config) next.tasks) (not (repeats_name next.tasks))
+    one.0 (ap (is_within 1 max_tasks) same_length ∙ one.1) (list_all-set (has_valid_args header.config) header.tasks i _ numbers two.1) (ap not same_names ∙ three.1) in
     ap (λ b. chosen b BadHeader) passes
 
 changed_settings : (header : Header) (task priority mask : ℕ) → settings_of (changed task priority mask header) ≡ settings_of header
@@ -145,7 +145,7 @@ pub edited_session : (session : Session) (edit : Edit) → IsSession session →
 edited_session session (Insert at step) is accepts =
     let passes = passed session (Insert at step) accepts in
     let within : at ≤ length session.steps = grind (arith, nat_tests, passes.place) in
-    let room : length session.steps < MOST_STEPS = grind (arith, nat_tests, passes.room) in
+    let room : length session.steps < max_steps = grind (arith, nat_tests, passes.room) in
     record {
       header_fits = is.header_fits;
       steps_pass = All-insert (λ step. step_check (settings_of session.header) step ≡ Ok tt) session.steps at step passes.fits is.steps_pass;

@@ -1,5 +1,6 @@
 pub mod Alike
 pub mod EditedSessions
 pub mod SameOrders
+pub mod Shapes
 pub mod Tallies
 pub mod Traces

@@ -10,7 +10,7 @@ use Rattle.bench_model.specs.Lists.{Lists, list_moves, image}
 use Rattle.bench_model.specs.Start.{start}
 use Rattle.bench_model.specs.Session.{behind}
 use Rattle.bench_model.specs.Tally.{TaskTally, Moment, tallies}
-use Rattle.bench_model.specs.Tallied.{tallied, part_tallies, added, AllCountsBelow}
+use Rattle.bench_model.specs.Tallied.{tallied, part_tallies, added, shape, shape_of, AllCountsBelow}
 
 -- the tallies of a session are those of its start with each step counted in turn
 abbrev pub TalliesAreStepwise : Type 0
@@ -24,6 +24,19 @@ PartsAddUp = (settings : Settings) (table : Table) (first second : List Step) �
 -- no count is above the number of steps
 abbrev pub CountsAreFew : Type 0
 CountsAreFew = (settings : Settings) (table : Table) (steps : List Step) → AllCountsBelow (suc (length steps)) (part_tallies settings table steps)
+
+-- a step that is counted, in a table or over lists, leaves for each task a number for as many cores
+abbrev pub CountingKeepsShape : Type 0
+CountingKeepsShape = (tallies : List TaskTally) →
+    ((moment : Moment Stamps) → shape (tallied table_moves moment tallies) ≡ shape tallies) × ((moment : Moment Lists) → shape (tallied list_moves moment tallies) ≡ shape tallies)
+
+-- and so do the numbers of another part
+abbrev pub AddingKeepsShape : Type 0
+AddingKeepsShape = (a b : List TaskTally) → shape (added a b) ≡ shape a
+
+-- the tallies of a session have a number for each task and core of its settings
+abbrev pub TalliesFitSettings : Type 0
+TalliesFitSettings = (header : Header) (steps : List Step) → shape (tallies header steps) ≡ shape_of (settings_of header)
 
 -- what can be seen of a step
 abbrev pub seen_moment : Moment Stamps → Moment Lists

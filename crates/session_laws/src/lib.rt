@@ -4,7 +4,7 @@
 
 ghost use Rattle.session_laws.specs.AlikeLaws.{SameIsAlike};
 ghost use Rattle.session_laws.specs.EditLaws.{EditKeepsSession};
-ghost use Rattle.session_laws.specs.TallyLaws.{TalliesAreStepwise, PartsAddUp, CountsAreFew, TallyIsSeen};
+ghost use Rattle.session_laws.specs.TallyLaws.{TalliesAreStepwise, PartsAddUp, CountsAreFew, CountingKeepsShape, AddingKeepsShape, TalliesFitSettings, TallyIsSeen};
 
 /// Edits of a session.
 pub fn laws_of_edits()
@@ -28,6 +28,11 @@ pub fn laws_of_tallies()
     ensures parts_add_up { PartsAddUp }
     // No count is above the number of steps.
     ensures counts_are_few { CountsAreFew }
+    // They have a number for each task and core of the settings, and keep that where a step is
+    // counted and where parts are added.
+    ensures tallies_fit_settings { TalliesFitSettings }
+    ensures counting_keeps_shape { CountingKeepsShape }
+    ensures adding_keeps_shape { AddingKeepsShape }
     // A step counts the same over lists.
     ensures tally_is_seen { TallyIsSeen }
 {}

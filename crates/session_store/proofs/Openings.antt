@@ -3,7 +3,6 @@ use Rattle.std.proofs.Common.{◌≡◌, ℕ, zero, suc, ◌+◌, Bool, true, fa
 use Rattle.std.specs.Prelude.{All}
 use Rattle.std.specs.Result.{result_map_both}
 use Rattle.std.proofs.lemmas.Bool.Decides.{nat_tests}
-use Rattle.bench_types.specs.declared.edit.TheConstants.{MOST_STEPS}
 use Rattle.bench_types.specs.declared.fault.Fault.{Fault}
 use Rattle.bench_types.specs.declared.header.Header.{Header}
 use Rattle.bench_types.specs.declared.kernel_data.Settings.{Settings}
@@ -11,11 +10,11 @@ use Rattle.bench_types.specs.declared.step.Step.{Step}
 use Rattle.bench_types.specs.Header.{header_check}
 use Rattle.bench_types.specs.Name.{is_within}
 use Rattle.bench_types.specs.Step.{settings_of, step_check, ◌>>◌}
+use Rattle.bench_types.specs.Limits.{max_span, max_steps}
 use Rattle.bench_model.specs.Edits.{IsSession}
 use Rattle.bench_types.proofs.Passes.{both_pass}
 use Rattle.session_store.specs.declared.fault.OpenRefusal.TheVariants.{Bench, BadSpan, TooLong}
 use Rattle.session_store.specs.declared.fault.Refused.{Refused}
-use Rattle.session_store.specs.declared.store.TheConstants.{MOST_SPAN}
 use Rattle.session_store.specs.Opening.{at_no_step, steps_check, open_check}
 
 told : (Fault → Refused) → Result (Unit {0}) Fault → Result (Unit {0}) Refused
@@ -46,23 +45,23 @@ all_pass settings at (step ∷ steps) passes (suc k) d within =
 
 pub record IsOpened (header : Header) (steps : List Step) (span : ℕ) : Type 0 where
   pub session : IsSession (record { header = header; steps = steps })
-  pub span_fits : is_within 1 MOST_SPAN span ≡ true
+  pub span_fits : is_within 1 max_span span ≡ true
 
 pub opens : (header : Header) (steps : List Step) (span : ℕ) → open_check header steps span ≡ Ok tt → IsOpened header steps span
 unfolding told chosen
 opens header steps span passes =
     let fits = told (λ fault. at_no_step (Bench fault)) (header_check header) in
-    let spans = chosen (is_within 1 MOST_SPAN span) (at_no_step BadSpan) in
-    let few = chosen (nat_le (length steps) MOST_STEPS) (at_no_step TooLong) in
+    let spans = chosen (is_within 1 max_span span) (at_no_step BadSpan) in
+    let few = chosen (nat_le (length steps) max_steps) (at_no_step TooLong) in
     let last = both_pass (fits >> spans >> few) (steps_check (settings_of header) 0 steps) passes in
     let third = both_pass (fits >> spans) few last.0 in
     let second = both_pass fits spans third.0 in
-    let short : nat_le (length steps) MOST_STEPS ≡ true = chosen_passes (nat_le (length steps) MOST_STEPS) (at_no_step TooLong) third.1 in
+    let short : nat_le (length steps) max_steps ≡ true = chosen_passes (nat_le (length steps) max_steps) (at_no_step TooLong) third.1 in
     record {
       session = record {
         header_fits = told_passes (λ fault. at_no_step (Bench fault)) (header_check header) second.0;
         steps_pass = all_pass (settings_of header) 0 steps last.1;
         few_steps = grind (arith, nat_tests, short);
       };
-      span_fits = chosen_passes (is_within 1 MOST_SPAN span) (at_no_step BadSpan) second.1;
+      span_fits = chosen_passes (is_within 1 max_span span) (at_no_step BadSpan) second.1;
     }

@@ -7,10 +7,10 @@ use Rattle.bench_model.specs.Edits.{IsSession}
 use Rattle.bench_model.specs.Equal.{StandsFor}
 use Rattle.bench_model.specs.Session.{trace}
 use Rattle.bench_types.specs.Reply.{shown}
+use Rattle.bench_types.specs.Limits.{max_span}
 use Rattle.bench_model.specs.Start.{start}
 use Rattle.bench_model.specs.Table.{Table}
 use Rattle.session_store.specs.declared.store.Segment.{Segment}
-use Rattle.session_store.specs.declared.store.TheConstants.{MOST_SPAN}
 
 -- the kernel stands for the table at the segment's checkpoint, and the outcomes are those of its steps from there
 pub record IsSegment (table : Table) (segment : Segment) : Type 0 where
@@ -21,6 +21,6 @@ pub record IsSegment (table : Table) (segment : Segment) : Type 0 where
 pub record IsKept (header : Header) (span : ℕ) (segment : Segment) : Type 0 where
   pub session : IsSession (record { header = header; steps = segment.steps.items })
   pub settings : segment.kernel.settings ≡ settings_of header
-  pub span_fits : is_within 1 MOST_SPAN span ≡ true
+  pub span_fits : is_within 1 max_span span ≡ true
   pub from_start : segment.from ≡ 0
   pub replay : IsSegment (start header) segment

@@ -1,18 +1,17 @@
 -- Which sessions are opened.
 use Rattle.std.specs.Prelude.{ℕ, ◌+◌, List, [], ◌∷◌, length, nat_le, Some, None, Result, Ok, Err, if◌then◌else◌, ⊤}
 use Rattle.std.specs.Result.{result_map_both}
-use Rattle.bench_types.specs.declared.edit.TheConstants.{MOST_STEPS}
 use Rattle.bench_types.specs.declared.header.Header.{Header}
 use Rattle.bench_types.specs.declared.kernel_data.Settings.{Settings}
 use Rattle.bench_types.specs.declared.step.Step.{Step}
 use Rattle.bench_types.specs.Header.{header_check}
 use Rattle.bench_types.specs.Name.{is_within}
 use Rattle.bench_types.specs.Step.{settings_of, step_check, ◌>>◌}
+use Rattle.bench_types.specs.Limits.{max_span, max_steps}
 use Rattle.session_store.specs.declared.fault.OpenFault.{OpenFault}
 use Rattle.session_store.specs.declared.fault.OpenRefusal.{OpenRefusal}
 use Rattle.session_store.specs.declared.fault.OpenRefusal.TheVariants.{Bench, BadSpan, TooLong, NoMemory}
 use Rattle.session_store.specs.declared.fault.Refused.{Refused}
-use Rattle.session_store.specs.declared.store.TheConstants.{MOST_SPAN}
 
 -- a refusal at no step
 abbrev pub at_no_step : OpenRefusal → Refused
@@ -26,8 +25,8 @@ steps_check settings at (step ∷ steps) = result_map_both (λ _. tt) (λ fault.
 -- F1, then J3, then J2, then the first step at fault
 abbrev pub open_check : Header → List Step → ℕ → Result ⊤ Refused
 open_check header steps span = result_map_both (λ _. tt) (λ fault. at_no_step (Bench fault)) (header_check header)
-    >> (if is_within 1 MOST_SPAN span then Ok tt else Err (at_no_step BadSpan))
-    >> (if nat_le (length steps) MOST_STEPS then Ok tt else Err (at_no_step TooLong))
+    >> (if is_within 1 max_span span then Ok tt else Err (at_no_step BadSpan))
+    >> (if nat_le (length steps) max_steps then Ok tt else Err (at_no_step TooLong))
     >> steps_check (settings_of header) 0 steps
 
 -- a refusal gives the session back

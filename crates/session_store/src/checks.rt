@@ -5,8 +5,7 @@ ghost use Rattle.session_store.specs.Opening.{open_check, steps_check};
 
 use crate::OpenRefusal;
 use crate::fault::Refused;
-use crate::store::MOST_SPAN;
-use bench_types::{Edit, EditFault, Header, MOST_STEPS, Step};
+use bench_types::{Edit, EditFault, Header, MAX_SPAN, MAX_STEPS, Step};
 
 fn has_place(steps: &[Step], edit: &Edit) -> bool
     ensures { result ≡ has_place steps.now edit.now }
@@ -22,7 +21,7 @@ fn has_room(steps: &[Step], edit: &Edit) -> bool
     ensures { result ≡ has_room steps.now edit.now }
 {
     match edit {
-        Edit::Insert { .. } => steps.len() < MOST_STEPS as usize,
+        Edit::Insert { .. } => steps.len() < MAX_STEPS as usize,
         Edit::Remove { .. } | Edit::Replace { .. } | Edit::ChangeTask { .. } => true,
     }
 }
@@ -66,13 +65,13 @@ pub(crate) fn check_opening(header: &Header, steps: &[Step], span: u32) -> Resul
             at: None,
         });
     }
-    if span < 1 || MOST_SPAN < span {
+    if span < 1 || MAX_SPAN < span {
         return Err(Refused {
             why: OpenRefusal::BadSpan,
             at: None,
         });
     }
-    if steps.len() > MOST_STEPS as usize {
+    if steps.len() > MAX_STEPS as usize {
         return Err(Refused {
             why: OpenRefusal::TooLong,
             at: None,

@@ -10,4 +10,4 @@ mod store;
 
 pub use fault::{OpenFault, OpenRefusal, StoreFault};
 pub use outcome::Outcome;
-pub use store::{MOST_SPAN, Store};
+pub use store::Store;

@@ -6,6 +6,7 @@ ghost use Rattle.bench_model.specs.Edits.{IsSession};
 ghost use Rattle.bench_model.specs.Equal.{StandsFor};
 ghost use Rattle.bench_model.specs.Session.{behind, trace};
 ghost use Rattle.bench_types.specs.Reply.{shown};
+ghost use Rattle.bench_types.specs.Limits.{max_cores};
 ghost use Rattle.bench_model.specs.Start.{start};
 ghost use Rattle.bench_model.specs.Table.{Table};
 ghost use Rattle.smp_kernel.specs.Kernel.{StandsForSome};
@@ -31,7 +32,7 @@ pub(crate) fn started(alloc: Global, header: &Header) -> Result<Kernel, AllocErr
 pub(crate) fn row_of(kernel: &Kernel, cores: u32) -> Row
     requires stands { StandsForSome kernel.now }
     requires cores { cores ≡ kernel.now.settings.cores }
-    requires few { cores ≤ 8 }
+    requires few { cores ≤ max_cores }
     ensures { result.items ≡ running kernel.now.control }
 {
     let mut row = Row::new();
@@ -73,7 +74,7 @@ fn outcomes_of(
 ) -> Result<Vec<(Reply, Row)>, AllocError>
     requires stands { StandsForSome kernel.old }
     requires cores { cores ≡ kernel.old.settings.cores }
-    requires few { cores ≤ 8 }
+    requires few { cores ≤ max_cores }
     requires steps { All (λ step. step_check kernel.old.settings step ≡ Ok tt) steps.now }
     ensures outcomes { IfOk result (λ outcomes. (table : Table) → StandsFor kernel.old table → map shown outcomes.items ≡ trace table steps.now) }
     ensures meter { OnOk result (meter.new ≡ counted (length steps.now) meter.old) }

@@ -1,6 +1,7 @@
 ghost use Rattle.std.specs.Prelude.{◌≡◌, ◌≤◌, ◌<◌, ◌+◌, ◌-◌, ◌^◌, ◌↔◌, min, [], ◌∷◌, length, List, Ok, Err, Some, None, IfOk, IfErr, IfSome, IsSome, OnOk, OnErr, option_map, unwrap_or, slice_get};
 ghost use Rattle.bench_types.specs.Header.{header_check};
 ghost use Rattle.bench_types.specs.Step.{settings_of};
+ghost use Rattle.bench_types.specs.Limits.{max_steps};
 ghost use Rattle.bench_types.specs.declared.edit.EditFault.{EditFault as Why};
 ghost use Rattle.bench_model.specs.Edits.{IsSession, accepted, edited, after_edit, after_edits};
 ghost use Rattle.bench_model.specs.Equal.{StandsFor};
@@ -16,13 +17,10 @@ use crate::edited::{edited_header, edited_steps};
 use crate::fault::Refused;
 use crate::replay::{advance, copy_row, replayed, row_of, started};
 use crate::{OpenFault, OpenRefusal, Outcome, StoreFault};
-use bench_types::{Edit, EditFault, Header, Items, MOST_STEPS, Reply, Row, Step};
+use bench_types::{Edit, EditFault, Header, Items, Reply, Row, Step};
 use smp_kernel::{Kernel, Meter};
 use std::alloc::{AllocError, Global};
 use std::marker::Model;
-
-/// The greatest span of checkpoints, in steps.
-pub const MOST_SPAN: u32 = 1_000;
 
 /// The steps from one checkpoint to the next or to the end, with the kernel at the first.
 #[derive(Debug, Drop)]
@@ -153,7 +151,7 @@ impl Store {
     /// The number of steps, which is the last place.
     pub fn len(&self) -> u32
         ensures steps { result ≡ length self.now.session.steps }
-        ensures few { result ≤ MOST_STEPS }
+        ensures few { result ≤ max_steps }
     {
         self.segment.steps.len() as u32
     }

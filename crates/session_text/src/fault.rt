@@ -6,17 +6,24 @@ ghost use Rattle.session_text.specs.Path.{path_of, path_text};
 use crate::path::{Path, Place};
 use bench_types::Fault;
 use std::alloc::{AllocError, AllocFailed, Global};
+use std::error::Error as StdError;
+use std::fmt;
+use thiserror::Error;
 
 /// Why a text was not read, with the code that the output gives it.
-#[derive(Clone, Copy, Debug, PartialEq, Eq, Hash)]
+#[derive(Clone, Copy, Debug, PartialEq, Eq, Hash, Error)]
 pub enum Why {
     /// H1: the bytes are no JSON text.
+    #[error("the text is no JSON")]
     NotJson,
     /// H2: a member is missing, ill-typed or unknown.
+    #[error("a member is missing, of another type or unknown")]
     BadShape,
     /// F1 to F5: the header, a step or an edit is at fault.
+    #[error(transparent)]
     Bench(Fault),
     /// Memory ran out. Nothing is said of the text.
+    #[error("out of memory")]
     NoMemory,
 }
 
@@ -27,6 +34,17 @@ pub struct TextFault {
     /// Empty for H1, for F1 of the header, and where memory ran out.
     pub path: Path,
 }
+
+impl fmt::Display for TextFault {
+    fn fmt<W: fmt::Write>(&self, f: &mut fmt::Formatter<W>) -> fmt::Result {
+        match self.path.as_str() {
+            "" => write!(f, "{}", self.why),
+            path => write!(f, "{path}: {}", self.why),
+        }
+    }
+}
+
+impl StdError for TextFault {}
 
 /// What ends a reading early.
 #[derive(Debug, Drop)]

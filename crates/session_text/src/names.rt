@@ -21,13 +21,14 @@ pub(crate) struct Names<'a> {
 
 impl<'a> Model for Names<'a> {
     ghost use Rattle.std.specs.Prelude.{map, length, ◌≤◌};
+    ghost use Rattle.bench_types.specs.Limits.{max_cores, max_tasks};
     ghost use Rattle.session_text.specs.Names.{TaskNames};
 
     ghost Value = { TaskNames };
 
     ghost view = { λ it. record { cores = it.cores; names = map (λ name. name.now) it.names.keys } };
 
-    ghost invariant = { (λ it. (it.cores ≤ 8) × (length it.names.keys ≤ 64)) };
+    ghost invariant = { (λ it. (it.cores ≤ max_cores) × (length it.names.keys ≤ max_tasks)) };
 }
 
 impl<'a> Names<'a> {

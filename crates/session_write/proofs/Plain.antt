@@ -19,6 +19,7 @@ use Rattle.bench_types.specs.declared.step.Call.{Call}
 use Rattle.bench_types.specs.declared.step.Call.TheVariants as call
 use Rattle.bench_types.specs.Name.{is_name, is_name_byte, is_within}
 use Rattle.bench_types.specs.Step.{IsActionOfWord, IsOfWords, IsStepOfWords}
+use Rattle.bench_types.specs.Limits.{max_priorities}
 use Rattle.session_write.specs.Written.{task_data, task_name, bare_call, call_for, notify_data, interrupt_data, call_data, step_data, session_data, IsTyped}
 use Rattle.bench_types.proofs.Passes.{IsCheckedHeader}
 use Rattle.session_write.proofs.Limits.{IsInPlace, HasTarget}
@@ -96,7 +97,7 @@ steps_plain header (made ∷ steps) h names each = (step_plain header made h nam
 abbrev pub IsTask : Config → TaskArgs → Type 0
 IsTask config task = (has_valid_args config task ≡ true) × IsTyped task
 
-tasks_plain : (config : Config) (tasks : List TaskArgs) → config.priorities ≤ 32 → AllByRecursion (IsTask config) tasks → ArePlain (items_of (map task_data tasks))
+tasks_plain : (config : Config) (tasks : List TaskArgs) → config.priorities ≤ max_priorities → AllByRecursion (IsTask config) tasks → ArePlain (items_of (map task_data tasks))
 tasks_plain config [] few each = tt
 tasks_plain config (task ∷ tasks) few each =
     let priority : task.priority < config.priorities = grind (arith, nat_tests, each.0.0) in

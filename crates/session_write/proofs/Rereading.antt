@@ -19,6 +19,7 @@ use Rattle.bench_types.specs.declared.step.Call.TheVariants as call
 use Rattle.bench_types.specs.Header.{has_valid_args, is_header}
 use Rattle.bench_types.specs.Name.{is_name}
 use Rattle.bench_types.specs.Step.{IsActionOfWord, IsOfWords, IsStepOfWords}
+use Rattle.bench_types.specs.Limits.{max_priorities}
 use Rattle.session_text.specs.Accepted.{items_accepted}
 use Rattle.session_text.specs.Action.{action_at, action_kind_at, action_of_kind_at}
 use Rattle.session_text.specs.Array.{each_at, list_at}
@@ -38,7 +39,7 @@ task_read : (at : List ℕ) (task : TaskArgs) → task.priority < 2 ^ 32 → tas
 unfolding task_at number_at text_at
 task_read at task priority mask = rw (lt-ltb _ _ priority, lt-ltb _ _ mask) refl
 
-tasks_read : (config : Config) (at : List ℕ) (index : ℕ) (tasks : List TaskArgs) → config.priorities ≤ 32 → AllByRecursion (IsTask config) tasks → each_at task_at at index (items_of (map task_data tasks)) ≡ Ok tasks
+tasks_read : (config : Config) (at : List ℕ) (index : ℕ) (tasks : List TaskArgs) → config.priorities ≤ max_priorities → AllByRecursion (IsTask config) tasks → each_at task_at at index (items_of (map task_data tasks)) ≡ Ok tasks
 tasks_read config at index [] few each = refl
 tasks_read config at index (task ∷ tasks) few each =
     let priority : task.priority < config.priorities = grind (arith, nat_tests, each.0.0) in

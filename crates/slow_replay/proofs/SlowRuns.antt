@@ -20,6 +20,7 @@ use Rattle.bench_model.specs.Sound.{IsConsistent, IsSound}
 use Rattle.bench_model.specs.Start.{first_stamps, unstarted, started, start}
 use Rattle.bench_model.specs.Session.{step_of, outcome_at, trace}
 use Rattle.bench_types.specs.Reply.{shown}
+use Rattle.bench_types.specs.Limits.{max_cores, max_tasks}
 use Rattle.list_orders.proofs.Filters.{fold-append}
 use Rattle.list_orders.proofs.Stamped.{range_parts}
 use Rattle.session_laws.proofs.Traces.{trace_at}
@@ -33,7 +34,7 @@ pub record IsStarting (header : Header) (core : ℕ) (table : Table) : Type 0 wh
   pub so_far : table ≡ fold (λ table core. switched_and_sought table_moves core table) (unstarted (first_stamps header) header) (numbers core)
   pub sound : IsConsistent table
   pub cores : length table.control.cores ≡ header.config.cores
-  pub room : table.orders.next ≤ 72 + core
+  pub room : table.orders.next ≤ max_cores + max_tasks + core
 
 pub starting_starts : (header : Header) (table : Table) → header_check header ≡ Ok tt → table ≡ unstarted (first_stamps header) header → IsStarting header 0 table
 unfolding unstarted
@@ -73,7 +74,7 @@ pub record IsReplaying (header : Header) (steps : List Step) (place : ℕ) (tabl
   pub whole : map shown outcomes ++ trace table (drop place steps) ≡ trace (start header) steps
   pub sound : IsSound table
   pub settings : table.settings ≡ settings_of header
-  pub room : table.orders.next ≤ 80 + 73 * place
+  pub room : table.orders.next ≤ 2 * max_cores + max_tasks + (max_cores + max_tasks + 1) * place
   pub time : table.orders.tick ≤ header.config.tick + place
 
 -- what a step of a replay needs
@@ -119,7 +120,7 @@ trace_cons : (table next : Table) (step : Step) (steps : List Step) (reply : Rep
 trace_cons table next step steps reply row replied later runs =
     ap (λ r. (r, row) ∷ trace next steps) replied ∙ ap (λ (ns : List ℕ). ((step_of step table).0, ns) ∷ trace next steps) runs ∙ ap (λ (t : Table). ((step_of step table).0, running t.control) ∷ trace t steps) later
 
-rows_few : (header : Header) (table : Table) → header_check header ≡ Ok tt → IsConsistent table → table.settings ≡ settings_of header → (0 < length table.orders.rows) × (length table.orders.rows ≤ 72)
+rows_few : (header : Header) (table : Table) → header_check header ≡ Ok tt → IsConsistent table → table.settings ≡ settings_of header → (0 < length table.orders.rows) × (length table.orders.rows ≤ max_cores + max_tasks)
 rows_few header table passes sound settings =
     let facts = checked_header header passes in
     let tasks = ap (λ (s : Settings). s.tasks) settings in

@@ -1,9 +1,10 @@
 -- What the slow table keeps of its sizes.
 use Rattle.std.specs.Prelude.{◌≡◌, ℕ, ◌<◌, ◌≤◌, length, false, Some, None, slice_index_or}
+use Rattle.bench_types.specs.Limits.{max_cores}
 use Rattle.slow_replay.specs.declared.slow.SlowTable.TheInside.{Inside}
 
 pub record IsFit (table : Inside) : Type 0 where
-  pub few_cores : table.settings.cores ≤ 8
+  pub few_cores : table.settings.cores ≤ max_cores
   pub cores : length table.cores.items ≡ table.settings.cores
   pub controls : length table.tasks.items ≡ table.settings.tasks
   pub calls : length table.calls.items ≡ table.settings.tasks

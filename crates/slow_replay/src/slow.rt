@@ -10,6 +10,7 @@ ghost use Rattle.bench_model.specs.Steps.{ticked, delayed_until, called, perform
 ghost use Rattle.bench_model.specs.Sound.{IsConsistent, IsSound, IsInPlace};
 ghost use Rattle.bench_model.specs.Session.{step_of, outcome_at};
 ghost use Rattle.bench_types.specs.Reply.{shown};
+ghost use Rattle.bench_types.specs.Limits.{max_cores, max_tasks};
 ghost use Rattle.bench_model.specs.Table.{table_moves, advance, make_ready, is_ready, goes_before, pick, row_at, stamp_of, tasks_of, wakes_at};
 ghost use Rattle.list_orders.specs.Search.{is_best, numbers};
 ghost use Rattle.bench_model.specs.Start.{first_look, ready_row, idle_control, user_control, first_control, first_stamps, unstarted, start};
@@ -25,7 +26,7 @@ use bench_model::until::{is_ahead, next_wake};
 use bench_model::{Standing, TaskRow};
 use bench_types::{
     Call, CoreLook, Header, Hold, MutexWait, NoteState, Notification, Refusal, Reply, Row,
-    Settings, Step, TaskArgs, TaskControl, Unfinished,
+    Settings, Step, TaskArgs, TaskControl, Unfinished, cores_of_mask,
 };
 use std::alloc::{AllocError, Global};
 use std::marker::Model;
@@ -70,7 +71,7 @@ impl Model for SlowTable {
 impl SlowTable {
     fn core_numbers(&self) -> Range<u32>
         ensures numbers { result ≡ record { start = 0; end = length self.now.control.cores } }
-        ensures few { length self.now.control.cores ≤ 8 }
+        ensures few { length self.now.control.cores ≤ max_cores }
         ensures settings { self.now.settings.cores ≡ length self.now.control.cores }
     {
         0..self.settings.cores
@@ -522,31 +523,31 @@ fn no_deadlines(alloc: Global, tasks: u32) -> Result<Vec<Option<u128>>, AllocErr
 }
 
 fn idle_control(cores: u32) -> TaskControl
-    requires { cores ≤ 8 }
+    requires { cores ≤ max_cores }
     ensures { result ≡ idle_control cores }
 {
     TaskControl {
         base: 0,
         in_use: 0,
-        mask: (1 << cores) - 1,
+        mask: cores_of_mask(cores, u32::MAX),
         preempt: true,
     }
 }
 
 fn user_control(cores: u32, args: &TaskArgs) -> TaskControl
-    requires { cores ≤ 8 }
+    requires { cores ≤ max_cores }
     ensures { result ≡ user_control cores args.now }
 {
     TaskControl {
         base: args.priority,
         in_use: args.priority,
-        mask: args.mask % (1 << cores),
+        mask: cores_of_mask(cores, args.mask),
         preempt: true,
     }
 }
 
 fn idle_controls(alloc: Global, cores: u32) -> Result<Vec<TaskControl>, AllocError>
-    requires { cores ≤ 8 }
+    requires { cores ≤ max_cores }
     ensures { IfOk result (λ controls. controls.items ≡ replicate cores (idle_control cores)) }
 {
     let mut controls = Vec::new(alloc);
@@ -557,7 +558,7 @@ fn idle_controls(alloc: Global, cores: u32) -> Result<Vec<TaskControl>, AllocErr
 }
 
 fn first_controls(alloc: Global, header: &Header) -> Result<Vec<TaskControl>, AllocError>
-    requires { header.now.config.cores ≤ 8 }
+    requires { header.now.config.cores ≤ max_cores }
     ensures { IfOk result (λ controls. controls.items ≡ (first_control header.now).tasks) }
 {
     let cores = header.config.cores;
@@ -584,8 +585,8 @@ fn settings_of(header: &Header) -> Settings
 
 #[tactic(auto, unfolding(bench_model::specs::Start::unstarted, bench_model::specs::Start::first_stamps))]
 fn unstarted(alloc: Global, header: &Header) -> Result<SlowTable, AllocError>
-    requires cores { header.now.config.cores ≤ 8 }
-    requires tasks { length header.now.tasks ≤ 64 }
+    requires cores { header.now.config.cores ≤ max_cores }
+    requires tasks { length header.now.tasks ≤ max_tasks }
     ensures { IfOk result (λ table. table ≡ unstarted (first_stamps header.now) header.now) }
 {
     let settings = settings_of(header);
@@ -625,10 +626,10 @@ fn start(alloc: Global, header: &Header) -> Result<SlowTable, AllocError>
 
 /// Replays the steps on the flat table as it is defined, and gives per step its reply and the tasks that run behind it.
 ///
-/// It searches the whole table at each step, so it serves to test faster kernels. It takes the runtime so that a crate
-/// that is handed none can't replay unnoticed.
-pub fn replay_slow<R: Alloc>(
-    _rt: &R,
+/// It searches the whole table at each step, so it serves to test faster kernels. It takes the host's runtime, so
+/// that a crate that is handed none can't replay unnoticed.
+pub fn replay_slow(
+    _rt: &HostRuntime,
     alloc: Global,
     header: &Header,
     steps: &[Step],

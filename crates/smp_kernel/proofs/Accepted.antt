@@ -11,6 +11,7 @@ use Rattle.bench_types.specs.declared.step.Step.{Step}
 use Rattle.bench_types.specs.declared.step.Step.TheVariants.{Tick, Switch, Interrupt}
 use Rattle.bench_types.specs.declared.step.Step.TheVariants as steps
 use Rattle.bench_types.specs.Step.{step_check, core_check, task_check, call_check, ◌>>◌}
+use Rattle.bench_types.specs.Limits.{max_depth}
 use Rattle.list_orders.specs.Search.{has}
 use Rattle.bench_model.specs.Control.{current, is_due}
 use Rattle.bench_model.specs.Holds.{is_held_by, depth_of}
@@ -39,11 +40,11 @@ caller_ready core view settled low may = at (is_due view.control core) refl (is_
     at true due true held = let it = its_hold core view.hold held in subst (λ c. has (current view.control c) view.orders.ready ≡ true) it.2 (settled.held it.0 it.1).ready
     at true due false free = absurd (cc (may, due, free))
 
--- the kernel is held at most 255 times over
-depth_most : (view : View) → IsSettled view → depth_of view.hold ≤ 255
+-- the kernel is not held too many times over
+depth_most : (view : View) → IsSettled view → depth_of view.hold ≤ max_depth
 depth_most view settled = at view.hold refl
   where
-    at : (hold : Option Hold) → view.hold ≡ hold → depth_of hold ≤ 255
+    at : (hold : Option Hold) → view.hold ≡ hold → depth_of hold ≤ max_depth
     at None free = omega arith
     at (Some hold) is = (settled.held hold is).depth
 
@@ -62,7 +63,6 @@ finds_its_place (steps.Call core task call) view settled passes none =
       checked = both.1;
       own = found.own;
       depth = depth_most view settled;
-      priorities = settled.priorities;
       mutexes = settled.mutexes;
     }
 finds_its_place (Interrupt core note) view settled passes none =

@@ -5,10 +5,10 @@ use Rattle.std.proofs.lemmas.Bool.Decides.{nat_tests}
 use Rattle.bench_types.specs.declared.kernel_data.Delayed.{Delayed}
 use Rattle.list_orders.specs.Search.{placed, without, has}
 use Rattle.bench_model.specs.Control.{Control}
-use Rattle.bench_model.specs.Lists.{outranks}
+use Rattle.bench_model.specs.Lists.{outranks, one_tick_less}
 use Rattle.list_orders.proofs.Filters.{has-filter}
 use Rattle.list_orders.proofs.Ranks.{list_any-placed}
-use Rattle.tick_delay.specs.Parts.{DelayView, is_waiting, aged, advanced}
+use Rattle.tick_delay.specs.Parts.{DelayView, is_waiting, advanced}
 use Rattle.smp_kernel.specs.Kernel.{IsApart, delayed_task}
 
 has-moved : (control : Control) (t task : ℕ) (ready : List ℕ) → has t (placed (outranks control) task (without task ready)) ≡ (eqb task t || (not (eqb t task) && has t ready))
@@ -82,7 +82,7 @@ module _ {E : Type 0} (task_of : E → ℕ) where
           moved false gone = absurd (grind (arith, nat_tests, found, before, gone, has-moved control t task ready))
       at false before t found = apart t found
 
-waiting-aged : (t : ℕ) (delayed : List Delayed) → is_waiting t (map aged delayed) ≡ is_waiting t delayed
+waiting-aged : (t : ℕ) (delayed : List Delayed) → is_waiting t (map one_tick_less delayed) ≡ is_waiting t delayed
 waiting-aged t [] = refl
 waiting-aged t (entry ∷ delayed) = ap (λ b. eqb entry.task t || b) (waiting-aged t delayed)
 

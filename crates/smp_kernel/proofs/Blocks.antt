@@ -63,6 +63,7 @@ module _ (parts : Parts) (shape : IsKernelShape parts) where
     calls = length-set parts.calls task _ ∙ shape.calls;
     notes = shape.notes;
     mutexes = shape.mutexes;
+    mutex_priorities = shape.mutex_priorities;
     holders = shape.holders;
     delays = shape.delays;
     deadlines = length-set parts.deadlines task _ ∙ shape.deadlines;
@@ -100,5 +101,8 @@ module _ (parts : Parts) (shape : IsKernelShape parts) (core task mutex holder :
   wait_shape = block_shape raised (inherit_shape parts shape core holder priority) core task call ticks wait
 
   -- there are as many cores when the holder has inherited
+  pub raised_tasks : length raised.cores.control.tasks ≡ parts.settings.tasks
+  raised_tasks = (inherit_shape parts shape core holder priority).controls
+
   pub raised_cores : length raised.cores.control.cores ≡ parts.settings.cores
   raised_cores = (inherit_shape parts shape core holder priority).cores

@@ -16,10 +16,9 @@ use Rattle.bench_model.specs.Mutexes.{inherited, lowered}
 use Rattle.bench_model.specs.Steps.{woken}
 use Rattle.bench_model.specs.Changes.{with_in_use, in_use_set}
 use Rattle.bench_model.specs.Cores.{CoresView, cores_of, alone, on_cores}
-use Rattle.bench_model.specs.Lists.{Lists, View, list_moves, outranks, pick, make_ready, without_waiter}
+use Rattle.bench_model.specs.Lists.{Lists, View, list_moves, outranks, pick, make_ready, without_waiter, without_delay}
 use Rattle.order_laws.proofs.SoundSteps.{IsAskedMore}
 use Rattle.rule_laws.proofs.Seeks.{seek_more, each_more}
-use Rattle.tick_delay.specs.Parts.{cancelled}
 use Rattle.smp_kernel.specs.Kernel.{IsApart, Parts, kernel_view, IsKernelShape, delayed_task, waiting_task}
 use Rattle.smp_kernel.proofs.Apart.{left_free, apart_ready, apart_queued}
 
@@ -50,7 +49,7 @@ requeued control task lists apart = at (has task lists.ready) refl
     moved : List ℕ
     moved = placed (outranks control) task (without task lists.ready)
 
-    at : (b : Bool) → has task lists.ready ≡ b → cond b (record lists { ready = moved; delayed = cancelled task lists.delayed; waiters = without_waiter task lists.waiters }) lists ≡ record lists { ready = cond b moved lists.ready }
+    at : (b : Bool) → has task lists.ready ≡ b → cond b (record lists { ready = moved; delayed = without_delay task lists.delayed; waiters = without_waiter task lists.waiters }) lists ≡ record lists { ready = cond b moved lists.ready }
     at true here =
         ap (λ delayed. record lists { ready = moved; delayed = delayed; waiters = without_waiter task lists.waiters }) (left_free delayed_task task lists.delayed (apart.undelayed task here))
         ∙ ap (λ waiters. record lists { ready = moved; waiters = waiters }) (left_free waiting_task task lists.waiters (apart.unqueued task here))
@@ -116,6 +115,7 @@ cores_shape parts cores shape kept apart = record {
   calls = shape.calls;
   notes = shape.notes;
   mutexes = shape.mutexes;
+  mutex_priorities = shape.mutex_priorities;
   holders = shape.holders;
   delays = shape.delays;
   deadlines = shape.deadlines;
@@ -174,7 +174,7 @@ abbrev pub woken_parts : ℕ → Parts → CoresView → Parts
 woken_parts task parts cores = record parts {
   cores = cores;
   mutexes = record parts.mutexes { waiters = without_waiter task parts.mutexes.waiters };
-  delays = record parts.delays { delayed = cancelled task parts.delays.delayed };
+  delays = record parts.delays { delayed = without_delay task parts.delays.delayed };
 }
 
 module _ (parts : Parts) (shape : IsKernelShape parts) (acting task : ℕ) where
@@ -197,6 +197,7 @@ module _ (parts : Parts) (shape : IsKernelShape parts) (acting task : ℕ) where
         calls = shape.calls;
         notes = shape.notes;
         mutexes = shape.mutexes;
+        mutex_priorities = shape.mutex_priorities;
         holders = shape.holders;
         delays = shape.delays;
         deadlines = shape.deadlines;

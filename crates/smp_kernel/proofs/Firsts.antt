@@ -52,7 +52,7 @@ first_parts header = let tasks = header.config.cores + length header.tasks in re
   cores = cores_of (unstarted (first_lists header) header);
   calls = replicate tasks None;
   notes = replicate tasks no_note;
-  mutexes = free_mutexes tasks header.config.mutexes;
+  mutexes = free_mutexes tasks header.config.priorities header.config.mutexes;
   delays = no_delays header.config.tick tasks;
   deadlines = replicate tasks None;
   hold = None;
@@ -77,6 +77,7 @@ first_kernel_shape header passes = let tasks = header.config.cores + length head
   calls = length-replicate tasks None;
   notes = length-replicate tasks no_note;
   mutexes = refl;
+  mutex_priorities = refl;
   holders = length-replicate header.config.mutexes None;
   delays = refl;
   deadlines = length-replicate tasks None;

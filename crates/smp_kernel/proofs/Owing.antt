@@ -10,9 +10,9 @@ use Rattle.bench_model.specs.Control.{task_at}
 use Rattle.bench_model.specs.State.{holder_at}
 use Rattle.bench_model.specs.Seek.{wake}
 use Rattle.bench_model.specs.Cores.{CoresView, on_cores}
-use Rattle.bench_model.specs.Lists.{View, list_moves, first_of, first_waiter, forget_deadline}
-use Rattle.bench_model.specs.Mutexes.{held_by, owed_to, lowered, timed_out, ended, disinherited, first_woken, mutex_give}
-use Rattle.smp_kernel.specs.Kernel.{Parts, kernel_view, IsKernelShape, HasPriorities}
+use Rattle.bench_model.specs.Lists.{View, list_moves, first_of, first_waiter}
+use Rattle.bench_model.specs.Mutexes.{held_by, owed_to, lowered, timed_out, disinherited, first_woken, mutex_give}
+use Rattle.smp_kernel.specs.Kernel.{Parts, kernel_view, IsKernelShape}
 use Rattle.smp_kernel.proofs.CoreMoves.{with_cores, lower_seen, lower_shape}
 
 -- the cores of a holder that may give up what it inherited
@@ -50,6 +50,7 @@ module _ (parts : Parts) (shape : IsKernelShape parts) where
     calls = shape.calls;
     notes = shape.notes;
     mutexes = shape.mutexes;
+    mutex_priorities = shape.mutex_priorities;
     holders = length-set parts.mutexes.holders mutex None ∙ shape.holders;
     delays = shape.delays;
     deadlines = shape.deadlines;
@@ -100,8 +101,3 @@ module _ (core task mutex : ℕ) (view later : View) (holder : ℕ) (held : hold
 
   pub gave_to_none : None ≡ option_map (λ (waiter : Waiter). waiter.task) (first_of mutex later.orders.waiters) → told (Flag true) later ≡ mutex_give list_moves core task mutex view
   gave_to_none is = ap (told (Flag true)) (woken_none core mutex later is ∙ ap (first_woken list_moves core mutex) gave) ∙ given core task mutex view holder held
-
--- a call that is over changes no priority
-pub ended_priorities : (task : ℕ) (view : View) → HasPriorities view → HasPriorities (ended list_moves task view)
-unfolding forget_deadline
-ended_priorities task view has = record { bases = has.bases; waits = has.waits }

@@ -34,7 +34,7 @@ use Rattle.bench_model.specs.Looks.{task_look, look_in}
 use Rattle.bench_model.specs.Steps.{woken, ticked, delayed_until, called, performed, after}
 use Rattle.bench_model.specs.Table.{Stamps, Table, row_at, stamp_of, is_ready, wake_in, wakes_at, due}
 use Rattle.bench_model.specs.Lists as seen
-use Rattle.bench_model.specs.Lists.{Lists, View, list_moves, lists_of, image, first_of}
+use Rattle.bench_model.specs.Lists.{Lists, View, list_moves, lists_of, image, first_of, due_tasks}
 use Rattle.bench_model.specs.Lists.{seen_of}
 use Rattle.bench_model.specs.Sound.{IsConsistent, IsSound, WakesInTime}
 use Rattle.bench_model.specs.Session.{step_of}
@@ -46,8 +46,7 @@ use Rattle.list_orders.proofs.Stamped.{numbers_below, by_stamp_none}
 use Rattle.order_laws.proofs.SeenMoves.{is_ready_seen, due_seen}
 use Rattle.order_laws.proofs.Looks.{look_seen}
 use Rattle.step_laws.proofs.Steps.{after_seen, after_sound}
-use Rattle.tick_delay.specs.Parts.{due_tasks}
-use Rattle.smp_kernel.specs.Kernel.{HasPriorities, IsSettled, StandsForSome}
+use Rattle.smp_kernel.specs.Kernel.{IsSettled, StandsForSome}
 use Rattle.smp_kernel.proofs.CoreMoves.{turned_settings, notify_settings, woken_settings, sliced_settings}
 
 not_yet : (stamps : Stamps) → WakesInTime stamps → (i : ℕ) → i < length stamps.rows → wakes_at stamps.tick (row_at stamps i).standing ≡ false
@@ -64,30 +63,13 @@ none_due stamps in_time =
     by_stamp_none (stamp_of stamps) (λ task. wakes_at stamps.tick (row_at stamps task).standing) (numbers (length stamps.rows)) stamps.next
     (All-weaker (λ i. i < length stamps.rows) (λ i. wakes_at stamps.tick (row_at stamps i).standing ≡ false) (not_yet stamps in_time) (numbers (length stamps.rows)) (numbers_below (length stamps.rows)))
 
-due_of : (lists : Lists) → seen.due lists ≡ due_tasks lists.delayed
-unfolding seen.due due_tasks
-due_of lists = refl
-
--- the first waiter of a mutex in a list
-first_of_seen : (mutex : ℕ) (lists : Lists) → first_of mutex lists.waiters ≡ seen.first_waiter mutex lists
-unfolding seen.first_waiter
-first_of_seen mutex lists = refl
-
-image_priorities : (table : Table) → IsConsistent table → HasPriorities (image table)
-image_priorities table sound = record {
-  bases = λ task low. (sound.priorities task low).1;
-  waits = λ mutex waiter first.
-      let waits = first_waiter_waits mutex table.orders waiter (sym (first_waiter_seen mutex table.orders table.control sound.stamped) ∙ sym (first_of_seen mutex (lists_of table.control table.orders)) ∙ first) in
-      (sound.mutexes.waits waiter.task waiter.wait waits.0 waits.1).1;
-}
-
 -- the current task of a core stands in the ready lists where its row is ready
 current_ready_seen : (table : Table) → IsConsistent table → (core : ℕ) → core < length table.control.cores → has (current table.control core) (lists_of table.control table.orders).ready ≡ is_ready (current table.control core) table.orders
 current_ready_seen table kept core place = is_ready_seen table.control table.orders (current table.control core) kept.stamped.given (kept.in_place.is_task core place)
 
 image_settled : (table : Table) → IsSound table → IsSettled (image table)
 image_settled table sound = let kept = sound.consistent in record {
-  none_due = sym (due_of (lists_of table.control table.orders)) ∙ due_seen table.control table.orders (λ i wake low waits. omega (arith, (kept.in_time i wake low waits).0)) ∙ none_due table.orders kept.in_time;
+  none_due = due_seen table.control table.orders (λ i wake low waits. omega (arith, (kept.in_time i wake low waits).0)) ∙ none_due table.orders kept.in_time;
   runs_ready = λ core low idle.
       let place : core < length table.control.cores = omega (arith, kept.sized.cores, low) in
       current_ready_seen table kept core place
@@ -98,7 +80,6 @@ image_settled table sound = let kept = sound.consistent in record {
         depth = well.depth.1;
         ready = current_ready_seen table kept hold.core (omega (arith, kept.sized.cores, well.core_below)) ∙ well.ready;
       };
-  priorities = image_priorities table kept;
   mutexes = λ task mutex mark is. kept.calls task (Take mutex mark) is;
 }
 

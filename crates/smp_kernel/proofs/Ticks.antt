@@ -4,9 +4,9 @@ use Rattle.std.proofs.lemmas.List.{length-map}
 use Rattle.bench_types.specs.declared.kernel_data.Delayed.{Delayed}
 use Rattle.bench_model.specs.Steps.{ticked, woken}
 use Rattle.bench_model.specs.Seek.{wake, sliced}
-use Rattle.bench_model.specs.Lists.{View, list_moves, advance, due, make_ready}
+use Rattle.bench_model.specs.Lists.{View, list_moves, advance, due, make_ready, without_delay, due_tasks}
 use Rattle.list_orders.proofs.Filters.{filter_all, All-filter_passes}
-use Rattle.tick_delay.specs.Parts.{cancelled, advanced, due_tasks}
+use Rattle.tick_delay.specs.Parts.{advanced}
 use Rattle.smp_kernel.specs.Deadlines.{one_less}
 use Rattle.smp_kernel.specs.Kernel.{Parts, kernel_view, IsKernelShape, delayed_task}
 use Rattle.smp_kernel.proofs.Apart.{apart_left, apart_advanced}
@@ -31,6 +31,7 @@ advance_shape parts shape = record {
   calls = shape.calls;
   notes = shape.notes;
   mutexes = shape.mutexes;
+  mutex_priorities = shape.mutex_priorities;
   holders = shape.holders;
   delays = shape.delays;
   deadlines = length-map parts.deadlines one_less ∙ shape.deadlines;
@@ -40,7 +41,7 @@ advance_shape parts shape = record {
 
 -- a kernel whose first due task has left the delays, before it is woken
 abbrev pub popped_parts : ℕ → Parts → Parts
-popped_parts task parts = record parts { delays = record parts.delays { delayed = cancelled task parts.delays.delayed } }
+popped_parts task parts = record parts { delays = record parts.delays { delayed = without_delay task parts.delays.delayed } }
 
 pub popped_shape : (parts : Parts) → IsKernelShape parts → (task : ℕ) → IsKernelShape (popped_parts task parts)
 popped_shape parts shape task = record {
@@ -53,6 +54,7 @@ popped_shape parts shape task = record {
   calls = shape.calls;
   notes = shape.notes;
   mutexes = shape.mutexes;
+  mutex_priorities = shape.mutex_priorities;
   holders = shape.holders;
   delays = shape.delays;
   deadlines = shape.deadlines;
@@ -60,11 +62,11 @@ popped_shape parts shape task = record {
   unqueued = shape.unqueued;
 }
 
-cancelled_twice : (task : ℕ) (delayed : List Delayed) → cancelled task (cancelled task delayed) ≡ cancelled task delayed
-cancelled_twice task delayed = filter_all (λ entry. not (eqb entry.task task)) (cancelled task delayed) (All-filter_passes (λ entry. not (eqb entry.task task)) delayed)
+cancelled_twice : (task : ℕ) (delayed : List Delayed) → without_delay task (without_delay task delayed) ≡ without_delay task delayed
+cancelled_twice task delayed = filter_all (λ entry. not (eqb entry.task task)) (without_delay task delayed) (All-filter_passes (λ entry. not (eqb entry.task task)) delayed)
 
 abbrev pub popped : ℕ → View → View
-popped task view = record view { orders = record view.orders { delayed = cancelled task view.orders.delayed } }
+popped task view = record view { orders = record view.orders { delayed = without_delay task view.orders.delayed } }
 
 -- it is woken as if it stood there still
 woken_popped : (view : View) (task : ℕ) → wake list_moves 0 task (popped task view) ≡ wake list_moves 0 task view
@@ -79,14 +81,14 @@ abbrev pub settled_from : View → View
 settled_from view = sliced list_moves (woken list_moves (due_tasks view.orders.delayed) view)
 
 pub ticked_first : (view later : View) → later ≡ record view { orders = advance view.orders } → settled_from later ≡ ticked list_moves view
-unfolding ticked due due_tasks
+unfolding ticked
 ticked_first view later is = ap settled_from is
 
-pub ticked_more : (view : View) (task : ℕ) → due_tasks view.orders.delayed ≡ task ∷ due_tasks (cancelled task view.orders.delayed) → settled_from (wake list_moves 0 task view) ≡ settled_from view
+pub ticked_more : (view : View) (task : ℕ) → due_tasks view.orders.delayed ≡ task ∷ due_tasks (without_delay task view.orders.delayed) → settled_from (wake list_moves 0 task view) ≡ settled_from view
 unfolding wake make_ready
 ticked_more view task first = ap (λ tasks. sliced list_moves (woken list_moves tasks view)) (sym first)
 
-pub due_fewer : (view later : View) (task : ℕ) → due_tasks view.orders.delayed ≡ task ∷ due_tasks (cancelled task view.orders.delayed) → later ≡ wake list_moves 0 task view → length (due_tasks later.orders.delayed) < length (due_tasks view.orders.delayed)
+pub due_fewer : (view later : View) (task : ℕ) → due_tasks view.orders.delayed ≡ task ∷ due_tasks (without_delay task view.orders.delayed) → later ≡ wake list_moves 0 task view → length (due_tasks later.orders.delayed) < length (due_tasks view.orders.delayed)
 unfolding wake make_ready
 due_fewer view later task first is = omega (arith, ap length first, ap (λ (v : View). length (due_tasks v.orders.delayed)) is)
 

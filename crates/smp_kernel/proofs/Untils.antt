@@ -93,6 +93,7 @@ module _ (parts : Parts) (shape : IsKernelShape parts) (core task prev inc : ℕ
           calls = shape.calls;
           notes = shape.notes;
           mutexes = shape.mutexes;
+          mutex_priorities = shape.mutex_priorities;
           holders = shape.holders;
           delays = shape.delays;
           deadlines = shape.deadlines;

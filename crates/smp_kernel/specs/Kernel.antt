@@ -13,17 +13,18 @@ use Rattle.bench_types.specs.declared.step.Step.TheVariants as step
 use Rattle.bench_types.specs.declared.step.Unfinished.{Unfinished}
 use Rattle.bench_types.specs.declared.step.Unfinished.TheVariants.{Take}
 use Rattle.bench_types.specs.Step.{call_check}
+use Rattle.bench_types.specs.Limits.{max_cores, max_depth}
 use Rattle.list_orders.specs.Search.{has}
-use Rattle.bench_model.specs.Control.{current, is_due, task_at}
+use Rattle.bench_model.specs.Control.{current, is_due}
 use Rattle.bench_model.specs.Holds.{depth_of}
 use Rattle.bench_model.specs.Refusals.{give_refusal}
 use Rattle.bench_model.specs.State.{call_at}
 use Rattle.bench_model.specs.Table.{Table}
-use Rattle.bench_model.specs.Lists.{View, first_of}
+use Rattle.bench_model.specs.Lists.{View, due_tasks}
 use Rattle.bench_model.specs.Equal.{StandsFor}
 use Rattle.bench_model.specs.Cores.{CoresView}
 use Rattle.mutex_inherit.specs.Parts.{MutexPart}
-use Rattle.tick_delay.specs.Parts.{DelayView, due_tasks}
+use Rattle.tick_delay.specs.Parts.{DelayView}
 
 pub record Parts : Type 0 where
   pub settings : Settings
@@ -71,52 +72,46 @@ waiting_task waiter = waiter.task
 pub record IsKernelShape (parts : Parts) : Type 0 where
   pub priorities : parts.cores.priorities ≡ parts.settings.priorities
   pub slicing : parts.cores.slicing ≡ parts.settings.slicing
-  pub few_cores : parts.settings.cores ≤ 8
+  pub few_cores : parts.settings.cores ≤ max_cores
   pub some_priority : 0 < parts.settings.priorities
   pub cores : length parts.cores.control.cores ≡ parts.settings.cores
   pub controls : length parts.cores.control.tasks ≡ parts.settings.tasks
   pub calls : length parts.calls ≡ parts.settings.tasks
   pub notes : length parts.notes ≡ parts.settings.tasks
   pub mutexes : parts.mutexes.tasks ≡ parts.settings.tasks
+  pub mutex_priorities : parts.mutexes.priorities ≡ parts.settings.priorities
   pub holders : length parts.mutexes.holders ≡ parts.settings.mutexes
   pub delays : parts.delays.tasks ≡ parts.settings.tasks
   pub deadlines : length parts.deadlines ≡ parts.settings.tasks
   pub undelayed : IsApart delayed_task parts.cores.ready parts.delays.delayed
   pub unqueued : IsApart waiting_task parts.cores.ready parts.mutexes.waiters
 
--- the base priority of each task and the waiting priority of the first waiter of each mutex are below the number of priorities
-pub record HasPriorities (view : View) : Type 0 where
-  pub bases : (task : ℕ) → task < view.settings.tasks → (task_at view.control task).base < view.settings.priorities
-  pub waits : (mutex : ℕ) → ForSome (first_of mutex view.orders.waiters) (λ waiter. waiter.wait.priority < view.settings.priorities)
-
 -- each unfinished wait is for a mutex that there is
 abbrev pub HasTheirMutexes : View → Type 0
 HasTheirMutexes view = (task mutex : ℕ) (mark : Bool) → call_at view.calls task ≡ Some (Take mutex mark) → mutex < view.settings.mutexes
 
--- an open hold is open at most 255 times over, and its core runs a ready task
+-- an open hold is not open too many times over, and its core runs a ready task
 pub record IsHeldReady (view : View) (hold : Hold) : Type 0 where
-  pub depth : hold.depth ≤ 255
+  pub depth : hold.depth ≤ max_depth
   pub ready : has (current view.control hold.core) view.orders.ready ≡ true
 
--- between steps no task has waited long enough, a core that is not due or holds the kernel runs a ready task, and priorities and
--- mutexes are in range
+-- between steps no task has waited long enough, a core that is not due or holds the kernel runs a ready task, and unfinished waits
+-- are for mutexes that there are
 pub record IsSettled (view : View) : Type 0 where
   pub none_due : due_tasks view.orders.delayed ≡ []
   pub runs_ready : (core : ℕ) → core < view.settings.cores → is_due view.control core ≡ false → has (current view.control core) view.orders.ready ≡ true
   pub held : ForSome view.hold (IsHeldReady view)
-  pub priorities : HasPriorities view
   pub mutexes : HasTheirMutexes view
 
 -- what a call finds that is not refused: its core, its ready task and what it is for; it gives no mutex that another task holds, and
--- a hold that is open at most 255 times over
+-- a hold that is not open too many times over
 pub record FindsItsTask (view : View) (core task : ℕ) (call : Call) : Type 0 where
   pub core_below : core < view.settings.cores
   pub task_below : task < view.settings.tasks
   pub ready : has task view.orders.ready ≡ true
   pub checked : call_check view.settings call ≡ Ok tt
   pub own : give_refusal view.holders task call ≡ None
-  pub depth : depth_of view.hold ≤ 255
-  pub priorities : HasPriorities view
+  pub depth : depth_of view.hold ≤ max_depth
   pub mutexes : HasTheirMutexes view
 
 -- what a step finds that is not refused: no task that is due, its core, for a call its task, and for an interrupt the task that it

@@ -12,16 +12,19 @@ ghost use Rattle.smp_kernel.specs.Kernel.{StandsForSome};
 
 use crate::Meter;
 use crate::scheduler::Scheduler;
-use bench_types::{CoreLook, Header, Reply, Settings, Step, TaskLook};
+use bench_types::{CoreLook, Fault, Header, Reply, Settings, Step, TaskLook};
 use std::alloc::{AllocError, Global};
 use std::marker::Model;
+use thiserror::Error;
 
 /// Why a kernel did not start.
-#[derive(Clone, Copy, Debug, PartialEq, Eq, Hash)]
+#[derive(Clone, Copy, Debug, PartialEq, Eq, Hash, Error)]
 pub enum StartFault {
     /// F1: a number of the header is outside its limits, or a name is repeated.
+    #[error("{}", Fault::BadHeader)]
     BadHeader,
     /// The allocator had no memory left.
+    #[error("out of memory")]
     NoMemory,
 }
 

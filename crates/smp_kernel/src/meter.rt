@@ -1,12 +1,12 @@
 ghost use Rattle.std.specs.Prelude.{◌≡◌, ◌+◌, ◌-◌, ◌^◌, min};
 
 use std::marker::Model;
-use std::rt::Runtime;
 
 /// Counts the steps that kernels make.
 ///
-/// A meter can't be copied, and only a runtime gives a new one. So code that is handed a meter and no runtime counts
-/// each step that it makes on that meter. (A bound of `Alloc` would not say so: an allocator is enough for that.)
+/// A meter can't be copied, and only the host's runtime gives a new one, which no crate can make for itself. So code that is
+/// handed a meter and no runtime counts each step that it makes on that meter. (A bound of `Runtime` would not say so: that is
+/// a trait, and a type with its methods is enough for it.)
 #[derive(Debug, Drop)]
 pub struct Meter {
     steps: u64,
@@ -22,7 +22,7 @@ impl Model for Meter {
 
 impl Meter {
     /// A meter that has counted no step. The runtime is not used.
-    pub fn new(_rt: &impl Runtime) -> Self
+    pub fn new(_rt: &HostRuntime) -> Self
         ensures { result ≡ 0 }
     {
         Meter { steps: 0 }

@@ -2,6 +2,7 @@ ghost use Rattle.std.specs.Prelude.{◌≡◌, ◌<◌, ◌≤◌, length, [], t
 ghost use Rattle.std.specs.Option.{option_map_or};
 ghost use Rattle.bench_types.specs.Header.{header_check};
 ghost use Rattle.bench_types.specs.Step.{call_check, step_check, IsStepOfWords};
+ghost use Rattle.bench_types.specs.Limits.{max_cores, max_depth};
 ghost use Rattle.bench_types.specs.declared.step.Call.TheVariants.{Delay};
 ghost use Rattle.bench_types.specs.declared.step.Unfinished.TheVariants.{Made};
 ghost use Rattle.list_orders.specs.Search.{placed, has};
@@ -12,10 +13,10 @@ ghost use Rattle.bench_model.specs.Start.{first_lists, unstarted, start_seen};
 ghost use Rattle.bench_model.specs.State.{holder_at, yielded, blocked};
 ghost use Rattle.bench_model.specs.Seek.{wake, switched_and_sought, sliced};
 ghost use Rattle.bench_model.specs.Steps.{ticked, delayed_until, called, performed, after};
-ghost use Rattle.bench_model.specs.Lists.{list_moves, wakes_first, advance};
+ghost use Rattle.bench_model.specs.Lists.{list_moves, wakes_first, advance, due_tasks};
 ghost use Rattle.bench_model.specs.Looks.{look_in};
-ghost use Rattle.tick_delay.specs.Parts.{is_waiting, due_tasks};
-ghost use Rattle.smp_kernel.specs.Kernel.{HasPriorities, HasTheirMutexes, IsSettled, FindsItsPlace};
+ghost use Rattle.tick_delay.specs.Parts.{is_waiting};
+ghost use Rattle.smp_kernel.specs.Kernel.{HasTheirMutexes, IsSettled, FindsItsPlace};
 
 mod equal;
 mod holds;
@@ -93,7 +94,7 @@ impl Scheduler {
             cores: Cores::new(alloc, header)?,
             calls: no_calls(alloc, tasks)?,
             notes: Notes::new(alloc, tasks)?,
-            mutexes: Mutexes::new(alloc, tasks, config.mutexes)?,
+            mutexes: Mutexes::new(alloc, tasks, config.priorities, config.mutexes)?,
             delays: Delays::new(alloc, config.tick, tasks)?,
             deadlines: Deadlines::new(alloc, tasks)?,
             hold: None,
@@ -175,7 +176,7 @@ impl Scheduler {
 
     fn core_numbers(&self) -> Range<u32>
         ensures numbers { result ≡ record { start = 0; end = self.now.settings.cores } }
-        ensures few { self.now.settings.cores ≤ 8 }
+        ensures few { self.now.settings.cores ≤ max_cores }
         ensures all { length self.now.control.cores ≡ self.now.settings.cores }
     {
         0..self.settings.cores
@@ -255,8 +256,7 @@ impl Scheduler {
         requires ready { has task self.old.orders.ready ≡ true }
         requires checked { call_check self.old.settings call ≡ Ok tt }
         requires own { give_refusal self.old.holders task call ≡ None }
-        requires depth { depth_of self.old.hold ≤ 255 }
-        requires priorities { HasPriorities self.old }
+        requires depth { depth_of self.old.hold ≤ max_depth }
         requires mutexes { HasTheirMutexes self.old }
         ensures { (result, self.new) ≡ called list_moves core task call self.old }
     {

@@ -30,6 +30,7 @@ use Rattle.std.proofs.lemmas.Bool.{true_from_ne_false}
 use Rattle.std.proofs.lemmas.Option.{same_Some}
 use Rattle.bench_types.proofs.Passes.{both_pass, checked_core, checked_task}
 use Rattle.bench_types.specs.Step.{IsCheckedStep, IsCheckedCall, step_check, core_check, task_check, call_check, ◌>>◌}
+use Rattle.bench_types.specs.Limits.{max_depth}
 use Rattle.bench_model.specs.Notes.{wait_begun, take_begun, of_task}
 use Rattle.bench_model.specs.Notifying.{interrupted, awaited_for, completed, awaited}
 use Rattle.bench_model.specs.Seek.{switched_and_sought}
@@ -73,10 +74,10 @@ pub its_hold : (core : ℕ) (hold : Option Hold) → is_held_by core hold ≡ tr
 its_hold core None is = absurd (cc (is))
 its_hold core (Some it) is = (it, refl, grind (arith, nat_tests, is))
 
-pub depth_most : (table : Table) → IsSound table → depth_of table.hold ≤ 255
+pub depth_most : (table : Table) → IsSound table → depth_of table.hold ≤ max_depth
 depth_most table sound = at table.hold refl
   where
-    at : (hold : Option Hold) → table.hold ≡ hold → depth_of hold ≤ 255
+    at : (hold : Option Hold) → table.hold ≡ hold → depth_of hold ≤ max_depth
     at None free = omega arith
     at (Some hold) is = (sound.held hold is).depth.1
 
@@ -137,13 +138,13 @@ none_held table later same free = λ hold is. absurd (cc (same, free, is))
 same_core : (core : ℕ) (hold : Hold) → hold.core ≡ core → eqb hold.core core ≡ true
 same_core core hold same = grind (arith, nat_tests, same)
 
--- a hold that may be opened once more is open fewer than 255 times over
-room_left : (core task : ℕ) (table : Table) (hold : Hold) → table.hold ≡ Some hold → is_held_by core table.hold ≡ true → hold_refusal table_moves core task HoldOpen table ≡ None → hold.depth ≤ 255 → hold.depth + 1 ≤ 255
+-- a hold that may be opened once more is open fewer times over than it may
+room_left : (core task : ℕ) (table : Table) (hold : Hold) → table.hold ≡ Some hold → is_held_by core table.hold ≡ true → hold_refusal table_moves core task HoldOpen table ≡ None → hold.depth ≤ max_depth → hold.depth + 1 ≤ max_depth
 unfolding would_block
-room_left core task table hold is held none most = at (eqb hold.depth 255) refl
+room_left core task table hold is held none most = at (eqb hold.depth max_depth) refl
   where
-    at : (b : Bool) → eqb hold.depth 255 ≡ b → hold.depth + 1 ≤ 255
-    at true deep = absurd (cc (none, held, ap (λ h. eqb (depth_of h) 255) is ∙ deep))
+    at : (b : Bool) → eqb hold.depth max_depth ≡ b → hold.depth + 1 ≤ max_depth
+    at true deep = absurd (cc (none, held, ap (λ h. eqb (depth_of h) max_depth) is ∙ deep))
     at false less = grind (arith, nat_tests, less, most)
 
 free_of_calls : (unfinished : Option Unfinished) → call_refusal unfinished HoldOpen ≡ None → unfinished ≡ None
@@ -201,7 +202,7 @@ opened_held core task table sound place user taken hold is = well hold (the_same
     opened : Hold
     opened = record { core = core; depth = depth }
 
-    bounded : (hold : Option Hold) → table.hold ≡ hold → depth_of hold + 1 ≤ 255
+    bounded : (hold : Option Hold) → table.hold ≡ hold → depth_of hold + 1 ≤ max_depth
     bounded None free = omega arith
     bounded (Some hold) is =
         let ours = own_hold core hold (ap (is_held_elsewhere core) (sym is) ∙ taken.free) in

@@ -1,5 +1,5 @@
 -- The start of a checked header is sound, and seen as lists it is the start over lists.
-use Rattle.order_laws.proofs.FirstBlocks.{first_tasks, first_priorities}
+use Rattle.order_laws.proofs.FirstBlocks.{first_tasks, first_blocks}
 use Rattle.std.proofs.Common.{◌≡◌, ℕ, zero, suc, ◌+◌, ◌-◌, ◌<◌, ◌≤◌, true, false, cond, ltb, List, [], ◌∷◌, ◌++◌, length, map, replicate, Bool, Option, Some, None, Ok, refl, ap, ◌∙◌, add-zero, arith, inl, inr}
 use Rattle.std.specs.Prelude.{slice_index_or}
 use Rattle.std.specs.List.{fold, range_with_len, AllByRecursion}
@@ -219,7 +219,7 @@ module _ (header : Header) where
     stamped = first_stamped;
     in_place = first_placed;
     in_time = first_in_time;
-    priorities = first_priorities header valid;
+    blocks = first_blocks header valid;
     calls = first_calls;
     notes = first_words;
     mutexes = first_mutexes;

@@ -17,6 +17,7 @@ use Rattle.bench_types.specs.declared.step.Call.{Call}
 use Rattle.bench_types.specs.declared.step.Call.TheVariants.{Yield, Delay, DelayUntil, Finish, PrioritySet, AffinitySet, PreemptOff, PreemptOn, Notify, NotifyWait, NotifyTake, StateClear, ValueClear, MutexTake, MutexGive, HoldOpen, HoldClose}
 use Rattle.bench_types.proofs.Passes.{both_pass, checked_task, checked_mutex}
 use Rattle.bench_types.specs.Step.{IsCheckedStep, IsCheckedCall, task_check, mask_check, ◌>>◌}
+use Rattle.bench_types.specs.Limits.{max_depth}
 use Rattle.bench_model.specs.Notes.{wait_begun, take_begun, of_task}
 use Rattle.bench_model.specs.Notifying.{is_passed}
 use Rattle.bench_model.specs.Mutexes.{finished}
@@ -155,7 +156,7 @@ refusal_seen (steps.Call core task call) table =
     let displaced = not (eqb (current table.control core) task) in
     let due = is_due table.control core && not (is_held_by core table.hold) in
     let fits = call_refusal (call_at table.calls task) call in
-    let deep = cond (opens_hold call && eqb (depth_of table.hold) 255) (Some HoldDeep) None in
+    let deep = cond (opens_hold call && eqb (depth_of table.hold) max_depth) (Some HoldDeep) None in
     let none = cond (closes_hold call) (Some NoHold) None in
     ap (λ waits. cond kept_out (Some Held) (cond displaced (Some Displaced) (cond due (Some SwitchDue) (option_or fits (option_or (cond (is_held_by core table.hold) (cond waits (Some HoldBlock) deep) none) (give_refusal table.holders task call))))))
     (would_block_seen task call table)
@@ -190,7 +191,7 @@ with_hold table hold sound = record {
   stamped = sound.stamped;
   in_place = sound.in_place;
   in_time = sound.in_time;
-  priorities = sound.priorities;
+  blocks = sound.blocks;
   calls = sound.calls;
   notes = sound.notes;
   mutexes = sound.mutexes;

@@ -15,7 +15,7 @@ use Rattle.bench_model.specs.Table.{Stamps, Table, table_moves, is_ready, pick, 
 use Rattle.bench_model.specs.Lists as seen
 use Rattle.bench_model.specs.Lists.{list_moves, lists_of, image}
 use Rattle.bench_model.specs.Looks.{task_look, look_in}
-use Rattle.bench_model.specs.Sound.{IsStamped, IsWait, IsMutexWait, WakesInTime, IsCaller, IsConsistent, IsSound, takes_mutex}
+use Rattle.bench_model.specs.Sound.{IsStamped, IsWait, IsMutexWait, IsMutexTime, WakesInTime, IsCaller, IsConsistent, IsSound, takes_mutex}
 use Rattle.bench_model.specs.Start.{start, start_seen}
 use Rattle.bench_model.specs.Session.{step_of}
 use Rattle.bench_model.specs.Equal.{Same}
@@ -93,4 +93,4 @@ BlockIsSeen = (table : Table) (core task : ℕ) (call : Unfinished) (ticks : Opt
 abbrev pub BlockKeepsConsistent : Type 0
 BlockKeepsConsistent = (table : Table) (core task : ℕ) (call : Unfinished) (ticks : Option ℕ) (wait : Option MutexWait) → IsConsistent table → IsCaller table core task →
     IsCheckedUnfinished table.settings call → table.settings.cores ≤ task → IsWait ticks → IfSome wait (IsMutexWait table.settings) →
-    (is_some wait ≡ true → takes_mutex (Some call) ≡ true) → IsConsistent (blocked table_moves core task call ticks wait table)
+    (is_some wait ≡ true → (takes_mutex (Some call) ≡ true) × IsMutexTime ticks) → IsConsistent (blocked table_moves core task call ticks wait table)

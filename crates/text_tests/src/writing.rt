@@ -3,7 +3,7 @@ ghost use Rattle.session_text.specs.Session.{IsChecked};
 
 use crate::outcomes::{session_of, with_steps};
 use crate::values::check_steps;
-use bench_types::{Header, Step};
+use bench_types::{Header, MAX_STEPS, Step};
 use session_write::write_session;
 use std::alloc::{AllocError, Global};
 use std::process::Abort;
@@ -161,6 +161,23 @@ fn steps_in_their_order(rt: HostRuntime) -> Result<(), Fail> {
     let written = all_steps(rt.alloc(), true)?;
     let want = written_of(rt.alloc(), written.as_str())?;
     check_all(&rt, rt.alloc(), want.as_str())
+}
+
+fn most_ticks(alloc: Global) -> Result<String, AllocError> {
+    let mut steps = String::new(alloc);
+    for _step in 0..MAX_STEPS {
+        push_item(&mut steps, "{\"do\":\"tick\"}")?;
+    }
+    Ok(steps)
+}
+
+/// A text of more than a million bytes.
+#[test]
+fn the_most_steps(rt: HostRuntime) -> Result<(), Fail> {
+    let steps = most_ticks(rt.alloc())?;
+    assert!(&rt; steps.len() > 1_000_000);
+    let want = written_of(rt.alloc(), steps.as_str())?;
+    check_step(&rt, rt.alloc(), steps.as_str(), want.as_str())
 }
 
 /// The names of the tasks, one after another.

@@ -10,11 +10,11 @@ use Rattle.std.proofs.lemmas.Bool.Decides.{nat_tests}
 use Rattle.std.proofs.lemmas.Option.{same_Some}
 use Rattle.bench_types.specs.declared.kernel_data.Delayed.{Delayed}
 use Rattle.list_orders.specs.Search.{placed, ranked, without, has}
-use Rattle.bench_model.specs.Lists.{wakes_first}
+use Rattle.bench_model.specs.Lists.{wakes_first, without_delay, one_tick_less, due_tasks}
 use Rattle.list_orders.proofs.Filters.{filter-map, filter_none, All-weaker}
 use Rattle.list_orders.proofs.Ranks.{filter-ranked, map-ranked}
 use Rattle.bench_model.proofs.Ranks.{wakes_first-IsRank}
-use Rattle.tick_delay.specs.Parts.{DelayView, is_waiting, cancelled, aged, advanced, due_tasks}
+use Rattle.tick_delay.specs.Parts.{DelayView, is_waiting, advanced}
 use Rattle.tick_delay.specs.Shape.{IsDelayShape}
 use Rattle.list_orders.proofs.Placements.{placed_at, first_in_order}
 use Rattle.list_orders.specs.Listings.{IsListing}
@@ -30,7 +30,7 @@ pub no_delays_shape : (tasks places : ℕ) → places ≡ tasks → IsDelayShape
 unfolding IsDistinct ranked
 no_delays_shape tasks places room = record { waiting_tasks = record { below = All-nil (λ i. i < tasks); once = tt }; in_order = refl; room = omega (arith, room) }
 
-pub map-cancelled : (task : ℕ) (waiting : List Delayed) → map task_of (cancelled task waiting) ≡ without task (map task_of waiting)
+pub map-cancelled : (task : ℕ) (waiting : List Delayed) → map task_of (without_delay task waiting) ≡ without task (map task_of waiting)
 map-cancelled task waiting = sym (filter-map (λ m. not (eqb m task)) task_of waiting)
 
 -- a task that doesn't wait is not among those that wait
@@ -38,8 +38,8 @@ pub not_among : (task : ℕ) (waiting : List Delayed) → is_waiting task waitin
 not_among task [] free = refl
 not_among task (entry ∷ waiting) free = grind (arith, free, not_among task waiting)
 
-pub cancelled_in_order : (task : ℕ) (waiting : List Delayed) → ranked wakes_first waiting ≡ waiting → ranked wakes_first (cancelled task waiting) ≡ cancelled task waiting
-cancelled_in_order task waiting order = sym (filter-ranked wakes_first wakes_first-IsRank (λ entry. not (eqb entry.task task)) waiting) ∙ ap (cancelled task) order
+pub cancelled_in_order : (task : ℕ) (waiting : List Delayed) → ranked wakes_first waiting ≡ waiting → ranked wakes_first (without_delay task waiting) ≡ without_delay task waiting
+cancelled_in_order task waiting order = sym (filter-ranked wakes_first wakes_first-IsRank (λ entry. not (eqb entry.task task)) waiting) ∙ ap (without_delay task) order
 
 none_elapsed : (waiting : List Delayed) → due_tasks waiting ≡ [] → AllByRecursion (λ entry. 0 < entry.left) waiting
 unfolding due_tasks
@@ -50,15 +50,15 @@ none_elapsed (entry ∷ waiting) none = at (eqb entry.left 0) refl none (none_el
     at true ends some rest = absurd (cc (some))
     at false left none rest = (grind (arith, nat_tests, left), rest none)
 
-pub aged_in_order : (waiting : List Delayed) → ranked wakes_first waiting ≡ waiting → due_tasks waiting ≡ [] → ranked wakes_first (map aged waiting) ≡ map aged waiting
+pub aged_in_order : (waiting : List Delayed) → ranked wakes_first waiting ≡ waiting → due_tasks waiting ≡ [] → ranked wakes_first (map one_tick_less waiting) ≡ map one_tick_less waiting
 aged_in_order waiting order none =
-    sym (map-ranked wakes_first wakes_first aged (λ entry. 0 < entry.left) (λ a b h k. grind (arith, nat_tests, h, k)) waiting (none_elapsed waiting none)) ∙ ap (map aged) order
+    sym (map-ranked wakes_first wakes_first one_tick_less (λ entry. 0 < entry.left) (λ a b h k. grind (arith, nat_tests, h, k)) waiting (none_elapsed waiting none)) ∙ ap (map one_tick_less) order
 
-pub seen_advanced : (view : DelayView) → record { tasks = view.tasks; tick = (view.tick + 1) % 2 ^ 32; delayed = map aged view.delayed } ≡ advanced view
+pub seen_advanced : (view : DelayView) → record { tasks = view.tasks; tick = (view.tick + 1) % 2 ^ 32; delayed = map one_tick_less view.delayed } ≡ advanced view
 unfolding advanced
 seen_advanced view = refl
 
-pub map-aged : (waiting : List Delayed) → map task_of (map aged waiting) ≡ map task_of waiting
+pub map-aged : (waiting : List Delayed) → map task_of (map one_tick_less waiting) ≡ map task_of waiting
 map-aged [] = refl
 map-aged (entry ∷ waiting) = ap (λ tasks. entry.task ∷ tasks) (map-aged waiting)
 
@@ -104,12 +104,12 @@ none_due_behind entry waiting order left =
     let later = first_in_order wakes_first wakes_first-IsRank entry waiting order in
     ap (map task_of) (filter_none elapsed (entry ∷ waiting) (left, All-weaker (λ y. wakes_first entry y ≡ true) (λ y. elapsed y ≡ false) (λ y h. grind (arith, nat_tests, h, left)) waiting later))
 
-others_kept : (task : ℕ) (waiting : List Delayed) → AllByRecursion (λ other. eqb task other ≡ false) (map task_of waiting) → cancelled task waiting ≡ waiting
+others_kept : (task : ℕ) (waiting : List Delayed) → AllByRecursion (λ other. eqb task other ≡ false) (map task_of waiting) → without_delay task waiting ≡ waiting
 others_kept task [] apart = refl
 others_kept task (entry ∷ waiting) apart = grind (arith, nat_tests, apart.0, others_kept task waiting apart.1)
 
 -- where it has none, it is the first of those that are due
-first_is_due : (entry : Delayed) (waiting : List Delayed) → IsDistinct eqb (map task_of (entry ∷ waiting)) → eqb entry.left 0 ≡ true → due_tasks (entry ∷ waiting) ≡ entry.task ∷ due_tasks (cancelled entry.task (entry ∷ waiting))
+first_is_due : (entry : Delayed) (waiting : List Delayed) → IsDistinct eqb (map task_of (entry ∷ waiting)) → eqb entry.left 0 ≡ true → due_tasks (entry ∷ waiting) ≡ entry.task ∷ due_tasks (without_delay entry.task (entry ∷ waiting))
 unfolding due_tasks
 first_is_due entry waiting once ends =
     let rest = others_kept entry.task waiting (IsDistinct-head eqb entry.task (map task_of waiting) once) in
@@ -119,10 +119,10 @@ first_is_due entry waiting once ends =
 abbrev first_of : List Delayed → Option Delayed
 first_of waiting = slice_get waiting 0
 
-pub due_first : (waiting : List Delayed) (entry : Delayed) → IsDistinct eqb (map task_of waiting) → first_of waiting ≡ Some entry → entry.left ≡ 0 → due_tasks waiting ≡ entry.task ∷ due_tasks (cancelled entry.task waiting)
+pub due_first : (waiting : List Delayed) (entry : Delayed) → IsDistinct eqb (map task_of waiting) → first_of waiting ≡ Some entry → entry.left ≡ 0 → due_tasks waiting ≡ entry.task ∷ due_tasks (without_delay entry.task waiting)
 due_first [] entry once first ends = absurd (cc (first))
 due_first (other ∷ waiting) entry once first ends =
-    subst (λ (e : Delayed). due_tasks (other ∷ waiting) ≡ e.task ∷ due_tasks (cancelled e.task (other ∷ waiting))) (same_Some other entry first)
+    subst (λ (e : Delayed). due_tasks (other ∷ waiting) ≡ e.task ∷ due_tasks (without_delay e.task (other ∷ waiting))) (same_Some other entry first)
     (first_is_due other waiting once (grind (arith, nat_tests, ends, same_Some other entry first)))
 
 pub due_none : (waiting : List Delayed) (entry : Delayed) → ranked wakes_first waiting ≡ waiting → first_of waiting ≡ Some entry → entry.left ≢ 0 → due_tasks waiting ≡ []

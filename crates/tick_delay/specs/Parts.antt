@@ -1,9 +1,8 @@
 -- What can be seen of the tick count and the tasks that wait, and what each call makes of it.
-use Rattle.std.specs.Prelude.{◌+◌, ◌-◌, ◌%◌, ◌^◌, ◌==◌, map, filter, ℕ, List, [], Bool, true, false, not, if◌then◌else◌}
+use Rattle.std.specs.Prelude.{◌==◌, map, ℕ, List, [], Bool, true, false, if◌then◌else◌}
 use Rattle.std.specs.List.{list_any}
 use Rattle.bench_types.specs.declared.kernel_data.Delayed.{Delayed}
-use Rattle.list_orders.specs.Search.{placed}
-use Rattle.bench_model.specs.Lists.{wakes_first}
+use Rattle.bench_model.specs.Lists.{with_delay, one_tick_less, next_tick}
 use Rattle.bench_model.specs.Until.{next_wake, is_ahead, ticks_to}
 
 pub record DelayView : Type 0 where
@@ -22,9 +21,9 @@ no_delays tick tasks = record { tasks = tasks; tick = tick; delayed = [] }
 abbrev pub is_waiting : ℕ → List Delayed → Bool
 is_waiting task delayed = list_any (λ entry. entry.task == task) delayed
 
--- the task waits for so many ticks, behind those that wait as long or shorter (FreeRTOS Reference Manual, vTaskDelay)
+-- the task waits for so many ticks (FreeRTOS Reference Manual, vTaskDelay)
 abbrev pub delayed_for : ℕ → ℕ → DelayView → DelayView
-delayed_for task ticks view = record view { delayed = placed wakes_first (record { task = task; left = ticks }) view.delayed }
+delayed_for task ticks view = record view { delayed = with_delay task ticks view.delayed }
 
 -- Whether the task is delayed, and its wake, so many ticks behind the last one: where that lies ahead, the task waits for it
 -- (FreeRTOS Reference Manual, xTaskDelayUntil).
@@ -32,16 +31,6 @@ unfoldable pub until_delayed : ℕ → ℕ → ℕ → DelayView → (Bool × �
 until_delayed task prev inc view = let wake = next_wake prev inc in
     if is_ahead view.tick prev wake then ((true, wake), delayed_for task (ticks_to view.tick wake) view) else ((false, wake), view)
 
-abbrev pub cancelled : ℕ → List Delayed → List Delayed
-cancelled task delayed = filter (λ entry. not (entry.task == task)) delayed
-
-abbrev pub aged : Delayed → Delayed
-aged entry = record entry { left = entry.left - 1 }
-
 -- one tick later
 unfoldable pub advanced : DelayView → DelayView
-advanced view = record view { tick = (view.tick + 1) % 2 ^ 32; delayed = map aged view.delayed }
-
--- the tasks that have waited long enough, in the order in which they began to wait
-unfoldable pub due_tasks : List Delayed → List ℕ
-due_tasks delayed = map (λ entry. entry.task) (filter (λ entry. entry.left == 0) delayed)
+advanced view = record view { tick = next_tick view.tick; delayed = map one_tick_less view.delayed }

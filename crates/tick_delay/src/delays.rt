@@ -3,9 +3,9 @@ ghost use Rattle.std.specs.List.{position_or_len};
 ghost use Rattle.std.specs.Vec.{vec_capacity};
 ghost use Rattle.bench_types.specs.declared.kernel_data.Delayed.{Delayed};
 ghost use Rattle.list_orders.specs.Search.{placed, ranked};
-ghost use Rattle.bench_model.specs.Lists.{wakes_first};
+ghost use Rattle.bench_model.specs.Lists.{wakes_first, without_delay, one_tick_less, due_tasks};
 ghost use Rattle.bench_model.specs.Looks.{left_in};
-ghost use Rattle.tick_delay.specs.Parts.{no_delays, is_waiting, delayed_for, until_delayed, cancelled, aged, advanced, due_tasks};
+ghost use Rattle.tick_delay.specs.Parts.{no_delays, is_waiting, delayed_for, until_delayed, advanced};
 
 use bench_model::until::{is_ahead, next_wake};
 use bench_types::Delayed;
@@ -76,6 +76,7 @@ impl Delays {
 
     /// The ticks that are left to the wake of the task; none where it doesn't wait.
     pub fn left(&self, task: u32) -> Option<u32>
+        requires { task < self.now.tasks }
         ensures { result ≡ left_in task self.now.delayed }
     {
         left_of(&self.waiting, task)
@@ -109,7 +110,8 @@ impl Delays {
 
     /// The task waits no more.
     pub fn cancel(&mut self, task: u32)
-        ensures { self.new ≡ record self.old { delayed = cancelled task self.old.delayed } }
+        requires { task < self.old.tasks }
+        ensures { self.new ≡ record self.old { delayed = without_delay task self.old.delayed } }
     {
         cancel_entry(&mut self.waiting, task);
     }
@@ -126,7 +128,7 @@ impl Delays {
     /// The first of the tasks that have waited long enough, which waits no more; none where there is none.
     pub fn pop_due(&mut self) -> Option<u32>
         ensures first { MatchOption result (due_tasks self.old.delayed ≡ []) (λ task. due_tasks self.old.delayed ≡ task ∷ due_tasks self.new.delayed) }
-        ensures entry { MatchOption result (self.new ≡ self.old) (λ task. self.new ≡ record self.old { delayed = cancelled task self.old.delayed }) }
+        ensures entry { MatchOption result (self.new ≡ self.old) (λ task. self.new ≡ record self.old { delayed = without_delay task self.old.delayed }) }
         ensures task { IfSome result (λ task. task < self.old.tasks) }
     {
         let task = self.first_due()?;
@@ -135,7 +137,7 @@ impl Delays {
     }
 
     fn first_due(&self) -> Option<u32>
-        ensures first { MatchOption result (due_tasks self.now.delayed ≡ []) (λ task. due_tasks self.now.delayed ≡ task ∷ due_tasks (cancelled task self.now.delayed)) }
+        ensures first { MatchOption result (due_tasks self.now.delayed ≡ []) (λ task. due_tasks self.now.delayed ≡ task ∷ due_tasks (without_delay task self.now.delayed)) }
         ensures task { IfSome result (λ task. task < self.now.tasks) }
     {
         match self.waiting.first() {
@@ -173,7 +175,7 @@ fn place_of(waiting: &[Delayed], ticks: u32) -> usize
 }
 
 fn cancel_entry(waiting: &mut Vec<Delayed>, task: u32)
-    ensures items { waiting.new.items ≡ cancelled task waiting.old.items }
+    ensures items { waiting.new.items ≡ without_delay task waiting.old.items }
     ensures capacity { vec_capacity waiting.new ≡ vec_capacity waiting.old }
 {
     waiting.retain(|entry| entry.task != task);
@@ -181,7 +183,7 @@ fn cancel_entry(waiting: &mut Vec<Delayed>, task: u32)
 
 // One tick less is left for each.
 fn age(waiting: &mut [Delayed])
-    ensures { waiting.new ≡ map aged waiting.old }
+    ensures { waiting.new ≡ map one_tick_less waiting.old }
 {
     for entry in waiting {
         entry.left = entry.left.saturating_sub(1);

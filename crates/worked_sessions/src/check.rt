@@ -3,16 +3,11 @@ use crate::block::{Block, Shown};
 use crate::replay::Played;
 use std::alloc::AllocError;
 use std::io::{self, ErrorKind};
-use std::rt::Runtime;
 
 const NO_SESSION: &str = "no session";
 
 /// Checks each session of a file's text, and says how many there are.
-pub(crate) fn check_text(
-    rt: &(impl Runtime + AllocGlobal),
-    name: &str,
-    text: &str,
-) -> io::Result<()> {
+pub(crate) fn check_text(rt: &HostRuntime, name: &str, text: &str) -> io::Result<()> {
     print!(rt; "{name}: ")?;
     for part in text.split("\n\n") {
         check_part(rt, part)?;
@@ -21,14 +16,14 @@ pub(crate) fn check_text(
     println!(rt; "{count} sessions as expected")
 }
 
-fn check_part(rt: &(impl Runtime + AllocGlobal), part: &str) -> io::Result<()> {
+fn check_part(rt: &HostRuntime, part: &str) -> io::Result<()> {
     match Block::read(part) {
         Some(block) => check_block(rt, &block),
         None => compare(rt, part, "a session", "none"),
     }
 }
 
-fn check_block(rt: &(impl Runtime + AllocGlobal), block: &Block<'_>) -> io::Result<()> {
+fn check_block(rt: &HostRuntime, block: &Block<'_>) -> io::Result<()> {
     match block.shown {
         Shown::Replies => check_lines(rt, block, false),
         Shown::States => check_lines(rt, block, true),
@@ -36,11 +31,7 @@ fn check_block(rt: &(impl Runtime + AllocGlobal), block: &Block<'_>) -> io::Resu
     }
 }
 
-fn check_lines(
-    rt: &(impl Runtime + AllocGlobal),
-    block: &Block<'_>,
-    with_state: bool,
-) -> io::Result<()> {
+fn check_lines(rt: &HostRuntime, block: &Block<'_>, with_state: bool) -> io::Result<()> {
     let found = Played::of(rt, block.session, with_state)?;
     compare(rt, block.title, block.rest, lines_of(&found))
 }
@@ -52,18 +43,14 @@ fn lines_of(played: &Option<Played>) -> &str {
     }
 }
 
-fn check_pair(rt: &(impl Runtime + AllocGlobal), block: &Block<'_>) -> io::Result<()> {
+fn check_pair(rt: &HostRuntime, block: &Block<'_>) -> io::Result<()> {
     let (session, expected) = block.rest.split_once("\n").unwrap_or(("", ""));
     let found = told_of(rt, block.session, session)?;
     compare(rt, block.title, expected, found)
 }
 
 /// Whether two sessions end alike.
-fn told_of(
-    rt: &(impl Runtime + AllocGlobal),
-    one: &str,
-    two: &str,
-) -> Result<&'static str, AllocError> {
+fn told_of(rt: &HostRuntime, one: &str, two: &str) -> Result<&'static str, AllocError> {
     match Played::of(rt, one, false)? {
         Some(played) => told_beside(rt, &played, two),
         None => Ok(NO_SESSION),
@@ -71,7 +58,7 @@ fn told_of(
 }
 
 fn told_beside(
-    rt: &(impl Runtime + AllocGlobal),
+    rt: &HostRuntime,
     played: &Played,
     session: &str,
 ) -> Result<&'static str, AllocError> {

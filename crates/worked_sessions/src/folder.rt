@@ -1,13 +1,12 @@
 //! The files of a folder.
 use crate::check::check_text;
 use std::io::{self, ErrorKind};
-use std::rt::Runtime;
 use std::{env, fs};
 
 /// Checks the sessions of each file of the folder that the command line names.
 ///
 /// Files are taken in the order of their names. A folder without any is refused.
-pub(crate) fn check_folder(rt: &(impl Runtime + AllocGlobal)) -> io::Result<()> {
+pub(crate) fn check_folder(rt: &HostRuntime) -> io::Result<()> {
     let Some(folder) = env::args(rt)?.nth(1) else {
         return Err(io::Error::from(ErrorKind::InvalidInput));
     };
@@ -23,7 +22,7 @@ pub(crate) fn check_folder(rt: &(impl Runtime + AllocGlobal)) -> io::Result<()> 
     Ok(())
 }
 
-fn names_in(rt: &(impl Runtime + AllocGlobal), folder: &str) -> io::Result<Vec<String>> {
+fn names_in(rt: &HostRuntime, folder: &str) -> io::Result<Vec<String>> {
     let mut names = Vec::new(rt.alloc());
     for entry in fs::read_dir(rt, folder)? {
         names.push(String::from_str(rt.alloc(), entry?.file_name())?)?;

@@ -10,7 +10,6 @@ use session_text::read_session;
 use slow_replay::replay_slow;
 use smp_kernel::{Kernel, Meter};
 use std::alloc::{AllocError, Global};
-use std::rt::Runtime;
 
 /// The kernel at the end of a session, and the lines of its replay.
 #[derive(Drop)]
@@ -24,7 +23,7 @@ impl Played {
     ///
     /// Each place has a line, and where it is asked for those of the state.
     pub(crate) fn of(
-        rt: &(impl Runtime + AllocGlobal),
+        rt: &HostRuntime,
         session: &str,
         with_state: bool,
     ) -> Result<Option<Played>, AllocError> {
@@ -66,7 +65,7 @@ fn told(one: &Kernel, two: &Kernel) -> &'static str {
 
 /// Replays by the kernel, and says where the definitions give another reply or other tasks.
 fn replayed(
-    rt: &(impl Runtime + AllocGlobal),
+    rt: &HostRuntime,
     header: &Header,
     steps: &[Step],
     with_state: bool,

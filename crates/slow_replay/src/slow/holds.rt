@@ -8,7 +8,7 @@ ghost use Rattle.bench_model.specs.Table.{table_moves, tick_count};
 
 use super::{SlowTable, notes};
 use bench_model::until::{is_ahead, next_wake};
-use bench_types::{Call, Hold, Refusal, Step, Unfinished};
+use bench_types::{Call, Hold, MAX_DEPTH, Refusal, Step, Unfinished};
 
 impl SlowTable {
     pub(super) fn tick_count(&self) -> u32
@@ -100,7 +100,7 @@ impl SlowTable {
         if self.would_block(task, call) {
             return Some(Refusal::HoldBlock);
         }
-        let is_deep = matches!(call, Call::HoldOpen) && self.depth() == 255;
+        let is_deep = matches!(call, Call::HoldOpen) && self.depth() == MAX_DEPTH;
         is_deep.then_some(Refusal::HoldDeep)
     }
 

@@ -5,7 +5,7 @@ ghost use Rattle.bench_model.specs.Sets.{runs_on, ask_its_core, capped, in_use_b
 ghost use Rattle.bench_model.specs.Table.{table_moves, is_ready};
 
 use super::SlowTable;
-use bench_types::TaskControl;
+use bench_types::{TaskControl, cores_of_mask};
 
 impl SlowTable {
     fn its_core(&self, task: u32) -> Option<u32>
@@ -48,7 +48,7 @@ impl SlowTable {
         ensures { self.new ≡ record self.old { control = with_affinity task mask self.old.control } }
     {
         let cores = self.settings.cores;
-        self.tasks[task as usize].mask = mask % (1 << cores);
+        self.tasks[task as usize].mask = cores_of_mask(cores, mask);
     }
 
     fn set_preemption(&mut self, task: u32, preempt: bool)

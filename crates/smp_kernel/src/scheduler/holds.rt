@@ -1,5 +1,6 @@
 //! Holds of the kernel (`taskENTER_CRITICAL`, `taskEXIT_CRITICAL`).
 ghost use Rattle.std.specs.Prelude.{◌≡◌, ◌≤◌, is_some};
+ghost use Rattle.bench_types.specs.Limits.{max_depth};
 ghost use Rattle.bench_model.specs.Holds.{is_held_by, is_held_elsewhere, depth_of, hold_opened, hold_closed};
 
 use super::Scheduler;
@@ -41,7 +42,7 @@ impl Scheduler {
     // The core holds the kernel once more.
     #[tactic(auto, unfolding(bench_model::specs::Holds::hold_opened))]
     pub(super) fn open_hold(&mut self, core: u32)
-        requires { depth_of self.old.hold ≤ 255 }
+        requires { depth_of self.old.hold ≤ max_depth }
         ensures { self.new ≡ hold_opened core self.old }
     {
         let depth = self.depth() + 1;

@@ -7,7 +7,7 @@ ghost use Rattle.list_orders.specs.Search.{has};
 ghost use Rattle.bench_model.specs.State.{call_at, holder_at};
 ghost use Rattle.bench_model.specs.Lists.{list_moves, first_of};
 ghost use Rattle.bench_model.specs.Mutexes.{waited_at, mutex_take, timed_out, ended, take_finished, finished, disinherited, mutex_give};
-ghost use Rattle.smp_kernel.specs.Kernel.{HasPriorities, HasTheirMutexes};
+ghost use Rattle.smp_kernel.specs.Kernel.{HasTheirMutexes};
 ghost use Rattle.mutex_inherit.specs.Parts.{holder_of};
 
 use super::notes::awaited_for;
@@ -60,7 +60,6 @@ impl Scheduler {
         requires core { core < self.old.settings.cores }
         requires task { task < self.old.settings.tasks }
         requires ready { has task self.old.orders.ready ≡ true }
-        requires priorities { HasPriorities self.old }
         requires mutexes { HasTheirMutexes self.old }
         ensures { (result, self.new) ≡ option_map_or (λ call. finished list_moves core task call self.old) (call_at self.old.calls task) (Done, self.old) }
     {
@@ -93,7 +92,6 @@ impl Scheduler {
         requires task { task < self.old.settings.tasks }
         requires ready { has task self.old.orders.ready ≡ true }
         requires mutex { mutex < self.old.settings.mutexes }
-        requires priorities { HasPriorities self.old }
         ensures { (result, self.new) ≡ take_finished list_moves core task mutex mark self.old }
     {
         if self.mutexes.try_take(task, mutex) {
@@ -115,7 +113,6 @@ impl Scheduler {
     fn time_out(&mut self, core: u32, task: u32, mutex: u32, mark: bool)
         requires mutex { mutex < self.old.settings.mutexes }
         requires held { IsSome (holder_at self.old.holders mutex) }
-        requires priorities { HasPriorities self.old }
         ensures { self.new ≡ timed_out list_moves core task mutex mark (holder_of self.old.holders mutex) self.old }
     {
         if mark {
@@ -130,7 +127,6 @@ impl Scheduler {
         requires task { task < self.old.settings.tasks }
         requires mutex { mutex < self.old.settings.mutexes }
         requires own { ForSome (holder_at self.old.holders mutex) (λ holder. holder ≡ task) }
-        requires priorities { HasPriorities self.old }
         ensures { (result, self.new) ≡ mutex_give list_moves core task mutex self.old }
     {
         if self.mutexes.holder(mutex).is_none() {
@@ -147,7 +143,6 @@ impl Scheduler {
         requires task { task < self.old.settings.tasks }
         requires mutex { mutex < self.old.settings.mutexes }
         requires held { holder_at self.old.holders mutex ≡ Some task }
-        requires priorities { HasPriorities self.old }
         ensures given { self.new ≡ disinherited list_moves core task (record self.old { holders = slice_set self.old.holders mutex None }) }
         ensures first { result ≡ option_map (λ (waiter : Waiter). waiter.task) (first_of mutex self.new.orders.waiters) }
         ensures waiter { IfSome result (λ waiter. waiter < self.new.settings.tasks) }

@@ -9,7 +9,7 @@ ghost use Rattle.bench_model.specs.Refusals.{call_refusal, give_refusal, would_b
 use super::Scheduler;
 use bench_model::notes::is_received;
 use bench_model::until::{is_ahead, next_wake};
-use bench_types::{Call, Refusal, Step, Unfinished};
+use bench_types::{Call, MAX_DEPTH, Refusal, Step, Unfinished};
 
 impl Scheduler {
     // The first reason that applies. A core that holds the kernel keeps out switches and the calls of others.
@@ -68,7 +68,7 @@ impl Scheduler {
         look.pend || look.asked
     }
 
-    // A core that holds the kernel lets no task wait and holds it at most 255 times over, and one that doesn't can't free it.
+    // A core that holds the kernel lets no task wait and holds it at most so many times over as it may, and one that doesn't can't free it.
     #[tactic(auto, unfolding(bench_model::specs::Refusals::would_block))]
     fn hold_refusal(&self, core: u32, task: u32, call: Call) -> Option<Refusal>
         requires task { task < self.now.settings.tasks }
@@ -78,7 +78,7 @@ impl Scheduler {
         let is_held = self.is_held_by(core);
         match call {
             Call::HoldClose if !is_held => Some(Refusal::NoHold),
-            Call::HoldOpen if is_held && self.depth() == 255 => Some(Refusal::HoldDeep),
+            Call::HoldOpen if is_held && self.depth() == MAX_DEPTH => Some(Refusal::HoldDeep),
             _ if is_held && self.would_block(task, call) => Some(Refusal::HoldBlock),
             _ => None,
         }

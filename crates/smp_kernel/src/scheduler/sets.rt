@@ -81,7 +81,8 @@ impl Scheduler {
     }
 
     fn set_base(&mut self, task: u32, priority: u32)
-        requires { task < self.old.settings.tasks }
+        requires task { task < self.old.settings.tasks }
+        requires priority { priority < self.old.settings.priorities }
         ensures { self.new ≡ record self.old { control = with_base task priority self.old.control } }
     {
         self.cores.set_base(task, priority);

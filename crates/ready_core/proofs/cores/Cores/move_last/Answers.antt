@@ -16,6 +16,7 @@ invariant_of-self c =
       few_cores = c.self.invariant.few_cores;
       running = c.self.invariant.running;
       in_use = c.self.invariant.in_use;
+      base = c.self.invariant.base;
       ready = rw c.requeue.ensures.items (listing_push _ c.args.task _ (listing_without _ c.args.task _ c.self.invariant.ready) low (has-without c.args.task _));
       room = omega (arith, c.self.invariant.room, c.requeue.ensures.capacity);
     }

@@ -1,7 +1,7 @@
 use Rattle.std.proofs.Common.{◌<◌, true, false, [], ◌∷◌, ◌++◌, length, arith, ap, ◌∙◌, sym, subst}
 use Rattle.std.specs.List.{All}
 use Rattle.std.proofs.lemmas.List.{length-set}
-use Rattle.std.proofs.lemmas.List.Elements.{All-set}
+use Rattle.std.proofs.lemmas.List.Elements.{All-get_or, All-set}
 use Rattle.bench_types.specs.declared.kernel_data.CoreLook.{CoreLook}
 use Rattle.bench_types.specs.declared.kernel_data.TaskControl.{TaskControl}
 use Rattle.list_orders.specs.Search.{without}
@@ -23,11 +23,13 @@ invariant_of-self c =
     let sized = length-set tasks c.args.task block in
     let low : c.args.task < length tasks = omega (arith, ap (λ (view : CoresView). length view.control.tasks) c.self.view_is, c.requires.task) in
     let below : c.args.priority < c.self.inside.priorities = omega (arith, ap (λ (view : CoresView). view.priorities) c.self.view_is, c.requires.priority) in
+    let kept : block.base < c.self.inside.priorities = subst (λ (old : TaskControl). old.base < c.self.inside.priorities) (sym c.index_mut.ensures.value) (All-get_or (λ (old : TaskControl). old.base < c.self.inside.priorities) tasks c.args.task c.index_mut.result.now low c.self.invariant.base) in
     let queue = listing_push _ c.args.task _ (listing_without _ c.args.task _ c.self.invariant.ready) low (has-without c.args.task _) in
     record {
       few_cores = c.self.invariant.few_cores;
       running = subst (λ n. All (λ (core : CoreLook). core.current < n) c.self.inside.cores.items) (sym sized) c.self.invariant.running;
       in_use = All-set (λ (task : TaskControl). task.in_use < c.self.inside.priorities) tasks c.args.task block below c.self.invariant.in_use;
+      base = All-set (λ (task : TaskControl). task.base < c.self.inside.priorities) tasks c.args.task block kept c.self.invariant.base;
       ready = rw c.requeue.ensures.items (subst (λ n. IsListing n (without c.args.task c.self.inside.ready.items ++ c.args.task ∷ [])) (sym sized) queue);
       room = omega (arith, sized, c.self.invariant.room, c.requeue.ensures.capacity);
     }

@@ -8,6 +8,7 @@ invariant_of-self c = record {
   few_cores = c.self.invariant.few_cores;
   running = c.self.invariant.running;
   in_use = c.self.invariant.in_use;
+  base = c.self.invariant.base;
   ready = rw c.remove_task.ensures.items (listing_without _ c.args.task _ c.self.invariant.ready);
   room = omega (arith, c.remove_task.ensures.capacity);
 }

@@ -1,7 +1,6 @@
 use Rattle.std.proofs.Common.{◌≡◌, length}
 use Rattle.bench_model.specs.Steps.{ticked}
-use Rattle.bench_model.specs.Lists.{list_moves}
-use Rattle.tick_delay.specs.Parts.{due_tasks}
+use Rattle.bench_model.specs.Lists.{list_moves, due_tasks}
 use Rattle.smp_kernel.proofs.Ticks.{settled_from}
 use Rattle.smp_kernel.proofs.scheduler.Scheduler.tick.Given as goal
 

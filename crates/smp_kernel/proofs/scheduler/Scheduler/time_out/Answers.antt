@@ -1,15 +1,9 @@
-use Rattle.std.proofs.Common.{true, subst, sym, ap, ◌∙◌, arith}
+use Rattle.std.proofs.Common.{true, ap, ◌∙◌}
 use Rattle.bench_model.specs.Lists.{View, list_moves}
 use Rattle.bench_model.specs.Mutexes.{timed_out}
 use Rattle.mutex_inherit.specs.Parts.{holder_of}
-use Rattle.smp_kernel.specs.Kernel.{HasPriorities}
 use Rattle.smp_kernel.proofs.Owing.{lower_where_shape, timed_out_seen}
 use Rattle.smp_kernel.proofs.scheduler.Scheduler.time_out.Goals as goal
-
-pub after_timeout-requires-clause-priority : goal.after_timeout-requires-clause-priority
-after_timeout-requires-clause-priority c =
-    let has = subst HasPriorities (sym c.self.view_is) c.requires.priorities in
-    λ waiter first. omega (arith, has.waits c.args.mutex waiter first, c.self.invariant.priorities)
 
 pub invariant_of-self : goal.invariant_of-self
 invariant_of-self c = rw c.after_timeout.ensures (lower_where_shape _ c.self.invariant _ c.args.core (holder_of c.self.inside.mutexes.holders c.args.mutex) _)

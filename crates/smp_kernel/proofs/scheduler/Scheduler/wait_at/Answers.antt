@@ -4,7 +4,7 @@ use Rattle.bench_model.specs.Cores.{CoresView}
 use Rattle.bench_model.specs.Lists.{View, list_moves}
 use Rattle.bench_model.specs.Mutexes.{waited_at}
 use Rattle.mutex_inherit.specs.Parts.{holder_of}
-use Rattle.smp_kernel.proofs.Blocks.{not_waiting, raised_cores, wait_seen, wait_shape}
+use Rattle.smp_kernel.proofs.Blocks.{not_waiting, raised_cores, raised_tasks, wait_seen, wait_shape}
 use Rattle.smp_kernel.proofs.scheduler.Scheduler.wait_at.Goals as goal
 
 pub wait_on-mark-requires-clause-free : goal.wait_on-mark-requires-clause-free
@@ -14,6 +14,12 @@ pub ask-requires : goal.ask-requires
 ask-requires c =
     let holder = holder_of c.self.inside.mutexes.holders c.args.mutex in
     omega (arith, c.requires.core, ap (λ (view : View). view.settings.cores) c.self.view_is, ap (λ (cores : CoresView). length cores.control.cores) c.wait_on-mark.ensures.cores, raised_cores _ c.self.invariant c.args.core c.args.task c.args.mutex holder c.args.ticks)
+
+pub unready-requires : goal.unready-requires
+unready-requires c =
+    let holder = holder_of c.self.inside.mutexes.holders c.args.mutex in
+    let asked = ap (λ (cores : CoresView). length cores.control.tasks) c.ask.ensures in
+    omega (arith, c.requires.task, ap (λ (view : View). view.settings.tasks) c.self.view_is, asked, ap (λ (cores : CoresView). length cores.control.tasks) c.wait_on-mark.ensures.cores, raised_tasks _ c.self.invariant c.args.core c.args.task c.args.mutex holder c.args.ticks)
 
 pub invariant_of-self : goal.invariant_of-self
 invariant_of-self c =

@@ -1,0 +1,70 @@
+//! The calls that take memory, each at its largest size: 64 tasks on 8 cores with 32 mutexes, and 100,000 steps.
+
+use crate::samples::{Opened, SWITCH_0, Started, ticks, whole};
+use bench_samples::crowd;
+use bench_types::{
+    Config, Edit, MAX_CORES, MAX_MUTEXES, MAX_PRIORITIES, MAX_SPAN, MAX_STEPS, MAX_TASKS,
+};
+use smp_kernel::Kernel;
+use std::alloc::Global;
+use std::process::Abort;
+use std::test::Fail;
+
+const LARGEST: Config = Config {
+    cores: MAX_CORES,
+    priorities: MAX_PRIORITIES,
+    slicing: true,
+    tick: u32::MAX,
+    mutexes: MAX_MUTEXES,
+};
+
+#[test]
+fn a_kernel_of_the_most_tasks(rt: HostRuntime) -> Result<(), Fail> {
+    let header = crowd(rt.alloc(), LARGEST, MAX_TASKS as usize)?;
+    let copy = header.copy(rt.alloc())?;
+    let started = Started::new(&rt, &copy)?;
+    check_copy(&rt, rt.alloc(), &started.kernel)
+}
+
+fn check_copy(rt: &impl Abort, alloc: Global, kernel: &Kernel) -> Result<(), Fail> {
+    let settings = kernel.settings();
+    assert_eq!(rt;
+        (settings.tasks, settings.mutexes),
+        (MAX_CORES + MAX_TASKS, MAX_MUTEXES)
+    );
+    let copy = kernel.copy(alloc)?;
+    assert!(rt; copy.same(kernel));
+    Ok(())
+}
+
+#[test]
+fn a_store_of_the_most_steps_and_tasks(rt: HostRuntime) -> Result<(), Fail> {
+    let header = crowd(rt.alloc(), LARGEST, MAX_TASKS as usize)?;
+    let mut opened = Opened::of(&rt, header, ticks(rt.alloc(), MAX_STEPS)?, MAX_SPAN)?;
+    replace_last(&rt, rt.alloc(), &mut opened);
+    check_last_place(&rt, rt.alloc(), &mut opened)
+}
+
+fn replace_last(rt: &impl Abort, alloc: Global, opened: &mut Opened) {
+    let edits = [Edit::Replace {
+        at: MAX_STEPS - 1,
+        step: SWITCH_0,
+    }];
+    let Opened { store, meter } = opened;
+    assert_eq!(rt; store.apply(alloc, edits[0], meter), Ok(whole(MAX_STEPS)));
+    match store.apply_all(alloc, &edits, meter) {
+        Ok(answers) => assert_eq!(rt; answers.as_slice(), [Ok(whole(MAX_STEPS))].as_slice()),
+        Err(_) => panic!(rt; "memory was refused"),
+    }
+}
+
+// The tick count wraps once, and the last step is no tick.
+fn check_last_place(rt: &impl Abort, alloc: Global, opened: &mut Opened) -> Result<(), Fail> {
+    let Opened { store, meter } = opened;
+    assert_eq!(rt; store.step(MAX_STEPS - 1), Some(SWITCH_0));
+    match store.state(alloc, MAX_STEPS, meter)? {
+        Some(kernel) => assert_eq!(rt; kernel.tick(), MAX_STEPS - 2),
+        None => panic!(rt; "the last place has no state"),
+    }
+    Ok(())
+}

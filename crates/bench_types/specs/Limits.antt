@@ -1,0 +1,36 @@
+-- How large a session may be. Each limit stands here once.
+use Rattle.std.specs.Prelude.{ℕ}
+
+-- the cores (FreeRTOS SMP documentation, configNUMBER_OF_CORES)
+abbrev pub min_cores : ℕ
+min_cores = 2
+
+abbrev pub max_cores : ℕ
+max_cores = 8
+
+-- the priorities (FreeRTOS Reference Manual, configMAX_PRIORITIES)
+abbrev pub max_priorities : ℕ
+max_priorities = 32
+
+-- the user tasks
+abbrev pub max_tasks : ℕ
+max_tasks = 64
+
+abbrev pub max_mutexes : ℕ
+max_mutexes = 32
+
+-- the steps of a session
+abbrev pub max_steps : ℕ
+max_steps = 100000
+
+-- how many times over a core may hold the kernel
+abbrev pub max_depth : ℕ
+max_depth = 255
+
+-- the steps from one checkpoint to the next
+abbrev pub max_span : ℕ
+max_span = 1000
+
+-- the bytes that a program reads
+abbrev pub max_input : ℕ
+max_input = 67108864

@@ -1,0 +1,43 @@
+//! How large a session may be.
+ghost use Rattle.std.specs.Prelude.{◌≡◌};
+ghost use Rattle.bench_types.specs.Limits.{min_cores, max_cores, max_priorities, max_tasks, max_mutexes, max_steps, max_depth, max_span, max_input};
+
+/// The least number of cores.
+pub const MIN_CORES: u32 = 2;
+
+/// The greatest number of cores (`configNUMBER_OF_CORES`).
+pub const MAX_CORES: u32 = 8;
+
+/// The greatest number of priorities (`configMAX_PRIORITIES`).
+pub const MAX_PRIORITIES: u32 = 32;
+
+/// How many user tasks there are at most.
+pub const MAX_TASKS: u32 = 64;
+
+/// How many mutexes there are at most.
+pub const MAX_MUTEXES: u32 = 32;
+
+/// How many steps a session has at most.
+pub const MAX_STEPS: u32 = 100_000;
+
+/// How many times over a core may hold the kernel.
+pub const MAX_DEPTH: u32 = 255;
+
+/// The greatest span of checkpoints, in steps.
+pub const MAX_SPAN: u32 = 1_000;
+
+/// How many bytes of input a program reads at most.
+pub const MAX_INPUT: usize = 67_108_864;
+
+/// The limits of the code are those that contracts name. It does nothing: its contract is the law.
+pub fn laws_of_limits()
+    ensures least_cores { MIN_CORES ≡ min_cores }
+    ensures cores { MAX_CORES ≡ max_cores }
+    ensures priorities { MAX_PRIORITIES ≡ max_priorities }
+    ensures tasks { MAX_TASKS ≡ max_tasks }
+    ensures mutexes { MAX_MUTEXES ≡ max_mutexes }
+    ensures steps { MAX_STEPS ≡ max_steps }
+    ensures depth { MAX_DEPTH ≡ max_depth }
+    ensures span { MAX_SPAN ≡ max_span }
+    ensures input { MAX_INPUT ≡ max_input }
+{}

@@ -47,7 +47,8 @@ module _ {Orders : Type 0} (moves : Moves Orders) where
   would_block task (MutexTake mutex ticks) state = is_some (holder_at state.holders mutex) && nat_lt 0 ticks
   would_block task call state = false
 
-  -- a core that holds the kernel lets no task wait and holds it at most so many times over as it may, and one that doesn't can't free it
+  -- a core that holds the kernel lets no task wait and holds it at most `max_depth` times over, and one that doesn't can't
+  -- free it
   -- (FreeRTOS Reference Manual, taskENTER_CRITICAL: no API call that could block)
   abbrev pub hold_refusal : ℕ → ℕ → Call → State Orders → Option Refusal
   hold_refusal core task call state =

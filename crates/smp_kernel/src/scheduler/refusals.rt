@@ -68,7 +68,8 @@ impl Scheduler {
         look.pend || look.asked
     }
 
-    // A core that holds the kernel lets no task wait and holds it at most so many times over as it may, and one that doesn't can't free it.
+    // A core that holds the kernel lets no task wait and holds it at most `MAX_DEPTH` times over, and
+    // one that doesn't can't free it.
     #[tactic(auto, unfolding(bench_model::specs::Refusals::would_block))]
     fn hold_refusal(&self, core: u32, task: u32, call: Call) -> Option<Refusal>
         requires task { task < self.now.settings.tasks }

@@ -1,13 +1,13 @@
 -- A session that was read is opened, unless it has too many steps.
 use Rattle.std.proofs.Common.{◌≡◌, ℕ, suc, ◌+◌, true, List, [], ◌∷◌, length, nat_le, Result, Ok, refl, ap, ◌∙◌, arith}
-use Rattle.std.specs.Prelude.{All, IsTrue, Some}
+use Rattle.std.specs.Prelude.{All, Some}
 use Rattle.std.specs.Result.{result_map_both}
 use Rattle.bench_types.specs.declared.fault.Fault.{Fault}
 use Rattle.bench_types.specs.declared.header.Header.{Header}
 use Rattle.bench_types.specs.declared.kernel_data.Settings.{Settings}
 use Rattle.bench_types.specs.declared.step.Step.{Step}
-use Rattle.bench_types.specs.Header.{header_check, is_header}
 use Rattle.bench_types.specs.Name.{is_within}
+use Rattle.bench_types.specs.Session.{IsSession}
 use Rattle.bench_types.specs.Step.{settings_of, step_check, ◌>>◌}
 use Rattle.bench_types.specs.Limits.{max_span, max_steps}
 use Rattle.session_store.specs.declared.fault.OpenRefusal.TheVariants.{Bench}
@@ -21,9 +21,5 @@ steps_fit settings at (step ∷ steps) all =
     let first : step_check settings step ≡ Ok tt = all 0 step (omega arith) in
     ap (λ (check : Result (Unit {0}) Fault). result_map_both (λ _. tt) (λ fault. record { why = Bench fault; at = Some at }) check >> steps_check settings (at + 1) steps) first ∙ rest
 
-pub opens : (header : Header) (steps : List Step) (span : ℕ) → header_check header ≡ Ok tt → All (λ step. step_check (settings_of header) step ≡ Ok tt) steps → is_within 1 max_span span ≡ true → nat_le (length steps) max_steps ≡ true
-    → open_check header steps span ≡ Ok tt
-opens header steps span fits pass spans few = rw (fits, spans, few) (steps_fit (settings_of header) 0 steps pass)
-
-pub header_fits : (header : Header) → IsTrue (is_header header) → header_check header ≡ Ok tt
-header_fits header all = rw all refl
+pub opens : (header : Header) (steps : List Step) (span : ℕ) → IsSession (record { header = header; steps = steps }) → is_within 1 max_span span ≡ true → nat_le (length steps) max_steps ≡ true → open_check header steps span ≡ Ok tt
+opens header steps span is spans few = rw (is.header.passes, spans, few) (steps_fit (settings_of header) 0 steps (λ k d short. (is.steps k d short).passes))

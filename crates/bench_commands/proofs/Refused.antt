@@ -13,7 +13,7 @@ use Rattle.session_text.specs.declared.fault.TextFault.{TextFault}
 use Rattle.session_text.specs.declared.fault.Why.TheVariants.{NoMemory}
 use Rattle.session_text.specs.Bench.{bench_text, IsCheckedBench}
 use Rattle.bench_commands.specs.Answer.{why_text, refused, output, output_of, output_of_bench, Output}
-use Rattle.bench_commands.proofs.Opened.{header_fits, opens}
+use Rattle.bench_commands.proofs.Opened.{opens}
 
 -- a text that is not too long has the output of what was read of it
 output_short : (input : List ℕ) → length input ≤ max_input → output input ≡ output_of (bench_text input)
@@ -37,7 +37,7 @@ too_long_output bench span why checked within memory long = go (nat_lt max_steps
     go true many = rw many refl
     go false few =
         let fits : nat_le (length bench.steps) max_steps ≡ true = grind (arith, nat_tests, few) in
-        absurd (cc (memory (opens bench.header bench.steps span (header_fits bench.header checked.session_checked.header_fits) checked.session_checked.steps_pass within fits), long))
+        absurd (cc (memory (opens bench.header bench.steps span checked.is_session within fits), long))
 
 -- what is told of a session that was not opened
 pub not_opened_output : {E : Type 0} (bench : Bench) (why : OpenRefusal) (result : Result Output E) → OnOk result (why ≡ TooLong) → IfOk result (λ answer. answer ≡ refused (codes "J2") [])

@@ -9,7 +9,8 @@ use Rattle.bench_types.specs.Limits.{max_input, max_steps}
 use Rattle.list_orders.specs.Search.{numbers}
 use Rattle.bench_model.specs.Control.{running}
 use Rattle.bench_model.specs.Start.{start}
-use Rattle.bench_model.specs.Edits.{Session, after_edits}
+use Rattle.bench_model.specs.Edits.{after_edits}
+use Rattle.bench_types.specs.Session.{Session}
 use Rattle.bench_model.specs.Session.{outcome_at}
 use Rattle.session_store.specs.Outcomes.{answers}
 use Rattle.session_text.specs.declared.bench.Bench.{Bench}

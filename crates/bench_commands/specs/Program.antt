@@ -1,14 +1,21 @@
 -- How the program ends, and what it has read and written then.
-use Rattle.std.specs.Prelude.{◌≡◌, ℕ, List, [], Bool, true, Option, codes, string_bytes}
+use Rattle.std.specs.Prelude.{◌≡◌, ℕ, List, [], Bool, true, false, Option, Some, None, Result, Ok, Err, String, codes, map, string_bytes}
 use Rattle.std.specs.Io.KnownBytes.{Appends}
+use Rattle.std.specs.Vec.Iter.{into_iter_items}
+use Rattle.std.specs.declared.vec.IntoIter.{IntoIter}
+use Rattle.std.specs.declared.alloc.Global.{Global}
+use Rattle.std.specs.IoError.{error_kind}
+use Rattle.std.specs.declared.io.Error.{Error}
+use Rattle.std.specs.declared.io.ErrorKind.{ErrorKind}
+use Rattle.std.specs.declared.io.ErrorKind.TheVariants.{InvalidData}
 use Rattle.bench_commands.specs.declared.bench.Status.{Status}
 use Rattle.bench_commands.specs.declared.bench.Status.TheVariants.{Fine, Refused, Fault}
 use Rattle.bench_commands.specs.declared.bench.RunFault.{RunFault}
 use Rattle.bench_commands.specs.declared.bench.RunFault.TheVariants.{Memory, Read, Write}
 use Rattle.bench_commands.specs.declared.program.Ending.{Ending}
 use Rattle.bench_commands.specs.declared.program.Ending.TheVariants.{Ran, BadCommandLine}
-use Rattle.bench_commands.specs.Command.{Asked, a_run, help, a_mistake}
-use Rattle.bench_commands.specs.Device.{AppendsPrefix}
+use Rattle.bench_commands.specs.Command.{Asked, a_run, help, a_mistake, asked}
+use Rattle.bench_commands.specs.Device.{AppendsPrefix, counted}
 use Rattle.bench_commands.specs.Run.{Ran as RunEnds, reads_well, writes_well}
 
 abbrev pub exit_code : Ending → ℕ
@@ -71,3 +78,37 @@ all_reads_well (BadCommandLine text) = true
 abbrev pub all_writes_well : Ending → Bool
 all_writes_well (Ran status) = writes_well status
 all_writes_well (BadCommandLine text) = true
+
+-- a device: its bytes, where they are known, and how many of its reads or writes failed
+pub record DeviceState : Type 0 where
+  pub bytes : Option (List ℕ)
+  pub failures : ℕ
+
+-- the words of the process as the system hands them over: an error says that one of them is no text, or that memory was refused
+abbrev pub Words : Type 0
+Words = Result (IntoIter (String Global) Global) Error
+
+-- by the words of the process, how the program ends, and what was read and written then
+abbrev pub EndsWithout : ErrorKind → Ending → Option (List ℕ) → Option (List ℕ) → Option (List ℕ) → Option (List ℕ) → Type 0
+EndsWithout InvalidData ending read_old read_new write_old write_new = EndsBad ending read_old read_new write_old write_new
+EndsWithout _ ending read_old read_new write_old write_new = (ending ≡ Ran (Fault Memory)) × Untouched read_old read_new write_old write_new
+
+abbrev pub EndsWith : Words → Ending → Option (List ℕ) → Option (List ℕ) → Option (List ℕ) → Option (List ℕ) → Type 0
+EndsWith (Ok words) ending = Ends (asked (Some (map string_bytes (into_iter_items words)))) ending
+EndsWith (Err error) ending = EndsWithout (error_kind error) ending
+
+-- the message was written, or some first bytes of it where a write failed
+abbrev pub Tells : Bool → Option (List ℕ) → Option (List ℕ) → List ℕ → Type 0
+Tells true old new text = Appends old new text
+Tells false old new text = AppendsPrefix old new text
+
+-- how the process ends, with its exit status, and what became of standard input, output and error
+pub record EndsProcess (words : Words) (code : ℕ) (read_old read_new write_old write_new error_old error_new : DeviceState) : Type 0 where
+  pub ending : Ending
+  pub status : code ≡ exit_code ending
+  pub ends : EndsWith words ending read_old.bytes read_new.bytes write_old.bytes write_new.bytes
+  pub reads : read_new.failures ≡ counted (all_reads_well ending) read_old.failures
+  pub writes : write_new.failures ≡ counted (all_writes_well ending) write_old.failures
+  pub told : Bool
+  pub tells : Tells told error_old.bytes error_new.bytes (message ending)
+  pub errors : error_new.failures ≡ counted told error_old.failures

@@ -14,4 +14,4 @@ mod writing;
 pub use bench::{Mode, RunFault, Status, run};
 pub use command::{DEFAULT_SPAN, Request, request_of};
 pub use device::{Counted, CountedRead, CountedWrite};
-pub use program::{Ending, carry_out};
+pub use program::{Ending, carry_out, run_program};

@@ -1,7 +1,8 @@
 ghost use Rattle.std.specs.Prelude.{◌≡◌, map, option_map};
+ghost use Rattle.std.specs.Process.{exit_status};
 ghost use Rattle.bench_commands.specs.Command.{asked};
 ghost use Rattle.bench_commands.specs.Device.{counted};
-ghost use Rattle.bench_commands.specs.Program.{Ends, Shows, all_reads_well, all_writes_well, exit_code, message};
+ghost use Rattle.bench_commands.specs.Program.{Ends, EndsProcess, EndsWith, Shows, all_reads_well, all_writes_well, exit_code, message};
 ghost use Rattle.bench_commands.specs.Run.{writes_well};
 
 use crate::bench::{RunFault, Status, run};
@@ -10,6 +11,10 @@ use crate::device::{CountedRead, CountedWrite};
 use crate::writing::write_text;
 use std::alloc::Global;
 use std::convert::AsStr;
+use std::env::Args;
+use std::io;
+use std::io::ErrorKind;
+use std::process::ExitCode;
 
 /// How the program ends.
 #[derive(Debug, Drop)]
@@ -76,4 +81,52 @@ pub fn carry_out<S: AsStr, R: CountedRead, W: CountedWrite>(
         Ok(Request::Bad(text)) => Ending::BadCommandLine(text),
         Err(_) => Ending::Ran(Status::Fault(RunFault::Memory)),
     }
+}
+
+// How the program ends with the words that the system hands over.
+fn ending_of<R: CountedRead, W: CountedWrite>(
+    rt: &HostRuntime,
+    words: io::Result<Args>,
+    reader: &mut R,
+    writer: &mut W,
+) -> Ending
+    ensures bytes { EndsWith words result (R.Read.remaining reader.old) (R.Read.remaining reader.new) (W.Write.contents writer.old) (W.Write.contents writer.new) }
+    ensures reads { R.CountedRead.failures reader.new ≡ counted (all_reads_well result) (R.CountedRead.failures reader.old) }
+    ensures writes { W.CountedWrite.failures writer.new ≡ counted (all_writes_well result) (W.CountedWrite.failures writer.old) }
+{
+    match words {
+        Ok(words) => match words.collect::<Vec<String>>(rt.alloc()) {
+            Ok(words) => carry_out(rt, rt.alloc(), Some(words.as_slice()), reader, writer),
+            Err(_) => Ending::Ran(Status::Fault(RunFault::Memory)),
+        },
+        Err(error) if error.kind() == ErrorKind::InvalidData => {
+            carry_out(rt, rt.alloc(), None::<&[String]>, reader, writer)
+        }
+        Err(_) => Ending::Ran(Status::Fault(RunFault::Memory)),
+    }
+}
+
+/// The whole program: it does what the words of the command line ask for, over standard input and output, and tells standard
+/// error why it didn't. The exit status is 0 where all went well, 1 for a refused input, 2 for a bad command line, and 3 where
+/// memory or a device failed.
+///
+/// The words are those of [`std::env::args`]. Where standard error takes nothing, the exit status still tells.
+pub fn run_program<R: CountedRead, W: CountedWrite, E: CountedWrite>(
+    rt: &HostRuntime,
+    words: io::Result<Args>,
+    reader: &mut R,
+    writer: &mut W,
+    errors: &mut E,
+) -> ExitCode
+    ensures { EndsProcess words (exit_status result)
+        (record { bytes = R.Read.remaining reader.old; failures = R.CountedRead.failures reader.old })
+        (record { bytes = R.Read.remaining reader.new; failures = R.CountedRead.failures reader.new })
+        (record { bytes = W.Write.contents writer.old; failures = W.CountedWrite.failures writer.old })
+        (record { bytes = W.Write.contents writer.new; failures = W.CountedWrite.failures writer.new })
+        (record { bytes = E.Write.contents errors.old; failures = E.CountedWrite.failures errors.old })
+        (record { bytes = E.Write.contents errors.new; failures = E.CountedWrite.failures errors.new }) }
+{
+    let ending = ending_of(rt, words, reader, writer);
+    let _ = write_text(errors, ending.message().as_bytes());
+    ExitCode::from(ending.code())
 }

@@ -1,5 +1,5 @@
--- Sessions, and what edits make of them.
-use Rattle.std.specs.Prelude.{◌≡◌, ℕ, ◌-◌, ◌≤◌, List, [], length, insert, remove, fold, All, Bool, true, nat_lt, nat_le, if◌then◌else◌, slice_set, slice_index_or, Result, Ok, Err, is_ok, ⊤}
+-- What edits make of sessions.
+use Rattle.std.specs.Prelude.{ℕ, ◌-◌, List, [], length, insert, remove, fold, Bool, true, nat_lt, nat_le, if◌then◌else◌, slice_set, slice_index_or, Result, Ok, Err, is_ok, ⊤}
 use Rattle.std.specs.Result.{result_map_both}
 use Rattle.bench_types.specs.declared.edit.Edit.{Edit}
 use Rattle.bench_types.specs.declared.edit.Edit.TheVariants.{Insert, Remove, Replace, ChangeTask}
@@ -9,19 +9,9 @@ use Rattle.bench_types.specs.declared.header.Header.{Header}
 use Rattle.bench_types.specs.declared.header.TaskArgs.{TaskArgs}
 use Rattle.bench_types.specs.declared.step.Step.{Step}
 use Rattle.bench_types.specs.Edit.{edit_check}
-use Rattle.bench_types.specs.Header.{header_check}
 use Rattle.bench_types.specs.Limits.{max_steps}
-use Rattle.bench_types.specs.Step.{settings_of, step_check, ◌>>◌}
-
-pub record Session : Type 0 where
-  pub header : Header
-  pub steps : List Step
-
--- the header is within its limits, no step is at fault under it, and there are not too many steps
-pub record IsSession (session : Session) : Type 0 where
-  pub header_fits : header_check session.header ≡ Ok tt
-  pub steps_pass : All (λ step. step_check (settings_of session.header) step ≡ Ok tt) session.steps
-  pub few_steps : length session.steps ≤ max_steps
+use Rattle.bench_types.specs.Session.{Session}
+use Rattle.bench_types.specs.Step.{◌>>◌}
 
 -- J1: a step is inserted before one of the steps or behind the last; one of the steps is removed or replaced
 abbrev pub has_place : List Step → Edit → Bool

@@ -1,9 +1,10 @@
 //! The calls that take memory, each at its largest size: 64 tasks on 8 cores with 32 mutexes, and 100,000 steps.
 
+use crate::replays::check_store;
 use crate::samples::{Opened, SWITCH_0, Started, ticks, whole};
 use bench_samples::crowd;
 use bench_types::{
-    Config, Edit, MAX_CORES, MAX_MUTEXES, MAX_PRIORITIES, MAX_SPAN, MAX_STEPS, MAX_TASKS,
+    Config, Edit, Header, MAX_CORES, MAX_MUTEXES, MAX_PRIORITIES, MAX_SPAN, MAX_STEPS, MAX_TASKS,
 };
 use smp_kernel::Kernel;
 use std::alloc::Global;
@@ -22,8 +23,21 @@ const LARGEST: Config = Config {
 fn a_kernel_of_the_most_tasks(rt: HostRuntime) -> Result<(), Fail> {
     let header = crowd(rt.alloc(), LARGEST, MAX_TASKS as usize)?;
     let copy = header.copy(rt.alloc())?;
+    check_header(&rt, &copy, &header);
     let started = Started::new(&rt, &copy)?;
     check_copy(&rt, rt.alloc(), &started.kernel)
+}
+
+fn check_header(rt: &impl Abort, copy: &Header, header: &Header) {
+    let tasks = header.tasks.as_slice();
+    assert_eq!(rt;
+        (copy.config, copy.tasks.as_slice().len()),
+        (header.config, tasks.len())
+    );
+    for (copied, task) in copy.tasks.as_slice().iter().zip(tasks) {
+        assert_eq!(rt; copied.name.as_str(), task.name.as_str());
+        assert_eq!(rt; (copied.priority, copied.mask), (task.priority, task.mask));
+    }
 }
 
 fn check_copy(rt: &impl Abort, alloc: Global, kernel: &Kernel) -> Result<(), Fail> {
@@ -67,4 +81,12 @@ fn check_last_place(rt: &impl Abort, alloc: Global, opened: &mut Opened) -> Resu
         None => panic!(rt; "the last place has no state"),
     }
     Ok(())
+}
+
+#[test]
+fn the_most_steps_by_the_definitions(rt: HostRuntime) -> Result<(), Fail> {
+    let header = crowd(rt.alloc(), LARGEST, MAX_TASKS as usize)?;
+    let steps = ticks(rt.alloc(), MAX_STEPS)?;
+    let opened = Opened::of(&rt, header, ticks(rt.alloc(), MAX_STEPS)?, MAX_SPAN)?;
+    check_store(&rt, &rt, &opened.store, &steps)
 }

@@ -77,7 +77,7 @@ fn as_the_definitions_replay_holds(rt: HostRuntime) -> Result<(), Fail> {
 }
 
 // The steps of the store are these, and their replies and current tasks those of the definitions.
-fn check_store(
+pub(crate) fn check_store(
     rt: &impl Abort,
     host: &HostRuntime,
     store: &Store,

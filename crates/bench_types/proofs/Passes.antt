@@ -39,8 +39,8 @@ checked_mutex settings mutex passes = at (ltb mutex settings.mutexes) refl
     at true below = grind (arith, nat_tests, below)
     at false above = absurd (cc (passes, above))
 
--- what a checked header says of its numbers and names
-pub record IsCheckedHeader (header : Header) : Type 0 where
+-- what a header that passes its check says of its numbers and names
+pub record IsWithinLimits (header : Header) : Type 0 where
   pub some_core : 0 < header.config.cores
   pub few_cores : header.config.cores ≤ max_cores
   pub some_priority : 0 < header.config.priorities
@@ -50,7 +50,7 @@ pub record IsCheckedHeader (header : Header) : Type 0 where
   pub args : list_all (has_valid_args header.config) header.tasks ≡ true
   pub once : repeats_name header.tasks ≡ false
 
-pub header_facts : (header : Header) → is_header header ≡ true → IsCheckedHeader header
+pub header_facts : (header : Header) → is_header header ≡ true → IsWithinLimits header
 header_facts header all =
     let config = has_valid_config header.config in
     let some = is_within 1 max_tasks (length header.tasks) in
@@ -69,9 +69,12 @@ header_facts header all =
       once = grind (arith, three.1);
     }
 
-pub checked_header : (header : Header) → header_check header ≡ Ok tt → IsCheckedHeader header
-checked_header header passes = from (is_header header) refl
+pub passes_whole : (header : Header) → header_check header ≡ Ok tt → is_header header ≡ true
+passes_whole header passes = from (is_header header) refl
   where
-    from : (b : Bool) → is_header header ≡ b → IsCheckedHeader header
+    from : (b : Bool) → is_header header ≡ b → is_header header ≡ true
     from false fails = absurd (cc (passes, fails))
-    from true all = header_facts header all
+    from true all = all
+
+pub checked_header : (header : Header) → header_check header ≡ Ok tt → IsWithinLimits header
+checked_header header passes = header_facts header (passes_whole header passes)

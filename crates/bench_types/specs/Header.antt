@@ -1,9 +1,9 @@
 -- Which headers a session may start from. The numbers are those of `configNUMBER_OF_CORES`,
 -- `configMAX_PRIORITIES` and the arguments of `xTaskCreateAffinitySet` (FreeRTOS SMP documentation).
-use Rattle.std.specs.Prelude.{ℕ, ◌-◌, ◌%◌, ◌^◌, List, [], ◌∷◌, ◌++◌, length, Bool, false, not, ◌&&◌, ◌||◌, nat_lt, nat_le, bytes_eq, codes, decimal, slice_index_or, Result, Ok, Err, if◌then◌else◌, ⊤}
+use Rattle.std.specs.Prelude.{◌≡◌, ℕ, ◌-◌, ◌<◌, ◌%◌, ◌^◌, All, IsTrue, List, [], ◌∷◌, ◌++◌, length, Bool, false, not, ◌&&◌, ◌||◌, nat_lt, nat_le, bytes_eq, codes, decimal, slice_index_or, Result, Ok, Err, if◌then◌else◌, ⊤}
 use Rattle.std.specs.List.{list_all, list_any}
 use Rattle.bench_types.specs.Limits.{min_cores, max_cores, max_priorities, max_tasks, max_mutexes}
-use Rattle.bench_types.specs.Name.{is_within}
+use Rattle.bench_types.specs.Name.{is_name, is_within}
 use Rattle.bench_types.specs.declared.fault.Fault.{Fault}
 use Rattle.bench_types.specs.declared.fault.Fault.TheVariants.{BadHeader}
 use Rattle.bench_types.specs.declared.header.Config.{Config}
@@ -42,6 +42,13 @@ is_header header = has_valid_config header.config && is_within 1 max_tasks (leng
 -- F1 is the one fault of a header
 abbrev pub header_check : Header → Result ⊤ Fault
 header_check header = if is_header header then Ok tt else Err BadHeader
+
+-- a header that was checked: its names are names, and its numbers are of 32 bits
+pub record IsCheckedHeader (header : Header) : Type 0 where
+  pub passes : header_check header ≡ Ok tt
+  pub tick : header.config.tick < 2 ^ 32
+  pub names : All (λ task. IsTrue (is_name task.name)) header.tasks
+  pub masks : All (λ task. task.mask < 2 ^ 32) header.tasks
 
 -- the idle task of core c is IDLEc; a user task has its name in the header
 abbrev pub name_of : Header → ℕ → List ℕ

@@ -4,4 +4,5 @@ pub mod Header
 pub mod Limits
 pub mod Name
 pub mod Reply
+pub mod Session
 pub mod Step

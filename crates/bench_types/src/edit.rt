@@ -1,5 +1,5 @@
-ghost use Rattle.std.specs.Prelude.{◌≡◌};
-ghost use Rattle.bench_types.specs.Edit.{edit_check};
+ghost use Rattle.std.specs.Prelude.{◌≡◌, OnOk};
+ghost use Rattle.bench_types.specs.Edit.{edit_check, IsCheckedEdit};
 
 use crate::header::allows_numbers;
 use crate::step::check_task;
@@ -52,18 +52,19 @@ impl Edit {
     ///
     /// Whether the session has the place `at` is not looked at.
     pub fn check(&self, header: &Header) -> Result<(), Fault>
-        ensures { result ≡ edit_check header.now self.now }
+        ensures value { result ≡ edit_check header.now self.now }
+        ensures checked { OnOk result (IsCheckedEdit header.now self.now) }
     {
-        match self {
-            Edit::Insert { at: _, step } | Edit::Replace { at: _, step } => step.check(header),
-            Edit::Remove { at: _ } => Ok(()),
+        match *self {
+            Edit::Insert { at: _at, step } | Edit::Replace { at: _at, step } => step.check(header),
+            Edit::Remove { at: _at } => Ok(()),
             Edit::ChangeTask {
                 task,
                 priority,
                 mask,
             } => {
-                check_task(*task, header)?;
-                if allows_numbers(&header.config, *priority, *mask) {
+                check_task(task, header)?;
+                if allows_numbers(&header.config, priority, mask) {
                     Ok(())
                 } else {
                     Err(Fault::BadHeader)

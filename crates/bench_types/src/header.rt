@@ -1,6 +1,7 @@
-ghost use Rattle.std.specs.Prelude.{◌≡◌, nat_lt, ◌<◌, ◌≤◌, ◌^◌, ◌+◌, ◌++◌, IfOk, OnOk, length, string_bytes};
+ghost use Rattle.std.specs.Prelude.{◌≡◌, nat_lt, ◌<◌, ◌≤◌, ◌^◌, ◌+◌, ◌++◌, All, IsTrue, true, false, IfOk, OnOk, length, string_bytes};
 ghost use Rattle.std.specs.List.{list_all};
-ghost use Rattle.bench_types.specs.Header.{header_check, has_valid_config, has_valid_args, has_valid_numbers, cores_of_mask as cores_in, is_taken, repeats_name, name_of};
+ghost use Rattle.bench_types.specs.Header.{header_check, has_valid_config, has_valid_args, has_valid_numbers, cores_of_mask as cores_in, is_taken, repeats_name, name_of, IsCheckedHeader};
+ghost use Rattle.bench_types.specs.Name.{is_name};
 
 use crate::mask::cores_of_mask;
 use crate::{Fault, Items, MAX_CORES, MAX_MUTEXES, MAX_PRIORITIES, MAX_TASKS, MIN_CORES, Name};
@@ -59,15 +60,21 @@ impl Header {
     /// F1 where a number is outside its limits, a priority or a mask fits none of the cores and priorities, or a
     /// name is repeated.
     pub fn check(&self) -> Result<(), Fault>
-        ensures { result ≡ header_check self.now }
+        ensures value { result ≡ header_check self.now }
+        // So names are names, and numbers are of 32 bits.
+        ensures checked { OnOk result (IsCheckedHeader self.now) }
     {
         let tasks = self.tasks.as_slice();
-        let fits = is_valid_config(&self.config)
+        if is_valid_config(self.config)
             && 1 <= tasks.len()
             && tasks.len() <= MAX_TASKS as usize
             && are_valid_args(&self.config, tasks)
-            && !has_repeated_name(tasks);
-        if fits { Ok(()) } else { Err(Fault::BadHeader) }
+            && !has_repeated_name(tasks)
+        {
+            Ok(())
+        } else {
+            Err(Fault::BadHeader)
+        }
     }
 
     /// A second value of the same header.
@@ -100,8 +107,9 @@ impl Header {
     }
 }
 
-fn is_valid_config(config: &Config) -> bool
-    ensures { result ≡ has_valid_config config.now }
+fn is_valid_config(config: Config) -> bool
+    ensures value { result ≡ has_valid_config config }
+    ensures tick { config.tick < 2 ^ 32 }
 {
     MIN_CORES <= config.cores
         && config.cores <= MAX_CORES
@@ -111,13 +119,20 @@ fn is_valid_config(config: &Config) -> bool
 }
 
 fn are_valid_args(config: &Config, tasks: &[TaskArgs]) -> bool
-    ensures { result ≡ list_all (has_valid_args config.now) tasks.now }
+    ensures value { result ≡ list_all (has_valid_args config.now) tasks.now }
+    ensures masks { result ≡ true → All (λ task. task.mask < 2 ^ 32) tasks.now }
 {
-    tasks.iter().all(|task| is_valid_args(config, task))
+    for task in tasks {
+        if !is_valid_args(config, task) {
+            return false;
+        }
+    }
+    true
 }
 
 fn is_valid_args(config: &Config, task: &TaskArgs) -> bool
-    ensures { result ≡ has_valid_args config.now task.now }
+    ensures value { result ≡ has_valid_args config.now task.now }
+    ensures mask { task.now.mask < 2 ^ 32 }
 {
     allows_numbers(config, task.priority, task.mask)
 }
@@ -137,18 +152,19 @@ pub(crate) fn allows_core(cores: u32, mask: u32) -> bool
 }
 
 fn has_repeated_name(tasks: &[TaskArgs]) -> bool
-    ensures { result ≡ repeats_name tasks.now }
+    ensures value { result ≡ repeats_name tasks.now }
+    ensures names { result ≡ false → All (λ task. IsTrue (is_name task.name)) tasks.now }
 {
     for (place, task) in tasks.iter().enumerate() {
-        if is_taken_by(&tasks[place + 1..], &task.name) {
+        if is_taken_by(&tasks[place + 1..], task.name.as_str()) {
             return true;
         }
     }
     false
 }
 
-fn is_taken_by(tasks: &[TaskArgs], name: &Name) -> bool
+fn is_taken_by(tasks: &[TaskArgs], name: &str) -> bool
     ensures { result ≡ is_taken name.now tasks.now }
 {
-    tasks.iter().any(|task| *name == task.name)
+    tasks.iter().any(|task| name == task.name.as_str())
 }

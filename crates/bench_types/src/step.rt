@@ -1,8 +1,8 @@
-ghost use Rattle.std.specs.Prelude.{◌≡◌};
-ghost use Rattle.bench_types.specs.Step.{settings_of, call_check, core_check, increment_check, mask_check, mutex_check, step_check, task_check};
+ghost use Rattle.std.specs.Prelude.{◌≡◌, OnOk};
+ghost use Rattle.bench_types.specs.Step.{settings_of, call_check, core_check, increment_check, mask_check, mutex_check, step_check, task_check, IsActionOfWord, IsCheckedCall, IsCheckedStep};
 
 use crate::header::allows_core;
-use crate::{Fault, Header, Note};
+use crate::{Action, Fault, Header, Note};
 
 /// One event of a session.
 #[derive(Clone, Copy, Debug, PartialEq, Eq, Hash)]
@@ -71,19 +71,20 @@ impl Step {
     /// F2 where the core is none, else F3 where the caller is no user task, else the fault of the call. For an interrupt F3 where
     /// the notified task is no user task.
     pub fn check(&self, header: &Header) -> Result<(), Fault>
-        ensures { result ≡ step_check (settings_of header.now) self.now }
+        ensures value { result ≡ step_check (settings_of header.now) self.now }
+        ensures checked { OnOk result (IsCheckedStep (settings_of header.now) self.now) }
     {
-        match self {
+        match *self {
             Step::Tick => Ok(()),
-            Step::Switch { core } => check_core(*core, header),
+            Step::Switch { core } => check_core(core, header),
             Step::Call { core, task, call } => {
-                check_core(*core, header)?;
-                check_task(*task, header)?;
+                check_core(core, header)?;
+                check_task(task, header)?;
                 call.check(header)
             }
             Step::Interrupt { core, note } => {
-                check_core(*core, header)?;
-                check_task(note.task, header)
+                check_core(core, header)?;
+                check_note(note, header)
             }
         }
     }
@@ -93,28 +94,41 @@ impl Call {
     /// The fault of the call's arguments: F3 where the task that it is for is no user task, F4 where the mutex that it is for is
     /// none, F5 where a mask allows no core or a wake is 0 ticks behind the last one.
     pub fn check(&self, header: &Header) -> Result<(), Fault>
-        ensures { result ≡ call_check (settings_of header.now) self.now }
+        ensures value { result ≡ call_check (settings_of header.now) self.now }
+        ensures checked { OnOk result (IsCheckedCall (settings_of header.now) self.now) }
     {
-        match self {
-            Call::Yield
-            | Call::Delay(_)
-            | Call::NotifyWait { .. }
-            | Call::NotifyTake { .. }
-            | Call::Finish
-            | Call::HoldOpen
-            | Call::HoldClose => Ok(()),
-            Call::DelayUntil { inc, .. } => check_increment(*inc),
+        // A number that may be any is bound too: so it is known to be one of 32 bits.
+        match *self {
+            Call::Yield | Call::Finish | Call::HoldOpen | Call::HoldClose => Ok(()),
+            Call::Delay(_ticks)
+            | Call::NotifyTake {
+                clear: _,
+                ticks: _ticks,
+            } => Ok(()),
+            Call::NotifyWait {
+                entry: _entry,
+                exit: _exit,
+                ticks: _ticks,
+            } => Ok(()),
+            Call::DelayUntil { prev: _prev, inc } => check_increment(inc),
             Call::AffinitySet { task, mask } => {
-                check_task(*task, header)?;
-                check_mask(*mask, header)
+                check_task(task, header)?;
+                check_mask(mask, header)
             }
-            Call::PrioritySet { task, .. }
-            | Call::PreemptOff(task)
-            | Call::PreemptOn(task)
-            | Call::Notify(Note { task, .. })
-            | Call::StateClear(task)
-            | Call::ValueClear { task, .. } => check_task(*task, header),
-            Call::MutexTake { mutex, .. } | Call::MutexGive(mutex) => check_mutex(*mutex, header),
+            Call::PrioritySet {
+                task,
+                priority: _any,
+            }
+            | Call::ValueClear { task, bits: _any } => check_task(task, header),
+            Call::PreemptOff(task) | Call::PreemptOn(task) | Call::StateClear(task) => {
+                check_task(task, header)
+            }
+            Call::Notify(note) => check_note(note, header),
+            Call::MutexTake {
+                mutex,
+                ticks: _ticks,
+            } => check_mutex(mutex, header),
+            Call::MutexGive(mutex) => check_mutex(mutex, header),
         }
     }
 }
@@ -136,6 +150,19 @@ pub(crate) fn check_task(task: u32, header: &Header) -> Result<(), Fault>
     let is_user = header.config.cores <= task
         && ((task - header.config.cores) as usize) < tasks.len();
     if is_user { Ok(()) } else { Err(Fault::BadTask) }
+}
+
+// Any action will do, whatever its number.
+fn check_note(note: Note, header: &Header) -> Result<(), Fault>
+    ensures value { result ≡ task_check (settings_of header.now) note.task }
+    ensures words { IsActionOfWord note.action }
+{
+    match note.action {
+        Action::Nothing | Action::Increment => check_task(note.task, header),
+        Action::SetBits(_any) | Action::Set(_any) | Action::SetNew(_any) => {
+            check_task(note.task, header)
+        }
+    }
 }
 
 fn check_mutex(mutex: u32, header: &Header) -> Result<(), Fault>

@@ -11,7 +11,7 @@ use Rattle.bench_types.specs.declared.header.Config.{Config}
 use Rattle.bench_types.specs.declared.header.Header.{Header}
 use Rattle.bench_types.specs.declared.header.TaskArgs.{TaskArgs}
 use Rattle.bench_types.specs.declared.kernel_data.TaskControl.{TaskControl}
-use Rattle.bench_types.proofs.Passes.{IsCheckedHeader}
+use Rattle.bench_types.proofs.Passes.{IsWithinLimits}
 use Rattle.bench_types.specs.Header.{has_valid_args}
 use Rattle.bench_types.specs.Step.{settings_of}
 use Rattle.bench_model.specs.Control.{task_at}
@@ -36,7 +36,7 @@ module _ (header : Header) where
   pub first_tasks : length (first_control header).tasks ≡ cores + users
   first_tasks = omega (arith, length-append (replicate cores (idle_control cores)) (map (user_control cores) header.tasks), length-replicate cores (idle_control cores), length-map header.tasks (user_control cores))
 
-  pub first_blocks : IsCheckedHeader header → (i : ℕ) → i < cores + users → IsControlBlock (settings_of header) (task_at (first_control header) i)
+  pub first_blocks : IsWithinLimits header → (i : ℕ) → i < cores + users → IsControlBlock (settings_of header) (task_at (first_control header) i)
   first_blocks valid i low = elim (cases_lt i cores) [
     | inl idle ↦
         let at = get_or_append_left (replicate cores (idle_control cores)) (map (user_control cores) header.tasks) (record { base = 0; in_use = 0; mask = 0; preempt = false }) i (omega (arith, length-replicate cores (idle_control cores))) ∙ get_or-replicate cores i (idle_control cores) (record { base = 0; in_use = 0; mask = 0; preempt = false }) idle in

@@ -6,6 +6,8 @@
 #[cfg(test)]
 mod delays;
 #[cfg(test)]
+mod largest;
+#[cfg(test)]
 mod mutexes;
 #[cfg(test)]
 mod notes;

@@ -9,7 +9,7 @@ use std::alloc::Global;
 use std::process::Abort;
 use std::test::Fail;
 
-fn is_checked(header: &Header) -> bool
+pub(crate) fn is_checked(header: &Header) -> bool
     ensures { IsTrue result → header_check header.now ≡ Ok tt }
 {
     header.check().is_ok()

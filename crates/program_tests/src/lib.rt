@@ -9,3 +9,5 @@ mod devices;
 mod documents;
 #[cfg(test)]
 mod faults;
+#[cfg(test)]
+mod processes;

@@ -8,7 +8,7 @@ use Rattle.std.proofs.lemmas.Bool.Decides.{nat_tests}
 use Rattle.bench_types.specs.declared.header.Header.{Header}
 use Rattle.bench_types.specs.declared.kernel_data.CoreLook.{CoreLook}
 use Rattle.bench_types.specs.declared.kernel_data.TaskControl.{TaskControl}
-use Rattle.bench_types.proofs.Passes.{IsCheckedHeader}
+use Rattle.bench_types.proofs.Passes.{IsWithinLimits}
 use Rattle.list_orders.specs.Search.{numbers, has}
 use Rattle.bench_model.specs.Start.{first_look, first_control, first_lists, unstarted}
 use Rattle.bench_model.specs.Cores.{cores_of}
@@ -60,7 +60,7 @@ first_listing cores users =
 abbrev pub first_ready : Header → List ℕ
 first_ready header = range_with_len header.config.cores (length header.tasks) ++ numbers header.config.cores
 
-pub first_shape : (header : Header) (places : ℕ) → IsCheckedHeader header → header.config.cores + length header.tasks ≤ places → IsShape header.config.priorities (first_control header).cores (first_control header).tasks (first_ready header) places
+pub first_shape : (header : Header) (places : ℕ) → IsWithinLimits header → header.config.cores + length header.tasks ≤ places → IsShape header.config.priorities (first_control header).cores (first_control header).tasks (first_ready header) places
 first_shape header places limits room =
     let cores = header.config.cores in
     let controls = first_tasks header in

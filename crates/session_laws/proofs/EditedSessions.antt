@@ -1,6 +1,6 @@
 -- An accepted edit leaves a session.
-use Rattle.std.proofs.Common.{◌≡◌, ℕ, zero, suc, ◌+◌, ◌-◌, ◌<◌, ◌≤◌, Bool, true, false, not, ◌&&◌, ◌||◌, List, [], ◌∷◌, length, map, set, take, drop, Result, Ok, Err, refl, sym, ap, subst, ◌∙◌, arith, bytes_eq}
-use Rattle.std.specs.Prelude.{All, insert, remove, if◌then◌else◌}
+use Rattle.std.proofs.Common.{◌≡◌, ℕ, zero, suc, ◌+◌, ◌-◌, ◌^◌, ◌<◌, ◌≤◌, Bool, true, false, not, ◌&&◌, ◌||◌, List, [], ◌∷◌, length, map, set, take, drop, Result, Ok, Err, refl, sym, ap, subst, ◌∙◌, arith, bytes_eq}
+use Rattle.std.specs.Prelude.{All, IsTrue, insert, remove, if◌then◌else◌}
 use Rattle.std.specs.List.{list_all, list_any}
 use Rattle.std.specs.Result.{result_map_both}
 use Rattle.std.proofs.lemmas.Bool.{and_parts}
@@ -16,13 +16,14 @@ use Rattle.bench_types.specs.declared.fault.Fault.TheVariants.{BadHeader}
 use Rattle.bench_types.specs.declared.header.Config.{Config}
 use Rattle.bench_types.specs.declared.header.Header.{Header}
 use Rattle.bench_types.specs.declared.header.TaskArgs.{TaskArgs}
-use Rattle.bench_types.proofs.Passes.{both_pass}
-use Rattle.bench_types.specs.Edit.{edit_check, numbers_check}
-use Rattle.bench_types.specs.Header.{header_check, is_header, has_valid_config, has_valid_numbers, has_valid_args, is_taken, repeats_name}
-use Rattle.bench_types.specs.Name.{is_within}
-use Rattle.bench_types.specs.Step.{settings_of, step_check, task_check, ◌>>◌}
+use Rattle.bench_types.proofs.Passes.{both_pass, checked_task}
+use Rattle.bench_types.specs.Edit.{edit_check, numbers_check, IsEditOfWords}
+use Rattle.bench_types.specs.Header.{header_check, is_header, has_valid_config, has_valid_numbers, has_valid_args, is_taken, repeats_name, IsCheckedHeader}
+use Rattle.bench_types.specs.Name.{is_name, is_within}
+use Rattle.bench_types.specs.Session.{Session, IsSession}
+use Rattle.bench_types.specs.Step.{settings_of, task_check, IsCheckedStep, ◌>>◌}
 use Rattle.bench_types.specs.Limits.{max_steps, max_tasks}
-use Rattle.bench_model.specs.Edits.{Session, IsSession, has_place, has_room, accepted, args_of, changed, edited}
+use Rattle.bench_model.specs.Edits.{has_place, has_room, accepted, args_of, changed, edited}
 
 -- what an accepted edit has passed
 pub record IsPassed (session : Session) (edit : Edit) : Type 0 where
@@ -141,36 +142,56 @@ numbers_pass : (config : Config) (priority mask : ℕ) → numbers_check config 
 unfolding chosen
 numbers_pass config priority mask passes = chosen_passes (has_valid_numbers config priority mask) BadHeader passes
 
-pub edited_session : (session : Session) (edit : Edit) → IsSession session → accepted session edit ≡ Ok tt → IsSession (edited edit session)
-edited_session session (Insert at step) is accepts =
+-- the arguments that a header has for a user task have a name
+args_named : (header : Header) (task : ℕ) → All (λ args. IsTrue (is_name args.name)) header.tasks → task_check (settings_of header) task ≡ Ok tt → IsTrue (is_name (args_of header task).name)
+args_named header task names passes =
+    let there = checked_task (settings_of header) task passes in
+    names (task - header.config.cores) _ (omega (arith, there.0, there.1))
+
+changed_header : (header : Header) (task priority mask : ℕ) → IsCheckedHeader header → mask < 2 ^ 32 → edit_check header (ChangeTask task priority mask) ≡ Ok tt → IsCheckedHeader (changed task priority mask header)
+changed_header header task priority mask is word passes =
+    let both = both_pass (task_check (settings_of header) task) (numbers_check header.config priority mask) passes in
+    let at = task - header.config.cores in
+    record {
+      passes = changed_fits header task priority mask is.passes (numbers_pass header.config priority mask both.1);
+      tick = is.tick;
+      names = All-set (λ args. IsTrue (is_name args.name)) header.tasks at _ (args_named header task is.names both.0) is.names;
+      masks = All-set (λ args. args.mask < 2 ^ 32) header.tasks at _ word is.masks;
+    }
+
+pub edited_session : (session : Session) (edit : Edit) → IsSession session → IsEditOfWords edit → accepted session edit ≡ Ok tt → IsSession (edited edit session)
+edited_session session (Insert at step) is words accepts =
+    let passes = passed session (Insert at step) accepts in
+    record {
+      header = is.header;
+      steps = All-insert (IsCheckedStep (settings_of session.header)) session.steps at step (record { passes = passes.fits; words = words.1 }) is.steps;
+    }
+edited_session session (Remove at) is words accepts = record {
+  header = is.header;
+  steps = All-remove (IsCheckedStep (settings_of session.header)) session.steps at is.steps;
+}
+edited_session session (Replace at step) is words accepts =
+    let passes = passed session (Replace at step) accepts in
+    record {
+      header = is.header;
+      steps = All-set (IsCheckedStep (settings_of session.header)) session.steps at step (record { passes = passes.fits; words = words.1 }) is.steps;
+    }
+edited_session session (ChangeTask task priority mask) is words accepts =
+    let passes = passed session (ChangeTask task priority mask) accepts in
+    record {
+      header = changed_header session.header task priority mask is.header words passes.fits;
+      steps = subst (λ settings. All (IsCheckedStep settings) session.steps) (sym (changed_settings session.header task priority mask)) is.steps;
+    }
+
+pub edited_room : (session : Session) (edit : Edit) → length session.steps ≤ max_steps → accepted session edit ≡ Ok tt → length (edited edit session).steps ≤ max_steps
+edited_room session (Insert at step) few accepts =
     let passes = passed session (Insert at step) accepts in
     let within : at ≤ length session.steps = grind (arith, nat_tests, passes.place) in
     let room : length session.steps < max_steps = grind (arith, nat_tests, passes.room) in
-    record {
-      header_fits = is.header_fits;
-      steps_pass = All-insert (λ step. step_check (settings_of session.header) step ≡ Ok tt) session.steps at step passes.fits is.steps_pass;
-      few_steps = omega (arith, length-insert session.steps at step within);
-    }
-edited_session session (Remove at) is accepts =
+    omega (arith, length-insert session.steps at step within)
+edited_room session (Remove at) few accepts =
     let passes = passed session (Remove at) accepts in
     let within : at < length session.steps = grind (arith, nat_tests, passes.place) in
-    record {
-      header_fits = is.header_fits;
-      steps_pass = All-remove (λ step. step_check (settings_of session.header) step ≡ Ok tt) session.steps at is.steps_pass;
-      few_steps = omega (arith, length-remove session.steps at within, is.few_steps);
-    }
-edited_session session (Replace at step) is accepts =
-    let passes = passed session (Replace at step) accepts in
-    record {
-      header_fits = is.header_fits;
-      steps_pass = All-set (λ step. step_check (settings_of session.header) step ≡ Ok tt) session.steps at step passes.fits is.steps_pass;
-      few_steps = omega (arith, length-set session.steps at step, is.few_steps);
-    }
-edited_session session (ChangeTask task priority mask) is accepts =
-    let passes = passed session (ChangeTask task priority mask) accepts in
-    let numbers = both_pass (task_check (settings_of session.header) task) (numbers_check session.header.config priority mask) passes.fits in
-    record {
-      header_fits = changed_fits session.header task priority mask is.header_fits (numbers_pass session.header.config priority mask numbers.1);
-      steps_pass = subst (λ settings. All (λ step. step_check settings step ≡ Ok tt) session.steps) (sym (changed_settings session.header task priority mask)) is.steps_pass;
-      few_steps = is.few_steps;
-    }
+    omega (arith, length-remove session.steps at within, few)
+edited_room session (Replace at step) few accepts = omega (arith, length-set session.steps at step, few)
+edited_room session (ChangeTask task priority mask) few accepts = few

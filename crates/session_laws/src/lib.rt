@@ -3,14 +3,16 @@
 #![tactic(auto)]
 
 ghost use Rattle.session_laws.specs.AlikeLaws.{SameIsAlike};
-ghost use Rattle.session_laws.specs.EditLaws.{EditKeepsSession};
+ghost use Rattle.session_laws.specs.EditLaws.{EditKeepsSession, EditKeepsRoom};
 ghost use Rattle.session_laws.specs.TallyLaws.{TalliesAreStepwise, PartsAddUp, CountsAreFew, CountingKeepsShape, AddingKeepsShape, TalliesFitSettings, TallyIsSeen};
 
 /// Edits of a session.
 pub fn laws_of_edits()
-    // An accepted edit leaves a header within its limits, no step at fault under it, and not too
-    // many steps.
-    ensures { EditKeepsSession }
+    // An accepted edit leaves a session: a header that passes its check, and steps that pass
+    // theirs under it.
+    ensures keeps_session { EditKeepsSession }
+    // It leaves not too many steps.
+    ensures keeps_room { EditKeepsRoom }
 {}
 
 /// Equality of kernels by what can be seen of them.

@@ -9,7 +9,8 @@ use Rattle.bench_types.specs.declared.edit.Edit.{Edit}
 use Rattle.bench_types.specs.declared.edit.Edit.TheVariants.{Insert}
 use Rattle.bench_types.specs.declared.step.Step.TheVariants.{Tick}
 use Rattle.bench_types.specs.declared.edit.EditFault.{EditFault}
-use Rattle.bench_model.specs.Edits.{Session, accepted, edited, after_edit, after_edits}
+use Rattle.bench_model.specs.Edits.{accepted, edited, after_edit, after_edits}
+use Rattle.bench_types.specs.Session.{Session}
 use Rattle.list_orders.proofs.Filters.{fold-append}
 use Rattle.session_store.specs.declared.outcome.Outcome.{Outcome}
 use Rattle.session_store.specs.Counting.{counted, CountsUpTo}

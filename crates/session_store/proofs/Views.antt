@@ -6,7 +6,9 @@ use Rattle.bench_types.specs.declared.edit.Edit.{Edit}
 use Rattle.bench_types.specs.declared.edit.EditFault.{EditFault}
 use Rattle.bench_types.specs.declared.header.Header.{Header}
 use Rattle.bench_types.specs.declared.step.Step.{Step}
-use Rattle.bench_model.specs.Edits.{Session, IsSession, accepted, edited}
+use Rattle.bench_model.specs.Edits.{accepted, edited}
+use Rattle.bench_types.specs.Edit.{IsEditOfWords}
+use Rattle.bench_types.specs.Session.{Session, IsSession}
 use Rattle.session_laws.proofs.EditedSessions.{edited_session}
 use Rattle.session_store.specs.declared.fault.StoreFault.{StoreFault}
 use Rattle.session_store.specs.declared.fault.StoreFault.TheVariants as fault
@@ -18,12 +20,12 @@ session_by_parts session header steps headers same is =
 
 -- what an accepted edit makes of a session that is kept
 pub next_session : (header next_header : Header) (kept steps next_steps : List Step) (edit : Edit) → IsSession (record { header = header; steps = kept }) → steps ≡ kept
-    → accepted (record { header = header; steps = steps }) edit ≡ Ok tt → next_header ≡ (edited edit (record { header = header; steps = steps })).header → next_steps ≡ (edited edit (record { header = header; steps = steps })).steps
+    → IsEditOfWords edit → accepted (record { header = header; steps = steps }) edit ≡ Ok tt → next_header ≡ (edited edit (record { header = header; steps = steps })).header → next_steps ≡ (edited edit (record { header = header; steps = steps })).steps
     → IsSession (record { header = next_header; steps = next_steps })
-next_session header next_header kept steps next_steps edit is same accepts headers next =
+next_session header next_header kept steps next_steps edit is same words accepts headers next =
     let before : Session = record { header = header; steps = steps } in
     let session : IsSession before = subst (λ (ss : List Step). IsSession (record { header = header; steps = ss })) (sym same) is in
-    session_by_parts (edited edit before) next_header next_steps headers next (edited_session before edit session accepts)
+    session_by_parts (edited edit before) next_header next_steps headers next (edited_session before edit session words accepts)
 
 -- what is lent is the item that is kept, or else the other
 pub lent_or : {X : Type 0} (lent : Option (Bor X)) (other result : Bor X) (kept : Option X) → result ≡ unwrap_or lent other → option_copied lent ≡ kept → result.now ≡ unwrap_or kept other.now

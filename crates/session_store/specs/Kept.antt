@@ -1,13 +1,13 @@
 -- What the fields of a store keep.
-use Rattle.std.specs.Prelude.{◌≡◌, ℕ, map, true}
+use Rattle.std.specs.Prelude.{◌≡◌, ℕ, ◌≤◌, length, map, true}
 use Rattle.bench_types.specs.declared.header.Header.{Header}
 use Rattle.bench_types.specs.Name.{is_within}
 use Rattle.bench_types.specs.Step.{settings_of}
-use Rattle.bench_model.specs.Edits.{IsSession}
+use Rattle.bench_types.specs.Session.{IsSession}
 use Rattle.bench_model.specs.Equal.{StandsFor}
 use Rattle.bench_model.specs.Session.{trace}
 use Rattle.bench_types.specs.Reply.{shown}
-use Rattle.bench_types.specs.Limits.{max_span}
+use Rattle.bench_types.specs.Limits.{max_span, max_steps}
 use Rattle.bench_model.specs.Start.{start}
 use Rattle.bench_model.specs.Table.{Table}
 use Rattle.session_store.specs.declared.store.Segment.{Segment}
@@ -17,9 +17,10 @@ pub record IsSegment (table : Table) (segment : Segment) : Type 0 where
   pub stands : StandsFor segment.kernel table
   pub outcomes : map shown segment.outcomes.items ≡ trace table segment.steps.items
 
--- a session that may be kept, and its replay from the start
+-- a session that is not too long, and its replay from the start
 pub record IsKept (header : Header) (span : ℕ) (segment : Segment) : Type 0 where
   pub session : IsSession (record { header = header; steps = segment.steps.items })
+  pub few_steps : length segment.steps.items ≤ max_steps
   pub settings : segment.kernel.settings ≡ settings_of header
   pub span_fits : is_within 1 max_span span ≡ true
   pub from_start : segment.from ≡ 0

@@ -3,7 +3,8 @@ use Rattle.std.specs.Prelude.{ℕ, List, [], ◌∷◌, length, sum_by, Result, 
 use Rattle.std.specs.Result.{result_map_both}
 use Rattle.bench_types.specs.declared.edit.Edit.{Edit}
 use Rattle.bench_types.specs.declared.edit.EditFault.{EditFault}
-use Rattle.bench_model.specs.Edits.{Session, accepted, edited, after_edit}
+use Rattle.bench_model.specs.Edits.{accepted, edited, after_edit}
+use Rattle.bench_types.specs.Session.{Session}
 use Rattle.session_store.specs.declared.outcome.Outcome.{Outcome}
 
 -- every step of a session was replayed, from its start to its end

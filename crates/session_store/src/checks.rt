@@ -1,5 +1,7 @@
-ghost use Rattle.std.specs.Prelude.{◌≡◌, ◌≤◌, ◌^◌, ◌<◌, length};
-ghost use Rattle.bench_types.specs.Step.{settings_of};
+ghost use Rattle.std.specs.Prelude.{◌≡◌, ◌≤◌, ◌^◌, ◌<◌, All, OnOk, length};
+ghost use Rattle.bench_types.specs.Edit.{IsEditOfWords};
+ghost use Rattle.bench_types.specs.Session.{IsSession};
+ghost use Rattle.bench_types.specs.Step.{settings_of, IsCheckedStep};
 ghost use Rattle.bench_model.specs.Edits.{accepted, has_place, has_room};
 ghost use Rattle.session_store.specs.Opening.{open_check, steps_check};
 
@@ -28,7 +30,8 @@ fn has_room(steps: &[Step], edit: &Edit) -> bool
 
 /// The fault of the edit under the header, else J1, else J2.
 pub(crate) fn check_edit(header: &Header, steps: &[Step], edit: &Edit) -> Result<(), EditFault>
-    ensures { result ≡ accepted (record { header = header.now; steps = steps.now }) edit.now }
+    ensures value { result ≡ accepted (record { header = header.now; steps = steps.now }) edit.now }
+    ensures words { OnOk result (IsEditOfWords edit.now) }
 {
     edit.check(header)?;
     if !has_place(steps, edit) {
@@ -42,7 +45,8 @@ pub(crate) fn check_edit(header: &Header, steps: &[Step], edit: &Edit) -> Result
 
 fn check_steps(header: &Header, steps: &[Step]) -> Result<(), Refused>
     requires { length steps.now < 2 ^ 32 }
-    ensures { result ≡ steps_check (settings_of header.now) 0 steps.now }
+    ensures value { result ≡ steps_check (settings_of header.now) 0 steps.now }
+    ensures checked { OnOk result (All (IsCheckedStep (settings_of header.now)) steps.now) }
 {
     for (at, step) in steps.iter().enumerate() {
         if let Err(fault) = step.check(header) {
@@ -57,7 +61,8 @@ fn check_steps(header: &Header, steps: &[Step]) -> Result<(), Refused>
 
 /// F1, else J3, else J2, else the fault of the first step that has one.
 pub(crate) fn check_opening(header: &Header, steps: &[Step], span: u32) -> Result<(), Refused>
-    ensures { result ≡ open_check header.now steps.now span }
+    ensures value { result ≡ open_check header.now steps.now span }
+    ensures session { OnOk result (IsSession (record { header = header.now; steps = steps.now })) }
 {
     if let Err(fault) = header.check() {
         return Err(Refused {

@@ -2,7 +2,7 @@ ghost use Rattle.std.specs.Prelude.{◌≡◌, ◌<◌, ◌≤◌, ◌+◌, ◌-
 ghost use Rattle.bench_types.specs.Header.{header_check};
 ghost use Rattle.bench_types.specs.Step.{settings_of, step_check};
 ghost use Rattle.bench_model.specs.Control.{running};
-ghost use Rattle.bench_model.specs.Edits.{IsSession};
+ghost use Rattle.bench_types.specs.Session.{IsSession};
 ghost use Rattle.bench_model.specs.Equal.{StandsFor};
 ghost use Rattle.bench_model.specs.Session.{behind, trace};
 ghost use Rattle.bench_types.specs.Reply.{shown};

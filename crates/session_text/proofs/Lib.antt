@@ -3,4 +3,3 @@ pub mod Documents
 mod Lists
 mod Loops
 mod NewNames
-mod Passing

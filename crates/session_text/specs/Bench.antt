@@ -1,12 +1,13 @@
 -- A bench document: a session and edits of it, or a session alone.
-use Rattle.std.specs.Prelude.{◌≡◌, ℕ, List, [], ◌∷◌, codes, Option, Some, None, Result, Ok, ⊤, All}
+use Rattle.std.specs.Prelude.{ℕ, List, [], ◌∷◌, codes, Option, Some, None, Result, Ok, ⊤, All}
 use Rattle.serde_json.specs.Data.{Data}
 use Rattle.serde_json.specs.Find.{get}
 use Rattle.bench_types.specs.declared.edit.Edit.{Edit}
 use Rattle.bench_types.specs.declared.fault.Fault.{Fault}
 use Rattle.bench_types.specs.declared.header.Header.{Header}
 use Rattle.bench_types.specs.declared.step.Step.{Step}
-use Rattle.bench_types.specs.Edit.{edit_check}
+use Rattle.bench_types.specs.Edit.{edit_check, IsCheckedEdit}
+use Rattle.bench_types.specs.Session.{IsSession}
 use Rattle.session_text.specs.declared.fault.TextFault.{TextFault}
 use Rattle.session_text.specs.declared.bench.Bench.{Bench}
 use Rattle.session_text.specs.Accepted.{items_accepted}
@@ -16,7 +17,7 @@ use Rattle.session_text.specs.Member.{object_at, only_at}
 use Rattle.session_text.specs.Names.{known_names}
 use Rattle.session_text.specs.Outcome.{◌>>=◌}
 use Rattle.session_text.specs.Path.{member_path}
-use Rattle.session_text.specs.Session.{document, session_at, session_accepted, IsChecked}
+use Rattle.session_text.specs.Session.{document, session_at, session_accepted}
 
 abbrev pub bench_members : List (List ℕ)
 bench_members = codes "session" ∷ codes "edits" ∷ []
@@ -69,7 +70,7 @@ bench_text text = do
   d ← document text
   bench_at [] d
 
--- the session is checked, and no edit is at fault under its header
+-- there is a session, and each edit was checked under its header
 pub record IsCheckedBench (bench : Bench) : Type 0 where
-  pub session_checked : IsChecked bench.header bench.steps
-  pub edits_pass : All (λ edit. edit_check bench.header edit ≡ Ok tt) bench.edits
+  pub is_session : IsSession (record { header = bench.header; steps = bench.steps })
+  pub edits_checked : All (IsCheckedEdit bench.header) bench.edits

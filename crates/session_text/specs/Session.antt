@@ -1,5 +1,5 @@
 -- A session: the whole text is read before the header and the steps are judged.
-use Rattle.std.specs.Prelude.{◌≡◌, ◌⊎◌, ℕ, ◌==◌, List, [], ◌∷◌, codes, Option, Some, None, Result, Ok, Err, if◌then◌else◌, ⊤, All, IsTrue}
+use Rattle.std.specs.Prelude.{◌≡◌, ◌⊎◌, ℕ, ◌==◌, List, [], ◌∷◌, codes, Option, Some, None, Result, Ok, Err, if◌then◌else◌, ⊤}
 use Rattle.std.specs.Str.{is_utf8}
 use Rattle.serde_json.specs.Data.{Data}
 use Rattle.serde_json.specs.Read.{read}
@@ -7,7 +7,6 @@ use Rattle.bench_types.specs.declared.fault.Fault.{Fault}
 use Rattle.bench_types.specs.declared.header.Header.{Header}
 use Rattle.bench_types.specs.declared.step.Step.{Step}
 use Rattle.bench_types.specs.Step.{settings_of, step_check}
-use Rattle.bench_types.specs.Header.{is_header}
 use Rattle.session_text.specs.declared.fault.Why.TheVariants.{NotJson, Bench, NoMemory}
 use Rattle.session_text.specs.declared.fault.TextFault.{TextFault}
 use Rattle.session_text.specs.Header.{header_at}
@@ -49,11 +48,6 @@ session_at at d = do
 -- the fault of a step under a header
 abbrev pub step_fault : Header → Step → Result ⊤ Fault
 step_fault header step = step_check (settings_of header) step
-
--- the header is within its limits, and no step is at fault under it
-pub record IsChecked (header : Header) (steps : List Step) : Type 0 where
-  pub header_fits : IsTrue (is_header header)
-  pub steps_pass : All (λ step. step_fault header step ≡ Ok tt) steps
 
 -- F1 of the header has no place
 unfoldable pub session_accepted : List ℕ → Result Header Fault → List Step → Result (Header × List Step) TextFault

@@ -1,8 +1,8 @@
-ghost use Rattle.std.specs.Prelude.{◌≡◌, All, IfOk, IsTrue, Ok, OnOk};
+ghost use Rattle.std.specs.Prelude.{All, IfOk, OnOk};
 ghost use Rattle.std.specs.Result.{ForOk};
 ghost use Rattle.serde_json.specs.View.{view};
-ghost use Rattle.bench_types.specs.Edit.{edit_check};
-ghost use Rattle.bench_types.specs.Header.{is_header};
+ghost use Rattle.bench_types.specs.Edit.{IsCheckedEdit};
+ghost use Rattle.bench_types.specs.Header.{IsCheckedHeader};
 ghost use Rattle.session_text.specs.Bench.{bench_accepted, bench_at, bench_text, edited_at, edits_accepted, shapes_at, unedited_at, IsCheckedBench};
 ghost use Rattle.session_text.specs.Node.{data_of, place_of};
 ghost use Rattle.session_text.specs.Outcome.{Gives};
@@ -98,7 +98,7 @@ fn shapes_at(
 ) -> Result<(Result<Header, Fault>, Vec<Step>, Vec<Edit>), Stop>
     ensures reading { Gives (λ read. (read.0, read.1.items, read.2.items)) result
         (shapes_at (place_of node.now) (data_of node.now) (view session.now)) }
-    ensures valid { IfOk result (λ read. IfOk read.0 (λ header. IsTrue (is_header header))) }
+    ensures valid { IfOk result (λ read. IfOk read.0 IsCheckedHeader) }
 {
     let members = node.object()?;
     let (header, steps) = session_at(&Node {
@@ -122,7 +122,7 @@ fn bench_accepted(
     steps: Vec<Step>,
     edits: Vec<Edit>,
 ) -> Result<Bench, Stop>
-    requires { ForOk header (λ header. IsTrue (is_header header)) }
+    requires { ForOk header IsCheckedHeader }
     ensures reading { Gives (λ bench. bench) result
         (bench_accepted (path_of place.now) header steps.items edits.items) }
     ensures checked { IfOk result IsCheckedBench }
@@ -146,7 +146,7 @@ fn edits_accepted(
 ) -> Result<(), Stop>
     ensures reading { Gives (λ done. done) result
         (edits_accepted header.now (path_of place.now) edits.now) }
-    ensures pass { OnOk result (All (λ edit. edit_check header.now edit ≡ Ok tt) edits.now) }
+    ensures checked { OnOk result (All (IsCheckedEdit header.now) edits.now) }
 {
     items_accepted(alloc, header, &Place::Member(place, "edits"), edits)
 }

@@ -1,6 +1,6 @@
-ghost use Rattle.std.specs.Prelude.{◌≡◌, IfOk, IsTrue, Ok, map};
-ghost use Rattle.bench_types.specs.Edit.{edit_check};
-ghost use Rattle.bench_types.specs.Header.{is_header};
+ghost use Rattle.std.specs.Prelude.{◌≡◌, IfOk, Ok, map};
+ghost use Rattle.bench_types.specs.Edit.{IsCheckedEdit};
+ghost use Rattle.bench_types.specs.Header.{header_check};
 ghost use Rattle.session_text.specs.Edit.{edit_kind_at, edit_kind_of, edit_members_of, edit_of_kind_at, edit_text, new_step_at};
 ghost use Rattle.session_text.specs.Node.{data_of, place_of};
 ghost use Rattle.session_text.specs.Outcome.{Gives};
@@ -20,20 +20,20 @@ use std::alloc::Global;
 ///
 /// The path of a fault begins at the edit, which is `top`.
 pub fn read_edit(alloc: Global, text: &[u8], header: &Header) -> Result<Edit, TextFault>
-    requires { IsTrue (is_header header.now) }
+    requires { header_check header.now ≡ Ok tt }
     // The edit, or the first fault with its path, or that memory ran out.
     ensures reading { Answers (λ edit. edit) result (edit_text header.now text.now) }
     // So its check doesn't fail later.
-    ensures checked { IfOk result (λ edit. edit_check header.now edit ≡ Ok tt) }
+    ensures checked { IfOk result (IsCheckedEdit header.now) }
 {
     Ok(edit_text(alloc, text, header)?)
 }
 
 #[tactic(auto, unfolding(crate::specs::Edit::edit_text))]
 fn edit_text(alloc: Global, text: &[u8], header: &Header) -> Result<Edit, Stop>
-    requires { IsTrue (is_header header.now) }
+    requires { header_check header.now ≡ Ok tt }
     ensures reading { Gives (λ edit. edit) result (edit_text header.now text.now) }
-    ensures checked { IfOk result (λ edit. edit_check header.now edit ≡ Ok tt) }
+    ensures checked { IfOk result (IsCheckedEdit header.now) }
 {
     let value = document(alloc, text)?;
     let names = Names::of(alloc, header)?;

@@ -1,5 +1,5 @@
-ghost use Rattle.std.specs.Prelude.{◌≡◌, IfOk, IsTrue};
-ghost use Rattle.bench_types.specs.Header.{is_header};
+ghost use Rattle.std.specs.Prelude.{◌≡◌, IfOk};
+ghost use Rattle.bench_types.specs.Header.{IsCheckedHeader};
 ghost use Rattle.session_text.specs.Header.{accepted, config_at, header_at, named, task_at};
 ghost use Rattle.session_text.specs.Node.{data_of, place_of};
 ghost use Rattle.session_text.specs.Outcome.{Gives};
@@ -84,7 +84,7 @@ fn accepted(
 ) -> Result<Result<Header, Fault>, AllocError>
     ensures value { IfOk result
         (λ header. header ≡ accepted (record { config = config; tasks = shapes.now })) }
-    ensures valid { IfOk result (λ header. IfOk header (λ valid. IsTrue (is_header valid))) }
+    ensures valid { IfOk result (λ header. IfOk header IsCheckedHeader) }
 {
     let mut tasks = Vec::with_capacity(alloc, shapes.len())?;
     for shape in shapes {
@@ -108,7 +108,7 @@ fn accepted(
 pub(crate) fn header_at(node: &Node<'_, '_>) -> Result<Result<Header, Fault>, Stop>
     ensures reading { Gives (λ header. header) result
         (header_at (place_of node.now) (data_of node.now)) }
-    ensures valid { IfOk result (λ header. IfOk header (λ valid. IsTrue (is_header valid))) }
+    ensures valid { IfOk result (λ header. IfOk header IsCheckedHeader) }
 {
     let config = config_at(node)?;
     let shapes = list_at(&Tasks, node, "tasks")?;

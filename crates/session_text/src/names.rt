@@ -1,5 +1,5 @@
-ghost use Rattle.std.specs.Prelude.{◌≡◌, IfOk, IsTrue};
-ghost use Rattle.bench_types.specs.Header.{is_header};
+ghost use Rattle.std.specs.Prelude.{◌≡◌, IfOk, Ok};
+ghost use Rattle.bench_types.specs.Header.{header_check};
 ghost use Rattle.session_text.specs.Names.{names_of, no_names, number_of};
 ghost use Rattle.session_text.specs.Node.{data_of, place_of};
 ghost use Rattle.session_text.specs.Outcome.{Gives};
@@ -42,7 +42,7 @@ impl<'a> Names<'a> {
     }
 
     pub(crate) fn of(alloc: Global, header: &'a Header) -> Result<Self, AllocError>
-        requires { IsTrue (is_header header.now) }
+        requires { header_check header.now ≡ Ok tt }
         ensures { IfOk result (λ names. names ≡ names_of header.now) }
     {
         let mut names = IndexSet::new(alloc);

@@ -1,14 +1,15 @@
-ghost use Rattle.std.specs.Prelude.{◌≡◌, IfOk, IsTrue, codes};
+ghost use Rattle.std.specs.Prelude.{◌≡◌, IfOk, Ok, codes};
 ghost use Rattle.serde_json.specs.View.{view};
 ghost use Rattle.std.specs.Result.{ForOk};
-ghost use Rattle.bench_types.specs.Header.{is_header};
+ghost use Rattle.bench_types.specs.Header.{header_check, IsCheckedHeader};
+ghost use Rattle.bench_types.specs.Session.{IsSession};
 ghost use Rattle.session_text.specs.Array.{list_at};
 ghost use Rattle.session_text.specs.Names.{known_names};
 ghost use Rattle.session_text.specs.Node.{data_of, place_of};
 ghost use Rattle.session_text.specs.Outcome.{Gives};
 ghost use Rattle.session_text.specs.Path.{path_of};
 ghost use Rattle.session_text.specs.Step.{step_at};
-ghost use Rattle.session_text.specs.Session.{document, format_at, session, session_accepted, session_at, Answers, IsChecked};
+ghost use Rattle.session_text.specs.Session.{document, format_at, session, session_accepted, session_at, Answers};
 
 use crate::accepted::items_accepted;
 use crate::array::list_at;
@@ -26,7 +27,7 @@ pub fn read_session(alloc: Global, text: &[u8]) -> Result<(Header, Vec<Step>), T
     // The header and the steps, or the first fault with its path, or that memory ran out.
     ensures reading { Answers (λ read. (read.0, read.1.items)) result (session text.now) }
     // So no check of the header or of a step fails later.
-    ensures checked { IfOk result (λ read. IsChecked read.0 read.1.items) }
+    ensures checked { IfOk result (λ read. IsSession (record { header = read.0; steps = read.1.items })) }
 {
     Ok(session(alloc, text)?)
 }
@@ -34,7 +35,7 @@ pub fn read_session(alloc: Global, text: &[u8]) -> Result<(Header, Vec<Step>), T
 #[tactic(auto, unfolding(crate::specs::Session::session))]
 fn session(alloc: Global, text: &[u8]) -> Result<(Header, Vec<Step>), Stop>
     ensures reading { Gives (λ read. (read.0, read.1.items)) result (session text.now) }
-    ensures checked { IfOk result (λ read. IsChecked read.0 read.1.items) }
+    ensures checked { IfOk result (λ read. IsSession (record { header = read.0; steps = read.1.items })) }
 {
     let value = document(alloc, text)?;
     let (header, steps) = session_at(&Node {
@@ -77,7 +78,7 @@ pub(crate) fn known_names(
     alloc: Global,
     header: &Result<Header, Fault>,
 ) -> Result<Names<'_>, AllocError>
-    requires { ForOk header.now (λ header. IsTrue (is_header header)) }
+    requires { ForOk header.now IsCheckedHeader }
     ensures { IfOk result (λ names. names ≡ known_names header.now) }
 {
     match header {
@@ -88,7 +89,7 @@ pub(crate) fn known_names(
 
 /// The steps, under the names of the header.
 fn steps_at(header: &Result<Header, Fault>, node: &Node<'_, '_>) -> Result<Vec<Step>, Stop>
-    requires { ForOk header.now (λ header. IsTrue (is_header header)) }
+    requires { ForOk header.now IsCheckedHeader }
     ensures { Gives (λ steps. steps.items) result
         (list_at (step_at (known_names header.now)) (place_of node.now) (codes "steps") (data_of node.now)) }
 {
@@ -101,7 +102,7 @@ fn steps_at(header: &Result<Header, Fault>, node: &Node<'_, '_>) -> Result<Vec<S
 pub(crate) fn session_at(node: &Node<'_, '_>) -> Result<(Result<Header, Fault>, Vec<Step>), Stop>
     ensures reading { Gives (λ read. (read.0, read.1.items)) result
         (session_at (place_of node.now) (data_of node.now)) }
-    ensures valid { IfOk result (λ read. IfOk read.0 (λ header. IsTrue (is_header header))) }
+    ensures valid { IfOk result (λ read. IfOk read.0 IsCheckedHeader) }
 {
     let members = node.object()?;
     format_at(node)?;
@@ -131,10 +132,10 @@ pub(crate) fn session_accepted(
     header: Result<Header, Fault>,
     steps: Vec<Step>,
 ) -> Result<(Header, Vec<Step>), Stop>
-    requires { ForOk header (λ header. IsTrue (is_header header)) }
+    requires { ForOk header IsCheckedHeader }
     ensures reading { Gives (λ read. (read.0, read.1.items)) result
         (session_accepted (path_of place.now) header steps.items) }
-    ensures checked { IfOk result (λ read. IsChecked read.0 read.1.items) }
+    ensures checked { IfOk result (λ read. IsSession (record { header = read.0; steps = read.1.items })) }
 {
     match header {
         Err(fault) => Err(Stop::Fault(TextFault {

@@ -1,5 +1,6 @@
 -- The value of a session is plain, and nests three deep.
 use Rattle.std.proofs.Common.{◌≡◌, ℕ, ◌+◌, ◌^◌, ◌<◌, ◌≤◌, true, ◌&&◌, List, [], ◌∷◌, length, map, refl, arith, IsUtf8}
+use Rattle.std.specs.Prelude.{IsTrue}
 use Rattle.std.specs.List.{list_all, AllByRecursion}
 use Rattle.std.proofs.lemmas.Bool.{and_parts, and_from}
 use Rattle.std.proofs.lemmas.Bool.Decides.{nat_tests}
@@ -20,8 +21,8 @@ use Rattle.bench_types.specs.declared.step.Call.TheVariants as call
 use Rattle.bench_types.specs.Name.{is_name, is_name_byte, is_within}
 use Rattle.bench_types.specs.Step.{IsActionOfWord, IsOfWords, IsStepOfWords}
 use Rattle.bench_types.specs.Limits.{max_priorities}
-use Rattle.session_write.specs.Written.{task_data, task_name, bare_call, call_for, notify_data, interrupt_data, call_data, step_data, session_data, IsTyped}
-use Rattle.bench_types.proofs.Passes.{IsCheckedHeader}
+use Rattle.session_write.specs.Written.{task_data, task_name, bare_call, call_for, notify_data, interrupt_data, call_data, step_data, session_data}
+use Rattle.bench_types.proofs.Passes.{IsWithinLimits}
 use Rattle.session_write.proofs.Limits.{IsInPlace, HasTarget}
 use Rattle.session_write.proofs.ReadBack.{IsPlain, ArePlain}
 
@@ -64,7 +65,7 @@ interrupt_plain core to action.Increment small to_utf8 word = (refl, refl, IsUtf
 interrupt_plain core to (action.Set value) small to_utf8 word = (refl, refl, IsUtf8-are_ascii _ refl, (refl, refl, small, (refl, refl, IsUtf8-are_ascii _ refl, (refl, refl, to_utf8, (refl, refl, omega arith, tt)))))
 interrupt_plain core to (action.SetNew value) small to_utf8 word = (refl, refl, IsUtf8-are_ascii _ refl, (refl, refl, small, (refl, refl, IsUtf8-are_ascii _ refl, (refl, refl, to_utf8, (refl, refl, omega arith, tt)))))
 
-pub call_plain : (header : Header) (by : List ℕ) (core : ℕ) (made : Call) → IsCheckedHeader header → AreNames header → HasTarget header made → IsUtf8 by → core < 2 ^ 64 → IsOfWords made → IsPlain (call_data header by core made)
+pub call_plain : (header : Header) (by : List ℕ) (core : ℕ) (made : Call) → IsWithinLimits header → AreNames header → HasTarget header made → IsUtf8 by → core < 2 ^ 64 → IsOfWords made → IsPlain (call_data header by core made)
 call_plain header by core call.Yield h names target utf8 small words = bare_plain by core _ utf8 small (IsUtf8-are_ascii _ refl)
 call_plain header by core (call.Delay ticks) h names target utf8 small words = (refl, refl, utf8, (refl, refl, small, (refl, refl, IsUtf8-are_ascii _ refl, (refl, refl, omega arith, tt))))
 call_plain header by core (call.DelayUntil prev inc) h names target utf8 small words = (refl, refl, utf8, (refl, refl, small, (refl, refl, IsUtf8-are_ascii _ refl, (refl, refl, omega (arith, words.1), (refl, refl, omega (arith, words.0), tt)))))
@@ -83,29 +84,31 @@ call_plain header by core call.Finish h names target utf8 small words = bare_pla
 call_plain header by core call.HoldOpen h names target utf8 small words = bare_plain by core _ utf8 small (IsUtf8-are_ascii _ refl)
 call_plain header by core call.HoldClose h names target utf8 small words = bare_plain by core _ utf8 small (IsUtf8-are_ascii _ refl)
 
-step_plain : (header : Header) (made : Step) → IsCheckedHeader header → AreNames header → IsInPlace header made → IsStepOfWords made → IsPlain (step_data header made)
+step_plain : (header : Header) (made : Step) → IsWithinLimits header → AreNames header → IsInPlace header made → IsStepOfWords made → IsPlain (step_data header made)
 step_plain header step.Tick h names place words = (refl, refl, IsUtf8-are_ascii _ refl, tt)
 step_plain header (step.Switch core) h names place words = (refl, refl, omega (arith, h.few_cores), (refl, refl, IsUtf8-are_ascii _ refl, tt))
 step_plain header (step.Call core task made) h names place words = call_plain header (task_name header task) core made h names place.target (names task place.caller.1 place.caller.0) (omega (arith, h.few_cores, place.core_there)) words
 step_plain header (step.Interrupt core note) h names place words = interrupt_plain core _ note.action (omega (arith, h.few_cores, place.core_there)) (names note.task place.target.1 place.target.0) words
 
-steps_plain : (header : Header) (steps : List Step) → IsCheckedHeader header → AreNames header → AllByRecursion (λ made. IsInPlace header made × IsStepOfWords made) steps → ArePlain (items_of (map (step_data header) steps))
+steps_plain : (header : Header) (steps : List Step) → IsWithinLimits header → AreNames header → AllByRecursion (λ made. IsInPlace header made × IsStepOfWords made) steps → ArePlain (items_of (map (step_data header) steps))
 steps_plain header [] h names each = tt
 steps_plain header (made ∷ steps) h names each = (step_plain header made h names each.0.0 each.0.1, steps_plain header steps h names each.1)
 
 -- a task of a header with these settings
-abbrev pub IsTask : Config → TaskArgs → Type 0
-IsTask config task = (has_valid_args config task ≡ true) × IsTyped task
+pub record IsTask (config : Config) (task : TaskArgs) : Type 0 where
+  pub fits : has_valid_args config task ≡ true
+  pub named : IsTrue (is_name task.name)
+  pub mask : task.mask < 2 ^ 32
 
 tasks_plain : (config : Config) (tasks : List TaskArgs) → config.priorities ≤ max_priorities → AllByRecursion (IsTask config) tasks → ArePlain (items_of (map task_data tasks))
 tasks_plain config [] few each = tt
 tasks_plain config (task ∷ tasks) few each =
-    let priority : task.priority < config.priorities = grind (arith, nat_tests, each.0.0) in
-    (task_plain task each.0.1.named (omega arith) (omega (arith, each.0.1.mask)), tasks_plain config tasks few each.1)
+    let priority : task.priority < config.priorities = grind (arith, nat_tests, each.0.fits) in
+    (task_plain task each.0.named (omega arith) (omega (arith, each.0.mask)), tasks_plain config tasks few each.1)
 
 -- what the proofs ask of a session
 pub record IsWritable (header : Header) (steps : List Step) : Type 0 where
-  pub limits : IsCheckedHeader header
+  pub limits : IsWithinLimits header
   pub tick : header.config.tick < 2 ^ 32
   pub each_task : AllByRecursion (IsTask header.config) header.tasks
   pub names : AreNames header

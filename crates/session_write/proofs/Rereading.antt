@@ -1,6 +1,6 @@
 -- A session that is written is read back.
 use Rattle.std.proofs.Common.{◌≡◌, ℕ, suc, ◌-◌, ◌^◌, ◌<◌, ◌≤◌, true, List, [], ◌∷◌, map, codes, refl, arith, ltb, lt-ltb, Result, Ok}
-use Rattle.std.specs.Prelude.{All, ⊤}
+use Rattle.std.specs.Prelude.{All, IsTrue, ⊤}
 use Rattle.std.specs.List.{list_all, AllByRecursion}
 use Rattle.std.proofs.lemmas.Bool.{and_parts, and_from}
 use Rattle.std.proofs.lemmas.Bool.Decides.{nat_tests}
@@ -18,6 +18,7 @@ use Rattle.bench_types.specs.declared.step.Call.{Call}
 use Rattle.bench_types.specs.declared.step.Call.TheVariants as call
 use Rattle.bench_types.specs.Header.{has_valid_args, is_header}
 use Rattle.bench_types.specs.Name.{is_name}
+use Rattle.bench_types.specs.Session.{IsSession}
 use Rattle.bench_types.specs.Step.{IsActionOfWord, IsOfWords, IsStepOfWords}
 use Rattle.bench_types.specs.Limits.{max_priorities}
 use Rattle.session_text.specs.Accepted.{items_accepted}
@@ -25,11 +26,11 @@ use Rattle.session_text.specs.Action.{action_at, action_kind_at, action_of_kind_
 use Rattle.session_text.specs.Array.{each_at, list_at}
 use Rattle.session_text.specs.Header.{task_at, config_at, header_at}
 use Rattle.session_text.specs.Member.{number_at, text_at, flag_at, array_at}
-use Rattle.bench_types.proofs.Passes.{IsCheckedHeader, header_facts}
+use Rattle.bench_types.proofs.Passes.{IsWithinLimits, checked_header, passes_whole}
 use Rattle.session_text.specs.Names.{names_of, number_of}
 use Rattle.session_text.specs.Session.{format_at, session_at, session_accepted, session, step_fault}
 use Rattle.session_text.specs.Step.{step_at, kind_at, step_of_kind_at, task_named_at, note_at, wait_at, call_at}
-use Rattle.session_write.specs.Written.{task_data, task_name, step_data, session_data, IsSession, IsTyped, WrittenReadsBack}
+use Rattle.session_write.specs.Written.{task_data, task_name, step_data, session_data, WrittenReadsBack}
 use Rattle.session_write.proofs.Limits.{IsInPlace, IsCallInPlace, IsUserTask, in_place}
 use Rattle.session_write.proofs.Plain.{IsTask, IsWritable, session_plain, session_depth, utf8_name}
 use Rattle.session_write.proofs.ReadBack.{document-compact_text}
@@ -42,19 +43,19 @@ task_read at task priority mask = rw (lt-ltb _ _ priority, lt-ltb _ _ mask) refl
 tasks_read : (config : Config) (at : List ℕ) (index : ℕ) (tasks : List TaskArgs) → config.priorities ≤ max_priorities → AllByRecursion (IsTask config) tasks → each_at task_at at index (items_of (map task_data tasks)) ≡ Ok tasks
 tasks_read config at index [] few each = refl
 tasks_read config at index (task ∷ tasks) few each =
-    let priority : task.priority < config.priorities = grind (arith, nat_tests, each.0.0) in
-    rw (task_read _ task (omega arith) each.0.1.mask, tasks_read config at (suc index) tasks few each.1) refl
+    let priority : task.priority < config.priorities = grind (arith, nat_tests, each.0.fits) in
+    rw (task_read _ task (omega arith) each.0.mask, tasks_read config at (suc index) tasks few each.1) refl
 
-target_named : (header : Header) (task : ℕ) → IsCheckedHeader header → IsUserTask header task → number_of (names_of header) (task_name header task) ≡ task
+target_named : (header : Header) (task : ℕ) → IsWithinLimits header → IsUserTask header task → number_of (names_of header) (task_name header task) ≡ task
 target_named header task h there = number_of_name header task there.0 there.1 h.once
 
-core_number : (header : Header) (core : ℕ) → IsCheckedHeader header → core < header.config.cores → ltb core (2 ^ 32) ≡ true
+core_number : (header : Header) (core : ℕ) → IsWithinLimits header → core < header.config.cores → ltb core (2 ^ 32) ≡ true
 core_number header core h there = lt-ltb _ _ (omega (arith, h.few_cores))
 
-mutex_number : (header : Header) (mutex : ℕ) → IsCheckedHeader header → mutex < header.config.mutexes → ltb mutex (2 ^ 32) ≡ true
+mutex_number : (header : Header) (mutex : ℕ) → IsWithinLimits header → mutex < header.config.mutexes → ltb mutex (2 ^ 32) ≡ true
 mutex_number header mutex h there = lt-ltb _ _ (omega (arith, h.few_mutexes))
 
-notify_read : (header : Header) (at : List ℕ) (core task to : ℕ) (what : Action) → IsCheckedHeader header → core < header.config.cores → IsUserTask header task → IsUserTask header to → IsActionOfWord what → step_at (names_of header) at (step_data header (step.Call core task (call.Notify (record { task = to; action = what })))) ≡ Ok (step.Call core task (call.Notify (record { task = to; action = what })))
+notify_read : (header : Header) (at : List ℕ) (core task to : ℕ) (what : Action) → IsWithinLimits header → core < header.config.cores → IsUserTask header task → IsUserTask header to → IsActionOfWord what → step_at (names_of header) at (step_data header (step.Call core task (call.Notify (record { task = to; action = what })))) ≡ Ok (step.Call core task (call.Notify (record { task = to; action = what })))
 unfolding step_at kind_at text_at step_of_kind_at number_at task_named_at call_at note_at action_at action_kind_at action_of_kind_at
 notify_read header at core task to action.Nothing h there caller target word = rw (core_number header core h there, target_named header task h caller, target_named header to h target) refl
 notify_read header at core task to (action.SetBits bits) h there caller target word = rw (core_number header core h there, lt-ltb _ _ word, target_named header task h caller, target_named header to h target) refl
@@ -62,7 +63,7 @@ notify_read header at core task to action.Increment h there caller target word =
 notify_read header at core task to (action.Set value) h there caller target word = rw (core_number header core h there, lt-ltb _ _ word, target_named header task h caller, target_named header to h target) refl
 notify_read header at core task to (action.SetNew value) h there caller target word = rw (core_number header core h there, lt-ltb _ _ word, target_named header task h caller, target_named header to h target) refl
 
-interrupt_read : (header : Header) (at : List ℕ) (core to : ℕ) (what : Action) → IsCheckedHeader header → core < header.config.cores → IsUserTask header to → IsActionOfWord what → step_at (names_of header) at (step_data header (step.Interrupt core (record { task = to; action = what }))) ≡ Ok (step.Interrupt core (record { task = to; action = what }))
+interrupt_read : (header : Header) (at : List ℕ) (core to : ℕ) (what : Action) → IsWithinLimits header → core < header.config.cores → IsUserTask header to → IsActionOfWord what → step_at (names_of header) at (step_data header (step.Interrupt core (record { task = to; action = what }))) ≡ Ok (step.Interrupt core (record { task = to; action = what }))
 unfolding step_at kind_at text_at step_of_kind_at number_at task_named_at note_at action_at action_kind_at action_of_kind_at
 interrupt_read header at core to action.Nothing h there target word = rw (core_number header core h there, target_named header to h target) refl
 interrupt_read header at core to (action.SetBits bits) h there target word = rw (core_number header core h there, lt-ltb _ _ word, target_named header to h target) refl
@@ -70,7 +71,7 @@ interrupt_read header at core to action.Increment h there target word = rw (core
 interrupt_read header at core to (action.Set value) h there target word = rw (core_number header core h there, lt-ltb _ _ word, target_named header to h target) refl
 interrupt_read header at core to (action.SetNew value) h there target word = rw (core_number header core h there, lt-ltb _ _ word, target_named header to h target) refl
 
-call_read : (header : Header) (at : List ℕ) (core task : ℕ) (made : Call) → IsCheckedHeader header → IsCallInPlace header core task made → IsOfWords made → step_at (names_of header) at (step_data header (step.Call core task made)) ≡ Ok (step.Call core task made)
+call_read : (header : Header) (at : List ℕ) (core task : ℕ) (made : Call) → IsWithinLimits header → IsCallInPlace header core task made → IsOfWords made → step_at (names_of header) at (step_data header (step.Call core task made)) ≡ Ok (step.Call core task made)
 unfolding step_at kind_at text_at step_of_kind_at number_at flag_at task_named_at call_at wait_at
 call_read header at core task call.Yield h place words = rw (core_number header core h place.core_there, target_named header task h place.caller) refl
 call_read header at core task (call.Delay ticks) h place words = rw (core_number header core h place.core_there, lt-ltb _ _ words, target_named header task h place.caller) refl
@@ -90,14 +91,14 @@ call_read header at core task call.Finish h place words = rw (core_number header
 call_read header at core task call.HoldOpen h place words = rw (core_number header core h place.core_there, target_named header task h place.caller) refl
 call_read header at core task call.HoldClose h place words = rw (core_number header core h place.core_there, target_named header task h place.caller) refl
 
-step_read : (header : Header) (at : List ℕ) (made : Step) → IsCheckedHeader header → IsInPlace header made → IsStepOfWords made → step_at (names_of header) at (step_data header made) ≡ Ok made
+step_read : (header : Header) (at : List ℕ) (made : Step) → IsWithinLimits header → IsInPlace header made → IsStepOfWords made → step_at (names_of header) at (step_data header made) ≡ Ok made
 unfolding step_at kind_at text_at step_of_kind_at number_at
 step_read header at step.Tick h place words = refl
 step_read header at (step.Switch core) h place words = rw (core_number header core h place) refl
 step_read header at (step.Call core task made) h place words = call_read header at core task made h place words
 step_read header at (step.Interrupt core note) h place words = interrupt_read header at core note.task note.action h place.core_there place.target words
 
-steps_read : (header : Header) (at : List ℕ) (index : ℕ) (steps : List Step) → IsCheckedHeader header → AllByRecursion (λ made. IsInPlace header made × IsStepOfWords made) steps → each_at (step_at (names_of header)) at index (items_of (map (step_data header) steps)) ≡ Ok steps
+steps_read : (header : Header) (at : List ℕ) (index : ℕ) (steps : List Step) → IsWithinLimits header → AllByRecursion (λ made. IsInPlace header made × IsStepOfWords made) steps → each_at (step_at (names_of header)) at index (items_of (map (step_data header) steps)) ≡ Ok steps
 steps_read header at index [] h each = refl
 steps_read header at index (made ∷ steps) h each = rw (step_read header _ made h each.0.0 each.0.1, steps_read header at (suc index) steps h each.1) refl
 
@@ -112,7 +113,7 @@ config_read header steps at h =
 
 are_named : (config : Config) (tasks : List TaskArgs) → AllByRecursion (IsTask config) tasks → list_all (λ task. is_name task.name) tasks ≡ true
 are_named config [] each = refl
-are_named config (task ∷ tasks) each = and_from _ _ each.0.1.named (are_named config tasks each.1)
+are_named config (task ∷ tasks) each = and_from _ _ each.0.named (are_named config tasks each.1)
 
 header_read : (header : Header) (steps : List Step) (at : List ℕ) → is_header header ≡ true → IsWritable header steps → header_at at (session_data header steps) ≡ Ok (Ok header)
 unfolding session_data header_at list_at array_at
@@ -131,21 +132,23 @@ session_read : (header : Header) (steps : List Step) (at : List ℕ) → is_head
 unfolding session_data session_at
 session_read header steps at valid h = rw (format_read header steps at, header_read header steps at valid h, steps_at_read header steps at h) refl
 
-both_of : (config : Config) (tasks : List TaskArgs) → list_all (has_valid_args config) tasks ≡ true → AllByRecursion IsTyped tasks → AllByRecursion (IsTask config) tasks
-both_of config [] all each = tt
-both_of config (task ∷ tasks) all each =
-    let both = and_parts (has_valid_args config task) (list_all (has_valid_args config) tasks) all in
-    ((both.0, each.0), both_of config tasks both.1 each.1)
+all_of : (config : Config) (tasks : List TaskArgs) → list_all (has_valid_args config) tasks ≡ true → AllByRecursion (λ task. IsTrue (is_name task.name)) tasks → AllByRecursion (λ task. task.mask < 2 ^ 32) tasks → AllByRecursion (IsTask config) tasks
+all_of config [] fit named masks = tt
+all_of config (task ∷ tasks) fit named masks =
+    let both = and_parts (has_valid_args config task) (list_all (has_valid_args config) tasks) fit in
+    (record { fits = both.0; named = named.0; mask = masks.0 }, all_of config tasks both.1 named.1 masks.1)
 
-pub writable : (header : Header) (steps : List Step) → IsSession header steps → IsWritable header steps
+pub writable : (header : Header) (steps : List Step) → IsSession (record { header = header; steps = steps }) → IsWritable header steps
 writable header steps h =
-    let within = header_facts header h.checked.header_fits in
+    let within = checked_header header h.header.passes in
+    let names = recursion_from_All (λ task. IsTrue (is_name task.name)) header.tasks h.header.names in
+    let masks = recursion_from_All (λ task. task.mask < 2 ^ 32) header.tasks h.header.masks in
     record {
       limits = within;
-      tick = h.tick;
-      each_task = both_of header.config header.tasks within.args (recursion_from_All IsTyped header.tasks h.tasks);
-      names = λ task high low. utf8_name (task_name header task) (h.tasks (task - header.config.cores) _ (omega arith)).named;
-      each_step = recursion_from_All (λ made. IsInPlace header made × IsStepOfWords made) steps (λ k d short. (in_place header _ (h.checked.steps_pass k d short), h.steps_typed k d short));
+      tick = h.header.tick;
+      each_task = all_of header.config header.tasks within.args names masks;
+      names = λ task high low. utf8_name (task_name header task) (h.header.names (task - header.config.cores) _ (omega arith));
+      each_step = recursion_from_All (λ made. IsInPlace header made × IsStepOfWords made) steps (λ k d short. (in_place header _ (h.steps k d short).passes, (h.steps k d short).words));
     }
 
 -- items of which none is at fault pass their checks
@@ -164,6 +167,7 @@ pub written_reads_back : WrittenReadsBack
 unfolding session
 written_reads_back header steps h =
     let writes = writable header steps h in
-    let passing = all_accepted (step_fault header) (codes "steps") steps h.checked.steps_pass in
-    rw (document-compact_text (session_data header steps) (session_plain header steps writes) (session_depth header steps), session_read header steps [] h.checked.header_fits writes)
+    let passing = all_accepted (step_fault header) (codes "steps") steps (λ k d short. (h.steps k d short).passes) in
+    let valid = passes_whole header h.header.passes in
+    rw (document-compact_text (session_data header steps) (session_plain header steps writes) (session_depth header steps), session_read header steps [] valid writes)
     (accepted_read header steps passing)

@@ -1,5 +1,5 @@
 -- A session as it is written: a JSON value, whose members stand in ascending byte order, in its compact text.
-use Rattle.std.specs.Prelude.{◌≡◌, ◌-◌, ◌^◌, ◌<◌, ℕ, Bool, List, [], ◌∷◌, map, codes, Option, Some, None, Ok, All, IsTrue, slice_index_or}
+use Rattle.std.specs.Prelude.{◌≡◌, ◌-◌, ℕ, Bool, List, [], ◌∷◌, map, codes, Option, Some, None, Ok, slice_index_or}
 use Rattle.serde_json.specs.Data.{Data, Members, number, unsigned, string, boolean, array, object, no_members, member}
 use Rattle.serde_json.specs.View.{items_of}
 use Rattle.serde_json.specs.Written.{compact_text}
@@ -11,10 +11,9 @@ use Rattle.bench_types.specs.declared.step.Step.{Step}
 use Rattle.bench_types.specs.declared.step.Step.TheVariants as step
 use Rattle.bench_types.specs.declared.step.Call.{Call}
 use Rattle.bench_types.specs.declared.step.Call.TheVariants as call
-use Rattle.bench_types.specs.Name.{is_name}
-use Rattle.bench_types.specs.Step.{IsStepOfWords}
+use Rattle.bench_types.specs.Session.{IsSession}
 use Rattle.session_text.specs.Action.{action_number}
-use Rattle.session_text.specs.Session.{session, IsChecked}
+use Rattle.session_text.specs.Session.{session}
 
 abbrev pub members : List (List ℕ × Data) → Members
 members [] = no_members
@@ -133,18 +132,6 @@ session_data header steps = object_with (
 abbrev pub written : Header → List Step → List ℕ
 written header steps = compact_text (session_data header steps)
 
--- A task as the program's types hold it: its name is a name, and its mask is one of 32 bits.
-pub record IsTyped (task : TaskArgs) : Type 0 where
-  pub named : IsTrue (is_name task.name)
-  pub mask : task.mask < 2 ^ 32
-
--- A checked session as the program's types hold it: names are names, and numbers are of 32 bits.
-pub record IsSession (header : Header) (steps : List Step) : Type 0 where
-  pub checked : IsChecked header steps
-  pub tick : header.config.tick < 2 ^ 32
-  pub tasks : All IsTyped header.tasks
-  pub steps_typed : All IsStepOfWords steps
-
 -- Every session that is written is read back as itself.
 abbrev pub WrittenReadsBack : Type 0
-WrittenReadsBack = (header : Header) (steps : List Step) → IsSession header steps → session (written header steps) ≡ Ok (header, steps)
+WrittenReadsBack = (header : Header) (steps : List Step) → IsSession (record { header = header; steps = steps }) → session (written header steps) ≡ Ok (header, steps)

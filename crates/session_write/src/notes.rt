@@ -1,6 +1,5 @@
-ghost use Rattle.std.specs.Prelude.{◌≡◌, IfOk, OnOk};
+ghost use Rattle.std.specs.Prelude.{◌≡◌, IfOk};
 ghost use Rattle.serde_json.specs.View.{view};
-ghost use Rattle.bench_types.specs.Step.{IsActionOfWord};
 ghost use Rattle.session_write.specs.Written.{action_word, interrupt_data, notify_data, take_data, value_clear_data, wait_data};
 
 use crate::caller::Caller;
@@ -27,8 +26,7 @@ pub(crate) fn interrupt_value(
     to: &str,
     action: Action,
 ) -> Result<Value, AllocError>
-    ensures value { IfOk result (λ value. view value ≡ interrupt_data core to.now action) }
-    ensures typed { OnOk result (IsActionOfWord action) }
+    ensures { IfOk result (λ value. view value ≡ interrupt_data core to.now action) }
 {
     let mut object = Map::new(alloc);
     put_text(&mut object, alloc, "action", action_word(action))?;
@@ -46,9 +44,8 @@ pub(crate) fn interrupt_value(
 
 impl Caller<'_> {
     pub(crate) fn notify(&self, to: &str, action: Action) -> Result<Value, AllocError>
-        ensures value { IfOk result
+        ensures { IfOk result
             (λ value. view value ≡ notify_data self.now.by.now self.now.core to.now action) }
-        ensures typed { OnOk result (IsActionOfWord action) }
     {
         let mut object = Map::new(self.alloc);
         put_text(&mut object, self.alloc, "action", action_word(action))?;

@@ -1,7 +1,8 @@
-ghost use Rattle.std.specs.Prelude.{◌≡◌, All, IfOk, Ok, OnOk};
+ghost use Rattle.std.specs.Prelude.{◌≡◌, IfOk, Ok};
 ghost use Rattle.serde_json.specs.View.{view};
-ghost use Rattle.session_text.specs.Session.{session, IsChecked};
-ghost use Rattle.session_write.specs.Written.{session_data, task_data, tasks_data, written, IsSession, IsTyped};
+ghost use Rattle.bench_types.specs.Session.{IsSession};
+ghost use Rattle.session_text.specs.Session.{session};
+ghost use Rattle.session_write.specs.Written.{session_data, task_data, tasks_data, written};
 
 use crate::step::steps_value;
 use bench_types::{Config, Header, Step, TaskArgs};
@@ -10,7 +11,7 @@ use std::alloc::{AllocError, Global};
 
 /// Writes a session as a JSON text without spaces, with the members of each object in ascending byte order.
 pub fn write_session(alloc: Global, header: &Header, steps: &[Step]) -> Result<Vec<u8>, AllocError>
-    requires { IsChecked header.now steps.now }
+    requires { IsSession (record { header = header.now; steps = steps.now }) }
     ensures text { IfOk result (λ text. text.items ≡ written header.now steps.now) }
     // So `read_session` gives the session back.
     ensures reads_back { IfOk result (λ text. session text.items ≡ Ok (header.now, steps.now)) }
@@ -20,9 +21,8 @@ pub fn write_session(alloc: Global, header: &Header, steps: &[Step]) -> Result<V
 
 #[tactic(auto, unfolding(crate::specs::Written::session_data))]
 fn session_value(alloc: Global, header: &Header, steps: &[Step]) -> Result<Value, AllocError>
-    requires { IsChecked header.now steps.now }
-    ensures value { IfOk result (λ value. view value ≡ session_data header.now steps.now) }
-    ensures typed { OnOk result (IsSession header.now steps.now) }
+    requires { IsSession (record { header = header.now; steps = steps.now }) }
+    ensures { IfOk result (λ value. view value ≡ session_data header.now steps.now) }
 {
     let Config {
         cores,
@@ -46,8 +46,7 @@ fn session_value(alloc: Global, header: &Header, steps: &[Step]) -> Result<Value
 }
 
 fn tasks_value(alloc: Global, tasks: &[TaskArgs]) -> Result<Value, AllocError>
-    ensures value { IfOk result (λ value. view value ≡ tasks_data tasks.now) }
-    ensures typed { OnOk result (All IsTyped tasks.now) }
+    ensures { IfOk result (λ value. view value ≡ tasks_data tasks.now) }
 {
     let mut values = Vec::with_capacity(alloc, tasks.len())?;
     for task in tasks {
@@ -57,8 +56,7 @@ fn tasks_value(alloc: Global, tasks: &[TaskArgs]) -> Result<Value, AllocError>
 }
 
 fn task_value(alloc: Global, task: &TaskArgs) -> Result<Value, AllocError>
-    ensures value { IfOk result (λ value. view value ≡ task_data task.now) }
-    ensures typed { OnOk result (IsTyped task.now) }
+    ensures { IfOk result (λ value. view value ≡ task_data task.now) }
 {
     json!(in alloc; {"mask": task.mask, "name": task.name.as_str(), "priority": task.priority})
 }

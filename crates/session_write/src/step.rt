@@ -1,7 +1,6 @@
-ghost use Rattle.std.specs.Prelude.{◌≡◌, ◌+◌, ◌<◌, ◌≤◌, All, IfOk, Ok, OnOk, length};
+ghost use Rattle.std.specs.Prelude.{◌≡◌, ◌+◌, ◌<◌, ◌≤◌, All, IfOk, Ok, length};
 ghost use Rattle.serde_json.specs.View.{view};
-ghost use Rattle.bench_types.specs.Step.{IsOfWords, IsStepOfWords, call_check, settings_of};
-ghost use Rattle.session_text.specs.Session.{step_fault};
+ghost use Rattle.bench_types.specs.Step.{IsCheckedStep, call_check, settings_of, step_check};
 ghost use Rattle.session_write.specs.Written.{call_data, step_data, steps_data, task_name};
 
 use crate::caller::Caller;
@@ -15,9 +14,8 @@ pub(crate) fn steps_value(
     header: &Header,
     steps: &[Step],
 ) -> Result<Value, AllocError>
-    requires { All (λ step. step_fault header.now step ≡ Ok tt) steps.now }
-    ensures value { IfOk result (λ value. view value ≡ steps_data header.now steps.now) }
-    ensures typed { OnOk result (All IsStepOfWords steps.now) }
+    requires { All (IsCheckedStep (settings_of header.now)) steps.now }
+    ensures { IfOk result (λ value. view value ≡ steps_data header.now steps.now) }
 {
     let mut values = Vec::with_capacity(alloc, steps.len())?;
     for step in steps {
@@ -27,9 +25,8 @@ pub(crate) fn steps_value(
 }
 
 fn step_value(alloc: Global, header: &Header, step: &Step) -> Result<Value, AllocError>
-    requires { step_fault header.now step.now ≡ Ok tt }
-    ensures value { IfOk result (λ value. view value ≡ step_data header.now step.now) }
-    ensures typed { OnOk result (IsStepOfWords step.now) }
+    requires { step_check (settings_of header.now) step.now ≡ Ok tt }
+    ensures { IfOk result (λ value. view value ≡ step_data header.now step.now) }
 {
     match step {
         Step::Tick => json!(in alloc; {"do": "tick"}),
@@ -50,9 +47,8 @@ fn step_value(alloc: Global, header: &Header, step: &Step) -> Result<Value, Allo
 
 fn call_value(header: &Header, caller: &Caller<'_>, call: Call) -> Result<Value, AllocError>
     requires { call_check (settings_of header.now) call ≡ Ok tt }
-    ensures value { IfOk result
+    ensures { IfOk result
         (λ value. view value ≡ call_data header.now caller.now.by.now caller.now.core call) }
-    ensures typed { OnOk result (IsOfWords call) }
 {
     match call {
         Call::Yield => caller.bare("yield"),

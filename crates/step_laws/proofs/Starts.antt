@@ -12,7 +12,7 @@ use Rattle.bench_types.specs.declared.kernel_data.CoreLook.{CoreLook}
 use Rattle.bench_types.specs.declared.note.Notification.{Notification}
 use Rattle.bench_model.specs.Notes.{no_note}
 use Rattle.bench_types.specs.declared.step.Unfinished.{Unfinished}
-use Rattle.bench_types.proofs.Passes.{IsCheckedHeader, checked_header}
+use Rattle.bench_types.proofs.Passes.{IsWithinLimits, checked_header}
 use Rattle.bench_types.specs.Step.{settings_of, IsCheckedUnfinished}
 use Rattle.bench_types.specs.Header.{header_check}
 use Rattle.bench_model.specs.declared.row.Standing.{Standing}
@@ -202,7 +202,7 @@ module _ (header : Header) where
       let at = get_or-replicate (cores + users) i no_note no_note (omega (arith, length-replicate (cores + users) no_note)) in
       omega (arith, ap (λ (n : Notification). n.value) at)
 
-  pub first_sound : IsCheckedHeader header → IsConsistent (unstarted first header)
+  pub first_sound : IsWithinLimits header → IsConsistent (unstarted first header)
   unfolding unstarted
   first_sound valid = record {
     sized = record {

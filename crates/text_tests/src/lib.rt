@@ -7,11 +7,15 @@ mod answers;
 #[cfg(test)]
 mod benches;
 #[cfg(test)]
+mod codes;
+#[cfg(test)]
 mod edits;
 #[cfg(test)]
 mod headers;
 #[cfg(test)]
 mod holds;
+#[cfg(test)]
+mod largest;
 #[cfg(test)]
 mod mutexes;
 #[cfg(test)]

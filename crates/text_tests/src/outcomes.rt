@@ -1,7 +1,7 @@
 //! Whether a text is read, and which fault it has where.
-ghost use Rattle.std.specs.Prelude.{IfOk, IsTrue};
-ghost use Rattle.bench_types.specs.Header.{is_header};
-ghost use Rattle.session_text.specs.Session.{IsChecked};
+ghost use Rattle.std.specs.Prelude.{◌≡◌, IfOk, Ok};
+ghost use Rattle.bench_types.specs.Header.{header_check};
+ghost use Rattle.bench_types.specs.Session.{IsSession};
 
 use crate::benches::BENCH;
 use crate::sessions::{NO_JSON, SESSION};
@@ -130,7 +130,7 @@ fn told<T: Drop>(alloc: Global, read: Result<T, TextFault>) -> Result<String, Al
 
 /// The session that the text is.
 pub fn session_of(alloc: Global, text: &str) -> Result<(Header, Vec<Step>), Fail>
-    ensures { IfOk result (λ session. IsChecked session.0 session.1.items) }
+    ensures { IfOk result (λ session. IsSession (record { header = session.0; steps = session.1.items })) }
 {
     match read_session(alloc, text.as_bytes()) {
         Ok(session) => Ok(session),
@@ -140,7 +140,7 @@ pub fn session_of(alloc: Global, text: &str) -> Result<(Header, Vec<Step>), Fail
 
 /// The header of a session with so many mutexes.
 pub fn header_with(alloc: Global, mutexes: u32) -> Result<Header, Fail>
-    ensures { IfOk result (λ header. IsTrue (is_header header)) }
+    ensures { IfOk result (λ header. header_check header ≡ Ok tt) }
 {
     let session = with_steps(alloc, mutexes, "")?;
     let (header, _) = session_of(alloc, session.as_str())?;

@@ -1,6 +1,6 @@
 //! What texts are read as.
-ghost use Rattle.std.specs.Prelude.{IsTrue};
-ghost use Rattle.bench_types.specs.Header.{is_header};
+ghost use Rattle.std.specs.Prelude.{◌≡◌, Ok};
+ghost use Rattle.bench_types.specs.Header.{header_check};
 
 use crate::answers::check_task;
 use crate::benches::BENCH;
@@ -161,7 +161,7 @@ fn steps(rt: HostRuntime) -> Result<(), Fail> {
 
 /// Read under this header, the text is this edit.
 fn check_edit(rt: &impl Abort, alloc: Global, edited: &Edited, header: &Header)
-    requires { IsTrue (is_header header.now) }
+    requires { header_check header.now ≡ Ok tt }
 {
     let read = read_edit(alloc, edited.text.as_bytes(), header).ok();
     assert_eq!(rt; read, Some(edited.edit), "{}", edited.text);

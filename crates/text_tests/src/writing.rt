@@ -1,5 +1,5 @@
 //! Sessions that are written, and read back.
-ghost use Rattle.session_text.specs.Session.{IsChecked};
+ghost use Rattle.bench_types.specs.Session.{IsSession};
 
 use crate::outcomes::{session_of, with_steps};
 use crate::values::check_steps;
@@ -94,7 +94,7 @@ fn check_session(
     steps: &[Step],
     want: &str,
 ) -> Result<(), Fail>
-    requires { IsChecked header.now steps.now }
+    requires { IsSession (record { header = header.now; steps = steps.now }) }
 {
     let written = write_session(alloc, header, steps)?;
     assert_eq!(rt; written.as_slice(), want.as_bytes(), "{want}");
@@ -163,7 +163,8 @@ fn steps_in_their_order(rt: HostRuntime) -> Result<(), Fail> {
     check_all(&rt, rt.alloc(), want.as_str())
 }
 
-fn most_ticks(alloc: Global) -> Result<String, AllocError> {
+/// The texts of 100,000 ticks.
+pub(crate) fn most_ticks(alloc: Global) -> Result<String, AllocError> {
     let mut steps = String::new(alloc);
     for _step in 0..MAX_STEPS {
         push_item(&mut steps, "{\"do\":\"tick\"}")?;

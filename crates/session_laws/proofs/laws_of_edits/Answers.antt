@@ -1,5 +1,5 @@
-use Rattle.session_laws.proofs.EditedSessions.{edited_session}
+use Rattle.session_laws.proofs.EditedSessions.{edited_session, edited_room}
 use Rattle.session_laws.proofs.laws_of_edits.Goals as goal
 
 pub returns : goal.returns
-returns c = edited_session
+returns c = record { keeps_session = edited_session; keeps_room = edited_room }

@@ -1,4 +1,5 @@
-use Rattle.std.proofs.Common.{◌≡◌, drop}
+use Rattle.std.proofs.Common.{◌≡◌, drop, take}
+use Rattle.std.specs.Prelude.{All}
 use Rattle.session_text.specs.Accepted.{items_accepted}
 use Rattle.session_text.specs.Path.{path_of}
 use Rattle.session_text.proofs.accepted.items_accepted.Given as goal
@@ -8,4 +9,7 @@ abbrev pub invariant-loop-index : goal.invariant-loop-index
 invariant-loop-index g l =
     let fault_of = g.T.Judged.fault_of l.header in
     let at = path_of l.place in
-    items_accepted fault_of at l.index (drop l.index l.items) ≡ items_accepted fault_of at 0 l.items
+    record {
+      reading : items_accepted fault_of at l.index (drop l.index l.items) ≡ items_accepted fault_of at 0 l.items;
+      checked : All (g.T.Judged.IsChecked l.header) (take l.index l.items);
+    }

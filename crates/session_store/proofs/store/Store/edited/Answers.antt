@@ -1,7 +1,10 @@
 use Rattle.std.proofs.Common.{◌≡◌, Ok, refl, ap, ◌∙◌, rules}
-use Rattle.bench_model.specs.Edits.{Session, accepted}
+use Rattle.bench_model.specs.Edits.{accepted}
+use Rattle.bench_types.specs.Edit.{IsEditOfWords}
+use Rattle.bench_types.specs.Session.{Session}
 use Rattle.bench_model.specs.Session.{trace}
 use Rattle.bench_model.specs.Start.{start}
+use Rattle.session_laws.proofs.EditedSessions.{edited_room}
 use Rattle.session_store.proofs.Views.{next_session}
 use Rattle.session_store.proofs.store.Store.edited.Goals as goal
 
@@ -9,16 +12,19 @@ pub replayed-requires : goal.replayed-requires
 replayed-requires c =
     let kept : Session = record { header = c.self.inside.header; steps = c.as_slice-kept.result.now } in
     let accepts : accepted kept c.args.edit ≡ Ok tt = search rules in
-    next_session kept.header c.in_ok-header.header c.self.inside.segment.steps.items kept.steps c.as_slice.result.now c.args.edit c.self.invariant.session c.as_slice-kept.ensures.value accepts
+    let words : IsEditOfWords c.args.edit = search rules in
+    next_session kept.header c.in_ok-header.header c.self.inside.segment.steps.items kept.steps c.as_slice.result.now c.args.edit c.self.invariant.session c.as_slice-kept.ensures.value words accepts
     (c.in_ok-header.ensures kept.steps) (c.as_slice.ensures.value ∙ c.in_ok-steps.ensures kept.header)
 
 pub invariant_of-result : goal.invariant_of-result
 invariant_of-result c =
     let kept : Session = record { header = c.self.inside.header; steps = c.as_slice-kept.result.now } in
     let accepts : accepted kept c.args.edit ≡ Ok tt = search rules in
+    let words : IsEditOfWords c.args.edit = search rules in
     record {
-      session = next_session kept.header c.in_ok-header.header c.self.inside.segment.steps.items kept.steps c.in_ok-steps.steps.items c.args.edit c.self.invariant.session c.as_slice-kept.ensures.value accepts
+      session = next_session kept.header c.in_ok-header.header c.self.inside.segment.steps.items kept.steps c.in_ok-steps.steps.items c.args.edit c.self.invariant.session c.as_slice-kept.ensures.value words accepts
           (c.in_ok-header.ensures kept.steps) (c.in_ok-steps.ensures kept.header);
+      few_steps = rw (c.in_ok-steps.ensures kept.header) (edited_room kept c.args.edit (rw c.as_slice-kept.ensures.value c.self.invariant.few_steps) accepts);
       settings = c.in_ok-kernel.ensures.shape;
       span_fits = c.self.invariant.span_fits;
       from_start = refl;

@@ -13,7 +13,7 @@ pub advance-requires : goal.advance-requires
 advance-requires c =
     let steps = c.as_slice-steps.result.now in
     let pass : All (λ step. step_check (settings_of c.self.inside.header) step ≡ Ok tt) steps =
-    subst (λ ss. All (λ step. step_check (settings_of c.self.inside.header) step ≡ Ok tt) ss) (sym c.as_slice-steps.ensures.value) c.self.invariant.session.steps_pass in
+    subst (λ ss. All (λ step. step_check (settings_of c.self.inside.header) step ≡ Ok tt) ss) (sym c.as_slice-steps.ensures.value) (λ k d short. (c.self.invariant.session.steps k d short).passes) in
     subst (λ settings. All (λ step. step_check settings step ≡ Ok tt) (take c.args.place steps)) (sym c.in_ok-kernel.ensures.shape) (All-take (λ step. step_check (settings_of c.self.inside.header) step ≡ Ok tt) c.args.place steps pass)
 
 pub returns-clause-stands : goal.returns-clause-stands

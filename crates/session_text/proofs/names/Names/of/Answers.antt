@@ -1,11 +1,12 @@
 use Rattle.std.proofs.Common.{◌≡◌, false, ◌++◌, ◌∷◌, [], map, refl, arith}
+use Rattle.bench_types.proofs.Passes.{checked_header}
 use Rattle.bench_types.specs.Header.{repeats_name}
 use Rattle.session_text.proofs.NewNames.{are_new_all, is_new, goes_on, insert_key_new}
 use Rattle.session_text.proofs.names.Names.of.Goals as goal
 
 pub loop-task-init : goal.loop-task-init
 loop-task-init c =
-    let once : repeats_name c.args.header.now.tasks ≡ false = grind arith in
+    let once : repeats_name c.args.header.now.tasks ≡ false = (checked_header c.args.header.now c.requires).once in
     rw (c.new-names.ensures.empty, c.as_slice-task-items.ensures) (record { so_far = refl; others = are_new_all c.args.header.now.tasks once })
 
 pub loop-task-preserved : goal.loop-task-preserved

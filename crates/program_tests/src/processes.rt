@@ -1,0 +1,140 @@
+//! The whole program: words, standard output and error, and the exit status.
+use crate::devices::Sink;
+use bench_commands::{Counted, DEFAULT_SPAN, run_program};
+use bench_types::MAX_SPAN;
+use std::alloc::{AllocError, Global};
+use std::env::Args;
+use std::io::{self, ErrorKind, Write};
+use std::process::{Abort, ExitCode};
+use std::test::Fail;
+
+/// How a process ends: its exit status, and how its standard output and standard error begin. Where
+/// nothing is wanted of one, it is empty.
+#[derive(Clone, Copy)]
+struct End<'a> {
+    code: u8,
+    output: &'a str,
+    message: &'a str,
+}
+
+/// The words of the line, as the system hands them over.
+fn args_of(alloc: Global, line: &str) -> Result<Args, AllocError> {
+    let mut words = Vec::new(alloc);
+    for word in line.split(' ') {
+        words.push(String::from_str(alloc, word)?)?;
+    }
+    Ok(words.into_iter())
+}
+
+/// The exit status of the program with these words and an empty input.
+fn status_of(
+    rt: &HostRuntime,
+    words: io::Result<Args>,
+    output: &mut Sink,
+    errors: &mut Sink,
+) -> ExitCode {
+    let mut reader = Counted::new("".as_bytes());
+    let mut writer = Counted::new(output);
+    run_program(
+        rt,
+        words,
+        &mut reader,
+        &mut writer,
+        &mut Counted::new(errors),
+    )
+}
+
+fn begins(text: &[u8], start: &str) -> bool {
+    text.starts_with(start.as_bytes()) && text.is_empty() == start.is_empty()
+}
+
+fn check_end(rt: &impl Abort, host: &HostRuntime, words: io::Result<Args>, end: &End<'_>) {
+    let mut output = Sink::wide();
+    let mut errors = Sink::wide();
+    let status = status_of(host, words, &mut output, &mut errors);
+    assert_eq!(rt;
+        status,
+        ExitCode::from(end.code),
+        "{}{}",
+        end.output,
+        end.message
+    );
+    assert!(rt; begins(output.taken(), end.output), "{}", end.output);
+    assert!(rt; begins(errors.taken(), end.message), "{}", end.message);
+}
+
+#[test]
+fn exit_statuses(rt: HostRuntime) -> Result<(), Fail> {
+    for (line, code, output, message) in [
+        ("smp_bench --help", 0, "Replays FreeRTOS", ""),
+        ("smp_bench replay", 1, "refused H1\n", ""),
+        ("smp_bench", 2, "", "error: "),
+    ] {
+        let end = End {
+            code,
+            output,
+            message,
+        };
+        check_end(&rt, &rt, Ok(args_of(rt.alloc(), line)?), &end);
+    }
+    Ok(())
+}
+
+#[test]
+fn words_that_are_not_handed_over(rt: HostRuntime) {
+    for (kind, code, message) in [
+        (ErrorKind::InvalidData, 2, "error: invalid UTF-8"),
+        (ErrorKind::OutOfMemory, 3, "fault memory\n"),
+    ] {
+        let end = End {
+            code,
+            output: "",
+            message,
+        };
+        check_end(&rt, &rt, Err(io::Error::from(kind)), &end);
+    }
+}
+
+#[test]
+fn standard_error_that_takes_nothing(rt: HostRuntime) -> Result<(), Fail> {
+    let mut output = Sink::wide();
+    let mut errors = Sink::new(9, 0, true);
+    let words = Ok(args_of(rt.alloc(), "smp_bench")?);
+    let status = status_of(&rt, words, &mut output, &mut errors);
+    assert_eq!(rt; status, ExitCode::from(2));
+    Ok(())
+}
+
+/// The help of `--span` spells its limit, and what holds where it is left out.
+#[test]
+fn spans_in_the_help(rt: HostRuntime) -> Result<(), Fail> {
+    let mut output = Sink::wide();
+    let mut errors = Sink::wide();
+    let words = Ok(args_of(rt.alloc(), "smp_bench replay --help")?);
+    status_of(&rt, words, &mut output, &mut errors);
+    let spans = format!(in rt.alloc(); "1 to {MAX_SPAN}, or {DEFAULT_SPAN} if left out")?;
+    let text = std::str::from_utf8(output.taken()).unwrap_or("");
+    assert!(rt; text.contains(spans.as_str()), "{text}");
+    Ok(())
+}
+
+/// A device that takes all, and fails where it is flushed.
+#[derive(Drop)]
+struct Stuck;
+
+impl Write for Stuck {
+    fn write(&mut self, buf: &[u8]) -> io::Result<usize> {
+        Ok(buf.len())
+    }
+
+    fn flush(&mut self) -> io::Result<()> {
+        Err(io::Error::from(ErrorKind::BrokenPipe))
+    }
+}
+
+#[test]
+fn a_flush_reaches_the_device(rt: HostRuntime) {
+    let mut writer = Counted::new(Stuck);
+    assert!(rt; writer.flush().is_err());
+    assert_eq!(rt; writer.count(), 0);
+}

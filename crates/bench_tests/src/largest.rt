@@ -6,6 +6,7 @@ use bench_samples::crowd;
 use bench_types::{
     Config, Edit, Header, MAX_CORES, MAX_MUTEXES, MAX_PRIORITIES, MAX_SPAN, MAX_STEPS, MAX_TASKS,
 };
+use session_store::Store;
 use smp_kernel::Kernel;
 use std::alloc::Global;
 use std::process::Abort;
@@ -19,21 +20,10 @@ const LARGEST: Config = Config {
     mutexes: MAX_MUTEXES,
 };
 
-#[test]
-fn a_kernel_of_the_most_tasks(rt: HostRuntime) -> Result<(), Fail> {
-    let header = crowd(rt.alloc(), LARGEST, MAX_TASKS as usize)?;
-    let copy = header.copy(rt.alloc())?;
-    check_header(&rt, &copy, &header);
-    let started = Started::new(&rt, &copy)?;
-    check_copy(&rt, rt.alloc(), &started.kernel)
-}
-
 fn check_header(rt: &impl Abort, copy: &Header, header: &Header) {
     let tasks = header.tasks.as_slice();
-    assert_eq!(rt;
-        (copy.config, copy.tasks.as_slice().len()),
-        (header.config, tasks.len())
-    );
+    assert_eq!(rt; copy.config, header.config);
+    assert_eq!(rt; copy.tasks.as_slice().len(), tasks.len());
     for (copied, task) in copy.tasks.as_slice().iter().zip(tasks) {
         assert_eq!(rt; copied.name.as_str(), task.name.as_str());
         assert_eq!(rt; (copied.priority, copied.mask), (task.priority, task.mask));
@@ -51,12 +41,31 @@ fn check_copy(rt: &impl Abort, alloc: Global, kernel: &Kernel) -> Result<(), Fai
     Ok(())
 }
 
+fn check_started(rt: &impl Abort, host: &HostRuntime, header: &Header) -> Result<(), Fail> {
+    let started = Started::new(host, header)?;
+    check_copy(rt, host.alloc(), &started.kernel)
+}
+
+fn check_copied(rt: &impl Abort, host: &HostRuntime, header: &Header) -> Result<(), Fail> {
+    let copy = header.copy(host.alloc())?;
+    check_header(rt, &copy, header);
+    check_started(rt, host, &copy)
+}
+
 #[test]
-fn a_store_of_the_most_steps_and_tasks(rt: HostRuntime) -> Result<(), Fail> {
+fn a_kernel_of_the_most_tasks(rt: HostRuntime) -> Result<(), Fail> {
     let header = crowd(rt.alloc(), LARGEST, MAX_TASKS as usize)?;
-    let mut opened = Opened::of(&rt, header, ticks(rt.alloc(), MAX_STEPS)?, MAX_SPAN)?;
-    replace_last(&rt, rt.alloc(), &mut opened);
-    check_last_place(&rt, rt.alloc(), &mut opened)
+    check_copied(&rt, &rt, &header)
+}
+
+/// The store of the most ticks.
+fn opened_with(host: &HostRuntime, header: Header) -> Result<Opened, Fail> {
+    let steps = ticks(host.alloc(), MAX_STEPS)?;
+    Opened::of(host, header, steps, MAX_SPAN)
+}
+
+fn opened(host: &HostRuntime) -> Result<Opened, Fail> {
+    opened_with(host, crowd(host.alloc(), LARGEST, MAX_TASKS as usize)?)
 }
 
 fn replace_last(rt: &impl Abort, alloc: Global, opened: &mut Opened) {
@@ -84,9 +93,19 @@ fn check_last_place(rt: &impl Abort, alloc: Global, opened: &mut Opened) -> Resu
 }
 
 #[test]
+fn a_store_of_the_most_steps_and_tasks(rt: HostRuntime) -> Result<(), Fail> {
+    let mut opened = opened(&rt)?;
+    replace_last(&rt, rt.alloc(), &mut opened);
+    check_last_place(&rt, rt.alloc(), &mut opened)
+}
+
+fn check_ticks(rt: &impl Abort, host: &HostRuntime, store: &Store) -> Result<(), Fail> {
+    let steps = ticks(host.alloc(), MAX_STEPS)?;
+    check_store(rt, host, store, &steps)
+}
+
+#[test]
 fn the_most_steps_by_the_definitions(rt: HostRuntime) -> Result<(), Fail> {
-    let header = crowd(rt.alloc(), LARGEST, MAX_TASKS as usize)?;
-    let steps = ticks(rt.alloc(), MAX_STEPS)?;
-    let opened = Opened::of(&rt, header, ticks(rt.alloc(), MAX_STEPS)?, MAX_SPAN)?;
-    check_store(&rt, &rt, &opened.store, &steps)
+    let opened = opened(&rt)?;
+    check_ticks(&rt, &rt, &opened.store)
 }

@@ -1,6 +1,6 @@
 #!/usr/bin/env bash
 # Tries the edits that the prover must refuse: those of crates/NAME/must-fail, which rt ci tries too, and those of
-# crates/NAME/edits, which it leaves alone. Words: the crates; none: each crate that has edits. JOBS: how many crates
+# crates/NAME/edits and of the folders in it, which it leaves alone. Words: the crates; none: each crate that has edits. JOBS: how many crates
 # are tried side by side, 2 if unset. They are tried in a copy of the work tree, so nothing is changed here.
 # Prints rt's line for each edit, and for each crate the processor seconds. The last line counts the edits: refused,
 # not refused, and refused only because a proof names what the edit took away. Status 1 where one is not refused.
@@ -14,8 +14,8 @@ stop() {
     exit 2
 }
 
-edits_below() { # FOLDER..: the edits right in these folders
-    find "$@" -maxdepth 1 -name '*.edit' -type f 2>/dev/null
+edits_below() { # FOLDER..: the edits in these folders, and in the folders in them
+    find "$@" -maxdepth 2 -name '*.edit' -type f 2>/dev/null
 }
 
 jobs="${JOBS:-2}"

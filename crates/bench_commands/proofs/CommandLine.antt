@@ -14,9 +14,9 @@ use Rattle.clap.proofs.FaultLemmas.{stopped_fault}
 use Rattle.clap.proofs.WalkLemmas.{both}
 use Rattle.bench_types.specs.Name.{is_within}
 use Rattle.bench_types.specs.Limits.{max_span}
-use Rattle.bench_commands.specs.declared.bench.Mode.TheVariants.{Replay}
+use Rattle.bench_commands.specs.declared.execution.Mode.TheVariants.{Replay}
 use Rattle.bench_commands.specs.declared.command.Request.{Request}
-use Rattle.bench_commands.specs.Command.{Asked, a_run, help, a_mistake, GivesSpan, asked_behind, asked_by, asked_in, asked_of_replay, asks_help, bench_app, value_found}
+use Rattle.bench_commands.specs.Command.{Asked, a_run, help, a_mistake, GivesSpan, asked_after, asked_by, asked_in, asked_of_replay, asks_help, bench_app, value_found}
 use Rattle.bench_commands.proofs.CommandWords.{IsForeign, KnowsHelp, are_mistakes, first_reads, first_word, help_if, is_a_mistake, text_is, text_is_not}
 use Rattle.bench_commands.proofs.SpanOption.{Says, inner, inner_says, says_from, value_from}
 use Rattle.bench_commands.proofs.SpanTexts.{span_is_within}
@@ -50,13 +50,13 @@ foreign word z zs is =
     by_name name true e = rw e refl
     by_name name false e = rw e refl
 
--- ---- the words behind the program's name
+-- ---- the words after the program's name
 
 -- the value of `--span` in what these words give
-abbrev value_behind : List Text → Option Text
-value_behind words = value_found (entered (built bench_app) (walk flags names nothing_held words).stopped)
+abbrev value_after : List Text → Option Text
+value_after words = value_found (entered (built bench_app) (walk flags names nothing_held words).stopped)
 
--- once a command was met, the walk only notes the words behind it
+-- once a command was met, the walk only notes the words after it
 walk_stops : (rest : List Text) (met : Text × List Text) → fold (walked flags names) (record (walk_from nothing_held) { stopped = Some met }) rest ≡ record (walk_from nothing_held) { stopped = Some (met.0, met.1 ++ rest) }
 unfolding walked
 walk_stops [] met = ap (λ (t : List Text). record (walk_from nothing_held) { stopped = Some (met.0, t) }) (sym (append-nil met.1))
@@ -74,43 +74,43 @@ or_else_none : (kinds : Kinds) → or_else kinds [] ≡ kinds
 or_else_none [] = refl
 or_else_none (k ∷ ks) = refl
 
-abbrev SaysBehind : List Text → Type 0
-SaysBehind words = Says (asked_behind words) (built_fault (built bench_app) nothing_held words) (value_behind words)
+abbrev SaysAfter : List Text → Type 0
+SaysAfter words = Says (asked_after words) (built_fault (built bench_app) nothing_held words) (value_after words)
 
-top_replay : (rest : List Text) → Says (asked_of_replay rest) (built_fault (built bench_app) nothing_held (codes "replay" ∷ rest)) (value_behind (codes "replay" ∷ rest))
+top_replay : (rest : List Text) → Says (asked_of_replay rest) (built_fault (built bench_app) nothing_held (codes "replay" ∷ rest)) (value_after (codes "replay" ∷ rest))
 unfolding walk_fault walked defaults_fault
 top_replay rest =
     let ends : walk flags names nothing_held (codes "replay" ∷ rest) ≡ record (walk_from nothing_held) { stopped = Some (codes "replay", rest) } = walk_stops rest (codes "replay", []) in
     let passes : walk_fault top names (walk_from nothing_held) (codes "replay" ∷ rest) ≡ [] = stopped_fault top names (walk_from nothing_held) (codes "replay", []) rest in
     let whole : built_fault (built bench_app) nothing_held (codes "replay" ∷ rest) ≡ or_else (level_fault inner [] nothing_held rest false []) [] = ap₂ top_level passes ends in
-    let found : value_behind (codes "replay" ∷ rest) ≡ value_from (walk_from nothing_held) rest = ap (λ (end : Walk). value_found (entered (built bench_app) end.stopped)) ends in
-    subst (λ kinds. Says (asked_of_replay rest) kinds (value_behind (codes "replay" ∷ rest))) (sym (whole ∙ or_else_none (level_fault inner [] nothing_held rest false [])))
+    let found : value_after (codes "replay" ∷ rest) ≡ value_from (walk_from nothing_held) rest = ap (λ (end : Walk). value_found (entered (built bench_app) end.stopped)) ends in
+    subst (λ kinds. Says (asked_of_replay rest) kinds (value_after (codes "replay" ∷ rest))) (sym (whole ∙ or_else_none (level_fault inner [] nothing_held rest false [])))
     (subst (λ value. Says (asked_of_replay rest) (level_fault inner [] nothing_held rest false []) value) (sym found) (inner_says rest))
 
-top_dashes : (rest : List Text) → SaysBehind (codes "--" ∷ rest)
-unfolding asked_behind walk_fault walked defaults_fault
+top_dashes : (rest : List Text) → SaysAfter (codes "--" ∷ rest)
+unfolding asked_after walk_fault walked defaults_fault
 top_dashes [] = refl
 top_dashes (more ∷ rest) = refl
 
-top_other : (word : Text) (rest : List Text) (is : Bool) → bytes_eq word (codes "--") ≡ is → bytes_eq word (codes "replay") ≡ false → SaysBehind (word ∷ rest)
-unfolding asked_behind
-top_other word rest true e differs = subst (λ (w : Text). SaysBehind (w ∷ rest)) (sym (text_is word (codes "--") e)) (top_dashes rest)
+top_other : (word : Text) (rest : List Text) (is : Bool) → bytes_eq word (codes "--") ≡ is → bytes_eq word (codes "replay") ≡ false → SaysAfter (word ∷ rest)
+unfolding asked_after
+top_other word rest true e differs = subst (λ (w : Text). SaysAfter (w ∷ rest)) (sym (text_is word (codes "--") e)) (top_dashes rest)
 top_other word rest false e differs =
     let unmet : subcommand_met names idle word ≡ None = rw (text_is_not word (codes "replay") differs) refl in
     says_from (asks_help word) (if bytes_eq word (codes "replay") then asked_of_replay rest else a_mistake) _ _ (rw differs refl)
     (first_reads (asks_help word) [] (walk_fault top names (walk_from nothing_held) (word ∷ rest)) _ (first_word flags top [] None knows names word rest unmet e (foreign word)))
 
-top_word : (word : Text) (rest : List Text) (is : Bool) → bytes_eq word (codes "replay") ≡ is → SaysBehind (word ∷ rest)
-unfolding asked_behind
-top_word word rest true e = subst (λ (w : Text). SaysBehind (w ∷ rest)) (sym (text_is word (codes "replay") e)) (top_replay rest)
+top_word : (word : Text) (rest : List Text) (is : Bool) → bytes_eq word (codes "replay") ≡ is → SaysAfter (word ∷ rest)
+unfolding asked_after
+top_word word rest true e = subst (λ (w : Text). SaysAfter (w ∷ rest)) (sym (text_is word (codes "replay") e)) (top_replay rest)
 top_word word rest false e = top_other word rest (bytes_eq word (codes "--")) refl e
 
 -- the kinds that clap may answer say what the words ask for, and the value that it found
-pub words_say : (words : List Text) → Says (asked_behind (drop 1 words)) (fault_of bench_app words) (value_found (subcommand_of bench_app words))
-unfolding asked_behind walk_fault defaults_fault
+pub words_say : (words : List Text) → Says (asked_after (drop 1 words)) (fault_of bench_app words) (value_found (subcommand_of bench_app words))
+unfolding asked_after walk_fault defaults_fault
 words_say words = go (drop 1 words)
   where
-    go : (rest : List Text) → SaysBehind rest
+    go : (rest : List Text) → SaysAfter rest
     go [] = refl
     go (word ∷ rest) = top_word word rest (bytes_eq word (codes "replay")) refl
 
@@ -159,10 +159,10 @@ matches_asked a_mistake kinds value given says none gives = absurd (true≢false
 -- so it is where the commands are those of the program, and the span was read of what clap found
 pub words_run : (words : List Text) (app : App) (found : Option (Text × List Row)) (given : ℕ) → app ≡ bench_app → (is_simple_and_free app ≡ true → fault_of app words ≡ [])
     → (is_simple app ≡ true → found ≡ subcommand_of app words) → ((span : ℕ) → GivesSpan (value_found found) span → given ≡ span)
-    → (is_within 1 max_span given ≡ true) × (a_run (Replay given) ≡ asked_behind (drop 1 words))
+    → (is_within 1 max_span given ≡ true) × (a_run (Replay given) ≡ asked_after (drop 1 words))
 words_run words app found given is kinds finds gives =
     let same : found ≡ subcommand_of bench_app words = finds (ap is_simple is) ∙ ap (λ app. subcommand_of app words) is in
-    matches_asked (asked_behind (drop 1 words)) (fault_of bench_app words) (value_found (subcommand_of bench_app words)) given (words_say words)
+    matches_asked (asked_after (drop 1 words)) (fault_of bench_app words) (value_found (subcommand_of bench_app words)) given (words_say words)
     (ap (λ app. fault_of app words) (sym is) ∙ kinds (ap is_simple_and_free is))
     (λ span known. gives span (subst (λ (met : Option (Text × List Row)). GivesSpan (value_found met) span) (sym same) known))
 

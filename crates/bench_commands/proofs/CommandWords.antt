@@ -89,7 +89,7 @@ abbrev pub help_if : Bool → Option Rule
 help_if true = Some help_flag
 help_if false = None
 
--- the name behind `--` is that of no option but help
+-- the name after `--` is that of no option but help
 abbrev pub NamesHelp : List Rule → Text → Type 0
 NamesHelp c text = arg_by_long c (name_and_value text).0 ≡ help_if (bytes_eq (codes "help") (name_and_value text).0)
 
@@ -183,9 +183,9 @@ module _ (c : List Rule) (s : Shape) (rows : List Row) (pending : Option (Text �
   abbrev ReadsWord : Text → Type 0
   ReadsWord word = bytes_eq word (codes "--") ≡ false → IsForeign c word → Reads (asks_help word) settles (word_kinds word)
 
-  behind_hyphen : (y : ℕ) (ys : Text) (is : Bool) → (y == 45) ≡ is → ReadsWord (45 ∷ y ∷ ys)
-  behind_hyphen y ys false e differs foreign = rw (e, e) (letters_read (45 ∷ y ∷ ys) y ys)
-  behind_hyphen y ys true e differs foreign =
+  after_hyphen : (y : ℕ) (ys : Text) (is : Bool) → (y == 45) ≡ is → ReadsWord (45 ∷ y ∷ ys)
+  after_hyphen y ys false e differs foreign = rw (e, e) (letters_read (45 ∷ y ∷ ys) y ys)
+  after_hyphen y ys true e differs foreign =
       let hyphen : y ≡ 45 = grind (arith, nat_tests) in
       subst (λ n. ReadsWord (45 ∷ n ∷ ys)) (sym hyphen) (two ys) differs foreign
     where
@@ -201,7 +201,7 @@ module _ (c : List Rule) (s : Shape) (rows : List Row) (pending : Option (Text �
     where
       one : (ys : Text) → ReadsWord (45 ∷ ys)
       one [] differs foreign = stray_reads
-      one (y ∷ ys) differs foreign = behind_hyphen y ys (y == 45) refl differs foreign
+      one (y ∷ ys) differs foreign = after_hyphen y ys (y == 45) refl differs foreign
 
   word_reads : (word : Text) → ReadsWord word
   word_reads [] differs foreign = stray_reads

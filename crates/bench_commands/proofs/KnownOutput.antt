@@ -3,7 +3,7 @@ use Rattle.std.proofs.Common.{◌≡◌, ◌≢◌, ◌≤◌, ℕ, zero, suc, �
 use Rattle.std.proofs.Math.Seq.{take-add}
 use Rattle.std.proofs.lemmas.List.{take_all, length-drop}
 use Rattle.std.specs.Io.KnownBytes.{Appends}
-use Rattle.bench_commands.specs.Device.{counted, took_some}
+use Rattle.bench_commands.specs.Device.{failures_after, took_some}
 
 -- two writes in a row
 pub appends_append : (a b c : Option (List ℕ)) (xs ys : List ℕ) → Appends a b xs → Appends b c ys → Appends a c (xs ++ ys)
@@ -26,7 +26,7 @@ is_count other (Ok n) = n
 is_count other (Err fault) = other
 
 -- a write that took a byte did not fail
-pub none_counted : {E : Type 0} (result : Result ℕ E) (count failures : ℕ) → result ≡ Ok count → count ≢ 0 → counted (took_some result) failures ≡ failures
+pub none_counted : {E : Type 0} (result : Result ℕ E) (count failures : ℕ) → result ≡ Ok count → count ≢ 0 → failures_after (took_some result) failures ≡ failures
 none_counted (Ok zero) count failures took some = absurd (some (ap (λ r. is_count 0 r) (sym took)))
 none_counted (Ok (suc n)) count failures took some = refl
 none_counted (Err fault) count failures took some = absurd (some (ap (λ r. is_count 0 r) (sym took)))

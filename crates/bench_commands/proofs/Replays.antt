@@ -70,23 +70,23 @@ lines_more header steps place =
     let line = line_at header steps in
     ap (flat_map line) (range_parts 0 place 1 ∙ ap (λ last. numbers place ++ last) (ap (λ k. k ∷ []) (zero-add place))) ∙ flat_map-append line (numbers place) (place ∷ []) ∙ ap (λ last. flat_map line (numbers place) ++ last) (append-nil (line place))
 
--- the lines behind a text: the start, then those of the steps before a place
-abbrev pub lines_behind : List ℕ → Header → List Step → ℕ → List ℕ
-lines_behind before header steps place = before ++ (first_line header ++ flat_map (line_at header steps) (numbers place))
+-- the lines after a text: the start, then those of the steps before a place
+abbrev pub lines_after : List ℕ → Header → List Step → ℕ → List ℕ
+lines_after before header steps place = before ++ (first_line header ++ flat_map (line_at header steps) (numbers place))
 
-pub lines_start : (before : List ℕ) (header : Header) (steps : List Step) → before ++ first_line header ≡ lines_behind before header steps 0
+pub lines_start : (before : List ℕ) (header : Header) (steps : List Step) → before ++ first_line header ≡ lines_after before header steps 0
 lines_start before header steps = ap (λ first. before ++ first) (sym (append-nil (first_line header)))
 
-pub lines_next : (before : List ℕ) (header : Header) (steps : List Step) (place : ℕ) → lines_behind before header steps place ++ line_at header steps place ≡ lines_behind before header steps (place + 1)
+pub lines_next : (before : List ℕ) (header : Header) (steps : List Step) (place : ℕ) → lines_after before header steps place ++ line_at header steps place ≡ lines_after before header steps (place + 1)
 lines_next before header steps place =
     let line = line_at header steps place in
     let lines = flat_map (line_at header steps) (numbers place) in
     append_assoc before (first_line header ++ lines) line
     ∙ ap (λ rest. before ++ rest) (append_assoc (first_line header) lines line ∙ ap (λ more. first_line header ++ more) (sym (lines_more header steps place)))
 
-pub lines_end : (before : List ℕ) (header : Header) (steps : List Step) (place : ℕ) → place ≡ length steps → lines_behind before header steps place ≡ before ++ replay_text header steps
+pub lines_end : (before : List ℕ) (header : Header) (steps : List Step) (place : ℕ) → place ≡ length steps → lines_after before header steps place ≡ before ++ replay_text header steps
 unfolding replay_text
-lines_end before header steps place all = ap (λ n. lines_behind before header steps n) all
+lines_end before header steps place all = ap (λ n. lines_after before header steps n) all
 
 -- what a store shows of the start
 pub start_shown : (header : Header) (steps : List Step) (row : List ℕ) → Some row ≡ running_at header steps 0 → row ≡ running (start header).control

@@ -1,4 +1,4 @@
--- What clap makes of the words behind `replay`: the option `--span` and its value.
+-- What clap makes of the words after `replay`: the option `--span` and its value.
 use Rattle.std.proofs.Common.{◌≡◌, ℕ, ◌==◌, ◌++◌, Bool, true, false, List, [], ◌∷◌, length, drop, fold, codes, chars, Option, Some, None, encode_utf8, slice_get, slice_index_or, if◌then◌else◌, refl, sym, ap, subst, ◌∙◌, arith, bytes_eq}
 use Rattle.std.proofs.lemmas.Bool.Decides.{nat_tests}
 use Rattle.clap.specs.Lexer.{name_and_value}
@@ -10,8 +10,8 @@ use Rattle.clap.specs.Faults.{bundle_step_fault, check_fault, defaults_fault, fl
 use Rattle.clap.specs.declared.builder.value_parser.Reading.TheVariants.{WithoutMinus}
 use Rattle.clap.specs.declared.error.kind.ErrorKind.TheVariants.{DisplayHelp}
 use Rattle.clap.specs.declared.parser.matches.ValueSource.TheVariants.{CommandLine}
-use Rattle.bench_commands.specs.declared.bench.Mode.TheVariants.{Replay}
-use Rattle.bench_commands.specs.Command.{Asked, a_run, help, a_mistake, GivesSpan, asked_behind_dashes, asked_behind_span, asked_behind_value, asked_of_replay, asked_with, asks_help, bench_app, has_value, span_of, span_rule, value_in}
+use Rattle.bench_commands.specs.declared.execution.Mode.TheVariants.{Replay}
+use Rattle.bench_commands.specs.Command.{Asked, a_run, help, a_mistake, GivesSpan, asked_after_dashes, asked_after_span, asked_after_value, asked_of_replay, asked_with, asks_help, bench_app, has_value, span_of, span_rule, value_in}
 use Rattle.bench_commands.proofs.CommandWords.{IsForeign, KnowsHelp, Reads, are_mistakes, first_mistakes, first_reads, first_word, help_if, spoiled, text_is}
 use Rattle.bench_commands.proofs.SpanTexts.{hyphen_no_span, not_named, same_without_minus, value_fails, value_fits, valued_is}
 
@@ -61,7 +61,7 @@ SaysFrom asked w words = Says asked (kinds_from w words) (value_from w words)
 abbrev after_turn : Kinds → Walk → List Text → Kinds
 after_turn turn next rest = or_else (or_else turn (walk_fault inner [] next rest)) (end_kinds (fold (walked c []) next rest).held)
 
--- past a word that is fine, the words say what those behind it do
+-- past a word that is fine, the words say what those after it do
 stepped : (asked : Asked) (w next : Walk) (word : Text) (rest : List Text) → turn_fault inner [] w word ≡ [] → walked c [] w word ≡ next → SaysFrom asked next rest → SaysFrom asked w (word ∷ rest)
 unfolding walk_fault
 stepped asked w next word rest fine goes says =
@@ -108,7 +108,7 @@ by_word P dashes bare valued other word = go (bytes_eq word (codes "--")) (bytes
     go false false true is_d is_b is_v = subst P (sym (valued_is word is_v)) (valued (value_in word))
     go false false false is_d is_b is_v = other word is_d is_b is_v (foreign word is_b is_v)
 
--- ---- words behind what is no span
+-- ---- words after what is no span
 
 -- nothing mends an option whose value is bad, or that has none
 doomed : (rows : List Row) (pending : Option (Text × List Text)) → are_mistakes (settle_fault c false (idle_with rows pending).held) ≡ true → (words : List Text) → are_mistakes (kinds_from (idle_with rows pending) words) ≡ true
@@ -140,7 +140,7 @@ doomed rows pending bad (word ∷ words) = by_word P dashes bare valued other wo
         (spoiled (asks_help word) (settle_fault c false w.held) (walk_fault inner [] w (word ∷ words)) bad
         (first_word c inner rows pending knows [] word words refl d is_foreign))
 
--- ---- the word behind `--span`
+-- ---- the word after `--span`
 
 -- it is the value, or it has a hyphen first and spoils the line
 abbrev TakesValue : List Row → Text → Type 0
@@ -210,9 +210,9 @@ module _ (rows : List Row) where
       ∙ first_mistakes (short_fault c false (arg_by_short c letter) rest (waiting_with rows).held next) (step_fault inner 1 (letter_turn y ys (Some letter)).0 (letter_turn y ys (Some letter)).1)
       (found_mistaken rest next (arg_by_short c letter) (104 == letter) (knows.letters letter (104 == letter) refl))))
 
-  behind_hyphen_waits : (y : ℕ) (ys : Text) (is : Bool) → (y == 45) ≡ is → TakesValue rows (45 ∷ y ∷ ys)
-  behind_hyphen_waits y ys false e = letter_waits y ys e (slice_get (chars (y ∷ ys)) 0) refl
-  behind_hyphen_waits y ys true e =
+  after_hyphen_waits : (y : ℕ) (ys : Text) (is : Bool) → (y == 45) ≡ is → TakesValue rows (45 ∷ y ∷ ys)
+  after_hyphen_waits y ys false e = letter_waits y ys e (slice_get (chars (y ∷ ys)) 0) refl
+  after_hyphen_waits y ys true e =
       let hyphen : y ≡ 45 = grind (arith, nat_tests) in
       subst (λ n. TakesValue rows (45 ∷ n ∷ ys)) (sym hyphen) (two ys)
     where
@@ -229,19 +229,19 @@ module _ (rows : List Row) where
     where
       one : (ys : Text) → TakesValue rows (45 ∷ ys)
       one [] = plain_waits (45 ∷ []) refl refl
-      one (y ∷ ys) = behind_hyphen_waits y ys (y == 45) refl
+      one (y ∷ ys) = after_hyphen_waits y ys (y == 45) refl
 
   value_waits : (word : Text) → TakesValue rows word
   unfolding walked
   value_waits [] = plain_waits [] refl refl
   value_waits (x ∷ xs) = at_hyphen_waits x xs (x == 45) refl
 
--- ---- the words behind a span
+-- ---- the words after a span
 
 abbrev given_row : Text → Row
 given_row text = record { id = codes "span"; values = text ∷ []; count = None; source = Some CommandLine; reading = WithoutMinus }
 
--- a second option is a mistake, whatever is behind it
+-- a second option is a mistake, whatever is after it
 again : (text : Text) (words : List Text) → are_mistakes (kinds_from (waiting_with (given_row text ∷ [])) words) ≡ true
 unfolding walk_fault walked defaults_fault
 again text [] = refl
@@ -291,7 +291,7 @@ given_says rows pending text span fine is fits words = go words
 
     other : (word : Text) → bytes_eq word (codes "--") ≡ false → bytes_eq word (codes "--span") ≡ false → has_value word ≡ false → IsForeign c word → P word
     other word d b v is_foreign words =
-        says_from (asks_help word) (if bytes_eq word (codes "--") then asked_behind_dashes span words else a_mistake) _ _ (rw d refl)
+        says_from (asks_help word) (if bytes_eq word (codes "--") then asked_after_dashes span words else a_mistake) _ _ (rw d refl)
         (first_reads (asks_help word) [] (walk_fault inner [] w (word ∷ words)) _
         (subst (λ kinds. Reads (asks_help word) kinds (walk_fault inner [] w (word ∷ words))) fine (first_word c inner rows pending knows [] word words refl d is_foreign)))
 
@@ -299,20 +299,20 @@ given_says rows pending text span fine is fits words = go words
     go [] = at_end
     go (word ∷ words) = by_word P dashes bare valued other word words
 
--- ---- the words behind `replay`
+-- ---- the words after `replay`
 
 -- the value is pending, or has its row
-pending_says : (text : Text) (found : Option ℕ) → span_of text ≡ found → (words : List Text) → SaysFrom (asked_behind_value found words) (idle_with [] (Some (codes "span", text ∷ []))) words
+pending_says : (text : Text) (found : Option ℕ) → span_of text ≡ found → (words : List Text) → SaysFrom (asked_after_value found words) (idle_with [] (Some (codes "span", text ∷ []))) words
 pending_says text None is words = doomed [] (Some (codes "span", text ∷ [])) (value_fails text is) words
 pending_says text (Some span) is words = given_says [] (Some (codes "span", text ∷ [])) text span (value_fits text span is) refl is words
 
-bare_says : (words : List Text) → SaysFrom (asked_behind_span words) (waiting_with []) words
+bare_says : (words : List Text) → SaysFrom (asked_after_span words) (waiting_with []) words
 unfolding walk_fault walked
 bare_says [] = refl
 bare_says (word ∷ words) =
-    value_waits [] word words (asked_behind_value (span_of word) words) (λ none. rw none refl) (pending_says word (span_of word) refl words)
+    value_waits [] word words (asked_after_value (span_of word) words) (λ none. rw none refl) (pending_says word (span_of word) refl words)
 
-valued_says : (text : Text) (found : Option ℕ) → span_of text ≡ found → (words : List Text) → SaysFrom (asked_behind_value found words) (walk_from nothing_held) ((codes "--span=" ++ text) ∷ words)
+valued_says : (text : Text) (found : Option ℕ) → span_of text ≡ found → (words : List Text) → SaysFrom (asked_after_value found words) (walk_from nothing_held) ((codes "--span=" ++ text) ∷ words)
 unfolding walked
 valued_says text None is words = mistaken (walk_from nothing_held) (codes "--span=" ++ text) words (first_mistakes (values_fault span_flag (text ∷ [])) [] (value_fails text is))
 valued_says text (Some span) is words =
@@ -335,7 +335,7 @@ inner_says (word ∷ words) = by_word P dashes bare valued other word words
     dashes (more ∷ rest) = refl
 
     bare : P (codes "--span")
-    bare words = stepped (asked_behind_span words) w (waiting_with []) (codes "--span") words refl refl (bare_says words)
+    bare words = stepped (asked_after_span words) w (waiting_with []) (codes "--span") words refl refl (bare_says words)
 
     valued : (text : Text) → P (codes "--span=" ++ text)
     valued text words = valued_says text (span_of text) refl words

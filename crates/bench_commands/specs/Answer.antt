@@ -23,7 +23,9 @@ use Rattle.bench_commands.specs.Lines.{spaced, edit_lines, start_line, step_line
 
 -- the line of the step at a place
 abbrev pub line_at : Header → List Step → ℕ → List ℕ
-line_at header steps place = option_map_or (λ outcome. step_line header place outcome.0 outcome.1) (outcome_at header steps place) []
+line_at header steps place =
+    option_map_or (λ outcome. step_line header place outcome.0 outcome.1)
+    (outcome_at header steps place) []
 
 -- the line of the start
 abbrev pub first_line : Header → List ℕ
@@ -31,7 +33,8 @@ first_line header = start_line header (running (start header).control)
 
 -- the start, then a line a step
 unfoldable pub replay_text : Header → List Step → List ℕ
-replay_text header steps = first_line header ++ flat_map (line_at header steps) (numbers (length steps))
+replay_text header steps =
+    first_line header ++ flat_map (line_at header steps) (numbers (length steps))
 
 -- the code of a refusal; want of memory is none, and has no line
 abbrev pub why_text : Why → List ℕ
@@ -58,17 +61,24 @@ refused code path = record { is_refused = true; text = refusal_line code path }
 
 -- the lines of the edits, then those of the session that they leave
 abbrev pub edited_text : Session → List Edit → List ℕ
-edited_text session edits = let last = after_edits session edits in edit_lines 0 (answers session edits) ++ replay_text last.header last.steps
+edited_text session edits =
+    let last = after_edits session edits in
+    edit_lines 0 (answers session edits) ++ replay_text last.header last.steps
 
--- J2 comes behind all other refusals
+-- J2 comes after all other refusals
 abbrev pub output_of_bench : Bench → Output
 output_of_bench bench =
     if nat_lt max_steps (length bench.steps) then refused (codes "J2") []
-    else record { is_refused = false; text = edited_text (record { header = bench.header; steps = bench.steps }) bench.edits }
+    else record {
+      is_refused = false;
+      text = edited_text (record { header = bench.header; steps = bench.steps }) bench.edits;
+    }
 
 abbrev pub output_of : Result Bench TextFault → Output
 output_of (Ok bench) = output_of_bench bench
 output_of (Err fault) = refused (why_text fault.why) fault.path
 
 unfoldable pub output : List ℕ → Output
-output input = if nat_lt max_input (length input) then refused (codes "H3") [] else output_of (bench_text input)
+output input =
+    if nat_lt max_input (length input) then refused (codes "H3") []
+    else output_of (bench_text input)

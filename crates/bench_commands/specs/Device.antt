@@ -2,8 +2,8 @@
 use Rattle.std.specs.Prelude.{◌≡◌, ◌⊎◌, ℕ, zero, suc, ◌+◌, ◌-◌, ◌≤◌, ◌^◌, min, List, ◌++◌, length, take, Option, Bool, true, false, Result, Ok, Err, if◌then◌else◌}
 use Rattle.std.specs.Io.KnownBytes.{Appends, Consumes, IsAtEnd}
 use Rattle.bench_types.specs.Limits.{max_input}
-use Rattle.bench_commands.specs.declared.input.Stop.{Stop}
-use Rattle.bench_commands.specs.declared.input.Stop.TheVariants.{Memory, Read}
+use Rattle.bench_commands.specs.declared.input.InputFault.{InputFault}
+use Rattle.bench_commands.specs.declared.input.InputFault.TheVariants.{Memory, Read}
 
 -- one failure more, up to the end of 64 bits
 abbrev pub one_more : ℕ → ℕ
@@ -16,8 +16,8 @@ took_some (Ok (suc n)) = true
 took_some (Err fault) = false
 
 -- the count after a try
-abbrev pub counted : Bool → ℕ → ℕ
-counted succeeds failures = if succeeds then failures else one_more failures
+abbrev pub failures_after : Bool → ℕ → ℕ
+failures_after succeeds failures = if succeeds then failures else one_more failures
 
 -- all that was left was read, or as much as is ever read
 pub record ReadsInput (old new : Option (List ℕ)) (input : List ℕ) : Type 0 where
@@ -31,17 +31,18 @@ pub record ReadsSome (old new : Option (List ℕ)) (most : ℕ) : Type 0 where
   pub consumes : Consumes old new bytes
   pub within : length bytes ≤ most
 
--- some bytes, at most so many, were read behind what was there; none only at the end
-pub record ReadsOn (old new : Option (List ℕ)) (most : ℕ) (before after : List ℕ) (count_read : ℕ) : Type 0 where
+-- some bytes, at most so many, were read after what was there; none only at the end
+pub record ReadsOn (old new : Option (List ℕ)) (most : ℕ) (before after : List ℕ)
+    (count_read : ℕ) : Type 0 where
   pub bytes : List ℕ
-  pub behind : after ≡ before ++ bytes
+  pub appended : after ≡ before ++ bytes
   pub count : length bytes ≡ count_read
   pub within : count_read ≤ most
   pub consumes : Consumes old new bytes
   pub ends : count_read ≡ 0 → IsAtEnd new
 
 -- no read failed: what stopped the reading, if anything, was want of memory
-abbrev pub reads_on : {A : Type 0} → Result A Stop → Bool
+abbrev pub reads_on : {A : Type 0} → Result A InputFault → Bool
 reads_on (Ok input) = true
 reads_on (Err Memory) = true
 reads_on (Err Read) = false

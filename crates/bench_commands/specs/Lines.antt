@@ -8,11 +8,11 @@ use Rattle.bench_types.specs.declared.reply.Reply.{Reply}
 use Rattle.bench_types.specs.declared.reply.Reply.TheVariants.{Done, Blocked, Flag, Value, Waited, Until, Isr, Refused}
 use Rattle.session_store.specs.declared.outcome.Outcome.{Outcome}
 
--- a text behind a space
+-- a text after a space
 abbrev pub spaced : List ℕ → List ℕ
 spaced text = codes " " ++ text
 
--- the names of the running tasks, each behind a space
+-- the names of the running tasks, each after a space
 abbrev pub row_text : Header → List ℕ → List ℕ
 row_text header row = flat_map (λ task. spaced (name_of header task)) row
 
@@ -25,7 +25,8 @@ reply_text Blocked = codes "blocked"
 reply_text (Flag flag) = flag_text flag
 reply_text (Value value) = codes "value" ++ spaced (decimal value)
 reply_text (Waited ok value) = codes "waited" ++ spaced (flag_text ok) ++ spaced (decimal value)
-reply_text (Until delayed wake) = codes "until" ++ spaced (flag_text delayed) ++ spaced (decimal wake)
+reply_text (Until delayed wake) =
+    codes "until" ++ spaced (flag_text delayed) ++ spaced (decimal wake)
 reply_text (Isr pass pend) = codes "isr" ++ spaced (flag_text pass) ++ spaced (flag_text pend)
 reply_text (Refused why) = codes "refused" ++ spaced (refusal_code why)
 
@@ -33,13 +34,16 @@ reply_text (Refused why) = codes "refused" ++ spaced (refusal_code why)
 abbrev pub start_line : Header → List ℕ → List ℕ
 start_line header row = codes "start" ++ row_text header row ++ codes "\n"
 
--- the line of a step: its index, its reply, and the tasks that run behind it
+-- the line of a step: its index, its reply, and the tasks that run after it
 abbrev pub step_line : Header → ℕ → Reply → List ℕ → List ℕ
-step_line header index reply row = decimal index ++ spaced (reply_text reply) ++ row_text header row ++ codes "\n"
+step_line header index reply row =
+    decimal index ++ spaced (reply_text reply) ++ row_text header row ++ codes "\n"
 
 -- what an edit led to
 abbrev pub answer_text : Result Outcome EditFault → List ℕ
-answer_text (Ok outcome) = codes "from " ++ decimal outcome.from ++ codes " met " ++ decimal outcome.met ++ codes " replayed " ++ decimal outcome.replayed
+answer_text (Ok outcome) =
+    codes "from " ++ decimal outcome.from ++ codes " met " ++ decimal outcome.met
+    ++ codes " replayed " ++ decimal outcome.replayed
 answer_text (Err why) = codes "refused" ++ spaced (edit_fault_code why)
 
 -- the line of an edit: its index, and what it led to

@@ -8,14 +8,14 @@ use Rattle.std.specs.IoError.{error_kind}
 use Rattle.std.specs.declared.io.Error.{Error}
 use Rattle.std.specs.declared.io.ErrorKind.{ErrorKind}
 use Rattle.std.specs.declared.io.ErrorKind.TheVariants.{InvalidData}
-use Rattle.bench_commands.specs.declared.bench.Status.{Status}
-use Rattle.bench_commands.specs.declared.bench.Status.TheVariants.{Fine, Refused, Fault}
-use Rattle.bench_commands.specs.declared.bench.RunFault.{RunFault}
-use Rattle.bench_commands.specs.declared.bench.RunFault.TheVariants.{Memory, Read, Write}
+use Rattle.bench_commands.specs.declared.execution.Status.{Status}
+use Rattle.bench_commands.specs.declared.execution.Status.TheVariants.{Fine, Refused, Fault}
+use Rattle.bench_commands.specs.declared.execution.RunFault.{RunFault}
+use Rattle.bench_commands.specs.declared.execution.RunFault.TheVariants.{Memory, Read, Write}
 use Rattle.bench_commands.specs.declared.program.Ending.{Ending}
 use Rattle.bench_commands.specs.declared.program.Ending.TheVariants.{Ran, BadCommandLine}
 use Rattle.bench_commands.specs.Command.{Asked, a_run, help, a_mistake, asked}
-use Rattle.bench_commands.specs.Device.{AppendsPrefix, counted}
+use Rattle.bench_commands.specs.Device.{AppendsPrefix, failures_after}
 use Rattle.bench_commands.specs.Run.{Ran as RunEnds, reads_well, writes_well}
 
 abbrev pub exit_code : Ending → ℕ
@@ -43,28 +43,38 @@ Shows (Fault Write) text old new = AppendsPrefix old new text
 Shows _ text old new = ⊥
 
 -- neither read nor written
-abbrev pub Untouched : Option (List ℕ) → Option (List ℕ) → Option (List ℕ) → Option (List ℕ) → Type 0
+abbrev pub Untouched :
+    Option (List ℕ) → Option (List ℕ) → Option (List ℕ) → Option (List ℕ) → Type 0
 Untouched read_old read_new write_old write_new = (read_new ≡ read_old) × (write_new ≡ write_old)
 
 -- some text was shown, and nothing read; or memory was refused before
-abbrev pub EndsHelp : Ending → Option (List ℕ) → Option (List ℕ) → Option (List ℕ) → Option (List ℕ) → Type 0
-EndsHelp (Ran (Fault Memory)) read_old read_new write_old write_new = Untouched read_old read_new write_old write_new
-EndsHelp (Ran status) read_old read_new write_old write_new = (read_new ≡ read_old) × ((text : List ℕ) × Shows status text write_old write_new)
+abbrev pub EndsHelp :
+    Ending → Option (List ℕ) → Option (List ℕ) → Option (List ℕ) → Option (List ℕ) → Type 0
+EndsHelp (Ran (Fault Memory)) read_old read_new write_old write_new =
+    Untouched read_old read_new write_old write_new
+EndsHelp (Ran status) read_old read_new write_old write_new =
+    (read_new ≡ read_old) × ((text : List ℕ) × Shows status text write_old write_new)
 EndsHelp (BadCommandLine text) read_old read_new write_old write_new = ⊥
 
 -- a bad command line, or memory was refused before that was known
-abbrev pub EndsBad : Ending → Option (List ℕ) → Option (List ℕ) → Option (List ℕ) → Option (List ℕ) → Type 0
-EndsBad (BadCommandLine text) read_old read_new write_old write_new = Untouched read_old read_new write_old write_new
-EndsBad (Ran (Fault Memory)) read_old read_new write_old write_new = Untouched read_old read_new write_old write_new
+abbrev pub EndsBad :
+    Ending → Option (List ℕ) → Option (List ℕ) → Option (List ℕ) → Option (List ℕ) → Type 0
+EndsBad (BadCommandLine text) read_old read_new write_old write_new =
+    Untouched read_old read_new write_old write_new
+EndsBad (Ran (Fault Memory)) read_old read_new write_old write_new =
+    Untouched read_old read_new write_old write_new
 EndsBad _ read_old read_new write_old write_new = ⊥
 
 -- the replay of a run; a bad command line is none
-abbrev pub EndsReplay : Ending → Option (List ℕ) → Option (List ℕ) → Option (List ℕ) → Option (List ℕ) → Type 0
-EndsReplay (Ran status) read_old read_new write_old write_new = RunEnds status read_old read_new write_old write_new
+abbrev pub EndsReplay :
+    Ending → Option (List ℕ) → Option (List ℕ) → Option (List ℕ) → Option (List ℕ) → Type 0
+EndsReplay (Ran status) read_old read_new write_old write_new =
+    RunEnds status read_old read_new write_old write_new
 EndsReplay (BadCommandLine text) read_old read_new write_old write_new = ⊥
 
 -- by what was asked, how the program ends, and what was read and written then
-abbrev pub Ends : Asked → Ending → Option (List ℕ) → Option (List ℕ) → Option (List ℕ) → Option (List ℕ) → Type 0
+abbrev pub Ends :
+    Asked → Ending → Option (List ℕ) → Option (List ℕ) → Option (List ℕ) → Option (List ℕ) → Type 0
 Ends (a_run mode) ending = EndsReplay ending
 Ends help ending = EndsHelp ending
 Ends a_mistake ending = EndsBad ending
@@ -84,16 +94,25 @@ pub record DeviceState : Type 0 where
   pub bytes : Option (List ℕ)
   pub failures : ℕ
 
--- the words of the process as the system hands them over: an error says that one of them is no text, or that memory was refused
+abbrev pub device : Option (List ℕ) → ℕ → DeviceState
+device bytes failures = record { bytes = bytes; failures = failures }
+
+-- the words of the process as the system hands them over: an error says that one of them is no
+-- text, or that memory was refused
 abbrev pub Words : Type 0
 Words = Result (IntoIter (String Global) Global) Error
 
 -- by the words of the process, how the program ends, and what was read and written then
-abbrev pub EndsWithout : ErrorKind → Ending → Option (List ℕ) → Option (List ℕ) → Option (List ℕ) → Option (List ℕ) → Type 0
-EndsWithout InvalidData ending read_old read_new write_old write_new = EndsBad ending read_old read_new write_old write_new
-EndsWithout _ ending read_old read_new write_old write_new = (ending ≡ Ran (Fault Memory)) × Untouched read_old read_new write_old write_new
+abbrev pub EndsWithout :
+    ErrorKind → Ending → Option (List ℕ) → Option (List ℕ) → Option (List ℕ) → Option (List ℕ)
+    → Type 0
+EndsWithout InvalidData ending read_old read_new write_old write_new =
+    EndsBad ending read_old read_new write_old write_new
+EndsWithout _ ending read_old read_new write_old write_new =
+    (ending ≡ Ran (Fault Memory)) × Untouched read_old read_new write_old write_new
 
-abbrev pub EndsWith : Words → Ending → Option (List ℕ) → Option (List ℕ) → Option (List ℕ) → Option (List ℕ) → Type 0
+abbrev pub EndsWith :
+    Words → Ending → Option (List ℕ) → Option (List ℕ) → Option (List ℕ) → Option (List ℕ) → Type 0
 EndsWith (Ok words) ending = Ends (asked (Some (map string_bytes (into_iter_items words)))) ending
 EndsWith (Err error) ending = EndsWithout (error_kind error) ending
 
@@ -103,12 +122,13 @@ Tells true old new text = Appends old new text
 Tells false old new text = AppendsPrefix old new text
 
 -- how the process ends, with its exit status, and what became of standard input, output and error
-pub record EndsProcess (words : Words) (code : ℕ) (read_old read_new write_old write_new error_old error_new : DeviceState) : Type 0 where
+pub record EndsProcess (words : Words) (code : ℕ)
+    (read_old read_new write_old write_new error_old error_new : DeviceState) : Type 0 where
   pub ending : Ending
   pub status : code ≡ exit_code ending
   pub ends : EndsWith words ending read_old.bytes read_new.bytes write_old.bytes write_new.bytes
-  pub reads : read_new.failures ≡ counted (all_reads_well ending) read_old.failures
-  pub writes : write_new.failures ≡ counted (all_writes_well ending) write_old.failures
+  pub reads : read_new.failures ≡ failures_after (all_reads_well ending) read_old.failures
+  pub writes : write_new.failures ≡ failures_after (all_writes_well ending) write_old.failures
   pub told : Bool
   pub tells : Tells told error_old.bytes error_new.bytes (message ending)
-  pub errors : error_new.failures ≡ counted told error_old.failures
+  pub errors : error_new.failures ≡ failures_after told error_old.failures

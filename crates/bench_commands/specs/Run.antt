@@ -3,11 +3,11 @@ use Rattle.std.specs.Prelude.{◌≡◌, ℕ, ◌+◌, List, Option, Bool, true,
 use Rattle.std.specs.Io.KnownBytes.{Appends}
 use Rattle.bench_types.specs.Name.{is_within}
 use Rattle.bench_types.specs.Limits.{max_input, max_span}
-use Rattle.bench_commands.specs.declared.bench.Mode.{Mode}
-use Rattle.bench_commands.specs.declared.bench.Mode.TheVariants.{Replay}
-use Rattle.bench_commands.specs.declared.bench.Status.{Status}
-use Rattle.bench_commands.specs.declared.bench.Status.TheVariants.{Fine, Refused, Fault}
-use Rattle.bench_commands.specs.declared.bench.RunFault.TheVariants.{Memory, Read, Write}
+use Rattle.bench_commands.specs.declared.execution.Mode.{Mode}
+use Rattle.bench_commands.specs.declared.execution.Mode.TheVariants.{Replay}
+use Rattle.bench_commands.specs.declared.execution.Status.{Status}
+use Rattle.bench_commands.specs.declared.execution.Status.TheVariants.{Fine, Refused, Fault}
+use Rattle.bench_commands.specs.declared.execution.RunFault.TheVariants.{Memory, Read, Write}
 use Rattle.bench_commands.specs.Device.{ReadsInput, ReadsSome, AppendsPrefix}
 use Rattle.bench_commands.specs.Answer.{output}
 
@@ -16,7 +16,8 @@ abbrev pub has_span : Mode → Bool
 has_span (Replay span) = is_within 1 max_span span
 
 -- the input was read, and its whole output written
-pub record Wrote (read_old read_new write_old write_new : Option (List ℕ)) (is_refused : Bool) : Type 0 where
+pub record Wrote (read_old read_new write_old write_new : Option (List ℕ))
+    (is_refused : Bool) : Type 0 where
   pub input : List ℕ
   pub reads : ReadsInput read_old read_new input
   pub status : (output input).is_refused ≡ is_refused
@@ -34,12 +35,16 @@ pub record WroteNothing (read_old read_new write_old write_new : Option (List �
   pub writes : write_new ≡ write_old
 
 -- by the status, what was read and written
-abbrev pub Ran : Status → Option (List ℕ) → Option (List ℕ) → Option (List ℕ) → Option (List ℕ) → Type 0
+abbrev pub Ran :
+    Status → Option (List ℕ) → Option (List ℕ) → Option (List ℕ) → Option (List ℕ) → Type 0
 Ran Fine read_old read_new write_old write_new = Wrote read_old read_new write_old write_new false
 Ran Refused read_old read_new write_old write_new = Wrote read_old read_new write_old write_new true
-Ran (Fault Memory) read_old read_new write_old write_new = WroteNothing read_old read_new write_old write_new
-Ran (Fault Read) read_old read_new write_old write_new = WroteNothing read_old read_new write_old write_new
-Ran (Fault Write) read_old read_new write_old write_new = WrotePart read_old read_new write_old write_new
+Ran (Fault Memory) read_old read_new write_old write_new =
+    WroteNothing read_old read_new write_old write_new
+Ran (Fault Read) read_old read_new write_old write_new =
+    WroteNothing read_old read_new write_old write_new
+Ran (Fault Write) read_old read_new write_old write_new =
+    WrotePart read_old read_new write_old write_new
 
 -- whether no read failed
 abbrev pub reads_well : Status → Bool

@@ -7,7 +7,7 @@ ghost use Rattle.session_text.specs.Bench.{IsCheckedBench};
 ghost use Rattle.bench_commands.specs.Answer.{why_text, path_text, refusal_line, refused, edited_text, output, output_of_bench, Output};
 
 use crate::lines::push_spaced;
-use crate::replay::edited_replay;
+use crate::output::edited_replay;
 use bench_types::{Edit, EditFault, MAX_INPUT};
 use session_store::{OpenRefusal, Store};
 use session_text::{Bench, TextFault, Why, read_bench};
@@ -28,11 +28,13 @@ impl Model for Answer {
 
     ghost Value = { Output };
 
-    ghost view = { λ answer. record { is_refused = answer.is_refused; text = string_bytes answer.text } };
+    ghost view = { λ answer.
+        record { is_refused = answer.is_refused; text = string_bytes answer.text } };
 }
 
 fn refused(alloc: Global, code: &str, path: &str) -> Result<Answer, AllocError>
-    ensures { IfOk result (λ answer. answer ≡ record { is_refused = true; text = refusal_line code.now path.now }) }
+    ensures { IfOk result
+        (λ answer. answer ≡ record { is_refused = true; text = refusal_line code.now path.now }) }
 {
     let text = refusal_line(alloc, code, path)?;
     Ok(Answer {
@@ -42,7 +44,9 @@ fn refused(alloc: Global, code: &str, path: &str) -> Result<Answer, AllocError>
 }
 
 fn refused_for(alloc: Global, fault: TextFault) -> Result<Answer, AllocError>
-    ensures line { IfOk result (λ answer. answer ≡ record { is_refused = true; text = refusal_line (why_text fault.why) fault.path }) }
+    ensures line { IfOk result
+        (λ answer. answer
+        ≡ record { is_refused = true; text = refusal_line (why_text fault.why) fault.path }) }
     ensures memory { fault.why ≡ NoMemory → IsErr result }
 {
     match fault.why {
@@ -58,7 +62,9 @@ fn answer_of_store(
     store: &mut Store,
     edits: &[Edit],
 ) -> Result<Answer, AllocError>
-    ensures { IfOk result (λ answer. answer ≡ record { is_refused = false; text = edited_text store.old.session edits.now }) }
+    ensures { IfOk result
+        (λ answer. answer
+        ≡ record { is_refused = false; text = edited_text store.old.session edits.now }) }
 {
     let text = edited_replay(alloc, meter, store, edits)?;
     Ok(Answer {
@@ -78,7 +84,8 @@ fn not_opened(alloc: Global, why: OpenRefusal) -> Result<Answer, AllocError>
     }
 }
 
-// The output of a bench document that was read. Texts may have any number of steps, so J2 is found here.
+// The output of a bench document that was read. Texts may have any number of steps, so J2 is found
+// here.
 fn answer_of_bench(
     alloc: Global,
     meter: &mut Meter,

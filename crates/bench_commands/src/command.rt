@@ -1,9 +1,9 @@
 ghost use Rattle.std.specs.Prelude.{◌≡◌, ℕ, IfOk, IsErr, drop, map, option_map, true};
 ghost use Rattle.clap.specs.Words.{app_of, kind_of, rule_of, subcommand_rows_of};
 ghost use Rattle.clap.specs.declared.error.kind.ErrorKind.TheVariants.{OutOfMemory};
-ghost use Rattle.bench_commands.specs.Command.{GivesSpan, a_mistake, asked, asked_behind, asked_by, asked_in, bench_app, can_run, span_rule, value_found};
+ghost use Rattle.bench_commands.specs.Command.{GivesSpan, a_mistake, asked, asked_after, asked_by, asked_in, bench_app, can_run, span_rule, value_found};
 
-use crate::bench::Mode;
+use crate::execution::Mode;
 use bench_types::MAX_SPAN;
 use clap::error::ErrorKind;
 use clap::{Arg, ArgMatches, Command, Error, value_parser};
@@ -34,7 +34,8 @@ fn span_option<'a>(alloc: Global) -> Arg<'a>
         .value_parser(value_parser!(u32).range(1..=i64::from(MAX_SPAN)))
 }
 
-// The program's commands. Help for one of them is asked for by its `--help`, so `help` is no command.
+// The program's commands. Help for one of them is asked for by its `--help`, so `help` is no
+// command.
 fn command<'a>(alloc: Global) -> Result<Command<'a>, AllocError>
     ensures { IfOk result (λ command. app_of command ≡ bench_app) }
 {
@@ -76,7 +77,8 @@ fn not_text(alloc: Global) -> Result<Request, AllocError>
 
 // The span of the command that was met.
 fn span_in(matches: &ArgMatches) -> u32
-    ensures { (span : ℕ) → GivesSpan (value_found (subcommand_rows_of matches.now)) span → result ≡ span }
+    ensures { (span : ℕ) → GivesSpan (value_found (subcommand_rows_of matches.now)) span
+        → result ≡ span }
 {
     let Some((_, replay)) = matches.subcommand() else {
         return DEFAULT_SPAN;
@@ -86,7 +88,8 @@ fn span_in(matches: &ArgMatches) -> u32
 
 fn request_in<S: AsStr>(alloc: Global, words: &[S]) -> Result<Request, AllocError>
     ensures span { IfOk result (λ request. can_run request ≡ true) }
-    ensures asked { IfOk result (λ request. asked_in request ≡ asked_behind (drop 1 (map S.text words.now))) }
+    ensures asked { IfOk result
+        (λ request. asked_in request ≡ asked_after (drop 1 (map S.text words.now))) }
 {
     match command(alloc)?.try_get_matches_from(words) {
         Ok(matches) => Ok(Request::Run(Mode::Replay {
@@ -96,11 +99,12 @@ fn request_in<S: AsStr>(alloc: Global, words: &[S]) -> Result<Request, AllocErro
     }
 }
 
-/// Reads a command line: its words, the program's name first, or `None` where one of them is no text.
-/// The texts are clap's.
+/// Reads a command line: its words, the program's name first, or `None` where one of them is no
+/// text. The texts are clap's.
 pub fn request_of<S: AsStr>(alloc: Global, words: Option<&[S]>) -> Result<Request, AllocError>
     ensures span { IfOk result (λ request. can_run request ≡ true) }
-    ensures asked { IfOk result (λ request. asked_in request ≡ asked (option_map (λ all. map S.text all.now) words.entry)) }
+    ensures asked { IfOk result
+        (λ request. asked_in request ≡ asked (option_map (λ all. map S.text all.now) words.entry)) }
 {
     match words {
         Some(words) => request_in(alloc, words),

@@ -1,7 +1,7 @@
 ghost use Rattle.std.specs.Prelude.{◌≡◌, ℕ, ◌+◌, ◌-◌, ◌^◌, min, length, is_ok};
 ghost use Rattle.std.specs.Io.{ReadsAtMost, WritesAtMost};
 ghost use Rattle.std.specs.Io.KnownBytes.{ReadConsumes, WriteAppends};
-ghost use Rattle.bench_commands.specs.Device.{counted, took_some};
+ghost use Rattle.bench_commands.specs.Device.{failures_after, took_some};
 
 use std::io;
 use std::io::{Read, Write};
@@ -17,8 +17,9 @@ pub trait CountedRead: Read {
     /// One read of the device, which is counted where it fails, interrupted ones too.
     fn read_counted(&mut self, buf: &mut [u8]) -> io::Result<usize>
         ensures bound { ReadsAtMost result buf.new }
-        ensures bytes { ReadConsumes (Self.remaining self.old) (Self.remaining self.new) result buf.new }
-        ensures count { failures self.new ≡ counted (is_ok result) (failures self.old) };
+        ensures bytes { ReadConsumes (Self.remaining self.old)
+            (Self.remaining self.new) result buf.new }
+        ensures count { failures self.new ≡ failures_after (is_ok result) (failures self.old) };
 }
 
 /// A writer that counts the writes that failed. A write that took no byte is one.
@@ -32,8 +33,9 @@ pub trait CountedWrite: Write {
     /// One write to the device, which is counted where it fails, interrupted ones too.
     fn write_counted(&mut self, buf: &[u8]) -> io::Result<usize>
         ensures bound { WritesAtMost result buf.now }
-        ensures bytes { WriteAppends (Self.contents self.old) (Self.contents self.new) result buf.now }
-        ensures count { failures self.new ≡ counted (took_some result) (failures self.old) };
+        ensures bytes { WriteAppends (Self.contents self.old)
+            (Self.contents self.new) result buf.now }
+        ensures count { failures self.new ≡ failures_after (took_some result) (failures self.old) };
 }
 
 /// A device with its count of failures, at first 0.
@@ -44,6 +46,7 @@ pub struct Counted<D> {
 }
 
 impl<D> Counted<D> {
+    /// The device, of which no read or write has failed.
     pub fn new(device: D) -> Self
         ensures device { result.device ≡ device }
         ensures failures { result.failures ≡ 0 }
@@ -63,7 +66,7 @@ impl<D> Counted<D> {
 }
 
 impl<D: Read> Read for Counted<D> {
-    ghost remaining = { λ counted. D.remaining counted.device };
+    ghost remaining = { λ device. D.remaining device.device };
 
     fn read(&mut self, buf: &mut [u8]) -> io::Result<usize> {
         self.read_counted(buf)
@@ -71,7 +74,7 @@ impl<D: Read> Read for Counted<D> {
 }
 
 impl<D: Read> CountedRead for Counted<D> {
-    ghost failures = { λ counted. counted.failures };
+    ghost failures = { λ device. device.failures };
 
     fn failures(&self) -> u64 {
         self.count()
@@ -87,7 +90,7 @@ impl<D: Read> CountedRead for Counted<D> {
 }
 
 impl<D: Write> Write for Counted<D> {
-    ghost contents = { λ counted. D.contents counted.device };
+    ghost contents = { λ device. D.contents device.device };
 
     fn write(&mut self, buf: &[u8]) -> io::Result<usize> {
         self.write_counted(buf)
@@ -99,7 +102,7 @@ impl<D: Write> Write for Counted<D> {
 }
 
 impl<D: Write> CountedWrite for Counted<D> {
-    ghost failures = { λ counted. counted.failures };
+    ghost failures = { λ device. device.failures };
 
     fn failures(&self) -> u64 {
         self.count()

@@ -2,16 +2,16 @@
 #![tactic(auto)]
 
 mod answer;
-mod bench;
 mod command;
 mod device;
+mod execution;
 mod input;
 mod lines;
+mod output;
 mod program;
-mod replay;
 mod writing;
 
-pub use bench::{Mode, RunFault, Status, run};
 pub use command::{DEFAULT_SPAN, Request, request_of};
 pub use device::{Counted, CountedRead, CountedWrite};
+pub use execution::{Mode, RunFault, Status, run};
 pub use program::{Ending, carry_out, run_program};

@@ -32,14 +32,16 @@ fn push_reply(text: &mut String, reply: Reply) -> Result<(), AllocError>
 }
 
 fn push_task(text: &mut String, header: &Header, task: u32) -> Result<(), AllocError>
-    ensures { OnOk result (string_bytes text.new ≡ string_bytes text.old ++ spaced (name_of header.now task)) }
+    ensures { OnOk result
+        (string_bytes text.new ≡ string_bytes text.old ++ spaced (name_of header.now task)) }
 {
     text.push_str(" ")?;
     header.push_name(text, task)
 }
 
 fn push_row(text: &mut String, header: &Header, row: &[u32]) -> Result<(), AllocError>
-    ensures { OnOk result (string_bytes text.new ≡ string_bytes text.old ++ row_text header.now row.now) }
+    ensures { OnOk result
+        (string_bytes text.new ≡ string_bytes text.old ++ row_text header.now row.now) }
 {
     for task in row {
         push_task(text, header, *task)?;
@@ -52,7 +54,8 @@ pub(crate) fn push_start_line(
     header: &Header,
     row: &[u32],
 ) -> Result<(), AllocError>
-    ensures { OnOk result (string_bytes text.new ≡ string_bytes text.old ++ start_line header.now row.now) }
+    ensures { OnOk result
+        (string_bytes text.new ≡ string_bytes text.old ++ start_line header.now row.now) }
 {
     text.push_str("start")?;
     push_row(text, header, row)?;
@@ -66,7 +69,9 @@ pub(crate) fn push_step_line(
     reply: Reply,
     row: &[u32],
 ) -> Result<(), AllocError>
-    ensures { OnOk result (string_bytes text.new ≡ string_bytes text.old ++ step_line header.now index reply row.now) }
+    ensures { OnOk result
+        (string_bytes text.new
+        ≡ string_bytes text.old ++ step_line header.now index reply row.now) }
 {
     write!(text, "{index} ")?;
     push_reply(text, reply)?;
@@ -75,7 +80,8 @@ pub(crate) fn push_step_line(
 }
 
 fn push_answer(text: &mut String, answer: &Result<Outcome, EditFault>) -> Result<(), AllocError>
-    ensures { OnOk result (string_bytes text.new ≡ string_bytes text.old ++ answer_text answer.now) }
+    ensures { OnOk result
+        (string_bytes text.new ≡ string_bytes text.old ++ answer_text answer.now) }
 {
     match answer {
         Ok(
@@ -97,7 +103,8 @@ fn push_edit_line(
     index: usize,
     answer: &Result<Outcome, EditFault>,
 ) -> Result<(), AllocError>
-    ensures { OnOk result (string_bytes text.new ≡ string_bytes text.old ++ edit_line index answer.now) }
+    ensures { OnOk result
+        (string_bytes text.new ≡ string_bytes text.old ++ edit_line index answer.now) }
 {
     write!(text, "edit {index} ")?;
     push_answer(text, answer)?;
@@ -109,7 +116,8 @@ pub(crate) fn push_edit_lines(
     text: &mut String,
     answers: &[Result<Outcome, EditFault>],
 ) -> Result<(), AllocError>
-    ensures { OnOk result (string_bytes text.new ≡ string_bytes text.old ++ edit_lines 0 answers.now) }
+    ensures { OnOk result
+        (string_bytes text.new ≡ string_bytes text.old ++ edit_lines 0 answers.now) }
 {
     for (index, answer) in answers.iter().enumerate() {
         push_edit_line(text, index, answer)?;

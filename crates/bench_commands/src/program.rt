@@ -1,13 +1,13 @@
 ghost use Rattle.std.specs.Prelude.{◌≡◌, map, option_map};
 ghost use Rattle.std.specs.Process.{exit_status};
 ghost use Rattle.bench_commands.specs.Command.{asked};
-ghost use Rattle.bench_commands.specs.Device.{counted};
-ghost use Rattle.bench_commands.specs.Program.{Ends, EndsProcess, EndsWith, Shows, all_reads_well, all_writes_well, exit_code, message};
+ghost use Rattle.bench_commands.specs.Device.{failures_after};
+ghost use Rattle.bench_commands.specs.Program.{device, Ends, EndsProcess, EndsWith, Shows, all_reads_well, all_writes_well, exit_code, message};
 ghost use Rattle.bench_commands.specs.Run.{writes_well};
 
-use crate::bench::{RunFault, Status, run};
 use crate::command::{Request, request_of};
 use crate::device::{CountedRead, CountedWrite};
+use crate::execution::{RunFault, Status, run};
 use crate::writing::write_text;
 use std::alloc::Global;
 use std::convert::AsStr;
@@ -53,8 +53,10 @@ impl Ending {
 }
 
 fn show_help<W: CountedWrite>(writer: &mut W, text: &str) -> Status
-    ensures bytes { Shows result text.now (W.Write.contents writer.old) (W.Write.contents writer.new) }
-    ensures failures { W.CountedWrite.failures writer.new ≡ counted (writes_well result) (W.CountedWrite.failures writer.old) }
+    ensures bytes { Shows result text.now (W.Write.contents writer.old)
+        (W.Write.contents writer.new) }
+    ensures failures { W.CountedWrite.failures writer.new
+        ≡ failures_after (writes_well result) (W.CountedWrite.failures writer.old) }
 {
     if write_text(writer, text.as_bytes()).is_err() {
         return Status::Fault(RunFault::Write);
@@ -62,8 +64,8 @@ fn show_help<W: CountedWrite>(writer: &mut W, text: &str) -> Status
     Status::Fine
 }
 
-/// Does what the words of the command line ask for: they are `None` where one of them is no text. Only a run
-/// reads, once the words are known to ask for it.
+/// Does what the words of the command line ask for: they are `None` where one of them is no text.
+/// Only a run reads, once the words are known to ask for it.
 pub fn carry_out<S: AsStr, R: CountedRead, W: CountedWrite>(
     rt: &HostRuntime,
     alloc: Global,
@@ -71,9 +73,13 @@ pub fn carry_out<S: AsStr, R: CountedRead, W: CountedWrite>(
     reader: &mut R,
     writer: &mut W,
 ) -> Ending
-    ensures bytes { Ends (asked (option_map (λ all. map S.text all.now) words.entry)) result (R.Read.remaining reader.old) (R.Read.remaining reader.new) (W.Write.contents writer.old) (W.Write.contents writer.new) }
-    ensures reads { R.CountedRead.failures reader.new ≡ counted (all_reads_well result) (R.CountedRead.failures reader.old) }
-    ensures writes { W.CountedWrite.failures writer.new ≡ counted (all_writes_well result) (W.CountedWrite.failures writer.old) }
+    ensures bytes { Ends (asked (option_map (λ all. map S.text all.now) words.entry)) result
+        (R.Read.remaining reader.old) (R.Read.remaining reader.new) (W.Write.contents writer.old)
+        (W.Write.contents writer.new) }
+    ensures reads { R.CountedRead.failures reader.new
+        ≡ failures_after (all_reads_well result) (R.CountedRead.failures reader.old) }
+    ensures writes { W.CountedWrite.failures writer.new
+        ≡ failures_after (all_writes_well result) (W.CountedWrite.failures writer.old) }
 {
     match request_of(alloc, words) {
         Ok(Request::Run(mode)) => Ending::Ran(run(rt, alloc, reader, writer, &mode)),
@@ -90,9 +96,12 @@ fn ending_of<R: CountedRead, W: CountedWrite>(
     reader: &mut R,
     writer: &mut W,
 ) -> Ending
-    ensures bytes { EndsWith words result (R.Read.remaining reader.old) (R.Read.remaining reader.new) (W.Write.contents writer.old) (W.Write.contents writer.new) }
-    ensures reads { R.CountedRead.failures reader.new ≡ counted (all_reads_well result) (R.CountedRead.failures reader.old) }
-    ensures writes { W.CountedWrite.failures writer.new ≡ counted (all_writes_well result) (W.CountedWrite.failures writer.old) }
+    ensures bytes { EndsWith words result (R.Read.remaining reader.old)
+        (R.Read.remaining reader.new) (W.Write.contents writer.old) (W.Write.contents writer.new) }
+    ensures reads { R.CountedRead.failures reader.new
+        ≡ failures_after (all_reads_well result) (R.CountedRead.failures reader.old) }
+    ensures writes { W.CountedWrite.failures writer.new
+        ≡ failures_after (all_writes_well result) (W.CountedWrite.failures writer.old) }
 {
     match words {
         Ok(words) => match words.collect::<Vec<String>>(rt.alloc()) {
@@ -106,11 +115,12 @@ fn ending_of<R: CountedRead, W: CountedWrite>(
     }
 }
 
-/// The whole program: it does what the words of the command line ask for, over standard input and output, and tells standard
-/// error why it didn't. The exit status is 0 where all went well, 1 for a refused input, 2 for a bad command line, and 3 where
-/// memory or a device failed.
+/// The whole program: it does what the words of the command line ask for, over standard input and
+/// output, and tells standard error why it didn't. The exit status is 0 where all went well, 1 for
+/// a refused input, 2 for a bad command line, and 3 where memory or a device failed.
 ///
-/// The words are those of [`std::env::args`]. Where standard error takes nothing, the exit status still tells.
+/// The words are those of [`std::env::args`]. Where standard error takes nothing, the exit status
+/// still tells.
 pub fn run_program<R: CountedRead, W: CountedWrite, E: CountedWrite>(
     rt: &HostRuntime,
     words: io::Result<Args>,
@@ -119,12 +129,12 @@ pub fn run_program<R: CountedRead, W: CountedWrite, E: CountedWrite>(
     errors: &mut E,
 ) -> ExitCode
     ensures { EndsProcess words (exit_status result)
-        (record { bytes = R.Read.remaining reader.old; failures = R.CountedRead.failures reader.old })
-        (record { bytes = R.Read.remaining reader.new; failures = R.CountedRead.failures reader.new })
-        (record { bytes = W.Write.contents writer.old; failures = W.CountedWrite.failures writer.old })
-        (record { bytes = W.Write.contents writer.new; failures = W.CountedWrite.failures writer.new })
-        (record { bytes = E.Write.contents errors.old; failures = E.CountedWrite.failures errors.old })
-        (record { bytes = E.Write.contents errors.new; failures = E.CountedWrite.failures errors.new }) }
+        (device (R.Read.remaining reader.old) (R.CountedRead.failures reader.old))
+        (device (R.Read.remaining reader.new) (R.CountedRead.failures reader.new))
+        (device (W.Write.contents writer.old) (W.CountedWrite.failures writer.old))
+        (device (W.Write.contents writer.new) (W.CountedWrite.failures writer.new))
+        (device (E.Write.contents errors.old) (E.CountedWrite.failures errors.old))
+        (device (E.Write.contents errors.new) (E.CountedWrite.failures errors.new)) }
 {
     let ending = ending_of(rt, words, reader, writer);
     let _ = write_text(errors, ending.message().as_bytes());

@@ -1,6 +1,6 @@
 ghost use Rattle.std.specs.Prelude.{◌≡◌, ℕ, take, OnOk, OnErr, is_ok};
 ghost use Rattle.std.specs.Io.KnownBytes.{Appends};
-ghost use Rattle.bench_commands.specs.Device.{counted, AppendsPrefix};
+ghost use Rattle.bench_commands.specs.Device.{failures_after, AppendsPrefix};
 
 use crate::device::CountedWrite;
 
@@ -10,9 +10,12 @@ pub(crate) struct WriteFault;
 
 /// Writes the whole text, or a prefix of it where a write fails.
 pub(crate) fn write_text<W: CountedWrite>(writer: &mut W, text: &[u8]) -> Result<(), WriteFault>
-    ensures whole { OnOk result (Appends (W.Write.contents writer.old) (W.Write.contents writer.new) text.now) }
-    ensures prefix { OnErr result (AppendsPrefix (W.Write.contents writer.old) (W.Write.contents writer.new) text.now) }
-    ensures failures { W.CountedWrite.failures writer.new ≡ counted (is_ok result) (W.CountedWrite.failures writer.old) }
+    ensures whole { OnOk result
+        (Appends (W.Write.contents writer.old) (W.Write.contents writer.new) text.now) }
+    ensures prefix { OnErr result
+        (AppendsPrefix (W.Write.contents writer.old) (W.Write.contents writer.new) text.now) }
+    ensures failures { W.CountedWrite.failures writer.new
+        ≡ failures_after (is_ok result) (W.CountedWrite.failures writer.old) }
 {
     let mut written = 0;
     while written < text.len() {

@@ -1,5 +1,6 @@
--- Alike kernels: equality of two tables said pair by pair, without lists, so without sorting. Stamps, wakes and deadlines themselves
--- are not compared: only which of two stamps is the lesser, and how many ticks are left.
+-- Alike kernels: equality of two tables said pair by pair, without lists, so without sorting.
+-- Stamps, wakes and deadlines themselves are not compared: only which of two stamps is the lesser,
+-- and how many ticks are left.
 use Rattle.std.specs.Prelude.{◌≡◌, ◌↔◌, ℕ, ◌<◌, ◌%◌, ◌^◌, true, Option, IsSome}
 use Rattle.bench_types.specs.declared.kernel_data.MutexWait.{MutexWait}
 use Rattle.bench_model.specs.Control.{task_at}
@@ -11,28 +12,31 @@ abbrev pub wait_of : ℕ → Table → Option MutexWait
 wait_of task table = wait_in (row_at table.orders task).standing
 
 -- both are ready, with one priority in use
-abbrev pub AreReadyTogether : Table → ℕ → ℕ → Type 0
-AreReadyTogether table i j =
-    (is_ready i table.orders ≡ true) × (is_ready j table.orders ≡ true) × ((task_at table.control i).in_use ≡ (task_at table.control j).in_use)
+abbrev pub InOneReadyList : Table → ℕ → ℕ → Type 0
+InOneReadyList table i j =
+    (is_ready i table.orders ≡ true) × (is_ready j table.orders ≡ true)
+    × ((task_at table.control i).in_use ≡ (task_at table.control j).in_use)
 
 -- both wait, with one number of ticks left
 abbrev pub AreDelayedTogether : Table → ℕ → ℕ → Type 0
-AreDelayedTogether table i j = IsSome (ticks_left i table.orders) × (ticks_left i table.orders ≡ ticks_left j table.orders)
+AreDelayedTogether table i j =
+    IsSome (ticks_left i table.orders) × (ticks_left i table.orders ≡ ticks_left j table.orders)
 
 -- both wait for one mutex, with one waiting priority
-abbrev pub AreQueuedTogether : Table → ℕ → ℕ → Type 0
-AreQueuedTogether table i j = IsSome (wait_of i table) × (wait_of i table ≡ wait_of j table)
+abbrev pub InOneWaitQueue : Table → ℕ → ℕ → Type 0
+InOneWaitQueue table i j = IsSome (wait_of i table) × (wait_of i table ≡ wait_of j table)
 
 -- the first task came to where it stands before the second
 abbrev pub CameBefore : Table → ℕ → ℕ → Type 0
 CameBefore table i j = stamp_of table.orders i < stamp_of table.orders j
 
 -- any two tasks that stand together came in the same order in both tables
-abbrev pub CameAlike : (Table → ℕ → ℕ → Type 0) → Table → Table → Type 0
-CameAlike StandTogether a b =
-    (i j : ℕ) → i < a.settings.tasks → j < a.settings.tasks → StandTogether a i j → (CameBefore a i j ↔ CameBefore b i j)
+abbrev pub SameOrder : (Table → ℕ → ℕ → Type 0) → Table → Table → Type 0
+SameOrder StandTogether a b =
+    (i j : ℕ) → i < a.settings.tasks → j < a.settings.tasks → StandTogether a i j
+    → (CameBefore a i j ↔ CameBefore b i j)
 
-pub record AreAlike (a b : Table) : Type 0 where
+pub record SamePairwise (a b : Table) : Type 0 where
   pub settings : a.settings ≡ b.settings
   -- each core's current task and flags, and each task's priorities, mask and preemption
   pub control : a.control ≡ b.control
@@ -42,13 +46,15 @@ pub record AreAlike (a b : Table) : Type 0 where
   pub hold : a.hold ≡ b.hold
   -- the tick counts are equal as 32 bits
   pub ticks : a.orders.tick % 2 ^ 32 ≡ b.orders.tick % 2 ^ 32
-  -- each task is ready in both or in none, with equal ticks left to its wake, waits equally at a mutex, and has equal ticks left to
-  -- the deadline of its wait for a mutex
+  -- each task is ready in both or in none, with equal ticks left to its wake, waits equally at a
+  -- mutex, and has equal ticks left to the deadline of its wait for a mutex
   pub ready : (i : ℕ) → i < a.settings.tasks → is_ready i a.orders ≡ is_ready i b.orders
   pub left : (i : ℕ) → i < a.settings.tasks → ticks_left i a.orders ≡ ticks_left i b.orders
   pub waits : (i : ℕ) → i < a.settings.tasks → wait_of i a ≡ wait_of i b
-  pub deadlines : (i : ℕ) → i < a.settings.tasks → deadline_left i a.orders ≡ deadline_left i b.orders
-  -- the order of each ready list, of the tasks with one number of ticks left, and of the waiters of one waiting priority
-  pub ready_order : CameAlike AreReadyTogether a b
-  pub delay_order : CameAlike AreDelayedTogether a b
-  pub queue_order : CameAlike AreQueuedTogether a b
+  pub deadlines :
+      (i : ℕ) → i < a.settings.tasks → deadline_left i a.orders ≡ deadline_left i b.orders
+  -- the order of each ready list, of the tasks with one number of ticks left, and of the waiters of
+  -- one waiting priority
+  pub ready_order : SameOrder InOneReadyList a b
+  pub delay_order : SameOrder AreDelayedTogether a b
+  pub queue_order : SameOrder InOneWaitQueue a b

@@ -1,5 +1,5 @@
--- The cores, the control blocks and the ready lists: the part of what can be seen of a kernel that its choices of cores and of
--- tasks read and change.
+-- The cores, the control blocks and the ready lists: the part of what can be seen of a kernel that
+-- its choices of cores and of tasks read and change.
 use Rattle.std.specs.Prelude.{ℕ, List, [], length, Bool, ◌==◌, None}
 use Rattle.std.specs.Int.{bit_at}
 use Rattle.bench_model.specs.Control.{Control}
@@ -9,16 +9,24 @@ pub record CoresView : Type 0 where
   pub priorities : ℕ
   pub slicing : Bool
   pub control : Control
-  -- the ready tasks, running ones too: the greatest priority in use first, each priority in the order of its ready list
+  -- the ready tasks, running ones too: the greatest priority in use first, each priority in the
+  -- order of its ready list
   pub ready : List ℕ
 
 -- the part of what can be seen of a kernel
 abbrev pub cores_of : View → CoresView
-cores_of view = record { priorities = view.settings.priorities; slicing = view.settings.slicing; control = view.control; ready = view.orders.ready }
+cores_of view =
+    record {
+      priorities = view.settings.priorities;
+      slicing = view.settings.slicing;
+      control = view.control;
+      ready = view.orders.ready;
+    }
 
--- a kernel of which this is the part, where no task waits, is in a call or has a notification, and no mutex is there
-abbrev pub alone : CoresView → View
-alone cores = record {
+-- a kernel of which this is the part, where no task waits, is in a call or has a notification, and
+-- no mutex is there
+abbrev pub bare_view : CoresView → View
+bare_view cores = record {
   settings = record {
     cores = length cores.control.cores;
     priorities = cores.priorities;
@@ -35,8 +43,8 @@ alone cores = record {
 }
 
 -- what a rule of whole kernels does to this part
-abbrev pub on_cores : (View → View) → CoresView → CoresView
-on_cores rule cores = cores_of (rule (alone cores))
+abbrev pub cores_rule : (View → View) → CoresView → CoresView
+cores_rule rule cores = cores_of (rule (bare_view cores))
 
 -- the bit of the core is set among those of a mask
 abbrev pub has_core : ℕ → ℕ → Bool

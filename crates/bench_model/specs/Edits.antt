@@ -13,7 +13,8 @@ use Rattle.bench_types.specs.Limits.{max_steps}
 use Rattle.bench_types.specs.Session.{Session}
 use Rattle.bench_types.specs.Step.{◌>>◌}
 
--- J1: a step is inserted before one of the steps or behind the last; one of the steps is removed or replaced
+-- J1: a step is inserted before one of the steps or after the last; one of the steps is removed or
+-- replaced
 abbrev pub has_place : List Step → Edit → Bool
 has_place steps (Insert at step) = nat_le at (length steps)
 has_place steps (Remove at) = nat_lt at (length steps)
@@ -35,25 +36,29 @@ accepted session edit = result_map_both (λ _. tt) Bench (edit_check session.hea
 
 -- the user task's arguments in the header; those of no name stand for a task that is none
 abbrev pub args_of : Header → ℕ → TaskArgs
-args_of header task = slice_index_or header.tasks (task - header.config.cores) (record { name = []; priority = 0; mask = 0 })
+args_of header task =
+    slice_index_or header.tasks (task - header.config.cores)
+    (record { name = []; priority = 0; mask = 0 })
 
 -- the header with this priority and mask for the user task
 abbrev pub changed : ℕ → ℕ → ℕ → Header → Header
 changed task priority mask header = record header {
-  tasks = slice_set header.tasks (task - header.config.cores) (record (args_of header task) { priority = priority; mask = mask });
+  tasks = slice_set header.tasks (task - header.config.cores)
+      (record (args_of header task) { priority = priority; mask = mask });
 }
 
--- the session behind an accepted edit
+-- the session after an accepted edit
 abbrev pub edited : Edit → Session → Session
 edited (Insert at step) session = record session { steps = insert session.steps at step }
 edited (Remove at) session = record session { steps = remove session.steps at }
 edited (Replace at step) session = record session { steps = slice_set session.steps at step }
-edited (ChangeTask task priority mask) session = record session { header = changed task priority mask session.header }
+edited (ChangeTask task priority mask) session =
+    record session { header = changed task priority mask session.header }
 
 -- an edit that is not accepted is passed over
 abbrev pub after_edit : Session → Edit → Session
 after_edit session edit = if is_ok (accepted session edit) then edited edit session else session
 
--- the session behind edits in their order
+-- the session after edits in their order
 abbrev pub after_edits : Session → List Edit → Session
 after_edits session edits = fold after_edit session edits

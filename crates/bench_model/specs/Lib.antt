@@ -1,6 +1,6 @@
 pub mod Alike
-pub mod Changes
 pub mod Control
+pub mod ControlFields
 pub mod Cores
 pub mod Edits
 pub mod Equal
@@ -11,10 +11,10 @@ pub mod MutexParts
 pub mod Mutexes
 pub mod Notes
 pub mod Notifying
+pub mod PriorityAffinity
 pub mod Refusals
 pub mod Seek
 pub mod Session
-pub mod Sets
 pub mod Sound
 pub mod Start
 pub mod State

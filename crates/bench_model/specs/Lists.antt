@@ -1,4 +1,5 @@
--- What can be seen of a kernel: its orders as lists, the tick count as 32 bits, and how long each task still waits.
+-- What can be seen of a kernel: its orders as lists, the tick count as 32 bits, and how long each
+-- task still waits.
 use Rattle.bench_types.specs.declared.reply.Reply.{Reply}
 use Rattle.std.specs.Prelude.{ℕ, ◌+◌, ◌-◌, ◌%◌, ◌^◌, List, map, filter, find, Bool, not, ◌==◌, nat_le, Option, None, option_map, unwrap_or, is_some, ◌&&◌, ◌||◌, nat_lt, if◌then◌else◌, slice_index_or, slice_set}
 use Rattle.std.specs.Option.{option_map_or}
@@ -6,21 +7,24 @@ use Rattle.bench_types.specs.declared.kernel_data.Delayed.{Delayed}
 use Rattle.bench_types.specs.declared.kernel_data.MutexWait.{MutexWait}
 use Rattle.bench_types.specs.declared.kernel_data.Waiter.{Waiter}
 use Rattle.bench_model.specs.Control.{Control, task_at, may_select}
-use Rattle.bench_model.specs.State.{State, Moves}
+use Rattle.bench_model.specs.State.{State, QueueOps}
 use Rattle.list_orders.specs.Search.{by_stamp, placed, ranked, without, has}
 use Rattle.bench_model.specs.Table.{Stamps, Table, row_at, stamp_of, tasks_of, stands_ready, wake_in, wait_in, waiter_of}
 
 pub record Lists : Type 0 where
-  -- the ready tasks, running ones too: the greatest priority in use first, each priority in the order of its ready list
+  -- the ready tasks, running ones too: the greatest priority in use first, each priority in the
+  -- order of its ready list
   pub ready : List ℕ
   -- the tick count
   pub tick : ℕ
-  -- the blocked tasks with ticks left: the fewest first, those of one number in the order in which they began to wait
+  -- the blocked tasks with ticks left: the fewest first, those of one number in the order in which
+  -- they began to wait
   pub delayed : List Delayed
-  -- the tasks that wait for mutexes: mutex 0 first, of one mutex the greatest waiting priority first, those of one priority in
-  -- the order in which they began to wait
+  -- the tasks that wait for mutexes: mutex 0 first, of one mutex the greatest waiting priority
+  -- first, those of one priority in the order in which they began to wait
   pub waiters : List Waiter
-  -- per task the ticks left to the end of its unfinished wait for a mutex, none where there is none or it has no end
+  -- per task the ticks left to the end of its unfinished wait for a mutex, none where there is none
+  -- or it has no end
   pub deadlines : List (Option ℕ)
 
 abbrev pub View : Type 0
@@ -34,14 +38,17 @@ outranks control i j = nat_le (task_at control j).in_use (task_at control i).in_
 abbrev pub wakes_first : Delayed → Delayed → Bool
 wakes_first a b = nat_le a.left b.left
 
--- a waiter stays in front of another of a greater mutex, or of its own mutex and no greater waiting priority
+-- a waiter stays in front of another of a greater mutex, or of its own mutex and no greater waiting
+-- priority
 abbrev pub waits_first : Waiter → Waiter → Bool
-waits_first a b = nat_lt a.wait.mutex b.wait.mutex || (a.wait.mutex == b.wait.mutex && nat_le b.wait.priority a.wait.priority)
+waits_first a b =
+    nat_lt a.wait.mutex b.wait.mutex
+    || (a.wait.mutex == b.wait.mutex && nat_le b.wait.priority a.wait.priority)
 
 abbrev pub without_waiter : ℕ → List Waiter → List Waiter
 without_waiter task waiters = filter (λ waiter. not (waiter.task == task)) waiters
 
--- a task that begins to wait stands behind those that wait as long or shorter
+-- a task that begins to wait stands after those that wait as long or shorter
 abbrev pub with_delay : ℕ → ℕ → List Delayed → List Delayed
 with_delay task ticks delayed = placed wakes_first (record { task = task; left = ticks }) delayed
 
@@ -67,8 +74,8 @@ is_ready task lists = has task lists.ready
 unfoldable pub pick : Control → ℕ → Lists → Option ℕ
 pick control core lists = find (may_select control core) lists.ready
 
-unfoldable pub make_ready : Control → ℕ → Lists → Lists
-make_ready control task lists = record lists {
+unfoldable pub add_to_ready_list : Control → ℕ → Lists → Lists
+add_to_ready_list control task lists = record lists {
   ready = placed (outranks control) task (without task lists.ready);
   delayed = without_delay task lists.delayed;
   waiters = without_waiter task lists.waiters;
@@ -79,14 +86,17 @@ unfoldable pub delay : ℕ → Option ℕ → Option MutexWait → Lists → Lis
 delay task ticks wait lists = record lists {
   ready = without task lists.ready;
   delayed = option_map_or (λ left. with_delay task left lists.delayed) ticks lists.delayed;
-  waiters = option_map_or (λ wait. placed waits_first (record { task = task; wait = wait }) lists.waiters) wait lists.waiters;
+  waiters = option_map_or
+      (λ wait. placed waits_first (record { task = task; wait = wait }) lists.waiters) wait
+      lists.waiters;
   deadlines = slice_set lists.deadlines task (if is_some wait then ticks else None);
 }
 
 abbrev pub tick_count : Lists → ℕ
 tick_count lists = lists.tick
 
--- the tick count wraps, and each waiting task has one tick less left; a deadline that is reached stays so
+-- the tick count wraps, and each waiting task has one tick less left; a deadline that is reached
+-- stays so
 unfoldable pub advance : Lists → Lists
 advance lists = record lists {
   tick = next_tick lists.tick;
@@ -110,11 +120,11 @@ deadline_left task lists = slice_index_or lists.deadlines task None
 unfoldable pub forget_deadline : ℕ → Lists → Lists
 forget_deadline task lists = record lists { deadlines = slice_set lists.deadlines task None }
 
-abbrev pub list_moves : Moves Lists
-list_moves = record {
+abbrev pub list_queues : QueueOps Lists
+list_queues = record {
   is_ready = is_ready;
   pick = pick;
-  make_ready = make_ready;
+  add_to_ready_list = add_to_ready_list;
   delay = delay;
   tick_count = tick_count;
   advance = advance;
@@ -126,21 +136,29 @@ list_moves = record {
 
 -- the task with the ticks left to its wake
 abbrev pub delayed_of : Stamps → ℕ → Delayed
-delayed_of stamps task = record { task = task; left = unwrap_or (wake_in (row_at stamps task).standing) 0 - stamps.tick }
+delayed_of stamps task =
+    record { task = task; left = unwrap_or (wake_in (row_at stamps task).standing) 0 - stamps.tick }
 
 -- What can be seen of stamps and wakes.
 unfoldable pub lists_of : Control → Stamps → Lists
-lists_of control stamps = let in_order = λ (test : ℕ → Bool). by_stamp (stamp_of stamps) test (tasks_of stamps) stamps.next in record {
-  ready = ranked (outranks control) (in_order (λ task. stands_ready (row_at stamps task).standing));
-  tick = stamps.tick % 2 ^ 32;
-  delayed = ranked wakes_first (map (delayed_of stamps) (in_order (λ task. is_some (wake_in (row_at stamps task).standing))));
-  waiters = ranked waits_first (map (waiter_of stamps) (in_order (λ task. is_some (wait_in (row_at stamps task).standing))));
-  deadlines = map (option_map (λ deadline. deadline - stamps.tick)) stamps.deadlines;
-}
+lists_of control stamps =
+    let in_order = λ (test : ℕ → Bool). by_stamp (stamp_of stamps) test
+    (tasks_of stamps) stamps.next in record {
+      ready = ranked (outranks control)
+          (in_order (λ task. stands_ready (row_at stamps task).standing));
+      tick = stamps.tick % 2 ^ 32;
+      delayed = ranked wakes_first
+          (map (delayed_of stamps)
+          (in_order (λ task. is_some (wake_in (row_at stamps task).standing))));
+      waiters = ranked waits_first
+          (map (waiter_of stamps)
+          (in_order (λ task. is_some (wait_in (row_at stamps task).standing))));
+      deadlines = map (option_map (λ deadline. deadline - stamps.tick)) stamps.deadlines;
+    }
 
 -- What can be seen of a table.
-abbrev pub image : Table → View
-image table = record {
+abbrev pub view_of : Table → View
+view_of table = record {
   settings = table.settings;
   control = table.control;
   calls = table.calls;
@@ -150,6 +168,6 @@ image table = record {
   orders = lists_of table.control table.orders;
 }
 
--- what can be seen of a reply and the table behind it
+-- what can be seen of a reply and the table after it
 abbrev pub seen_of : Reply × Table → Reply × View
-seen_of outcome = (outcome.0, image outcome.1)
+seen_of outcome = (outcome.0, view_of outcome.1)

@@ -10,10 +10,11 @@ use Rattle.list_orders.specs.Search.{has}
 use Rattle.bench_model.specs.Table.{Stamps, Table, row_at, wake_in, is_ready}
 use Rattle.bench_model.specs.Lists.{View}
 
--- the ticks to the wake of a blocked task, none for a ready task and for one that waits without end (FreeRTOS Reference Manual,
--- vTaskDelay)
+-- the ticks to the wake of a blocked task, none for a ready task and for one that waits without end
+-- (FreeRTOS Reference Manual, vTaskDelay)
 abbrev pub ticks_left : ℕ → Stamps → Option ℕ
-ticks_left task stamps = option_map (λ wake. wake - stamps.tick) (wake_in (row_at stamps task).standing)
+ticks_left task stamps =
+    option_map (λ wake. wake - stamps.tick) (wake_in (row_at stamps task).standing)
 
 -- What a table shows of a task (FreeRTOS Reference Manual, vTaskGetInfo and "Task Notifications").
 unfoldable pub task_look : Table → ℕ → TaskLook

@@ -1,18 +1,16 @@
--- Mutexes with priority inheritance, over orders of tasks that are kept in one way or another (FreeRTOS Reference Manual,
--- xSemaphoreTake and xSemaphoreGive).
+-- Mutexes with priority inheritance, over orders of tasks that are kept in one way or another
+-- (FreeRTOS Reference Manual, xSemaphoreTake and xSemaphoreGive).
 use Rattle.std.specs.Prelude.{ℕ, List, length, filter, Bool, true, false, not, ◌&&◌, ◌==◌, nat_lt, Option, Some, None, if◌then◌else◌, slice_set}
 use Rattle.std.specs.Option.{option_map_or}
 use Rattle.bench_types.specs.declared.kernel_data.Waiter.{Waiter}
 use Rattle.bench_types.specs.declared.reply.Reply.{Reply}
 use Rattle.bench_types.specs.declared.reply.Reply.TheVariants.{Blocked, Flag}
-use Rattle.bench_types.specs.declared.step.Unfinished.{Unfinished}
-use Rattle.bench_types.specs.declared.step.Unfinished.TheVariants.{Made, Take}
-use Rattle.bench_model.specs.Changes.{in_use_set}
-use Rattle.bench_model.specs.Control.{Control, task_at, in_mask}
-use Rattle.bench_model.specs.Notifying.{awaited_for, completed}
+use Rattle.bench_types.specs.declared.step.Unfinished.TheVariants.{Take}
+use Rattle.bench_model.specs.ControlFields.{in_use_set}
+use Rattle.bench_model.specs.Control.{Control, task_at, in_mask, ask_its_core}
+use Rattle.bench_model.specs.Notifying.{timeout_of}
 use Rattle.bench_model.specs.Seek.{seek, wake}
-use Rattle.bench_model.specs.Sets.{ask_its_core}
-use Rattle.bench_model.specs.State.{State, Moves, holder_at, blocked}
+use Rattle.bench_model.specs.State.{State, QueueOps, holder_at, after_return, blocked}
 
 -- the task holds the mutex
 abbrev pub holds : ℕ → Option ℕ → Bool
@@ -22,14 +20,15 @@ holds task holder = option_map_or (λ other. other == task) holder false
 abbrev pub held_by : List (Option ℕ) → ℕ → ℕ
 held_by holders task = length (filter (holds task) holders)
 
--- The mark of a wait: the holder is another task, whose base priority is below the priority in use of the task that waits
--- (V11 tasks.c, xTaskPriorityInherit).
+-- The mark of a wait: the holder is another task, whose base priority is below the priority in use
+-- of the task that waits (V11 tasks.c, xTaskPriorityInherit).
 abbrev pub is_marked : Control → ℕ → ℕ → Bool
-is_marked control task holder = not (holder == task) && nat_lt (task_at control holder).base (task_at control task).in_use
+is_marked control task holder =
+    not (holder == task) && nat_lt (task_at control holder).base (task_at control task).in_use
 
 -- the greater of the base priority and the waiting priority of a waiter, if there is one
-abbrev pub owed_to : Option Waiter → ℕ → ℕ
-owed_to first base =
+abbrev pub disinherit_priority : Option Waiter → ℕ → ℕ
+disinherit_priority first base =
     let priority = option_map_or (λ (waiter : Waiter). waiter.wait.priority) first base in
     if nat_lt base priority then priority else base
 
@@ -37,79 +36,90 @@ module _ {Orders : Type 0} where
   unfoldable pub taken : ℕ → ℕ → State Orders → State Orders
   taken task mutex state = record state { holders = slice_set state.holders mutex (Some task) }
 
-module _ {Orders : Type 0} (moves : Moves Orders) where
-  -- The holder takes over a greater priority in use; where it is ready and runs on no core, a core is sought for it (V11 tasks.c,
-  -- xTaskPriorityInherit).
+module _ {Orders : Type 0} (ops : QueueOps Orders) where
+  -- The holder takes over a greater priority in use; where it is ready and runs on no core, a core
+  -- is sought for it (V11 tasks.c, xTaskPriorityInherit).
   unfoldable pub inherited : ℕ → ℕ → ℕ → State Orders → State Orders
   inherited acting holder priority state =
-      let later = in_use_set moves holder priority state in
-      let sought = record later { control = seek acting holder (in_mask later.control holder) later.control } in
-      if nat_lt (task_at state.control holder).in_use priority then (if moves.is_ready holder state.orders then sought else later) else state
+      let later = in_use_set ops holder priority state in
+      let control = seek acting holder (in_mask later.control holder) later.control in
+      let sought = record later { control = control } in
+      if nat_lt (task_at state.control holder).in_use priority
+      then (if ops.is_ready holder state.orders then sought else later) else state
 
   -- The task waits for a mutex that a task holds, and the holder inherits its priority in use.
   unfoldable pub waited_at : ℕ → ℕ → ℕ → ℕ → Option ℕ → State Orders → State Orders
   waited_at core task mutex holder ticks state =
       let priority = (task_at state.control task).in_use in
       let call = Take mutex (is_marked state.control task holder) in
-      blocked moves core task call ticks (Some (record { mutex = mutex; priority = priority })) (inherited core holder priority state)
+      blocked ops core task call ticks (Some (record { mutex = mutex; priority = priority }))
+      (inherited core holder priority state)
 
-  -- Taking a mutex: a free one is taken; for one that is held, the task waits, or is told no where it waits for 0 ticks.
+  -- Taking a mutex: a free one is taken; for one that is held, the task waits, or is told no where
+  -- it waits for 0 ticks.
   unfoldable pub mutex_take : ℕ → ℕ → ℕ → ℕ → State Orders → Reply × State Orders
   mutex_take core task mutex ticks state =
       option_map_or
-      (λ holder. if ticks == 0 then (Flag false, state) else (Blocked, waited_at core task mutex holder (awaited_for ticks) state))
+      (λ holder. if ticks == 0 then (Flag false, state)
+      else (Blocked, waited_at core task mutex holder (timeout_of ticks) state))
       (holder_at state.holders mutex)
       (Flag true, taken task mutex state)
 
   -- what the task owes to the first waiter of the mutex
   abbrev pub owed : ℕ → ℕ → State Orders → ℕ
-  owed task mutex state = owed_to (moves.first_waiter mutex state.orders) (task_at state.control task).base
+  owed task mutex state =
+      disinherit_priority (ops.first_waiter mutex state.orders) (task_at state.control task).base
 
-  -- A task's priority in use becomes this one, unless it is this one already; the core of a running task is asked.
-  unfoldable pub lowered : ℕ → ℕ → ℕ → State Orders → State Orders
-  lowered acting task priority state =
-      let later = in_use_set moves task priority state in
-      if (task_at state.control task).in_use == priority then state else record later { control = ask_its_core acting task later.control }
+  -- A task's priority in use becomes this one, unless it is this one already; the core of a running
+  -- task is asked.
+  unfoldable pub after_disinherit : ℕ → ℕ → ℕ → State Orders → State Orders
+  after_disinherit acting task priority state =
+      let later = in_use_set ops task priority state in
+      if (task_at state.control task).in_use == priority then state
+      else record later { control = ask_its_core acting task later.control }
 
-  -- A wait with a mark ends without the mutex: a holder of this mutex alone keeps what it owes to the tasks that still wait
-  -- (V11 tasks.c, vTaskPriorityDisinheritAfterTimeout).
+  -- A wait with a mark ends without the mutex: a holder of this mutex alone keeps what it owes to
+  -- the tasks that still wait (V11 tasks.c, vTaskPriorityDisinheritAfterTimeout).
   unfoldable pub timed_out : ℕ → ℕ → ℕ → Bool → ℕ → State Orders → State Orders
   timed_out acting task mutex mark holder state =
-      if mark && not (holder == task) && held_by state.holders holder == 1 then lowered acting holder (owed holder mutex state) state else state
+      if mark && not (holder == task) && held_by state.holders holder == 1
+      then after_disinherit acting holder (owed holder mutex state) state else state
 
-  -- The task's unfinished call is over.
-  abbrev pub ended : ℕ → State Orders → State Orders
-  ended task state = record state { calls = slice_set state.calls task None; orders = moves.forget_deadline task state.orders }
-
-  -- A wait for a mutex is finished: with a free mutex, which is taken, or with none where its deadline is reached; else the task
-  -- waits again, for the ticks that are left.
+  -- A wait for a mutex is finished: with a free mutex, which is taken, or with none where its
+  -- deadline is reached; else the task waits again, for the ticks that are left.
   unfoldable pub take_finished : ℕ → ℕ → ℕ → Bool → State Orders → Reply × State Orders
   take_finished core task mutex mark state =
-      let left = moves.deadline_left task state.orders in
+      let left = ops.deadline_left task state.orders in
       option_map_or
       (λ holder. if option_map_or (λ ticks. ticks == 0) left false
-      then (Flag false, timed_out core task mutex mark holder (ended task state))
+      then (Flag false, timed_out core task mutex mark holder (after_return ops task state))
       else (Blocked, waited_at core task mutex holder left state))
       (holder_at state.holders mutex)
-      (Flag true, taken task mutex (ended task state))
+      (Flag true, taken task mutex (after_return ops task state))
 
-  -- the task's unfinished call returns
-  unfoldable pub finished : ℕ → ℕ → Unfinished → State Orders → Reply × State Orders
-  finished core task (Made call) state = completed task call (ended task state)
-  finished core task (Take mutex mark) state = take_finished core task mutex mark state
-
-  -- A task that holds no mutex any more has its base priority in use again (V11 tasks.c, xTaskPriorityDisinherit).
+  -- A task that holds no mutex any more has its base priority in use again (V11 tasks.c,
+  -- xTaskPriorityDisinherit).
   unfoldable pub disinherited : ℕ → ℕ → State Orders → State Orders
-  disinherited core task state = if held_by state.holders task == 0 then lowered core task (task_at state.control task).base state else state
+  disinherited core task state =
+      if held_by state.holders task == 0
+      then after_disinherit core task (task_at state.control task).base state else state
 
   -- the first waiter of the mutex, if there is one, is woken
   unfoldable pub first_woken : ℕ → ℕ → State Orders → State Orders
-  first_woken acting mutex state = option_map_or (λ waiter. wake moves acting waiter.task state) (moves.first_waiter mutex state.orders) state
+  first_woken acting mutex state =
+      option_map_or (λ waiter. wake ops acting waiter.task state)
+      (ops.first_waiter mutex state.orders) state
 
-  -- Giving a mutex that the task holds: its first waiter is woken, and has to take it itself. A free one is not given.
+  -- Giving a mutex that the task holds: its first waiter is woken, and has to take it itself. A
+  -- free one is not given.
   unfoldable pub mutex_give : ℕ → ℕ → ℕ → State Orders → Reply × State Orders
   mutex_give core task mutex state =
       option_map_or
-      (λ holder. (Flag true, first_woken core mutex (disinherited core task (record state { holders = slice_set state.holders mutex None }))))
+      (λ holder. (
+        Flag true,
+        first_woken core mutex
+            (disinherited core task
+            (record state { holders = slice_set state.holders mutex None })),
+      ))
       (holder_at state.holders mutex)
       (Flag false, state)

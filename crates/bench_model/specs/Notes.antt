@@ -1,5 +1,5 @@
--- Task notifications: what comes to a task, and what the calls that wait for it take (FreeRTOS Reference Manual, "Task
--- Notifications").
+-- Task notifications: what comes to a task, and what the calls that wait for it take (FreeRTOS
+-- Reference Manual, "Task Notifications").
 use Rattle.std.specs.Prelude.{ℕ, ◌+◌, ◌-◌, ◌^◌, ◌%◌, ◌==◌, List, Bool, true, false, if◌then◌else◌, slice_index_or, slice_set}
 use Rattle.std.specs.Int.{w32, bit_not}
 use Rattle.std.specs.Int.Bits.{bit_and, bit_or}
@@ -28,12 +28,13 @@ is_waiting state = false
 abbrev pub without_bits : ℕ → ℕ → ℕ
 without_bits bits value = bit_and value (bit_not w32 bits)
 
--- one that must not overwrite is not passed where another has come and was not taken (eSetValueWithoutOverwrite)
+-- one that must not overwrite is not passed where another has come and was not taken
+-- (eSetValueWithoutOverwrite)
 abbrev pub passes : Action → NoteState → Bool
 passes (SetNew value) Received = false
 passes action state = true
 
--- the value behind an action that is passed (eNotifyAction)
+-- the value after an action that is passed (eNotifyAction)
 abbrev pub acted : Action → ℕ → ℕ
 acted Nothing value = value
 acted (SetBits bits) value = bit_or value bits
@@ -48,34 +49,49 @@ notified action note = record {
   state = Received;
 }
 
--- A wait has nothing to complete with where none has come. Then the entry bits are cleared, and the task is to wait
--- (V11 tasks.c, xTaskGenericNotifyWait).
+-- A wait has nothing to complete with where none has come. Then the entry bits are cleared, and the
+-- task is to wait (V11 tasks.c, xTaskGenericNotifyWait).
 unfoldable pub wait_begun : ℕ → Notification → Bool × Notification
 wait_begun entry note =
     if is_received note.state then (false, note)
     else (true, record { value = without_bits entry note.value; state = Waiting })
 
--- It completes with whether one has come, and with the value; only where one has come are the exit bits cleared behind it.
+-- It completes with whether one has come, and with the value; only where one has come are the exit
+-- bits cleared after it.
 unfoldable pub wait_ended : ℕ → Notification → (Bool × ℕ) × Notification
-wait_ended exit note = let come = is_received note.state in
-    ((come, note.value), record { value = if come then without_bits exit note.value else note.value; state = NotWaiting })
+wait_ended exit note = let come = is_received note.state in (
+  (come, note.value),
+  record {
+    value = if come then without_bits exit note.value
+        else note.value;
+    state = NotWaiting;
+  },
+)
 
--- A take has nothing to complete with where the value is 0. Then the task is to wait (V11 tasks.c, ulTaskGenericNotifyTake).
+-- A take has nothing to complete with where the value is 0. Then the task is to wait (V11 tasks.c,
+-- ulTaskGenericNotifyTake).
 unfoldable pub take_begun : Notification → Bool × Notification
 take_begun note = if note.value == 0 then (true, record note { state = Waiting }) else (false, note)
 
 -- It completes with the value, which it then clears or counts down.
 unfoldable pub take_ended : Bool → Notification → ℕ × Notification
-take_ended clear note = (note.value, record { value = if clear then 0 else note.value - 1; state = NotWaiting })
+take_ended clear note =
+    (note.value, record { value = if clear then 0 else note.value - 1; state = NotWaiting })
 
--- Whether one had come. It is forgotten, but for its value (FreeRTOS Reference Manual, xTaskNotifyStateClear).
+-- Whether one had come. It is forgotten, but for its value (FreeRTOS Reference Manual,
+-- xTaskNotifyStateClear).
 unfoldable pub state_cleared : Notification → Bool × Notification
-state_cleared note = let come = is_received note.state in (come, if come then record note { state = NotWaiting } else note)
+state_cleared note =
+    let come = is_received note.state in
+    (come, if come then record note { state = NotWaiting } else note)
 
--- The value as it was; then the bits are cleared (FreeRTOS Reference Manual, ulTaskNotifyValueClear).
+-- The value as it was; then the bits are cleared (FreeRTOS Reference Manual,
+-- ulTaskNotifyValueClear).
 unfoldable pub value_cleared : ℕ → Notification → ℕ × Notification
 value_cleared bits note = (note.value, record note { value = without_bits bits note.value })
 
 -- what a rule answers of the task's notification, and all notifications with what it makes of it
-abbrev pub of_task : {A : Type 0} → ℕ → (Notification → A × Notification) → List Notification → A × List Notification
-of_task task rule notes = let made = rule (note_at notes task) in (made.0, slice_set notes task made.1)
+abbrev pub of_task :
+    {A : Type 0} → ℕ → (Notification → A × Notification) → List Notification → A × List Notification
+of_task task rule notes =
+    let made = rule (note_at notes task) in (made.0, slice_set notes task made.1)

@@ -10,12 +10,13 @@ use Rattle.bench_types.specs.declared.step.Call.TheVariants.{NotifyWait, NotifyT
 use Rattle.bench_types.specs.declared.step.Unfinished.TheVariants.{Made}
 use Rattle.bench_model.specs.Control.{core_at}
 use Rattle.bench_model.specs.Notes.{note_at, is_waiting, passes, notified, wait_ended, take_ended, state_cleared, value_cleared, of_task}
-use Rattle.bench_model.specs.State.{State, Moves, blocked}
+use Rattle.bench_model.specs.State.{State, QueueOps, blocked}
 use Rattle.bench_model.specs.Seek.{wake}
 
--- a notification is awaited for so many ticks; 4294967295 are without end (FreeRTOS Reference Manual, portMAX_DELAY)
-abbrev pub awaited_for : ℕ → Option ℕ
-awaited_for ticks = if ticks == 2 ^ 32 - 1 then None else Some ticks
+-- a notification is awaited for so many ticks; 4294967295 are without end (FreeRTOS Reference
+-- Manual, portMAX_DELAY)
+abbrev pub timeout_of : ℕ → Option ℕ
+timeout_of ticks = if ticks == 2 ^ 32 - 1 then None else Some ticks
 
 module _ {Orders : Type 0} where
   abbrev pub is_passed : Note → State Orders → Bool
@@ -23,14 +24,19 @@ module _ {Orders : Type 0} where
 
   -- Whether a notification had come to the task (FreeRTOS Reference Manual, xTaskNotifyStateClear).
   unfoldable pub state_forgotten : ℕ → State Orders → Reply × State Orders
-  state_forgotten task state = let made = of_task task state_cleared state.notes in (Flag made.0, record state { notes = made.1 })
+  state_forgotten task state =
+      let made = of_task task state_cleared state.notes in
+      (Flag made.0, record state { notes = made.1 })
 
-  -- The task's value before its bits are cleared (FreeRTOS Reference Manual, ulTaskNotifyValueClear).
+  -- The task's value before its bits are cleared (FreeRTOS Reference Manual,
+  -- ulTaskNotifyValueClear).
   unfoldable pub bits_cleared : ℕ → ℕ → State Orders → Reply × State Orders
-  bits_cleared task bits state = let made = of_task task (value_cleared bits) state.notes in (Value made.0, record state { notes = made.1 })
+  bits_cleared task bits state =
+      let made = of_task task (value_cleared bits) state.notes in
+      (Value made.0, record state { notes = made.1 })
 
-  -- A call completes: one that waited for a notification answers with that, every other is done (V11 tasks.c,
-  -- xTaskGenericNotifyWait and ulTaskGenericNotifyTake).
+  -- A call completes: one that waited for a notification answers with that, every other is done
+  -- (V11 tasks.c, xTaskGenericNotifyWait and ulTaskGenericNotifyTake).
   unfoldable pub completed : ℕ → Call → State Orders → Reply × State Orders
   completed task (NotifyWait entry exit ticks) state =
       let made = of_task task (wait_ended exit) state.notes in
@@ -40,24 +46,30 @@ module _ {Orders : Type 0} where
       (Value made.0, record state { notes = made.1 })
   completed task call state = (Done, state)
 
-module _ {Orders : Type 0} (moves : Moves Orders) where
-  -- Notifying a task; one that waits for it is woken (V11 tasks.c, xTaskGenericNotify). The core acts.
+module _ {Orders : Type 0} (ops : QueueOps Orders) where
+  -- Notifying a task; one that waits for it is woken (V11 tasks.c, xTaskGenericNotify). The core
+  -- acts.
   unfoldable pub notify : ℕ → ℕ → Action → State Orders → State Orders
   notify acting task action state =
       let note = note_at state.notes task in
       let told = record state { notes = slice_set state.notes task (notified action note) } in
-      if is_waiting note.state then wake moves acting task told else told
+      if is_waiting note.state then wake ops acting task told else told
 
-  -- An interrupt of the core notifies a task. It answers whether that passed, and whether the core is to switch by its own
-  -- request then (FreeRTOS Reference Manual, xTaskNotifyFromISR and pxHigherPriorityTaskWoken).
+  -- An interrupt of the core notifies a task. It answers whether that passed, and whether the core
+  -- is to switch by its own request then (FreeRTOS Reference Manual, xTaskNotifyFromISR and
+  -- pxHigherPriorityTaskWoken).
   unfoldable pub interrupted : ℕ → Note → State Orders → Reply × State Orders
   interrupted core note state =
       let told = notify core note.task note.action state in
       (Isr (is_passed note state) (core_at told.control core).pend, told)
 
-  -- A call that has begun to wait for a notification: where it has nothing to complete with, and some ticks to wait, its task
-  -- is blocked, else it completes at once (V11 tasks.c, xTaskGenericNotifyWait and ulTaskGenericNotifyTake).
-  unfoldable pub awaited : ℕ → ℕ → Call → ℕ → Bool × List Notification → State Orders → Reply × State Orders
+  -- A call that has begun to wait for a notification: where it has nothing to complete with, and
+  -- some ticks to wait, its task is blocked, else it completes at once (V11 tasks.c,
+  -- xTaskGenericNotifyWait and ulTaskGenericNotifyTake).
+  unfoldable pub awaited :
+      ℕ → ℕ → Call → ℕ → Bool × List Notification → State Orders → Reply × State Orders
   awaited core task call ticks begun state =
       let waiting = record state { notes = begun.1 } in
-      if begun.0 && nat_lt 0 ticks then (Blocked, blocked moves core task (Made call) (awaited_for ticks) None waiting) else completed task call waiting
+      if begun.0 && nat_lt 0 ticks
+      then (Blocked, blocked ops core task (Made call) (timeout_of ticks) None waiting)
+      else completed task call waiting

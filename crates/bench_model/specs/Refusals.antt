@@ -13,7 +13,7 @@ use Rattle.bench_types.specs.Limits.{max_depth}
 use Rattle.bench_model.specs.Control.{current, is_due}
 use Rattle.bench_model.specs.Holds.{is_held_by, is_held_elsewhere, depth_of}
 use Rattle.bench_model.specs.Notes.{note_at, wait_begun, take_begun}
-use Rattle.bench_model.specs.State.{State, Moves, call_at, holder_at}
+use Rattle.bench_model.specs.State.{State, QueueOps, call_at, holder_at}
 use Rattle.bench_model.specs.Until.{next_wake, is_ahead}
 
 -- a task with an unfinished call can only finish it, and without one it can't finish
@@ -33,39 +33,53 @@ closes_hold call = false
 
 -- a task can't give a mutex that another task holds
 abbrev pub give_refusal : List (Option ℕ) → ℕ → Call → Option Refusal
-give_refusal holders task (MutexGive mutex) = option_map_or (λ holder. if holder == task then None else Some NotHolder) (holder_at holders mutex) None
+give_refusal holders task (MutexGive mutex) =
+    option_map_or (λ holder. if holder == task then None else Some NotHolder)
+    (holder_at holders mutex) None
 give_refusal holders task call = None
 
-module _ {Orders : Type 0} (moves : Moves Orders) where
-  -- A call of the task would make it wait: it delays for some ticks, or it has nothing to complete with and some ticks to wait for
-  -- it. (A task that holds the kernel has no unfinished call that could wait again.)
+module _ {Orders : Type 0} (ops : QueueOps Orders) where
+  -- A call of the task would make it wait: it delays for some ticks, or it has nothing to complete
+  -- with and some ticks to wait for it. (A task that holds the kernel has no unfinished call that
+  -- could wait again.)
   unfoldable pub would_block : ℕ → Call → State Orders → Bool
   would_block task (Delay ticks) state = nat_lt 0 ticks
-  would_block task (DelayUntil prev inc) state = is_ahead (moves.tick_count state.orders) prev (next_wake prev inc)
-  would_block task (NotifyWait entry exit ticks) state = (wait_begun entry (note_at state.notes task)).0 && nat_lt 0 ticks
-  would_block task (NotifyTake clear ticks) state = (take_begun (note_at state.notes task)).0 && nat_lt 0 ticks
-  would_block task (MutexTake mutex ticks) state = is_some (holder_at state.holders mutex) && nat_lt 0 ticks
+  would_block task (DelayUntil prev inc) state =
+      is_ahead (ops.tick_count state.orders) prev (next_wake prev inc)
+  would_block task (NotifyWait entry exit ticks) state =
+      (wait_begun entry (note_at state.notes task)).0 && nat_lt 0 ticks
+  would_block task (NotifyTake clear ticks) state =
+      (take_begun (note_at state.notes task)).0 && nat_lt 0 ticks
+  would_block task (MutexTake mutex ticks) state =
+      is_some (holder_at state.holders mutex) && nat_lt 0 ticks
   would_block task call state = false
 
-  -- a core that holds the kernel lets no task wait and holds it at most `max_depth` times over, and one that doesn't can't
-  -- free it
+  -- a core that holds the kernel lets no task wait and holds it at most `max_depth` times over, and
+  -- one that doesn't can't free it
   -- (FreeRTOS Reference Manual, taskENTER_CRITICAL: no API call that could block)
   abbrev pub hold_refusal : ℕ → ℕ → Call → State Orders → Option Refusal
   hold_refusal core task call state =
       if is_held_by core state.hold
-      then (if would_block task call state then Some HoldBlock else (if opens_hold call && depth_of state.hold == max_depth then Some HoldDeep else None))
+      then (if would_block task call state then Some HoldBlock
+      else (if opens_hold call && depth_of state.hold == max_depth then Some HoldDeep else None))
       else (if closes_hold call then Some NoHold else None)
 
-  -- Why a call of a core's task is refused that no other core keeps out, the first reason that applies.
+  -- Why a call of a core's task is refused that no other core keeps out, the first reason that
+  -- applies.
   abbrev pub own_refusal : ℕ → ℕ → Call → State Orders → Option Refusal
   own_refusal core task call state =
       if not (current state.control core == task) then Some Displaced
       else (if is_due state.control core && not (is_held_by core state.hold) then Some SwitchDue
-      else option_or (call_refusal (call_at state.calls task) call) (option_or (hold_refusal core task call state) (give_refusal state.holders task call)))
+      else option_or (call_refusal (call_at state.calls task) call)
+      (option_or (hold_refusal core task call state) (give_refusal state.holders task call)))
 
-  -- Why a step is refused, the first reason that applies. A core that holds the kernel keeps out switches and the calls of others.
+  -- Why a step is refused, the first reason that applies. A core that holds the kernel keeps out
+  -- switches and the calls of others.
   unfoldable pub refusal : Step → State Orders → Option Refusal
   refusal Tick state = None
   refusal (Interrupt core note) state = None
-  refusal (Switch core) state = if is_some state.hold then Some Held else (if is_due state.control core then None else Some NotDue)
-  refusal (steps.Call core task call) state = if is_held_elsewhere core state.hold then Some Held else own_refusal core task call state
+  refusal (Switch core) state =
+      if is_some state.hold then Some Held
+      else (if is_due state.control core then None else Some NotDue)
+  refusal (steps.Call core task call) state =
+      if is_held_elsewhere core state.hold then Some Held else own_refusal core task call state

@@ -18,8 +18,8 @@ use Rattle.bench_model.specs.Notes.{note_at}
 use Rattle.bench_model.specs.State.{call_at, holder_at}
 use Rattle.bench_model.specs.Table.{Stamps, Table, row_at, stamp_of, wake_in, wait_in, deadline_at, is_ready}
 
--- there is a row, a control block, a notification, a deadline or none and an unfinished call or none for each task, a holder or none
--- for each mutex, and an idle task for each core
+-- there is a row, a control block, a notification, a deadline or none and an unfinished call or
+-- none for each task, a holder or none for each mutex, and an idle task for each core
 pub record IsSized (table : Table) : Type 0 where
   pub cores : length table.control.cores ≡ table.settings.cores
   pub controls : length table.control.tasks ≡ table.settings.tasks
@@ -34,28 +34,39 @@ pub record IsSized (table : Table) : Type 0 where
 -- every stamp was given once
 pub record IsStamped (stamps : Stamps) : Type 0 where
   pub given : (i : ℕ) → i < length stamps.rows → stamp_of stamps i < stamps.next
-  pub once : (i j : ℕ) → i < length stamps.rows → j < length stamps.rows → stamp_of stamps i ≡ stamp_of stamps j → i ≡ j
+  pub once :
+      (i j : ℕ) → i < length stamps.rows → j < length stamps.rows
+      → stamp_of stamps i ≡ stamp_of stamps j → i ≡ j
 
--- each core has one current task, no task is on two cores, and a core whose current task is blocked is due
-pub record IsPlaced (control : Control) (stamps : Stamps) : Type 0 where
+-- each core has one current task, no task is on two cores, and a core whose current task is blocked
+-- is due
+pub record HasCurrentTasks (control : Control) (stamps : Stamps) : Type 0 where
   pub is_task : (c : ℕ) → c < length control.cores → current control c < length stamps.rows
-  pub on_one_core : (c d : ℕ) → c < length control.cores → d < length control.cores → current control c ≡ current control d → c ≡ d
-  pub blocked_is_due : (c : ℕ) → c < length control.cores → is_ready (current control c) stamps ≡ false → is_due control c ≡ true
+  pub on_one_core :
+      (c d : ℕ) → c < length control.cores → d < length control.cores
+      → current control c ≡ current control d → c ≡ d
+  pub blocked_is_due :
+      (c : ℕ) → c < length control.cores → is_ready (current control c) stamps ≡ false
+      → is_due control c ≡ true
   pub idle_is_ready : (i : ℕ) → i < length control.cores → is_ready i stamps ≡ true
 
 -- a wait is for 1 to 4294967295 ticks, or without end
 abbrev pub IsWait : Option ℕ → Type 0
 IsWait ticks = IfSome ticks (λ ticks. (0 < ticks) × (ticks < 2 ^ 32))
 
--- a wait for a mutex is for at most 4294967294 ticks, or without end (FreeRTOS Reference Manual, xSemaphoreTake, portMAX_DELAY)
+-- a wait for a mutex is for at most 4294967294 ticks, or without end (FreeRTOS Reference Manual,
+-- xSemaphoreTake, portMAX_DELAY)
 abbrev pub IsMutexTime : Option ℕ → Type 0
 IsMutexTime ticks = IfSome ticks (λ ticks. suc ticks < 2 ^ 32)
 
 -- a blocked task is woken after 1 to 4294967295 ticks, or waits without end
 abbrev pub WakesInTime : Stamps → Type 0
-WakesInTime stamps = (i wake : ℕ) → i < length stamps.rows → wake_in (row_at stamps i).standing ≡ Some wake → (stamps.tick < wake) × (wake < stamps.tick + 2 ^ 32)
+WakesInTime stamps =
+    (i wake : ℕ) → i < length stamps.rows → wake_in (row_at stamps i).standing ≡ Some wake
+    → (stamps.tick < wake) × (wake < stamps.tick + 2 ^ 32)
 
--- the priority in use and the base priority are below the number of priorities, and the mask has bits of cores alone
+-- the priority in use and the base priority are below the number of priorities, and the mask has
+-- bits of cores alone
 pub record IsControlBlock (settings : Settings) (task : TaskControl) : Type 0 where
   pub in_use : task.in_use < settings.priorities
   pub base : task.base < settings.priorities
@@ -73,25 +84,34 @@ abbrev pub takes_mutex : Option Unfinished → Bool
 takes_mutex (Some (Take mutex mark)) = true
 takes_mutex unfinished = false
 
--- what is kept of mutexes: tasks hold them, tasks wait for them, and a deadline is that of an unfinished wait, at most 4294967294
--- ticks ahead, since a wait for 4294967295 has none
-pub record HasMutexes (settings : Settings) (calls : List (Option Unfinished)) (holders : List (Option ℕ)) (stamps : Stamps) : Type 0 where
+-- what is kept of mutexes: tasks hold them, tasks wait for them, and a deadline is that of an
+-- unfinished wait, at most 4294967294 ticks ahead, since a wait for 4294967295 has none
+pub record HasMutexes (settings : Settings) (calls : List (Option Unfinished))
+    (holders : List (Option ℕ)) (stamps : Stamps) : Type 0 where
   pub held_by_tasks : (mutex task : ℕ) → holder_at holders mutex ≡ Some task → task < settings.tasks
-  pub waits : (i : ℕ) (wait : MutexWait) → i < length stamps.rows → wait_in (row_at stamps i).standing ≡ Some wait → IsMutexWait settings wait
-  pub deadlines : (i deadline : ℕ) → deadline_at stamps i ≡ Some deadline → (suc deadline < stamps.tick + 2 ^ 32) × (takes_mutex (call_at calls i) ≡ true)
+  pub waits :
+      (i : ℕ) (wait : MutexWait) → i < length stamps.rows
+      → wait_in (row_at stamps i).standing ≡ Some wait → IsMutexWait settings wait
+  pub deadlines :
+      (i deadline : ℕ) → deadline_at stamps i ≡ Some deadline
+      → (suc deadline < stamps.tick + 2 ^ 32) × (takes_mutex (call_at calls i) ≡ true)
 
 -- all of it that says nothing of a hold
 pub record IsConsistent (table : Table) : Type 0 where
   pub sized : IsSized table
   pub stamped : IsStamped table.orders
-  pub in_place : IsPlaced table.control table.orders
+  pub in_place : HasCurrentTasks table.control table.orders
   pub in_time : WakesInTime table.orders
-  pub blocks : (i : ℕ) → i < table.settings.tasks → IsControlBlock table.settings (task_at table.control i)
-  pub calls : (i : ℕ) (call : Unfinished) → call_at table.calls i ≡ Some call → IsCheckedUnfinished table.settings call
+  pub blocks :
+      (i : ℕ) → i < table.settings.tasks → IsControlBlock table.settings (task_at table.control i)
+  pub calls :
+      (i : ℕ) (call : Unfinished) → call_at table.calls i ≡ Some call
+      → IsCheckedUnfinished table.settings call
   pub notes : HasWords table.notes
   pub mutexes : HasMutexes table.settings table.calls table.holders table.orders
 
--- an open hold is open at least once and not too many times over, and the current task of its core is a ready user task without an unfinished call
+-- an open hold is open at least once and not too many times over, and the current task of its core
+-- is a ready user task without an unfinished call
 pub record IsHeldWell (table : Table) (hold : Hold) : Type 0 where
   pub core_below : hold.core < table.settings.cores
   pub depth : (0 < hold.depth) × (hold.depth ≤ max_depth)
@@ -105,11 +125,14 @@ pub record IsSound (table : Table) : Type 0 where
 
 -- the ready task that a core runs
 abbrev pub IsCaller : Table → ℕ → ℕ → Type 0
-IsCaller table core task = (core < length table.control.cores) × (current table.control core ≡ task) × (task < length table.orders.rows) × (is_ready task table.orders ≡ true)
+IsCaller table core task =
+    (core < length table.control.cores) × (current table.control core ≡ task)
+    × (task < length table.orders.rows) × (is_ready task table.orders ≡ true)
 
 -- what a checked step that is not refused finds: its core, and for a call its ready task there
-abbrev pub IsInPlace : Table → Step → Type 0
-IsInPlace table Tick = Unit {0}
-IsInPlace table (Switch core) = core < length table.control.cores
-IsInPlace table (Interrupt core note) = (core < length table.control.cores) × (note.task < table.settings.tasks)
-IsInPlace table (steps.Call core task call) = IsCaller table core task
+abbrev pub StepFits : Table → Step → Type 0
+StepFits table Tick = Unit {0}
+StepFits table (Switch core) = core < length table.control.cores
+StepFits table (Interrupt core note) =
+    (core < length table.control.cores) × (note.task < table.settings.tasks)
+StepFits table (steps.Call core task call) = IsCaller table core task

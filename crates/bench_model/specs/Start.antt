@@ -8,21 +8,27 @@ use Rattle.bench_types.specs.declared.kernel_data.TaskControl.{TaskControl}
 use Rattle.bench_types.specs.Header.{cores_of_mask}
 use Rattle.bench_types.specs.Step.{settings_of}
 use Rattle.bench_model.specs.declared.row.TaskRow.{TaskRow}
-use Rattle.bench_model.specs.declared.row.Standing.TheVariants.{Ready}
+use Rattle.bench_model.specs.declared.row.TaskState.TheVariants.{Ready}
 use Rattle.list_orders.specs.Search.{numbers, ranked}
 use Rattle.bench_model.specs.Control.{Control}
 use Rattle.bench_model.specs.Notes.{no_note}
-use Rattle.bench_model.specs.State.{State, Moves}
-use Rattle.bench_model.specs.Seek.{switched_and_sought}
-use Rattle.bench_model.specs.Table.{Stamps, Table, table_moves}
-use Rattle.bench_model.specs.Lists.{Lists, View, list_moves, outranks}
+use Rattle.bench_model.specs.State.{State, QueueOps}
+use Rattle.bench_model.specs.Seek.{after_switch}
+use Rattle.bench_model.specs.Table.{Stamps, Table, stamp_queues}
+use Rattle.bench_model.specs.Lists.{Lists, View, list_queues, outranks}
 
 -- preemption is on for each task; an idle task has priority 0 and may run on every core
 abbrev pub idle_control : ℕ → TaskControl
 idle_control cores = record { base = 0; in_use = 0; mask = 2 ^ cores - 1; preempt = true }
 
 abbrev pub user_control : ℕ → TaskArgs → TaskControl
-user_control cores args = record { base = args.priority; in_use = args.priority; mask = cores_of_mask cores args.mask; preempt = true }
+user_control cores args =
+    record {
+      base = args.priority;
+      in_use = args.priority;
+      mask = cores_of_mask cores args.mask;
+      preempt = true;
+    }
 
 -- core c has idle task c and no flag
 abbrev pub first_look : ℕ → CoreLook
@@ -34,7 +40,7 @@ first_control header = let cores = header.config.cores in record {
   tasks = replicate cores (idle_control cores) ++ map (user_control cores) header.tasks;
 }
 
--- all tasks are ready: the user tasks in header order, the idle tasks behind them
+-- all tasks are ready: the user tasks in header order, the idle tasks after them
 abbrev pub ready_row : ℕ → TaskRow
 ready_row stamp = record { stamp = stamp; standing = Ready }
 
@@ -70,12 +76,14 @@ module _ {Orders : Type 0} where
   }
 
   -- then each core selects, core 0 first
-  unfoldable pub started : Moves Orders → Orders → Header → State Orders
-  started moves orders header = fold (λ kernel core. switched_and_sought moves core kernel) (unstarted orders header) (numbers header.config.cores)
+  unfoldable pub started : QueueOps Orders → Orders → Header → State Orders
+  started ops orders header =
+      fold (λ kernel core. after_switch ops core kernel) (unstarted orders header)
+      (numbers header.config.cores)
 
 -- the table of a kernel that was just started, and what can be seen of it
 abbrev pub start : Header → Table
-start header = started table_moves (first_stamps header) header
+start header = started stamp_queues (first_stamps header) header
 
 abbrev pub start_seen : Header → View
-start_seen header = started list_moves (first_lists header) header
+start_seen header = started list_queues (first_lists header) header

@@ -1,5 +1,5 @@
--- The state of a kernel, and the rules that seek no core, over orders of tasks that are kept in one way or
--- another: as stamps and wakes (Table), or as lists (Lists).
+-- The state of a kernel, and the rules that seek no core, over orders of tasks that are kept in one
+-- way or another: as stamps and wakes (Table), or as lists (Lists).
 use Rattle.std.specs.Prelude.{ℕ, List, Bool, Option, Some, None, unwrap_or, if◌then◌else◌, slice_index_or, slice_set}
 use Rattle.bench_types.specs.declared.kernel_data.Hold.{Hold}
 use Rattle.bench_types.specs.declared.kernel_data.MutexWait.{MutexWait}
@@ -24,22 +24,25 @@ pub record State (Orders : Type 0) : Type 0 where
   pub orders : Orders
 
 -- what the rules do with orders
-pub record Moves (Orders : Type 0) : Type 0 where
+pub record QueueOps (Orders : Type 0) : Type 0 where
   pub is_ready : ℕ → Orders → Bool
   -- the ready task that the core selects
   pub pick : Control → ℕ → Orders → Option ℕ
   -- the task waits no more and goes to the end of the ready list of its priority
-  pub make_ready : Control → ℕ → Orders → Orders
-  -- the task leaves the ready lists and waits, for so many ticks or without end, at a mutex or at none
+  pub add_to_ready_list : Control → ℕ → Orders → Orders
+  -- the task leaves the ready lists and waits, for so many ticks or without end, at a mutex or at
+  -- none
   pub delay : ℕ → Option ℕ → Option MutexWait → Orders → Orders
   -- the tick count, as a number of 32 bits
   pub tick_count : Orders → ℕ
-  -- one tick more, and the tasks that have waited long enough then, in the order in which they began to wait
+  -- one tick more, and the tasks that have waited long enough then, in the order in which they
+  -- began to wait
   pub advance : Orders → Orders
   pub due : Orders → List ℕ
   -- of the tasks that wait for the mutex the first
   pub first_waiter : ℕ → Orders → Option Waiter
-  -- the ticks that are left to the end of the task's unfinished wait for a mutex, none where it has no end
+  -- the ticks that are left to the end of the task's unfinished wait for a mutex, none where it has
+  -- no end
   pub deadline_left : ℕ → Orders → Option ℕ
   -- the task's wait for a mutex is over
   pub forget_deadline : ℕ → Orders → Orders
@@ -51,21 +54,23 @@ holder_at holders mutex = slice_index_or holders mutex None
 abbrev pub call_at : List (Option Unfinished) → ℕ → Option Unfinished
 call_at calls task = slice_index_or calls task None
 
-module _ {Orders : Type 0} (moves : Moves Orders) where
+module _ {Orders : Type 0} (ops : QueueOps Orders) where
   -- the orders at a core's choice: its ready current task is at the end of its list
   abbrev pub queued : ℕ → State Orders → Orders
   queued core state =
       let left = current state.control core in
-      if moves.is_ready left state.orders then moves.make_ready state.control left state.orders else state.orders
+      if ops.is_ready left state.orders then ops.add_to_ready_list state.control left state.orders
+      else state.orders
 
   -- the task that a switch of the core selects
   abbrev pub selected : ℕ → State Orders → Option ℕ
-  selected core state = moves.pick state.control core (queued core state)
+  selected core state = ops.pick state.control core (queued core state)
 
   -- A core runs the task that it selects (V11 tasks.c, vTaskSwitchContext).
-  unfoldable pub switched : ℕ → State Orders → State Orders
-  switched core state = record state {
-    control = run_on core (unwrap_or (selected core state) (current state.control core)) state.control;
+  unfoldable pub after_select : ℕ → State Orders → State Orders
+  after_select core state = record state {
+    control = run_on core
+        (unwrap_or (selected core state) (current state.control core)) state.control;
     orders = queued core state;
   }
 
@@ -73,11 +78,18 @@ module _ {Orders : Type 0} (moves : Moves Orders) where
   unfoldable pub yielded : ℕ → State Orders → State Orders
   yielded core state = record state { control = ask core core state.control }
 
-  -- The task waits in its call, for so many ticks or without end, at a mutex or at none, and its core asks itself to switch
-  -- (V11 tasks.c, prvAddCurrentTaskToDelayedList).
-  unfoldable pub blocked : ℕ → ℕ → Unfinished → Option ℕ → Option MutexWait → State Orders → State Orders
+  -- The task waits in its call, for so many ticks or without end, at a mutex or at none, and its
+  -- core asks itself to switch (V11 tasks.c, prvAddCurrentTaskToDelayedList).
+  unfoldable pub blocked :
+      ℕ → ℕ → Unfinished → Option ℕ → Option MutexWait → State Orders → State Orders
   blocked core task call ticks wait state = record state {
     control = ask core core state.control;
     calls = slice_set state.calls task (Some call);
-    orders = moves.delay task ticks wait state.orders;
+    orders = ops.delay task ticks wait state.orders;
   }
+
+  -- The task's unfinished call is over.
+  abbrev pub after_return : ℕ → State Orders → State Orders
+  after_return task state =
+      record state
+      { calls = slice_set state.calls task None; orders = ops.forget_deadline task state.orders }

@@ -4,16 +4,17 @@ use Rattle.std.specs.Option.{option_map_or}
 use Rattle.bench_types.specs.declared.kernel_data.MutexWait.{MutexWait}
 use Rattle.bench_types.specs.declared.kernel_data.Waiter.{Waiter}
 use Rattle.bench_model.specs.declared.row.TaskRow.{TaskRow}
-use Rattle.bench_model.specs.declared.row.Standing.{Standing}
-use Rattle.bench_model.specs.declared.row.Standing.TheVariants.{Ready, Blocked}
+use Rattle.bench_model.specs.declared.row.TaskState.{TaskState}
+use Rattle.bench_model.specs.declared.row.TaskState.TheVariants.{Ready, Blocked}
 use Rattle.bench_model.specs.Control.{Control, task_at, may_select}
-use Rattle.bench_model.specs.State.{State, Moves}
+use Rattle.bench_model.specs.State.{State, QueueOps}
 use Rattle.list_orders.specs.Search.{numbers, best, by_stamp}
 
 pub record Stamps : Type 0 where
   -- per task its stamp and, where it waits for some ticks, its wake
   pub rows : List TaskRow
-  -- per task the tick count at which its unfinished wait for a mutex is to end, none where there is none or it has no end
+  -- per task the tick count at which its unfinished wait for a mutex is to end, none where there is
+  -- none or it has no end
   pub deadlines : List (Option ℕ)
   -- the tick count, never wrapped
   pub tick : ℕ
@@ -32,45 +33,49 @@ stamp_of stamps task = (row_at stamps task).stamp
 abbrev pub tasks_of : Stamps → List ℕ
 tasks_of stamps = numbers (length stamps.rows)
 
--- the tick count at which the task is to be woken, none for a ready task and for one that waits without end
-abbrev pub wake_in : Standing → Option ℕ
+-- the tick count at which the task is to be woken, none for a ready task and for one that waits
+-- without end
+abbrev pub wake_in : TaskState → Option ℕ
 wake_in Ready = None
 wake_in (Blocked wake wait) = wake
 
 -- what the task waits for at a mutex
-abbrev pub wait_in : Standing → Option MutexWait
+abbrev pub wait_in : TaskState → Option MutexWait
 wait_in Ready = None
 wait_in (Blocked wake wait) = wait
 
-abbrev pub stands_ready : Standing → Bool
+abbrev pub stands_ready : TaskState → Bool
 stands_ready Ready = true
 stands_ready (Blocked wake wait) = false
 
 abbrev pub is_ready : ℕ → Stamps → Bool
 is_ready task stamps = stands_ready (row_at stamps task).standing
 
--- the task stands so from now on, behind all that stood there before
-abbrev pub restamped : ℕ → Standing → Stamps → Stamps
+-- the task stands so from now on, after all that stood there before
+abbrev pub restamped : ℕ → TaskState → Stamps → Stamps
 restamped task standing stamps = record stamps {
   rows = slice_set stamps.rows task (record { stamp = stamps.next; standing = standing });
   next = suc stamps.next;
 }
 
--- a higher priority in use goes before a lower one, and in one priority the earlier stamp before the later
+-- a higher priority in use goes before a lower one, and in one priority the earlier stamp before
+-- the later
 abbrev pub goes_before : Control → Stamps → ℕ → ℕ → Bool
 goes_before control stamps i j =
     let a = (task_at control i).in_use in
     let b = (task_at control j).in_use in
     nat_lt b a || (a == b && nat_le (stamp_of stamps i) (stamp_of stamps j))
 
--- The task that a core selects: of all ready tasks that it may select, the one that goes before the others
--- (V11 tasks.c, prvSelectHighestPriorityTask).
+-- The task that a core selects: of all ready tasks that it may select, the one that goes before the
+-- others (V11 tasks.c, prvSelectHighestPriorityTask).
 unfoldable pub pick : Control → ℕ → Stamps → Option ℕ
-pick control core stamps = best (λ task. is_ready task stamps && may_select control core task) (goes_before control stamps) (tasks_of stamps)
+pick control core stamps =
+    best (λ task. is_ready task stamps && may_select control core task) (goes_before control stamps)
+    (tasks_of stamps)
 
 -- Making a task ready: it goes to the end of its ready list (V11 tasks.c, prvAddTaskToReadyList).
-unfoldable pub make_ready : ℕ → Stamps → Stamps
-make_ready task stamps = restamped task Ready stamps
+unfoldable pub add_to_ready_list : ℕ → Stamps → Stamps
+add_to_ready_list task stamps = restamped task Ready stamps
 
 -- so many ticks from now
 abbrev pub ahead : Stamps → Option ℕ → Option ℕ
@@ -81,40 +86,52 @@ deadline_at stamps task = slice_index_or stamps.deadlines task None
 
 -- the deadline of the task's wait for a mutex
 abbrev pub with_deadline : ℕ → Option ℕ → Stamps → Stamps
-with_deadline task deadline stamps = record stamps { deadlines = slice_set stamps.deadlines task deadline }
+with_deadline task deadline stamps =
+    record stamps { deadlines = slice_set stamps.deadlines task deadline }
 
--- Waiting for so many ticks from now, or without end; at a mutex, or at none (V11 tasks.c, prvAddCurrentTaskToDelayedList). A
--- wait for a mutex is to end when its ticks have run out, also where the task waits in several turns.
+-- Waiting for so many ticks from now, or without end; at a mutex, or at none (V11 tasks.c,
+-- prvAddCurrentTaskToDelayedList). A wait for a mutex is to end when its ticks have run out, also
+-- where the task waits in several turns.
 unfoldable pub delay : ℕ → Option ℕ → Option MutexWait → Stamps → Stamps
 delay task ticks wait stamps =
-    with_deadline task (if is_some wait then ahead stamps ticks else None) (restamped task (Blocked (ahead stamps ticks) wait) stamps)
+    with_deadline task (if is_some wait then ahead stamps ticks else None)
+    (restamped task (Blocked (ahead stamps ticks) wait) stamps)
 
 -- the ticks that are left to the deadline, 0 where it is reached
 unfoldable pub deadline_left : ℕ → Stamps → Option ℕ
-deadline_left task stamps = option_map (λ deadline. deadline - stamps.tick) (deadline_at stamps task)
+deadline_left task stamps =
+    option_map (λ deadline. deadline - stamps.tick) (deadline_at stamps task)
 
 -- the task waits for no mutex any more
 unfoldable pub forget_deadline : ℕ → Stamps → Stamps
 forget_deadline task stamps = with_deadline task None stamps
 
-abbrev pub waits_at : ℕ → Standing → Bool
+abbrev pub waits_at : ℕ → TaskState → Bool
 waits_at mutex standing = option_map_or (λ wait. wait.mutex == mutex) (wait_in standing) false
 
 -- the task with what it waits for
 abbrev pub waiter_of : Stamps → ℕ → Waiter
-waiter_of stamps task = record { task = task; wait = unwrap_or (wait_in (row_at stamps task).standing) (record { mutex = 0; priority = 0 }) }
+waiter_of stamps task =
+    record {
+      task = task;
+      wait = unwrap_or (wait_in (row_at stamps task).standing) (record { mutex = 0; priority = 0 });
+    }
 
--- a waiter of a higher waiting priority goes first, and of one priority the one that began to wait before the other
+-- a waiter of a higher waiting priority goes first, and of one priority the one that began to wait
+-- before the other
 abbrev pub waits_before : Stamps → ℕ → ℕ → Bool
 waits_before stamps i j =
     let a = (waiter_of stamps i).wait.priority in
     let b = (waiter_of stamps j).wait.priority in
     nat_lt b a || (a == b && nat_le (stamp_of stamps i) (stamp_of stamps j))
 
--- The first waiter of a mutex: of all tasks that wait for it, the one that goes before the others (V11 queue.c, xTasksWaitingToReceive).
+-- The first waiter of a mutex: of all tasks that wait for it, the one that goes before the others
+-- (V11 queue.c, xTasksWaitingToReceive).
 unfoldable pub first_waiter : ℕ → Stamps → Option Waiter
 first_waiter mutex stamps =
-    option_map (waiter_of stamps) (best (λ task. waits_at mutex (row_at stamps task).standing) (waits_before stamps) (tasks_of stamps))
+    option_map (waiter_of stamps)
+    (best (λ task. waits_at mutex (row_at stamps task).standing) (waits_before stamps)
+    (tasks_of stamps))
 
 abbrev pub tick_count : Stamps → ℕ
 tick_count stamps = stamps.tick % 2 ^ 32
@@ -123,18 +140,20 @@ unfoldable pub advance : Stamps → Stamps
 advance stamps = record stamps { tick = suc stamps.tick }
 
 -- the task is to be woken at that tick count; one that waits without end is so at none
-abbrev pub wakes_at : ℕ → Standing → Bool
+abbrev pub wakes_at : ℕ → TaskState → Bool
 wakes_at tick standing = option_map_or (λ wake. wake == tick) (wake_in standing) false
 
 -- the tasks whose wake is now, in the order in which they began to wait
 unfoldable pub due : Stamps → List ℕ
-due stamps = by_stamp (stamp_of stamps) (λ task. wakes_at stamps.tick (row_at stamps task).standing) (tasks_of stamps) stamps.next
+due stamps =
+    by_stamp (stamp_of stamps) (λ task. wakes_at stamps.tick (row_at stamps task).standing)
+    (tasks_of stamps) stamps.next
 
-abbrev pub table_moves : Moves Stamps
-table_moves = record {
+abbrev pub stamp_queues : QueueOps Stamps
+stamp_queues = record {
   is_ready = is_ready;
   pick = pick;
-  make_ready = λ control. make_ready;
+  add_to_ready_list = λ control. add_to_ready_list;
   delay = delay;
   tick_count = tick_count;
   advance = advance;

@@ -5,13 +5,14 @@ use Rattle.bench_types.specs.declared.step.Step.{Step}
 use Rattle.bench_types.specs.declared.tally.Tally.{Tally}
 use Rattle.list_orders.specs.Search.{numbers}
 use Rattle.bench_model.specs.Control.{Control, task_at}
-use Rattle.bench_model.specs.State.{Moves}
-use Rattle.bench_model.specs.Table.{Stamps, Table, table_moves}
+use Rattle.bench_model.specs.State.{QueueOps}
+use Rattle.bench_model.specs.Table.{Stamps, Table, stamp_queues}
 use Rattle.bench_model.specs.Session.{step_of}
 use Rattle.bench_model.specs.Tally.{TaskTally, Moment, is_found_on, is_found_waiting, is_inverted, is_switched_in, is_displaced, is_timeout}
 
 abbrev pub no_counts : ℕ → Tally
-no_counts top = record { wait = 0; inverted = 0; switched = 0; displaced = 0; timeouts = 0; top = top }
+no_counts top =
+    record { wait = 0; inverted = 0; switched = 0; displaced = 0; timeouts = 0; top = top }
 
 -- the tally of the task; a task that is none has no numbers
 abbrev pub tally_at : List TaskTally → ℕ → TaskTally
@@ -23,7 +24,8 @@ run_at tally core = slice_index_or tally.run core 0
 
 -- before any step: zeros, and the priority in use
 abbrev pub first_tally : Settings → Control → ℕ → TaskTally
-first_tally settings control task = record { run = replicate settings.cores 0; counts = no_counts (task_at control task).in_use }
+first_tally settings control task =
+    record { run = replicate settings.cores 0; counts = no_counts (task_at control task).in_use }
 
 abbrev pub first_tallies : Settings → Control → List TaskTally
 first_tallies settings control = map (first_tally settings control) (numbers settings.tasks)
@@ -32,14 +34,15 @@ first_tallies settings control = map (first_tally settings control) (numbers set
 abbrev pub one_if : Bool → ℕ
 one_if passed = if passed then 1 else 0
 
-module _ {Orders : Type 0} (moves : Moves Orders) (moment : Moment Orders) where
+module _ {Orders : Type 0} (ops : QueueOps Orders) (moment : Moment Orders) where
   -- the tally of the task with one step more
-  unfoldable pub counted : ℕ → TaskTally → TaskTally
-  counted task tally = record {
-    run = map (λ core. run_at tally core + one_if (is_found_on core task moment)) (numbers (length tally.run));
+  unfoldable pub tally_after : ℕ → TaskTally → TaskTally
+  tally_after task tally = record {
+    run = map (λ core. run_at tally core + one_if (is_found_on core task moment))
+        (numbers (length tally.run));
     counts = record {
-      wait = tally.counts.wait + one_if (is_found_waiting moves task moment);
-      inverted = tally.counts.inverted + one_if (is_inverted moves task moment);
+      wait = tally.counts.wait + one_if (is_found_waiting ops task moment);
+      inverted = tally.counts.inverted + one_if (is_inverted ops task moment);
       switched = tally.counts.switched + one_if (is_switched_in task moment);
       displaced = tally.counts.displaced + one_if (is_displaced task moment);
       timeouts = tally.counts.timeouts + one_if (is_timeout task moment);
@@ -49,20 +52,24 @@ module _ {Orders : Type 0} (moves : Moves Orders) (moment : Moment Orders) where
 
   -- those of all tasks
   unfoldable pub tallied : List TaskTally → List TaskTally
-  tallied tallies = map (λ task. counted task (tally_at tallies task)) (numbers (length tallies))
+  tallied tallies =
+      map (λ task. tally_after task (tally_at tallies task)) (numbers (length tallies))
 
 -- the step from a table
 abbrev pub moment_of : Table → Step → Moment Stamps
-moment_of table step = let outcome = step_of step table in record { before = table; step = step; reply = outcome.0; after = outcome.1 }
+moment_of table step =
+    let outcome = step_of step table in
+    record { before = table; step = step; reply = outcome.0; after = outcome.1 }
 
 -- the tallies with the steps from a table on, one after another
-abbrev pub tallied_behind : Table → List Step → List TaskTally → List TaskTally
-tallied_behind table [] tallies = tallies
-tallied_behind table (step ∷ steps) tallies = tallied_behind (step_of step table).1 steps (tallied table_moves (moment_of table step) tallies)
+abbrev pub tallied_after : Table → List Step → List TaskTally → List TaskTally
+tallied_after table [] tallies = tallies
+tallied_after table (step ∷ steps) tallies =
+    tallied_after (step_of step table).1 steps (tallied stamp_queues (moment_of table step) tallies)
 
 -- the tallies of the steps from a table on, which are those of a part of a session
 abbrev pub part_tallies : Settings → Table → List Step → List TaskTally
-part_tallies settings table steps = tallied_behind table steps (first_tallies settings table.control)
+part_tallies settings table steps = tallied_after table steps (first_tallies settings table.control)
 
 -- the numbers of two parts together, of which the first ends where the second begins
 unfoldable pub added_tally : TaskTally → TaskTally → TaskTally

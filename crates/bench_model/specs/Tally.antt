@@ -1,4 +1,5 @@
--- How each task fared in a session: counts over all of its steps, and the greatest priority in use over all of its places.
+-- How each task fared in a session: counts over all of its steps, and the greatest priority in use
+-- over all of its places.
 use Rattle.std.specs.Prelude.{ℕ, suc, max, List, [], ◌∷◌, length, map, count_by, Bool, true, false, not, ◌&&◌, ◌==◌, nat_lt, Option, option_map, slice_get}
 use Rattle.std.specs.List.{list_any}
 use Rattle.std.specs.Option.{option_map_or}
@@ -13,9 +14,9 @@ use Rattle.bench_types.specs.declared.tally.Tally.{Tally}
 use Rattle.bench_types.specs.Step.{settings_of}
 use Rattle.list_orders.specs.Search.{numbers}
 use Rattle.bench_model.specs.Control.{Control, task_at, current, is_allowed}
-use Rattle.bench_model.specs.State.{State, Moves}
+use Rattle.bench_model.specs.State.{State, QueueOps}
 use Rattle.bench_model.specs.Seek.{effective}
-use Rattle.bench_model.specs.Table.{Stamps, table_moves}
+use Rattle.bench_model.specs.Table.{Stamps, stamp_queues}
 use Rattle.bench_model.specs.Session.{step_of, state_at}
 
 -- the numbers of one task
@@ -59,11 +60,15 @@ says_run_out reply = false
 
 -- the task is the current one of some core
 abbrev pub is_current : Control → ℕ → Bool
-is_current control task = list_any (λ core. current control core == task) (numbers (length control.cores))
+is_current control task =
+    list_any (λ core. current control core == task) (numbers (length control.cores))
 
 -- a core that the task may run on has a task of lower effective priority
 abbrev pub outranks_some : Control → ℕ → Bool
-outranks_some control task = list_any (λ core. is_allowed control core task && nat_lt (effective control (current control core)) (effective control task)) (numbers (length control.cores))
+outranks_some control task =
+    list_any (λ core. is_allowed control core task
+    && nat_lt (effective control (current control core)) (effective control task))
+    (numbers (length control.cores))
 
 -- the core has the task now and had another before
 abbrev pub changes_to : ℕ → ℕ → Control → Control → Bool
@@ -86,7 +91,8 @@ module _ {Orders : Type 0} where
   is_found_on core task moment = is_tick moment.step && current moment.before.control core == task
 
   abbrev pub is_switched_in : ℕ → Moment Orders → Bool
-  is_switched_in task moment = is_switch_to task moment.before.control moment.step moment.after.control
+  is_switched_in task moment =
+      is_switch_to task moment.before.control moment.step moment.after.control
 
   -- a call of the task is answered E2
   abbrev pub is_displaced : ℕ → Moment Orders → Bool
@@ -96,10 +102,12 @@ module _ {Orders : Type 0} where
   abbrev pub is_timeout : ℕ → Moment Orders → Bool
   is_timeout task moment = is_finish_of task moment.step && says_run_out moment.reply
 
-module _ {Orders : Type 0} (moves : Moves Orders) where
+module _ {Orders : Type 0} (ops : QueueOps Orders) where
   -- a tick finds the task ready and on no core
   abbrev pub is_found_waiting : ℕ → Moment Orders → Bool
-  is_found_waiting task moment = is_tick moment.step && (moves.is_ready task moment.before.orders && not (is_current moment.before.control task))
+  is_found_waiting task moment =
+      is_tick moment.step
+      && (ops.is_ready task moment.before.orders && not (is_current moment.before.control task))
 
   -- a tick finds it so while a core that it may run on has a task of lower effective priority
   abbrev pub is_inverted : ℕ → Moment Orders → Bool
@@ -107,26 +115,29 @@ module _ {Orders : Type 0} (moves : Moves Orders) where
 
 -- the step at a place of a session, none past the last
 unfoldable pub moment_at : Header → List Step → ℕ → Option (Moment Stamps)
-moment_at header steps place = let table = state_at header steps place in option_map (λ step. record {
-  before = table;
-  step = step;
-  reply = (step_of step table).0;
-  after = state_at header steps (suc place);
-}) (slice_get steps place)
+moment_at header steps place =
+    let table = state_at header steps place in option_map (λ step. record {
+      before = table;
+      step = step;
+      reply = (step_of step table).0;
+      after = state_at header steps (suc place);
+    }) (slice_get steps place)
 
 module _ (header : Header) (steps : List Step) where
   -- how many steps of the session pass the test
   abbrev pub steps_that : (Moment Stamps → Bool) → ℕ
-  steps_that passes = count_by (λ place. option_map_or passes (moment_at header steps place) false) (numbers (length steps))
+  steps_that passes =
+      count_by (λ place. option_map_or passes (moment_at header steps place) false)
+      (numbers (length steps))
 
   abbrev pub run_ticks : ℕ → ℕ → ℕ
   run_ticks task core = steps_that (is_found_on core task)
 
   abbrev pub wait_ticks : ℕ → ℕ
-  wait_ticks task = steps_that (is_found_waiting table_moves task)
+  wait_ticks task = steps_that (is_found_waiting stamp_queues task)
 
   abbrev pub inverted_ticks : ℕ → ℕ
-  inverted_ticks task = steps_that (is_inverted table_moves task)
+  inverted_ticks task = steps_that (is_inverted stamp_queues task)
 
   abbrev pub switches_in : ℕ → ℕ
   switches_in task = steps_that (is_switched_in task)
@@ -139,7 +150,9 @@ module _ (header : Header) (steps : List Step) where
 
   -- the greatest priority in use of the task over all places
   abbrev pub top_priority : ℕ → ℕ
-  top_priority task = greatest (map (λ place. (task_at (state_at header steps place).control task).in_use) (numbers (suc (length steps))))
+  top_priority task =
+      greatest (map (λ place. (task_at (state_at header steps place).control task).in_use)
+      (numbers (suc (length steps))))
 
   -- the numbers of a task
   abbrev pub tally_of : ℕ → TaskTally

@@ -1,9 +1,9 @@
-//! The definitions of the kernel: a flat table whose choices are searches, and the same rules over lists. The laws between them
-//! stand in the crates above.
+//! The definitions of the kernel: a flat table whose choices are searches, and the same rules over
+//! lists. The laws between them stand in the crates above.
 #![tactic(auto)]
 
 pub mod notes;
 mod row;
 pub mod until;
 
-pub use row::{Standing, TaskRow};
+pub use row::{TaskRow, TaskState};

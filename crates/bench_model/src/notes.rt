@@ -31,7 +31,8 @@ pub fn without_bits(bits: u32, value: u32) -> u32
     value & !bits
 }
 
-/// Whether the notification passes; one that must not overwrite (`eSetValueWithoutOverwrite`) may not.
+/// Whether the notification passes; one that must not overwrite (`eSetValueWithoutOverwrite`) may
+/// not.
 pub fn passes(action: Action, state: NoteState) -> bool
     ensures { result ≡ passes action state }
 {
@@ -41,7 +42,7 @@ pub fn passes(action: Action, state: NoteState) -> bool
     }
 }
 
-/// The notification value behind an action that passes (`eNotifyAction`).
+/// The notification value after an action that passes (`eNotifyAction`).
 pub fn acted(action: Action, value: u32) -> u32
     ensures { result ≡ acted action value }
 {

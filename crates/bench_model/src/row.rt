@@ -2,10 +2,10 @@ use bench_types::MutexWait;
 
 /// Whether a task is ready or blocked.
 #[derive(Clone, Copy, Debug, PartialEq, Eq)]
-pub enum Standing {
+pub enum TaskState {
     Ready,
-    /// Blocked until the tick count of the table is `wake`, in ticks; without end where there is none. `wait` is what the
-    /// task waits for at a mutex, none where it waits at none.
+    /// Blocked until the tick count of the table is `wake`, in ticks; without end where there is
+    /// none. `wait` is what the task waits for at a mutex, none where it waits at none.
     Blocked {
         wake: Option<u128>,
         wait: Option<MutexWait>,
@@ -15,7 +15,8 @@ pub enum Standing {
 /// What the table keeps of a task's places in the kernel's lists.
 #[derive(Clone, Copy, Debug, PartialEq, Eq)]
 pub struct TaskRow {
-    /// The greater the stamp, the later the task came to where it stands. No two tasks have one stamp.
+    /// The greater the stamp, the later the task came to where it stands. No two tasks have one
+    /// stamp.
     pub stamp: u128,
-    pub standing: Standing,
+    pub standing: TaskState,
 }

@@ -14,8 +14,16 @@ pub fn header_of(
     config: Config,
     tasks: &[(&str, u32, u32)],
 ) -> Result<Header, SampleFault>
-    ensures header { IfOk result (λ header. header ≡ record { config = config; tasks = map (λ task. record { name = task.0.now; priority = task.1; mask = task.2 }) tasks.now }) }
-    ensures bad_name { result ≡ Err SampleFault.BadName → list_any (λ task. not (is_name task.0.now)) tasks.now ≡ true }
+    ensures header { IfOk result
+        (λ header. header
+        ≡ record {
+          config = config;
+          tasks
+              = map
+              (λ task. record { name = task.0.now; priority = task.1; mask = task.2 }) tasks.now;
+        }) }
+    ensures bad_name { result ≡ Err SampleFault.BadName
+        → list_any (λ task. not (is_name task.0.now)) tasks.now ≡ true }
 {
     let mut all = Vec::with_capacity(alloc, tasks.len())?;
     for (name, priority, mask) in tasks {
@@ -25,13 +33,15 @@ pub fn header_of(
     Ok(Header { config, tasks })
 }
 
-/// A header of tasks that are given by priority and mask, and are named T0, T1 and so on. It is not checked.
+/// A header of tasks that are given by priority and mask, and are named T0, T1 and so on. It is not
+/// checked.
 pub fn numbered_header(
     alloc: Global,
     config: Config,
     tasks: &[(u32, u32)],
 ) -> Result<Header, SampleFault>
-    ensures { IfOk result (λ header. header ≡ record { config = config; tasks = numbered 0 tasks.now }) }
+    ensures { IfOk result
+        (λ header. header ≡ record { config = config; tasks = numbered 0 tasks.now }) }
 {
     let mut all = Vec::with_capacity(alloc, tasks.len())?;
     for (number, (priority, mask)) in tasks.iter().enumerate() {
@@ -48,7 +58,9 @@ fn push_task(
     priority: u32,
     mask: u32,
 ) -> Result<(), SampleFault>
-    ensures task { OnOk result (all.new.items ≡ all.old.items ++ record { name = name.now; priority = priority; mask = mask } ∷ []) }
+    ensures task { OnOk result
+        (all.new.items
+        ≡ all.old.items ++ record { name = name.now; priority = priority; mask = mask } ∷ []) }
     ensures bad_name { result ≡ Err SampleFault.BadName → is_name name.now ≡ false }
 {
     let name = Name::new(name)?;
@@ -61,9 +73,12 @@ fn push_task(
     Ok(())
 }
 
-/// A header of so many tasks of priority 1 that may run on cores 0 and 1, and are named T0, T1 and so on. It is not checked.
+/// A header of so many tasks of priority 1 that may run on cores 0 and 1, and are named T0, T1 and
+/// so on. It is not checked.
 pub fn crowd(alloc: Global, config: Config, tasks: usize) -> Result<Header, SampleFault>
-    ensures { IfOk result (λ header. header ≡ record { config = config; tasks = numbered 0 (replicate tasks (1, 3)) }) }
+    ensures { IfOk result
+        (λ header. header
+        ≡ record { config = config; tasks = numbered 0 (replicate tasks (1, 3)) }) }
 {
     let tasks = vec![in alloc; (1, 3); tasks]?;
     numbered_header(alloc, config, &tasks)

@@ -41,7 +41,8 @@ fn with(digest: u32, numbers: &[u32]) -> u32 {
     digest
 }
 
-// A program that was written apart from this one, over a flat table, computed the digests and the last tick counts.
+// A program that was written apart from this one, over a flat table, computed the digests and the
+// last tick counts.
 #[test]
 fn two_thousand_steps(rt: HostRuntime) -> Result<(), Fail> {
     for (mix, expected) in &[

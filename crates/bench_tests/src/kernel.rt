@@ -1,4 +1,5 @@
-//! A kernel beside the worked sessions: how it starts, two steps in a row, the deepest hold and a copy.
+//! A kernel beside the worked sessions: how it starts, two steps in a row, the deepest hold and a
+//! copy.
 ghost use Rattle.std.specs.Prelude.{◌≡◌, Ok};
 ghost use Rattle.bench_types.specs.Step.{step_check};
 ghost use Rattle.bench_model.specs.Table.{Table};
@@ -59,8 +60,10 @@ fn refuses_a_bad_header(rt: HostRuntime) -> Result<(), Fail> {
 fn make_both(kernel: &mut Kernel, meter: &mut Meter, first: &Step, second: &Step) -> (Reply, Reply)
     requires first { step_check kernel.old.settings first.now ≡ Ok tt }
     requires second { step_check kernel.old.settings second.now ≡ Ok tt }
-    ensures replies { (table : Table) → StandsFor kernel.old table → let between = step_of first.now table in result ≡ (between.0, (step_of second.now between.1).0) }
-    ensures state { (table : Table) → StandsFor kernel.old table → StandsFor kernel.new (step_of second.now (step_of first.now table).1).1 }
+    ensures replies { (table : Table) → StandsFor kernel.old table → let between
+        = step_of first.now table in result ≡ (between.0, (step_of second.now between.1).0) }
+    ensures state { (table : Table) → StandsFor kernel.old table
+        → StandsFor kernel.new (step_of second.now (step_of first.now table).1).1 }
     ensures settings { kernel.new.settings ≡ kernel.old.settings }
 {
     let reply = kernel.step(meter, first);

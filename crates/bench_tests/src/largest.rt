@@ -1,4 +1,5 @@
-//! The calls that take memory, each at its largest size: 64 tasks on 8 cores with 32 mutexes, and 100,000 steps.
+//! The calls that take memory, each at its largest size: 64 tasks on 8 cores with 32 mutexes, and
+//! 100,000 steps.
 
 use crate::replays::check_store;
 use crate::samples::{Opened, SWITCH_0, Started, ticks, whole};

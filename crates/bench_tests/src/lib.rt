@@ -1,5 +1,5 @@
-//! Tests of the kernel and of the store, and of both against the plain replay over the definitions, over worked sessions and
-//! random ones. There is nothing else here.
+//! Tests of the kernel and of the store, and of both against the plain replay over the definitions,
+//! over worked sessions and random ones. There is nothing else here.
 #![tactic(auto)]
 
 #[cfg(test)]

@@ -90,7 +90,8 @@ impl Played {
     }
 }
 
-// A header of 8 cores and 64 tasks with time slicing, with the last 96 ticks before the tick count wraps.
+// A header of 8 cores and 64 tasks with time slicing, with the last 96 ticks before the tick count
+// wraps.
 fn large_header(alloc: Global) -> Result<Header, Fail>
     ensures { IfOk result (λ header. (header.config.cores ≡ 8) × (header.config.mutexes ≡ 4)) }
 {
@@ -132,7 +133,8 @@ fn number(seed: &mut u32) -> u32
     *seed >> 16
 }
 
-// Some step, chosen by a number of 16 bits: mostly a switch of a core that is due, or a call of its current task.
+// Some step, chosen by a number of 16 bits: mostly a switch of a core that is due, or a call of its
+// current task.
 fn some_step(kernel: &Kernel, choice: u32) -> Step
     requires cores { kernel.now.settings.cores ≡ 8 }
     requires choice { choice < 2 ^ 16 }
@@ -157,8 +159,8 @@ fn some_step(kernel: &Kernel, choice: u32) -> Step
     Step::Call { core, task, call }
 }
 
-// The step, or where it is the return of a call that the core's task didn't make, a call in its place that sets something
-// of some task, chosen by a number of 16 bits.
+// The step, or where it is the return of a call that the core's task didn't make, a call in its
+// place that sets something of some task, chosen by a number of 16 bits.
 fn with_set(kernel: &Kernel, step: Step, choice: u32) -> Step
     requires cores { kernel.now.settings.cores ≡ 8 }
     requires choice { choice < 2 ^ 16 }
@@ -194,8 +196,9 @@ fn with_set(kernel: &Kernel, step: Step, choice: u32) -> Step
     }
 }
 
-// The step, or an interrupt in place of a yield and of some switches, and of most calls that set something a call that
-// notifies a task, waits for that or clears it, chosen by a number of 16 bits.
+// The step, or an interrupt in place of a yield and of some switches, and of most calls that set
+// something a call that notifies a task, waits for that or clears it, chosen by a number of 16
+// bits.
 fn with_note(step: Step, choice: u32) -> Step
     requires { choice < 2 ^ 16 }
 {
@@ -232,8 +235,8 @@ fn is_set(call: Call) -> bool {
     )
 }
 
-// The step, or in place of a yield and of most calls that set something a call that takes a mutex or gives one, chosen by a
-// number of 16 bits.
+// The step, or in place of a yield and of most calls that set something a call that takes a mutex
+// or gives one, chosen by a number of 16 bits.
 fn with_mutex(kernel: &Kernel, step: Step, choice: u32) -> Step
     requires mutexes { kernel.now.settings.mutexes ≡ 4 }
     requires choice { choice < 2 ^ 16 }
@@ -246,7 +249,8 @@ fn with_mutex(kernel: &Kernel, step: Step, choice: u32) -> Step
     }
 }
 
-// Takes are for 0 ticks, for some, or without end. A task that holds mutexes mostly gives the first of them.
+// Takes are for 0 ticks, for some, or without end. A task that holds mutexes mostly gives the first
+// of them.
 fn some_mutex_call(kernel: &Kernel, task: u32, choice: u32) -> Call
     requires mutexes { kernel.now.settings.mutexes ≡ 4 }
     requires choice { choice < 2 ^ 16 }
@@ -267,8 +271,9 @@ fn some_mutex_call(kernel: &Kernel, task: u32, choice: u32) -> Call
     }
 }
 
-// The step, or in place of a yield and of most calls that set something a call that delays until a tick count or is for holds,
-// chosen by a number of 16 bits. While a core holds the kernel, most steps are its own calls.
+// The step, or in place of a yield and of most calls that set something a call that delays until a
+// tick count or is for holds, chosen by a number of 16 bits. While a core holds the kernel, most
+// steps are its own calls.
 fn with_hold(kernel: &Kernel, step: Step, choice: u32) -> Step
     requires cores { kernel.now.settings.cores ≡ 8 }
     requires choice { choice < 2 ^ 16 }
@@ -283,7 +288,7 @@ fn with_hold(kernel: &Kernel, step: Step, choice: u32) -> Step
     }
 }
 
-// Wakes lie at most 14 ticks ahead of now, and some behind it.
+// Wakes lie at most 14 ticks ahead of now, and some before it.
 fn some_hold_call(kernel: &Kernel, choice: u32) -> Call
     requires { choice < 2 ^ 16 }
 {

@@ -18,7 +18,8 @@ fn is_checked(header: &Header, step: &Step) -> bool
 }
 
 fn are_checked(header: &Header, steps: &[Step]) -> bool
-    ensures { IsTrue result → All (λ step. step_check (settings_of header.now) step ≡ Ok tt) steps.now }
+    ensures { IsTrue result
+        → All (λ step. step_check (settings_of header.now) step ≡ Ok tt) steps.now }
 {
     steps.iter().all(|step| is_checked(header, step))
 }

@@ -20,8 +20,8 @@ pub const SWITCH_0: Step = Step::Switch { core: 0 };
 
 pub const SWITCH_1: Step = Step::Switch { core: 1 };
 
-/// So many cores, and A (of priority 2), B and C (of priority 1), which may run on cores 0 and 1 and are numbered after the
-/// idle tasks.
+/// So many cores, and A (of priority 2), B and C (of priority 1), which may run on cores 0 and 1
+/// and are numbered after the idle tasks.
 pub fn three_tasks(alloc: Global, cores: u32, slicing: bool) -> Result<Header, Fail> {
     let config = Config {
         cores,

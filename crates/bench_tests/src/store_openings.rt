@@ -80,8 +80,8 @@ fn check_span(rt: &impl Abort, host: &HostRuntime, span: u32) -> Result<(), Fail
     Ok(())
 }
 
-/// What is to be opened: so many of three tasks, so many ticks, and the steps after them. And why it is refused, at
-/// which step.
+/// What is to be opened: so many of three tasks, so many ticks, and the steps after them. And why
+/// it is refused, at which step.
 #[derive(Drop)]
 struct Case<'a> {
     tasks: usize,

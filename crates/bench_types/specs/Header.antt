@@ -1,5 +1,6 @@
 -- Which headers a session may start from. The numbers are those of `configNUMBER_OF_CORES`,
--- `configMAX_PRIORITIES` and the arguments of `xTaskCreateAffinitySet` (FreeRTOS SMP documentation).
+-- `configMAX_PRIORITIES` and the arguments of `xTaskCreateAffinitySet` (FreeRTOS SMP
+-- documentation).
 use Rattle.std.specs.Prelude.{◌≡◌, ℕ, ◌-◌, ◌<◌, ◌%◌, ◌^◌, All, IsTrue, List, [], ◌∷◌, ◌++◌, length, Bool, false, not, ◌&&◌, ◌||◌, nat_lt, nat_le, bytes_eq, codes, decimal, slice_index_or, Result, Ok, Err, if◌then◌else◌, ⊤}
 use Rattle.std.specs.List.{list_all, list_any}
 use Rattle.bench_types.specs.Limits.{min_cores, max_cores, max_priorities, max_tasks, max_mutexes}
@@ -12,7 +13,9 @@ use Rattle.bench_types.specs.declared.header.Header.{Header}
 
 -- the numbers of cores, priorities and mutexes are within their limits
 abbrev pub has_valid_config : Config → Bool
-has_valid_config config = is_within min_cores max_cores config.cores && is_within 1 max_priorities config.priorities && nat_le config.mutexes max_mutexes
+has_valid_config config =
+    is_within min_cores max_cores config.cores && is_within 1 max_priorities config.priorities
+    && nat_le config.mutexes max_mutexes
 
 -- the bits of a core affinity mask that mean a core
 abbrev pub cores_of_mask : ℕ → ℕ → ℕ
@@ -20,7 +23,8 @@ cores_of_mask cores mask = mask % 2 ^ cores
 
 -- a priority below their number, and a core to run on
 abbrev pub has_valid_numbers : Config → ℕ → ℕ → Bool
-has_valid_numbers config priority mask = nat_lt priority config.priorities && nat_lt 0 (cores_of_mask config.cores mask)
+has_valid_numbers config priority mask =
+    nat_lt priority config.priorities && nat_lt 0 (cores_of_mask config.cores mask)
 
 -- what a task may be created with
 abbrev pub has_valid_args : Config → TaskArgs → Bool
@@ -37,7 +41,9 @@ repeats_name (task ∷ tasks) = is_taken task.name tasks || repeats_name tasks
 
 -- some user tasks, not too many, with valid arguments and distinct names under valid settings
 abbrev pub is_header : Header → Bool
-is_header header = has_valid_config header.config && is_within 1 max_tasks (length header.tasks) && list_all (has_valid_args header.config) header.tasks && not (repeats_name header.tasks)
+is_header header =
+    has_valid_config header.config && is_within 1 max_tasks (length header.tasks)
+    && list_all (has_valid_args header.config) header.tasks && not (repeats_name header.tasks)
 
 -- F1 is the one fault of a header
 abbrev pub header_check : Header → Result ⊤ Fault
@@ -53,4 +59,5 @@ pub record IsCheckedHeader (header : Header) : Type 0 where
 -- the idle task of core c is IDLEc; a user task has its name in the header
 abbrev pub name_of : Header → ℕ → List ℕ
 name_of header task = if nat_lt task header.config.cores then codes "IDLE" ++ decimal task
-    else (slice_index_or header.tasks (task - header.config.cores) (record { name = []; priority = 0; mask = 0 })).name
+    else (slice_index_or header.tasks (task - header.config.cores)
+    (record { name = []; priority = 0; mask = 0 })).name

@@ -10,7 +10,9 @@ is_within low high n = nat_le low n && nat_le n high
 abbrev pub is_name_byte : ℕ → Bool
 is_name_byte byte = is_within 0x21 0x7E byte
 
--- 1 to 15 such characters, as `configMAX_TASK_NAME_LEN` 16 allows (FreeRTOS Reference Manual, xTaskCreate);
--- names that begin with IDLE are those of the idle tasks
+-- 1 to 15 such characters, as `configMAX_TASK_NAME_LEN` 16 allows (FreeRTOS Reference Manual,
+-- xTaskCreate); names that begin with IDLE are those of the idle tasks
 abbrev pub is_name : List ℕ → Bool
-is_name text = is_within 1 15 (length text) && list_all is_name_byte text && not (starts_with nat_eq text (codes "IDLE"))
+is_name text =
+    is_within 1 15 (length text) && list_all is_name_byte text
+    && not (starts_with nat_eq text (codes "IDLE"))

@@ -30,7 +30,8 @@ core_check settings core = if nat_lt core settings.cores then Ok tt else Err Bad
 
 -- F3: an idle task, or no task
 abbrev pub task_check : Settings → ℕ → Result ⊤ Fault
-task_check settings task = if nat_le settings.cores task && nat_lt task settings.tasks then Ok tt else Err BadTask
+task_check settings task =
+    if nat_le settings.cores task && nat_lt task settings.tasks then Ok tt else Err BadTask
 
 -- F4: there is no such mutex
 abbrev pub mutex_check : Settings → ℕ → Result ⊤ Fault
@@ -38,9 +39,10 @@ mutex_check settings mutex = if nat_lt mutex settings.mutexes then Ok tt else Er
 
 -- F5: the mask allows no core
 abbrev pub mask_check : Settings → ℕ → Result ⊤ Fault
-mask_check settings mask = if nat_lt 0 (cores_of_mask settings.cores mask) then Ok tt else Err BadArgument
+mask_check settings mask =
+    if nat_lt 0 (cores_of_mask settings.cores mask) then Ok tt else Err BadArgument
 
--- F5: the wake is not behind the last one
+-- F5: the wake is not after the last one
 abbrev pub increment_check : ℕ → Result ⊤ Fault
 increment_check inc = if inc == 0 then Err BadArgument else Ok tt
 
@@ -50,7 +52,8 @@ abbrev pub ◌>>◌ : {Why : Type 0} → Result ⊤ Why → Result ⊤ Why → R
 Ok done >> next = next
 Err fault >> next = Err fault
 
--- the fault of a call's arguments: the task that it is for, then the mask or the ticks between wakes
+-- the fault of a call's arguments: the task that it is for, then the mask or the ticks between
+-- wakes
 abbrev pub call_check : Settings → Call → Result ⊤ Fault
 call_check settings call.Yield = Ok tt
 call_check settings (call.Delay ticks) = Ok tt
@@ -59,7 +62,8 @@ call_check settings call.Finish = Ok tt
 call_check settings call.HoldOpen = Ok tt
 call_check settings call.HoldClose = Ok tt
 call_check settings (call.PrioritySet task priority) = task_check settings task
-call_check settings (call.AffinitySet task mask) = task_check settings task >> mask_check settings mask
+call_check settings (call.AffinitySet task mask) =
+    task_check settings task >> mask_check settings mask
 call_check settings (call.PreemptOff task) = task_check settings task
 call_check settings (call.PreemptOn task) = task_check settings task
 call_check settings (call.Notify note) = task_check settings note.task
@@ -74,8 +78,10 @@ call_check settings (call.MutexGive mutex) = mutex_check settings mutex
 abbrev pub step_check : Settings → Step → Result ⊤ Fault
 step_check settings step.Tick = Ok tt
 step_check settings (step.Switch core) = core_check settings core
-step_check settings (step.Call core task call) = core_check settings core >> task_check settings task >> call_check settings call
-step_check settings (step.Interrupt core note) = core_check settings core >> task_check settings note.task
+step_check settings (step.Call core task call) =
+    core_check settings core >> task_check settings task >> call_check settings call
+step_check settings (step.Interrupt core note) =
+    core_check settings core >> task_check settings note.task
 
 -- the number of an action is one of 32 bits
 abbrev pub IsActionOfWord : Action → Type 0

@@ -38,7 +38,7 @@ impl From<Fault> for EditFault {
 pub enum Edit {
     /// The step becomes step `at`, and those from there on move by one.
     Insert { at: u32, step: Step },
-    /// Step `at` goes, and those behind it move back by one.
+    /// Step `at` goes, and those after it move back by one.
     Remove { at: u32 },
     /// The step stands in place of step `at`.
     Replace { at: u32, step: Step },
@@ -47,8 +47,8 @@ pub enum Edit {
 }
 
 impl Edit {
-    /// The fault of the edit's step. Of a changed task F3 where it is no user task, else F1 where the priority is
-    /// not below the number of priorities or the mask allows no core.
+    /// The fault of the edit's step. Of a changed task F3 where it is no user task, else F1 where
+    /// the priority is not below the number of priorities or the mask allows no core.
     ///
     /// Whether the session has the place `at` is not looked at.
     pub fn check(&self, header: &Header) -> Result<(), Fault>

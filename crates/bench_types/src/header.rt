@@ -12,8 +12,8 @@ use std::alloc::{AllocError, Global};
 pub struct Config {
     /// How many cores there are, [`MIN_CORES`] to [`MAX_CORES`] (`configNUMBER_OF_CORES`).
     pub cores: u32,
-    /// How many priorities there are, 1 to [`MAX_PRIORITIES`] (`configMAX_PRIORITIES`). A larger number is a higher
-    /// priority.
+    /// How many priorities there are, 1 to [`MAX_PRIORITIES`] (`configMAX_PRIORITIES`). A larger
+    /// number is a higher priority.
     pub priorities: u32,
     /// Whether tasks of one priority share the cores by turns (`configUSE_TIME_SLICING`).
     pub slicing: bool,
@@ -29,13 +29,15 @@ pub struct TaskArgs {
     pub name: Name,
     /// Below the number of priorities.
     pub priority: u32,
-    /// The core affinity mask: bit c allows core c. Bits at or above the number of cores mean nothing.
+    /// The core affinity mask: bit c allows core c. Bits at or above the number of cores mean
+    /// nothing.
     pub mask: u32,
 }
 
 /// What a session starts from.
 ///
-/// Tasks 0 to N - 1 are the idle tasks of N cores. The user tasks are numbered from N in the order of `tasks`.
+/// Tasks 0 to N - 1 are the idle tasks of N cores. The user tasks are numbered from N in the order
+/// of `tasks`.
 #[derive(Debug, Drop)]
 pub struct Header {
     pub config: Config,
@@ -44,7 +46,7 @@ pub struct Header {
 }
 
 impl TaskArgs {
-    /// A second value of the same arguments. It takes no memory.
+    /// A second value of the same arguments.
     pub fn copy(&self) -> Self
         ensures { result ≡ self.now }
     {
@@ -57,8 +59,8 @@ impl TaskArgs {
 }
 
 impl Header {
-    /// F1 where a number is outside its limits, a priority or a mask fits none of the cores and priorities, or a
-    /// name is repeated.
+    /// F1 where a number is outside its limits, a priority or a mask fits none of the cores and
+    /// priorities, or a name is repeated.
     pub fn check(&self) -> Result<(), Fault>
         ensures value { result ≡ header_check self.now }
         // So names are names, and numbers are of 32 bits.
@@ -92,9 +94,10 @@ impl Header {
         })
     }
 
-    /// Writes the name of the task behind the text. A number that is no task has no name.
+    /// Writes the name of the task after the text. A number that is no task has no name.
     pub fn push_name(&self, text: &mut String, task: u32) -> Result<(), AllocError>
-        ensures { OnOk result (string_bytes text.new ≡ string_bytes text.old ++ name_of self.now task) }
+        ensures { OnOk result
+            (string_bytes text.new ≡ string_bytes text.old ++ name_of self.now task) }
     {
         let cores = self.config.cores;
         if task < cores {

@@ -22,18 +22,21 @@ impl<T> Model for Items<T> {
 }
 
 impl<T> Items<T> {
+    /// The items of the `Vec`, in its order.
     pub fn new(items: Vec<T>) -> Self
         ensures { result ≡ items.items }
     {
         Items { items }
     }
 
+    /// The items, first to last.
     pub fn as_slice(&self) -> &[T]
         ensures { result.now ≡ self.now }
     {
         self.items.as_slice()
     }
 
+    /// The `Vec` that kept the items, for one who goes on with them.
     pub fn into_vec(self) -> Vec<T>
         ensures { result.items ≡ self }
     {

@@ -47,7 +47,8 @@ pub struct Delayed {
 #[derive(Clone, Copy, Debug, PartialEq, Eq, Hash)]
 pub struct MutexWait {
     pub mutex: u32,
-    /// The priority in use that the task had when it began to wait; a later change of priority leaves it.
+    /// The priority in use that the task had when it began to wait; a later change of priority
+    /// leaves it.
     pub priority: u32,
 }
 
@@ -58,7 +59,8 @@ pub struct Waiter {
     pub wait: MutexWait,
 }
 
-/// An open hold of the kernel, by which a core keeps out calls of other cores and every switch (`taskENTER_CRITICAL`).
+/// An open hold of the kernel, by which a core keeps out calls of other cores and every switch
+/// (`taskENTER_CRITICAL`).
 #[derive(Clone, Copy, Debug, PartialEq, Eq, Hash)]
 pub struct Hold {
     pub core: u32,
@@ -79,8 +81,8 @@ pub struct TaskLook {
     pub preempt: bool,
     /// Whether it is in a ready list (`eReady`, or `eRunning` on a core).
     pub ready: bool,
-    /// The ticks to the wake of a blocked task (`xStateListItem` holds the tick count of it); none for a ready task and for one
-    /// that waits without end.
+    /// The ticks to the wake of a blocked task (`xStateListItem` holds the tick count of it); none
+    /// for a ready task and for one that waits without end.
     pub left: Option<u32>,
     /// How many mutexes it holds (`uxMutexesHeld`).
     pub held: u32,

@@ -1,4 +1,5 @@
-//! What a session is made of: its settings and tasks, its steps, their replies, edits of it, and the checks of their limits.
+//! What a session is made of: its settings and tasks, its steps, their replies, edits of it, and
+//! the checks of their limits.
 #![tactic(auto)]
 
 mod code;

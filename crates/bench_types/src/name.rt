@@ -8,8 +8,8 @@ use std::marker::Model;
 
 /// The name of a user task: 1 to 15 bytes, each from `!` to `~`, that do not begin with `IDLE`.
 ///
-/// The limit is that of `configMAX_TASK_NAME_LEN` 16, which counts the closing zero byte (FreeRTOS Reference
-/// Manual, `xTaskCreate`). Names that begin with `IDLE` belong to the idle tasks.
+/// The limit is that of `configMAX_TASK_NAME_LEN` 16, which counts the closing zero byte (FreeRTOS
+/// Reference Manual, `xTaskCreate`). Names that begin with `IDLE` belong to the idle tasks.
 #[derive(Debug, Drop)]
 pub struct Name {
     text: ArrayString<15>,
@@ -49,7 +49,7 @@ impl Name {
         self.text.as_str()
     }
 
-    /// A second value of the same name. It takes no memory.
+    /// A second value of the same name.
     pub fn copy(&self) -> Self
         ensures { result ≡ self.now }
     {

@@ -1,7 +1,8 @@
 /// The state of a task's notification (`ucNotifyState`).
 #[derive(Clone, Copy, Debug, PartialEq, Eq, Hash)]
 pub enum NoteState {
-    /// None has come that was not taken, and no call waits for one (`taskNOT_WAITING_NOTIFICATION`).
+    /// None has come that was not taken, and no call waits for one
+    /// (`taskNOT_WAITING_NOTIFICATION`).
     NotWaiting,
     /// A call of the task waits for one (`taskWAITING_NOTIFICATION`).
     Waiting,
@@ -28,7 +29,8 @@ pub enum Action {
     Increment,
     /// The value becomes this one (`eSetValueWithOverwrite`).
     Set(u32),
-    /// The value becomes this one where no notification has come that was not taken (`eSetValueWithoutOverwrite`).
+    /// The value becomes this one where no notification has come that was not taken
+    /// (`eSetValueWithoutOverwrite`).
     SetNew(u32),
 }
 

@@ -18,11 +18,13 @@ pub enum Reply {
     Flag(bool),
     /// The notification value before the call changed it.
     Value(u32),
-    /// Whether a notification had come, and the notification value before its exit bits were cleared.
+    /// Whether a notification had come, and the notification value before its exit bits were
+    /// cleared.
     Waited { ok: bool, value: u32 },
     /// Whether the call made its task wait, and the tick count that it is to wake at, or was to.
     Until { delayed: bool, wake: u32 },
-    /// Whether the notification passed, and whether the interrupted core has asked itself to switch by now.
+    /// Whether the notification passed, and whether the interrupted core has asked itself to switch
+    /// by now.
     Isr { pass: bool, pend: bool },
     /// The step was not made, and nothing changed.
     Refused(Refusal),

@@ -24,7 +24,8 @@ pub enum Call {
     Yield,
     /// `vTaskDelay`, of so many ticks.
     Delay(u32),
-    /// `xTaskDelayUntil` the tick count that lies `inc` ticks behind `prev`, the one at which the task woke last.
+    /// `xTaskDelayUntil` the tick count that lies `inc` ticks after `prev`, the one at which the
+    /// task woke last.
     DelayUntil { prev: u32, inc: u32 },
     /// `vTaskPrioritySet` of the task. A priority that is none counts as the greatest.
     PrioritySet { task: u32, priority: u32 },
@@ -36,10 +37,11 @@ pub enum Call {
     PreemptOn(u32),
     /// `xTaskNotify`.
     Notify(Note),
-    /// `xTaskNotifyWait`, for so many ticks; 4294967295 is without end (`portMAX_DELAY`). The bits of `entry` are cleared before
-    /// the task waits, those of `exit` once a notification has come.
+    /// `xTaskNotifyWait`, for so many ticks; 4294967295 is without end (`portMAX_DELAY`). The bits
+    /// of `entry` are cleared before the task waits, those of `exit` once a notification has come.
     NotifyWait { entry: u32, exit: u32, ticks: u32 },
-    /// `ulTaskNotifyTake`, for so many ticks; 4294967295 is without end. It clears the value, or counts it down.
+    /// `ulTaskNotifyTake`, for so many ticks; 4294967295 is without end. It clears the value, or
+    /// counts it down.
     NotifyTake { clear: bool, ticks: u32 },
     /// `xTaskNotifyStateClear` of the task.
     StateClear(u32),
@@ -51,7 +53,8 @@ pub enum Call {
     MutexGive(u32),
     /// The return of the task's unfinished call, once the task runs again.
     Finish,
-    /// `taskENTER_CRITICAL`: no other core makes a call and no core switches until as many calls of `HoldClose` were made.
+    /// `taskENTER_CRITICAL`: no other core makes a call and no core switches until as many calls of
+    /// `HoldClose` were made.
     HoldOpen,
     /// `taskEXIT_CRITICAL`.
     HoldClose,
@@ -62,14 +65,14 @@ pub enum Call {
 pub enum Unfinished {
     /// The call waits for some ticks or for a notification.
     Made(Call),
-    /// The call takes the mutex. `mark` says that the base priority of its holder was below the priority in use of the task
-    /// when the task began to wait, so the holder may have inherited.
+    /// The call takes the mutex. `mark` says that the base priority of its holder was below the
+    /// priority in use of the task when the task began to wait, so the holder may have inherited.
     Take { mutex: u32, mark: bool },
 }
 
 impl Step {
-    /// F2 where the core is none, else F3 where the caller is no user task, else the fault of the call. For an interrupt F3 where
-    /// the notified task is no user task.
+    /// F2 where the core is none, else F3 where the caller is no user task, else the fault of the
+    /// call. For an interrupt F3 where the notified task is no user task.
     pub fn check(&self, header: &Header) -> Result<(), Fault>
         ensures value { result ≡ step_check (settings_of header.now) self.now }
         ensures checked { OnOk result (IsCheckedStep (settings_of header.now) self.now) }
@@ -91,8 +94,9 @@ impl Step {
 }
 
 impl Call {
-    /// The fault of the call's arguments: F3 where the task that it is for is no user task, F4 where the mutex that it is for is
-    /// none, F5 where a mask allows no core or a wake is 0 ticks behind the last one.
+    /// The fault of the call's arguments: F3 where the task that it is for is no user task, F4
+    /// where the mutex that it is for is none, F5 where a mask allows no core or a wake is 0 ticks
+    /// after the last one.
     pub fn check(&self, header: &Header) -> Result<(), Fault>
         ensures value { result ≡ call_check (settings_of header.now) self.now }
         ensures checked { OnOk result (IsCheckedCall (settings_of header.now) self.now) }

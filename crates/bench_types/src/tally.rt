@@ -3,7 +3,8 @@
 pub struct Tally {
     /// The ticks that found it ready and on no core.
     pub wait: u32,
-    /// Of those, the ticks that found a core that it may run on with a task of lower effective priority.
+    /// Of those, the ticks that found a core that it may run on with a task of lower effective
+    /// priority.
     pub inverted: u32,
     /// The switches that put it on a core that had another task.
     pub switched: u32,

@@ -41,9 +41,9 @@ module _ (test : ℕ → Bool) (before : ℕ → ℕ → Bool) (rank : IsRank be
     passes : test i ≡ true
     leads : AllByRecursion (Leads i) ids
 
-  behind : (x i j : ℕ) (b : Bool) → test j ≡ b → before x i ≡ true → Leads i j → Leads x j
-  behind x i j true good first leads = grind (arith, rank.chain x i j first (grind (arith, good, leads)))
-  behind x i j false bad first leads = grind (arith, bad)
+  following : (x i j : ℕ) (b : Bool) → test j ≡ b → before x i ≡ true → Leads i j → Leads x j
+  following x i j true good first leads = grind (arith, rank.chain x i j first (grind (arith, good, leads)))
+  following x i j false bad first leads = grind (arith, bad)
 
   -- the leader of some numbers and one more
   ahead : (x i : ℕ) (ids : List ℕ) → test x ≡ true → IsLeader ids i → (b : Bool) → before i x ≡ b → (k : ℕ) × IsLeader (x ∷ ids) k
@@ -53,7 +53,7 @@ module _ (test : ℕ → Bool) (before : ℕ → ℕ → Bool) (rank : IsRank be
     record {
       there = grind (arith, nat_tests);
       passes = passes;
-      leads = (grind (arith, self x), All-weaker (Leads i) (Leads x) (λ j h. behind x i j (test j) refl (rank.total i x last) h) ids one.leads);
+      leads = (grind (arith, self x), All-weaker (Leads i) (Leads x) (λ j h. following x i j (test j) refl (rank.total i x last) h) ids one.leads);
     },
   )
 

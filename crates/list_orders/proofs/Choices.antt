@@ -48,8 +48,8 @@ module _ {X : Type 0} (front order : X → X → Bool) where
       (All-weaker (λ y. (front y x ≡ true) × (order y x ≡ true)) (λ y. AllByRecursion (λ z. ranked_order y z ≡ true) (x ∷ after)) (λ y h. (grind (arith, h.0, h.1), All-weaker (λ z. not (front z x) ≡ true) (λ z. ranked_order y z ≡ true) (λ z k. across rank x y z h.0 k (front z y) refl) after low)) before high)
     where
       across : IsRank front → (x y z : X) → front y x ≡ true → not (front z x) ≡ true → (b : Bool) → front z y ≡ b → ranked_order y z ≡ true
-      across rank x y z ahead behind true first = absurd (grind (arith, behind, rank.chain z y x first ahead))
-      across rank x y z ahead behind false last = grind (arith, last)
+      across rank x y z ahead following true first = absurd (grind (arith, following, rank.chain z y x first ahead))
+      across rank x y z ahead following false last = grind (arith, last)
 
   ordered-fold : IsRank front → (done xs : List X) → IsOrdered ranked_order done → AllByRecursion (λ x. AllByRecursion (λ y. order y x ≡ true) done) xs → IsOrdered order xs → IsOrdered ranked_order (fold (λ done x. placed front x done) done xs)
   ordered-fold rank done [] ordered earlier rising = ordered

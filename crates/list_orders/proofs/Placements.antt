@@ -32,8 +32,8 @@ module _ {X : Type 0} (front : X → X → Bool) (rank : IsRank front) where
       let push : ranked front (xs ++ x ∷ []) ≡ placed front x xs = ranked-push front xs x ∙ ap (placed front x) order in
       ap (ranked front) (sym push) ∙ ranked_twice (xs ++ x ∷ []) ∙ push
 
-  behind_too : (x y z : X) → front y x ≡ false → front y z ≡ true → front z x ≡ false
-  behind_too x y z last first = apart (front z x) refl
+  after_too : (x y z : X) → front y x ≡ false → front y z ≡ true → front z x ≡ false
+  after_too x y z last first = apart (front z x) refl
     where
       apart : (b : Bool) → front z x ≡ b → b ≡ false
       apart true on = absurd (cc (rank.chain y z x first on, last))
@@ -50,14 +50,14 @@ module _ {X : Type 0} (front : X → X → Bool) (rank : IsRank front) where
           let index = prefix_len (λ z. front z x) ys in
           let more : suc index ≡ 1 + index = omega arith in
           subst (λ i. y ∷ placed front x ys ≡ take i (y ∷ ys) ++ x ∷ drop i (y ∷ ys)) more (ap (λ zs. y ∷ zs) rest)
-      at false behind rest =
-          let others = All-weaker (λ z. front y z ≡ true) (λ z. front z x ≡ false) (λ z h. behind_too x y z behind h) ys ordered.0 in
+      at false following rest =
+          let others = All-weaker (λ z. front y z ≡ true) (λ z. front z x ≡ false) (λ z h. after_too x y z following h) ys ordered.0 in
           grind (arith, filter_none (λ z. front z x) ys others, filter_all (λ z. not (front z x)) ys (All-weaker (λ z. front z x ≡ false) (λ z. not (front z x) ≡ true) (λ z h. ap not h) ys others))
 
-  -- in a list in order an item goes behind those that stay in front of it from the first on
+  -- in a list in order an item goes after those that stay in front of it from the first on
   pub placed_at : (x : X) (xs : List X) → ranked front xs ≡ xs → placed front x xs ≡ take (prefix_len (λ y. front y x) xs) xs ++ x ∷ drop (prefix_len (λ y. front y x) xs) xs
   placed_at x xs order = ordered_place x xs (subst (IsOrdered front) order (ordered-ranked front rank xs))
 
-  -- and all others stay behind the first
+  -- and all others stay after the first
   pub first_in_order : (x : X) (xs : List X) → ranked front (x ∷ xs) ≡ x ∷ xs → AllByRecursion (λ y. front x y ≡ true) xs
   first_in_order x xs order = (subst (IsOrdered front) order (ordered-ranked front rank (x ∷ xs))).0

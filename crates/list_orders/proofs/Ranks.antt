@@ -11,7 +11,7 @@ pub record IsRank {X : Type 0} (front : X → X → Bool) : Type 0 where
   pub total : (a b : X) → front a b ≡ false → front b a ≡ true
   pub chain : (a b c : X) → front a b ≡ true → front b c ≡ true → front a c ≡ true
 
--- each item splits the list into those that stay in front of it, and those behind
+-- each item splits the list into those that stay in front of it, and those after
 Splits : {X : Type 0} → (X → X → Bool) → List X → Type 0
 Splits {X} front xs = (x : X) → filter (λ y. front y x) xs ++ filter (λ y. not (front y x)) xs ≡ xs
 
@@ -19,17 +19,17 @@ module _ {X : Type 0} (front : X → X → Bool) where
   abbrev ahead : X → X → Bool
   ahead x y = front y x
 
-  abbrev behind : X → X → Bool
-  behind x y = not (front y x)
+  abbrev following : X → X → Bool
+  following x y = not (front y x)
 
-  -- an item behind the others is placed in their order
+  -- an item after the others is placed in their order
   pub ranked-push : (xs : List X) (x : X) → ranked front (xs ++ x ∷ []) ≡ placed front x (ranked front xs)
   unfolding ranked
   ranked-push xs x = fold-append (λ done y. placed front y done) [] xs (x ∷ [])
 
   pub list_any-placed : (p : X → Bool) (x : X) (xs : List X) → list_any p (placed front x xs) ≡ (p x || list_any p xs)
   unfolding placed
-  list_any-placed p x xs = grind (arith, list_any-append p (filter (ahead x) xs) (x ∷ filter (behind x) xs), list_any_parts p (ahead x) xs)
+  list_any-placed p x xs = grind (arith, list_any-append p (filter (ahead x) xs) (x ∷ filter (following x) xs), list_any_parts p (ahead x) xs)
 
   list_any-fold : (p : X → Bool) (done xs : List X) → list_any p (fold (λ done x. placed front x done) done xs) ≡ (list_any p done || list_any p xs)
   list_any-fold p done [] = grind arith
@@ -42,7 +42,7 @@ module _ {X : Type 0} (front : X → X → Bool) where
 
   pub All-placed : (P : X → Type 0) (x : X) (xs : List X) → P x → AllByRecursion P xs → AllByRecursion P (placed front x xs)
   unfolding placed
-  All-placed P x xs here all = All-append P (filter (ahead x) xs) (x ∷ filter (behind x) xs) (All-filter P (ahead x) xs all) (here, All-filter P (behind x) xs all)
+  All-placed P x xs here all = All-append P (filter (ahead x) xs) (x ∷ filter (following x) xs) (All-filter P (ahead x) xs all) (here, All-filter P (following x) xs all)
 
   All-fold : (P : X → Type 0) (done xs : List X) → AllByRecursion P done → AllByRecursion P xs → AllByRecursion P (fold (λ done x. placed front x done) done xs)
   All-fold P done [] before all = before
@@ -55,12 +55,12 @@ module _ {X : Type 0} (front : X → X → Bool) where
   -- a filter that keeps the item places it among those that it keeps
   pub filter-placed : (p : X → Bool) (x : X) (xs : List X) → p x ≡ true → filter p (placed front x xs) ≡ placed front x (filter p xs)
   unfolding placed
-  filter-placed p x xs passes = grind (arith, filter-append p (filter (ahead x) xs) (x ∷ filter (behind x) xs), passes, filter-filter p (ahead x) xs, filter-filter p (behind x) xs)
+  filter-placed p x xs passes = grind (arith, filter-append p (filter (ahead x) xs) (x ∷ filter (following x) xs), passes, filter-filter p (ahead x) xs, filter-filter p (following x) xs)
 
   -- a filter that drops it leaves what it keeps of the others
   filter-placed_out : (p : X → Bool) (x : X) (xs : List X) → Splits front xs → p x ≡ false → filter p (placed front x xs) ≡ filter p xs
   unfolding placed Splits
-  filter-placed_out p x xs splits fails = grind (arith, filter-append p (filter (ahead x) xs) (x ∷ filter (behind x) xs), fails, filter-append p (filter (ahead x) xs) (filter (behind x) xs), ap (filter p) (splits x))
+  filter-placed_out p x xs splits fails = grind (arith, filter-append p (filter (ahead x) xs) (x ∷ filter (following x) xs), fails, filter-append p (filter (ahead x) xs) (filter (following x) xs), ap (filter p) (splits x))
 
   later : IsRank front → (x z : X) → front x z ≡ false → (y : X) → not (front y x) ≡ true → front y z ≡ false
   later rank x z last y off = apart (front y z) refl
@@ -73,37 +73,37 @@ module _ {X : Type 0} (front : X → X → Bool) where
   unfolding placed
   placed_last P tie done x before here =
       let all : AllByRecursion (λ y. front y x ≡ true) done = All-weaker P (λ y. front y x ≡ true) (λ y h. tie y x h here) done before in
-      grind (arith, filter_all (ahead x) done all, filter_none (behind x) done (All-weaker (λ y. front y x ≡ true) (λ y. not (front y x) ≡ false) (λ y h. ap not h) done all))
+      grind (arith, filter_all (ahead x) done all, filter_none (following x) done (All-weaker (λ y. front y x ≡ true) (λ y. not (front y x) ≡ false) (λ y h. ap not h) done all))
 
-  -- each item still splits a list after one more was placed, where the item goes behind x or before it
-  splits_behind : IsRank front → (x z : X) (xs : List X) → Splits front xs → front x z ≡ true → filter (ahead z) (placed front x xs) ++ filter (behind z) (placed front x xs) ≡ placed front x xs
+  -- each item still splits a list after one more was placed, where the item goes after x or before it
+  splits_after : IsRank front → (x z : X) (xs : List X) → Splits front xs → front x z ≡ true → filter (ahead z) (placed front x xs) ++ filter (following z) (placed front x xs) ≡ placed front x xs
   unfolding placed Splits
-  splits_behind rank x z xs splits first =
+  splits_after rank x z xs splits first =
       let before = filter (ahead x) xs in
-      let after = filter (behind x) xs in
+      let after = filter (following x) xs in
       let passes : AllByRecursion (λ y. front y z ≡ true) before = All-weaker (λ y. front y x ≡ true) (λ y. front y z ≡ true) (λ y h. rank.chain y x z h first) before (All-filter_passes (ahead x) xs) in
       let kept = filter_all (ahead z) before passes in
-      let dropped = filter_none (behind z) before (All-weaker (λ y. front y z ≡ true) (λ y. not (front y z) ≡ false) (λ y h. ap not h) before passes) in
-      let halves = ap (filter (behind x)) (splits z) in
-      grind (arith, filter-append (ahead z) before (x ∷ after), filter-append (behind z) before (x ∷ after), kept, dropped, first, halves, filter-append (behind x) (filter (ahead z) xs) (filter (behind z) xs), filter-filter (behind x) (ahead z) xs, filter-filter (behind x) (behind z) xs, append_assoc before (x ∷ filter (ahead z) after) (filter (behind z) after))
+      let dropped = filter_none (following z) before (All-weaker (λ y. front y z ≡ true) (λ y. not (front y z) ≡ false) (λ y h. ap not h) before passes) in
+      let halves = ap (filter (following x)) (splits z) in
+      grind (arith, filter-append (ahead z) before (x ∷ after), filter-append (following z) before (x ∷ after), kept, dropped, first, halves, filter-append (following x) (filter (ahead z) xs) (filter (following z) xs), filter-filter (following x) (ahead z) xs, filter-filter (following x) (following z) xs, append_assoc before (x ∷ filter (ahead z) after) (filter (following z) after))
 
-  splits_before : IsRank front → (x z : X) (xs : List X) → Splits front xs → front x z ≡ false → filter (ahead z) (placed front x xs) ++ filter (behind z) (placed front x xs) ≡ placed front x xs
+  splits_before : IsRank front → (x z : X) (xs : List X) → Splits front xs → front x z ≡ false → filter (ahead z) (placed front x xs) ++ filter (following z) (placed front x xs) ≡ placed front x xs
   unfolding placed Splits
   splits_before rank x z xs splits last =
       let before = filter (ahead x) xs in
-      let after = filter (behind x) xs in
-      let fails : AllByRecursion (λ y. front y z ≡ false) after = All-weaker (λ y. not (front y x) ≡ true) (λ y. front y z ≡ false) (later rank x z last) after (All-filter_passes (behind x) xs) in
+      let after = filter (following x) xs in
+      let fails : AllByRecursion (λ y. front y z ≡ false) after = All-weaker (λ y. not (front y x) ≡ true) (λ y. front y z ≡ false) (later rank x z last) after (All-filter_passes (following x) xs) in
       let dropped = filter_none (ahead z) after fails in
-      let kept = filter_all (behind z) after (All-weaker (λ y. front y z ≡ false) (λ y. not (front y z) ≡ true) (λ y h. ap not h) after fails) in
+      let kept = filter_all (following z) after (All-weaker (λ y. front y z ≡ false) (λ y. not (front y z) ≡ true) (λ y h. ap not h) after fails) in
       let halves = ap (filter (ahead x)) (splits z) in
-      grind (arith, filter-append (ahead z) before (x ∷ after), filter-append (behind z) before (x ∷ after), kept, dropped, last, halves, filter-append (ahead x) (filter (ahead z) xs) (filter (behind z) xs), filter-filter (ahead x) (ahead z) xs, filter-filter (ahead x) (behind z) xs, append-nil (filter (ahead z) before), append_assoc (filter (ahead z) before) (filter (behind z) before) (x ∷ after))
+      grind (arith, filter-append (ahead z) before (x ∷ after), filter-append (following z) before (x ∷ after), kept, dropped, last, halves, filter-append (ahead x) (filter (ahead z) xs) (filter (following z) xs), filter-filter (ahead x) (ahead z) xs, filter-filter (ahead x) (following z) xs, append-nil (filter (ahead z) before), append_assoc (filter (ahead z) before) (filter (following z) before) (x ∷ after))
 
   splits-placed : IsRank front → (x : X) (xs : List X) → Splits front xs → Splits front (placed front x xs)
   unfolding Splits
   splits-placed rank x xs splits z = either (front x z) refl
     where
-      either : (b : Bool) → front x z ≡ b → filter (ahead z) (placed front x xs) ++ filter (behind z) (placed front x xs) ≡ placed front x xs
-      either true first = splits_behind rank x z xs splits first
+      either : (b : Bool) → front x z ≡ b → filter (ahead z) (placed front x xs) ++ filter (following z) (placed front x xs) ≡ placed front x xs
+      either true first = splits_after rank x z xs splits first
       either false last = splits_before rank x z xs splits last
 
   filter-placed_either : (p : X → Bool) (x : X) (xs : List X) → Splits front xs → filter p (placed front x xs) ≡ cond (p x) (placed front x (filter p xs)) (filter p xs)
@@ -142,8 +142,8 @@ module _ {X Y : Type 0} (front : X → X → Bool) (other : Y → Y → Bool) (f
   unfolding placed
   map-placed x xs here all =
       let ahead_same = filter_agrees (λ y. other (f y) (f x)) (λ y. front y x) xs (All-weaker P (λ y. other (f y) (f x) ≡ front y x) (λ y h. keeps y x h here) xs all) in
-      let behind_same = filter_agrees (λ y. not (other (f y) (f x))) (λ y. not (front y x)) xs (All-weaker P (λ y. not (other (f y) (f x)) ≡ not (front y x)) (λ y h. ap not (keeps y x h here)) xs all) in
-      grind (arith, map-append f (filter (λ y. front y x) xs) (x ∷ filter (λ y. not (front y x)) xs), filter-map (λ y. other y (f x)) f xs, filter-map (λ y. not (other y (f x))) f xs, ahead_same, behind_same)
+      let after_same = filter_agrees (λ y. not (other (f y) (f x))) (λ y. not (front y x)) xs (All-weaker P (λ y. not (other (f y) (f x)) ≡ not (front y x)) (λ y h. ap not (keeps y x h here)) xs all) in
+      grind (arith, map-append f (filter (λ y. front y x) xs) (x ∷ filter (λ y. not (front y x)) xs), filter-map (λ y. other y (f x)) f xs, filter-map (λ y. not (other y (f x))) f xs, ahead_same, after_same)
 
   map-fold : (done xs : List X) → AllByRecursion P done → AllByRecursion P xs → map f (fold (λ done x. placed front x done) done xs) ≡ fold (λ done y. placed other y done) (map f done) (map f xs)
   map-fold done [] before all = refl

@@ -12,15 +12,15 @@ use Rattle.list_orders.proofs.Ranks.{IsRank, ranked-push, filter-ranked, ranked_
 use Rattle.list_orders.specs.Scans.{is_better, better_of}
 
 module _ {X : Type 0} (front : X → X → Bool) (rank : IsRank front) where
-  behind_too : (x y z : X) → front y x ≡ false → front y z ≡ true → front z x ≡ false
-  behind_too x y z last first = apart (front z x) refl
+  after_too : (x y z : X) → front y x ≡ false → front y z ≡ true → front z x ≡ false
+  after_too x y z last first = apart (front z x) refl
     where
       apart : (b : Bool) → front z x ≡ b → b ≡ false
       apart true on = absurd (cc (rank.chain y z x first on, last))
       apart false on = refl
 
   none_ahead : (x y : X) (ys : List X) → front y x ≡ false → AllByRecursion (λ z. front y z ≡ true) ys → filter (λ z. front z x) ys ≡ []
-  none_ahead x y ys last first = filter_none (λ z. front z x) ys (All-weaker (λ z. front y z ≡ true) (λ z. front z x ≡ false) (λ z h. behind_too x y z last h) ys first)
+  none_ahead x y ys last first = filter_none (λ z. front z x) ys (All-weaker (λ z. front y z ≡ true) (λ z. front z x ≡ false) (λ z h. after_too x y z last h) ys first)
 
   flipped : (x z : X) → not (front z x) ≡ true → front x z ≡ true
   flipped x z off = rank.total z x (grind (arith, off))
@@ -54,7 +54,7 @@ module _ {X : Type 0} (front : X → X → Bool) (rank : IsRank front) where
   first_kept : (p : X → Bool) (xs : List X) → find p (ranked front xs) ≡ find (λ _. true) (ranked front (filter p xs))
   first_kept p xs = find_filter p (ranked front xs) ∙ ap (find (λ _. true)) (filter-ranked front rank p xs)
 
-  -- one more item behind the list is the first that passes where it passes and is better
+  -- one more item after the list is the first that passes where it passes and is better
   find-ranked_push : (p : X → Bool) (xs : List X) (x : X) → find p (ranked front (xs ++ x ∷ [])) ≡ better_of front p (find p (ranked front xs)) x
   find-ranked_push p xs x = first_kept p (xs ++ x ∷ []) ∙ ap (λ ys. find (λ _. true) (ranked front ys)) (filter-append p xs (x ∷ [])) ∙ either (p x)
     where

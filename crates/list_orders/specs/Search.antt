@@ -17,11 +17,13 @@ best test goes_before ids = find (is_best test goes_before ids) ids
 -- the numbers that pass the test, by ascending stamp; the bound is above their stamps
 unfoldable pub by_stamp : (ℕ → ℕ) → (ℕ → Bool) → List ℕ → ℕ → List ℕ
 by_stamp stamp test ids zero = []
-by_stamp stamp test ids (suc bound) = by_stamp stamp test ids bound ++ filter (λ i. test i && stamp i == bound) ids
+by_stamp stamp test ids (suc bound) =
+    by_stamp stamp test ids bound ++ filter (λ i. test i && stamp i == bound) ids
 
--- the list with x behind those that stay in front of it, and before the others
+-- the list with x after those that stay in front of it, and before the others
 unfoldable pub placed : {X : Type 0} → (X → X → Bool) → X → List X → List X
-placed stays_in_front x xs = filter (λ y. stays_in_front y x) xs ++ x ∷ filter (λ y. not (stays_in_front y x)) xs
+placed stays_in_front x xs =
+    filter (λ y. stays_in_front y x) xs ++ x ∷ filter (λ y. not (stays_in_front y x)) xs
 
 -- the list in the order of a rank, in one rank as it was: each item in turn is placed
 unfoldable pub ranked : {X : Type 0} → (X → X → Bool) → List X → List X

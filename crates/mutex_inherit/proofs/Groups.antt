@@ -14,15 +14,15 @@ use Rattle.list_orders.proofs.Scans.{ordered-ranked}
 use Rattle.mutex_inherit.specs.Parts.{has_wait}
 
 none_ahead : (x y : Waiter) (ys : List Waiter) → IsOrdered waits_first (y ∷ ys) → waits_first y x ≡ false → filter (has_wait x.wait) (y ∷ ys) ≡ []
-none_ahead x y ys ordered behind = filter_none (has_wait x.wait) (y ∷ ys)
-    (grind (arith, nat_tests, behind), All-weaker (λ z. waits_first y z ≡ true) (λ z. has_wait x.wait z ≡ false) (λ z h. grind (arith, nat_tests, h, behind)) ys ordered.0)
+none_ahead x y ys ordered later = filter_none (has_wait x.wait) (y ∷ ys)
+    (grind (arith, nat_tests, later), All-weaker (λ z. waits_first y z ≡ true) (λ z. has_wait x.wait z ≡ false) (λ z h. grind (arith, nat_tests, h, later)) ys ordered.0)
 
 first_no_later : (x y : Waiter) (xs ys : List Waiter) → IsOrdered waits_first (y ∷ ys) → filter (has_wait x.wait) (x ∷ xs) ≡ filter (has_wait x.wait) (y ∷ ys) → waits_first y x ≡ true
 first_no_later x y xs ys ordered same = at (waits_first y x) refl
   where
     at : (b : Bool) → waits_first y x ≡ b → b ≡ true
     at true ahead = refl
-    at false behind = absurd (grind (arith, nat_tests, same, none_ahead x y ys ordered behind))
+    at false later = absurd (grind (arith, nat_tests, same, none_ahead x y ys ordered later))
 
 alike : (xs ys : List Waiter) → IsOrdered waits_first xs → IsOrdered waits_first ys → ((wait : MutexWait) → filter (has_wait wait) xs ≡ filter (has_wait wait) ys) → xs ≡ ys
 alike [] [] left right same = refl
@@ -30,8 +30,8 @@ alike [] (y ∷ ys) left right same = absurd (grind (arith, nat_tests, same y.wa
 alike (x ∷ xs) [] left right same = absurd (grind (arith, nat_tests, same x.wait))
 alike (x ∷ xs) (y ∷ ys) left right same =
     let ahead = first_no_later x y xs ys right (same x.wait) in
-    let behind = first_no_later y x ys xs left (sym (same y.wait)) in
-    let first : x ≡ y = grind (arith, nat_tests, ahead, behind, same x.wait) in
+    let later = first_no_later y x ys xs left (sym (same y.wait)) in
+    let first : x ≡ y = grind (arith, nat_tests, ahead, later, same x.wait) in
     let rest : (wait : MutexWait) → filter (has_wait wait) xs ≡ filter (has_wait wait) ys = λ wait. grind (arith, nat_tests, first, same wait) in
     cc (first, alike xs ys left.1 right.1 rest)
 

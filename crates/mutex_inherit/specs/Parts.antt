@@ -12,17 +12,29 @@ pub record MutexPart : Type 0 where
   pub priorities : ℕ
   -- per mutex the task that holds it, if there is one
   pub holders : List (Option ℕ)
-  -- the tasks that wait for mutexes: mutex 0 first, of one mutex the greatest waiting priority first, those of one priority in
-  -- the order in which they began to wait
+  -- the tasks that wait for mutexes: mutex 0 first, of one mutex the greatest waiting priority
+  -- first, those of one priority in the order in which they began to wait
   pub waiters : List Waiter
 
 -- what can be seen of waiters in the order in which they began to wait
 abbrev pub seen_mutexes : ℕ → ℕ → List (Option ℕ) → List Waiter → MutexPart
-seen_mutexes tasks priorities holders waiters = record { tasks = tasks; priorities = priorities; holders = holders; waiters = ranked waits_first waiters }
+seen_mutexes tasks priorities holders waiters =
+    record {
+      tasks = tasks;
+      priorities = priorities;
+      holders = holders;
+      waiters = ranked waits_first waiters;
+    }
 
 -- no task holds a mutex or waits for one
 abbrev pub free_mutexes : ℕ → ℕ → ℕ → MutexPart
-free_mutexes tasks priorities mutexes = record { tasks = tasks; priorities = priorities; holders = replicate mutexes None; waiters = [] }
+free_mutexes tasks priorities mutexes =
+    record {
+      tasks = tasks;
+      priorities = priorities;
+      holders = replicate mutexes None;
+      waiters = [];
+    }
 
 -- the task that holds a mutex which is held
 abbrev pub holder_of : List (Option ℕ) → ℕ → ℕ

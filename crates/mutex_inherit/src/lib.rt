@@ -1,4 +1,5 @@
-//! Mutexes with priority inheritance: who holds each, who waits for it, and what a wait does to the priority of its holder.
+//! Mutexes with priority inheritance: who holds each, who waits for it, and what a wait does to the
+//! priority of its holder.
 #![tactic(auto)]
 
 mod inheritance;

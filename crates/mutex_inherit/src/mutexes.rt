@@ -4,13 +4,13 @@ ghost use Rattle.bench_types.specs.declared.kernel_data.MutexWait.{MutexWait};
 ghost use Rattle.bench_types.specs.declared.kernel_data.Waiter.{Waiter};
 ghost use Rattle.bench_model.specs.Control.{task_at};
 ghost use Rattle.bench_model.specs.State.{holder_at};
-ghost use Rattle.bench_model.specs.Lists.{list_moves, without_waiter, first_of};
-ghost use Rattle.bench_model.specs.Mutexes.{held_by, is_marked, owed_to, inherited, lowered};
+ghost use Rattle.bench_model.specs.Lists.{list_queues, without_waiter, first_of};
+ghost use Rattle.bench_model.specs.Mutexes.{held_by, is_marked, disinherit_priority, inherited, after_disinherit};
 ghost use Rattle.bench_model.specs.MutexParts.{with_waiter, wait_of};
-ghost use Rattle.bench_model.specs.Cores.{on_cores};
+ghost use Rattle.bench_model.specs.Cores.{cores_rule};
 ghost use Rattle.mutex_inherit.specs.Parts.{free_mutexes, holder_of};
 
-use crate::inheritance::{inherit, is_marked, lower, owed_to};
+use crate::inheritance::{disinherit_priority, inherit, is_marked, lower};
 use crate::waiters::{copy_with_room, first_of, have_same_order, remove_waiter, wait_of};
 use bench_types::{MutexWait, Waiter};
 use ready_core::Cores;
@@ -35,13 +35,16 @@ impl Model for Mutexes {
 
     ghost Value = { MutexPart };
 
-    ghost view = { λ part. seen_mutexes part.tasks part.priorities part.holders.items part.waiters.items };
+    ghost view = { λ part. seen_mutexes part.tasks part.priorities part.holders.items
+        part.waiters.items };
 
-    ghost invariant = { λ part. IsMutexShape part.tasks part.priorities part.holders.items part.waiters.items (vec_capacity part.waiters) };
+    ghost invariant = { λ part. IsMutexShape part.tasks part.priorities part.holders.items
+        part.waiters.items (vec_capacity part.waiters) };
 }
 
 impl Mutexes {
-    /// No mutex is held, and no task waits. There is room for so many tasks to wait, each with a priority below their number.
+    /// No mutex is held, and no task waits. There is room for so many tasks to wait, each with a
+    /// priority below their number.
     pub fn new(alloc: Global, tasks: u32, priorities: u32, mutexes: u32) -> Result<Self, AllocError>
         ensures { IfOk result (λ part. part ≡ free_mutexes tasks priorities mutexes) }
     {
@@ -92,17 +95,22 @@ impl Mutexes {
     /// The mutex that the task waits for; none where it waits for none.
     pub fn waits_on(&self, task: u32) -> Option<u32>
         requires { task < self.now.tasks }
-        ensures { result ≡ option_map (λ (wait : MutexWait). wait.mutex) (wait_of task self.now.waiters) }
+        ensures { result
+            ≡ option_map (λ (wait : MutexWait). wait.mutex) (wait_of task self.now.waiters) }
     {
         self.wait(task).map(|wait| wait.mutex)
     }
 
-    /// The task takes the mutex where it is free. Answers whether it was; where not, nothing changes.
+    /// The task takes the mutex where it is free. Returns whether it was; where not, nothing
+    /// changes.
     pub fn try_take(&mut self, task: u32, mutex: u32) -> bool
         requires task { task < self.old.tasks }
         requires mutex { mutex < length self.old.holders }
         ensures taken { result ≡ is_none (holder_at self.old.holders mutex) }
-        ensures holders { self.new ≡ (if result then record self.old { holders = slice_set self.old.holders mutex (Some task) } else self.old) }
+        ensures holders { self.new
+            ≡ (if result
+            then record self.old { holders = slice_set self.old.holders mutex (Some task) }
+            else self.old) }
     {
         let is_free = self.holder(mutex).is_none();
         if is_free {
@@ -111,8 +119,8 @@ impl Mutexes {
         is_free
     }
 
-    /// The task waits for the mutex, which a task holds, behind those that wait with its priority in use or a greater one,
-    /// and the holder inherits that priority. Answers the mark of the wait.
+    /// The task waits for the mutex, which a task holds, after those that wait with its priority in
+    /// use or a greater one, and the holder inherits that priority. Returns the mark of the wait.
     pub fn wait_on(&mut self, cores: &mut Cores, acting: u32, task: u32, mutex: u32) -> bool
         requires task { task < self.old.tasks }
         requires tasks { length cores.old.control.tasks ≡ self.old.tasks }
@@ -120,9 +128,18 @@ impl Mutexes {
         requires mutex { mutex < length self.old.holders }
         requires held { IsSome (holder_at self.old.holders mutex) }
         requires free { wait_of task self.old.waiters ≡ None }
-        ensures mark { result ≡ is_marked cores.old.control task (holder_of self.old.holders mutex) }
-        ensures cores { cores.new ≡ on_cores (inherited list_moves acting (holder_of self.old.holders mutex) (task_at cores.old.control task).in_use) cores.old }
-        ensures waiters { self.new ≡ record self.old { waiters = with_waiter (record { task = task; wait = record { mutex = mutex; priority = (task_at cores.old.control task).in_use } }) self.old.waiters } }
+        ensures mark { result
+            ≡ is_marked cores.old.control task (holder_of self.old.holders mutex) }
+        ensures cores { cores.new
+            ≡ cores_rule
+            (inherited list_queues acting (holder_of self.old.holders mutex)
+            (task_at cores.old.control task).in_use) cores.old }
+        ensures waiters { let rank = (task_at cores.old.control task).in_use in
+            self.new ≡ record self.old {
+              waiters = with_waiter
+                  (record { task = task; wait = record { mutex = mutex; priority = rank } })
+                  self.old.waiters;
+            } }
     {
         let holder = self.holder_of(mutex);
         let priority = cores.in_use(task);
@@ -132,17 +149,23 @@ impl Mutexes {
         mark
     }
 
-    /// The task gives the mutex, which it holds; where it holds no other, its base priority is in use again. Answers the
-    /// first task that waits for the mutex, which waits on until it leaves.
+    /// The task gives the mutex, which it holds; where it holds no other, its base priority is in
+    /// use again. Returns the first task that waits for the mutex, which waits on until it leaves.
     pub fn give(&mut self, cores: &mut Cores, acting: u32, task: u32, mutex: u32) -> Option<u32>
         requires task { task < self.old.tasks }
         requires tasks { length cores.old.control.tasks ≡ self.old.tasks }
         requires mutex { mutex < length self.old.holders }
         requires held { holder_at self.old.holders mutex ≡ Some task }
-        ensures first { result ≡ option_map (λ (waiter : Waiter). waiter.task) (first_of mutex self.old.waiters) }
+        ensures first { result
+            ≡ option_map (λ (waiter : Waiter). waiter.task) (first_of mutex self.old.waiters) }
         ensures task { IfSome result (λ waiter. waiter < self.old.tasks) }
-        ensures holders { self.new ≡ record self.old { holders = slice_set self.old.holders mutex None } }
-        ensures cores { cores.new ≡ (if held_by (slice_set self.old.holders mutex None) task == 0 then on_cores (lowered list_moves acting task (task_at cores.old.control task).base) cores.old else cores.old) }
+        ensures holders { self.new
+            ≡ record self.old { holders = slice_set self.old.holders mutex None } }
+        ensures cores { cores.new
+            ≡ (if held_by (slice_set self.old.holders mutex None) task == 0
+            then cores_rule
+            (after_disinherit list_queues acting task (task_at cores.old.control task).base)
+            cores.old else cores.old) }
     {
         self.set_holder(mutex, None);
         if self.held(task) == 0 {
@@ -151,18 +174,25 @@ impl Mutexes {
         self.first_task(mutex)
     }
 
-    /// A wait with a mark has ended without the mutex, which another task may hold: where that task holds no other, it keeps
-    /// what it owes to those that still wait (V11 tasks.c, vTaskPriorityDisinheritAfterTimeout).
+    /// A wait with a mark has ended without the mutex, which another task may hold: where that task
+    /// holds no other, it keeps what it owes to those that still wait (V11 tasks.c,
+    /// vTaskPriorityDisinheritAfterTimeout).
     pub fn after_timeout(&self, cores: &mut Cores, acting: u32, task: u32, mutex: u32)
         requires tasks { length cores.old.control.tasks ≡ self.now.tasks }
         requires priorities { cores.old.priorities ≡ self.now.priorities }
         requires mutex { mutex < length self.now.holders }
         requires held { IsSome (holder_at self.now.holders mutex) }
-        ensures { let holder = holder_of self.now.holders mutex in cores.new ≡ (if not (holder == task) && held_by self.now.holders holder == 1 then on_cores (lowered list_moves acting holder (owed_to (first_of mutex self.now.waiters) (task_at cores.old.control holder).base)) cores.old else cores.old) }
+        ensures { let holder
+            = holder_of self.now.holders mutex in cores.new
+            ≡ (if not (holder == task) && held_by self.now.holders holder == 1
+            then cores_rule
+            (after_disinherit list_queues acting holder
+            (disinherit_priority (first_of mutex self.now.waiters)
+            (task_at cores.old.control holder).base)) cores.old else cores.old) }
     {
         let holder = self.holder_of(mutex);
         if holder != task && self.held(holder) == 1 {
-            let owed = owed_to(self.first_waiter(mutex), cores.base(holder));
+            let owed = disinherit_priority(self.first_waiter(mutex), cores.base(holder));
             lower(cores, acting, holder, owed);
         }
     }
@@ -177,7 +207,8 @@ impl Mutexes {
 
     // Whether the numbers of tasks and of priorities are equal.
     fn has_same_sizes(&self, other: &Self) -> bool
-        ensures { IsTrue result ↔ ((self.now.tasks ≡ other.now.tasks) × (self.now.priorities ≡ other.now.priorities)) }
+        ensures { IsTrue result ↔
+            ((self.now.tasks ≡ other.now.tasks) × (self.now.priorities ≡ other.now.priorities)) }
     {
         self.tasks == other.tasks && self.priorities == other.priorities
     }
@@ -217,7 +248,11 @@ impl Mutexes {
         requires task { task < self.old.tasks }
         requires priority { priority < self.old.priorities }
         requires free { wait_of task self.old.waiters ≡ None }
-        ensures { self.new ≡ record self.old { waiters = with_waiter (record { task = task; wait = record { mutex = mutex; priority = priority } }) self.old.waiters } }
+        ensures { self.new ≡ record self.old {
+          waiters = with_waiter
+              (record { task = task; wait = record { mutex = mutex; priority = priority } })
+              self.old.waiters;
+        } }
     {
         let wait = MutexWait { mutex, priority };
         self.waiters.push_reserved(Waiter { task, wait });
@@ -233,7 +268,8 @@ impl Mutexes {
     }
 
     fn first_task(&self, mutex: u32) -> Option<u32>
-        ensures first { result ≡ option_map (λ (waiter : Waiter). waiter.task) (first_of mutex self.now.waiters) }
+        ensures first { result
+            ≡ option_map (λ (waiter : Waiter). waiter.task) (first_of mutex self.now.waiters) }
         ensures task { IfSome result (λ task. task < self.now.tasks) }
     {
         self.first_waiter(mutex).map(|waiter| waiter.task)

@@ -42,7 +42,7 @@ pub(crate) fn copy_with_room(
     Ok(copy)
 }
 
-// Whether the first stays in front of the second, which began to wait behind it.
+// Whether the first stays in front of the second, which began to wait after it.
 fn waits_first(one: Waiter, other: Waiter) -> bool
     ensures { result ≡ waits_first one other }
 {
@@ -50,7 +50,8 @@ fn waits_first(one: Waiter, other: Waiter) -> bool
     wait.mutex < later.mutex || (wait.mutex == later.mutex && later.priority <= wait.priority)
 }
 
-// The best waiter so far, or one that began to wait behind it, where it waits for the mutex and is better.
+// The best waiter so far, or one that began to wait after it, where it waits for the mutex and is
+// better.
 fn better_waiter(mutex: u32, best: Option<Waiter>, waiter: Waiter) -> Option<Waiter>
     ensures { result ≡ better_of waits_first (λ waiter. waiter.wait.mutex == mutex) best waiter }
 {
@@ -82,9 +83,11 @@ fn has_wait(wait: MutexWait, waiter: Waiter) -> bool
     waiter.wait.mutex == wait.mutex && waiter.wait.priority == wait.priority
 }
 
-// The first waiter of the mutex with the priority, and those behind it.
+// The first waiter of the mutex with the priority, and those after it.
 fn first_with(wait: MutexWait, waiters: &[Waiter]) -> Option<(Waiter, &[Waiter])>
-    ensures { MatchOption result (filter (has_wait wait) waiters.now ≡ []) (λ first. filter (has_wait wait) waiters.now ≡ first.0 ∷ filter (has_wait wait) first.1.now) }
+    ensures { MatchOption result (filter (has_wait wait) waiters.now ≡ [])
+        (λ first. filter (has_wait wait) waiters.now
+        ≡ first.0 ∷ filter (has_wait wait) first.1.now) }
 {
     for (index, waiter) in waiters.iter().enumerate() {
         if has_wait(wait, *waiter) {
@@ -94,7 +97,8 @@ fn first_with(wait: MutexWait, waiters: &[Waiter]) -> Option<(Waiter, &[Waiter])
     None
 }
 
-// Whether those who wait for the mutex with the priority are the same in both lists, in the same order.
+// Whether those who wait for the mutex with the priority are the same in both lists, in the same
+// order.
 fn has_same_group(wait: MutexWait, one: &[Waiter], other: &[Waiter]) -> bool
     ensures { IsTrue result ↔ (filter (has_wait wait) one.now ≡ filter (has_wait wait) other.now) }
 {
@@ -102,7 +106,7 @@ fn has_same_group(wait: MutexWait, one: &[Waiter], other: &[Waiter]) -> bool
     for waiter in one {
         if has_wait(wait, *waiter) {
             match first_with(wait, rest) {
-                Some((first, behind)) if first == *waiter => rest = behind,
+                Some((first, later)) if first == *waiter => rest = later,
                 _ => return false,
             }
         }
@@ -112,7 +116,9 @@ fn has_same_group(wait: MutexWait, one: &[Waiter], other: &[Waiter]) -> bool
 
 // Whether each of these waiters stands among the same, in the same order, in both lists.
 fn have_same_groups(waiters: &[Waiter], one: &[Waiter], other: &[Waiter]) -> bool
-    ensures { IsTrue result ↔ All (λ waiter. filter (has_wait waiter.wait) one.now ≡ filter (has_wait waiter.wait) other.now) waiters.now }
+    ensures { IsTrue result ↔ All
+        (λ waiter. filter (has_wait waiter.wait) one.now ≡ filter (has_wait waiter.wait) other.now)
+        waiters.now }
 {
     for waiter in waiters {
         if !has_same_group(waiter.wait, one, other) {

@@ -71,19 +71,22 @@ impl Notes {
         self.tasks[task as usize]
     }
 
-    /// Notifies the task. Answers whether the notification was passed, and whether a call of the task waited for it.
+    /// Notifies the task. Returns whether the notification was passed, and whether a call of the
+    /// task waited for it.
     pub fn notify(&mut self, task: u32, action: Action) -> (bool, bool)
         requires { task < length self.old }
-        ensures answer { let note = note_at self.old task in result ≡ (passes action note.state, is_waiting note.state) }
-        ensures notes { self.new ≡ slice_set self.old task (notified action (note_at self.old task)) }
+        ensures answer { let note
+            = note_at self.old task in result ≡ (passes action note.state, is_waiting note.state) }
+        ensures notes { self.new
+            ≡ slice_set self.old task (notified action (note_at self.old task)) }
     {
         let note = self.note(task);
         self.tasks[task as usize] = notified(action, note);
         (passes(action, note.state), is_waiting(note.state))
     }
 
-    /// Begins to wait for a notification: clears the bits of the value. Answers whether there is nothing to complete with;
-    /// where there is, nothing changes.
+    /// Begins to wait for a notification: clears the bits of the value. Returns whether there is
+    /// nothing to complete with; where there is, nothing changes.
     #[tactic(auto, unfolding(bench_model::specs::Notes::wait_begun))]
     pub fn begin_wait(&mut self, task: u32, entry: u32) -> bool
         requires { task < length self.old }
@@ -100,7 +103,8 @@ impl Notes {
         true
     }
 
-    /// Completes a wait. Answers whether a notification has come, and the value; where one has come, it then clears the bits.
+    /// Completes a wait. Returns whether a notification has come, and the value; where one has
+    /// come, it then clears the bits.
     #[tactic(auto, unfolding(bench_model::specs::Notes::wait_ended))]
     pub fn end_wait(&mut self, task: u32, exit: u32) -> (bool, u32)
         requires { task < length self.old }
@@ -117,8 +121,8 @@ impl Notes {
         (come, note.value)
     }
 
-    /// Begins to take the value. Answers whether there is nothing to complete with, as the value is 0; where there is,
-    /// nothing changes.
+    /// Begins to take the value. Returns whether there is nothing to complete with, as the value is
+    /// 0; where there is, nothing changes.
     #[tactic(auto, unfolding(bench_model::specs::Notes::take_begun))]
     pub fn begin_take(&mut self, task: u32) -> bool
         requires { task < length self.old }
@@ -132,7 +136,7 @@ impl Notes {
         empty
     }
 
-    /// Completes a take. Answers the value; then it is 0 where it is cleared, or 1 less.
+    /// Completes a take. Returns the value; then it is 0 where it is cleared, or 1 less.
     #[tactic(auto, unfolding(bench_model::specs::Notes::take_ended))]
     pub fn end_take(&mut self, task: u32, clear: bool) -> u32
         requires { task < length self.old }
@@ -147,7 +151,7 @@ impl Notes {
         note.value
     }
 
-    /// Forgets that a notification has come. Answers whether one had.
+    /// Forgets that a notification has come. Returns whether one had.
     #[tactic(auto, unfolding(bench_model::specs::Notes::state_cleared))]
     pub fn clear_state(&mut self, task: u32) -> bool
         requires { task < length self.old }
@@ -161,7 +165,7 @@ impl Notes {
         had
     }
 
-    /// Clears the bits of the value. Answers the value before.
+    /// Clears the bits of the value. Returns the value before.
     #[tactic(auto, unfolding(bench_model::specs::Notes::value_cleared))]
     pub fn clear_value(&mut self, task: u32, bits: u32) -> u32
         requires { task < length self.old }

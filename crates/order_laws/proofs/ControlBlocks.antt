@@ -8,7 +8,7 @@ use Rattle.std.proofs.lemmas.List.{get_or-set_same, get_or-set_other}
 use Rattle.bench_types.specs.declared.kernel_data.TaskControl.{TaskControl}
 use Rattle.list_orders.specs.Search.{ranked, without}
 use Rattle.bench_model.specs.Control.{Control, task_at}
-use Rattle.bench_model.specs.Changes.{with_task}
+use Rattle.bench_model.specs.ControlFields.{with_task}
 use Rattle.bench_model.specs.Lists.{outranks}
 use Rattle.list_orders.proofs.Filters.{All-filter_passes}
 use Rattle.list_orders.proofs.Ranks.{filter-ranked}

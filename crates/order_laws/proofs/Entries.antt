@@ -5,7 +5,7 @@ use Rattle.std.specs.List.{filter, find, list_any}
 use Rattle.std.proofs.lemmas.List.{append-nil, map-append}
 use Rattle.std.proofs.lemmas.Bool.{eqb-true}
 use Rattle.std.proofs.lemmas.Bool.Decides.{nat_tests}
-use Rattle.bench_model.specs.declared.row.Standing.{Standing}
+use Rattle.bench_model.specs.declared.row.TaskState.{TaskState}
 use Rattle.bench_model.specs.declared.row.TaskRow.{TaskRow}
 use Rattle.list_orders.specs.Search.{placed, ranked, without, has}
 use Rattle.bench_model.specs.Table.{Stamps, row_at, restamped}
@@ -17,7 +17,7 @@ pub without_absent : (n : ℕ) (ns : List ℕ) → has n ns ≡ false → withou
 without_absent n [] absent = refl
 without_absent n (m ∷ ms) absent = grind (arith, absent, without_absent n ms)
 
-module _ {E : Type 0} (front : E → E → Bool) (test : Standing → Bool) (entry : ℕ → Standing → E) where
+module _ {E : Type 0} (front : E → E → Bool) (test : TaskState → Bool) (entry : ℕ → TaskState → E) where
   abbrev pub entry_at : Stamps → ℕ → E
   entry_at stamps i = entry i (row_at stamps i).standing
 
@@ -25,7 +25,7 @@ module _ {E : Type 0} (front : E → E → Bool) (test : Standing → Bool) (ent
   entries stamps = ranked front (map (entry_at stamps) (standing_so test stamps))
 
   -- the entry of a task is what a search for the task finds, where its standing passes the test
-  pub entry_found : (task_of : E → ℕ) → ((i : ℕ) (s : Standing) → task_of (entry i s) ≡ i) → (stamps : Stamps) (task : ℕ) → IsGiven stamps → task < length stamps.rows →
+  pub entry_found : (task_of : E → ℕ) → ((i : ℕ) (s : TaskState) → task_of (entry i s) ≡ i) → (stamps : Stamps) (task : ℕ) → IsGiven stamps → task < length stamps.rows →
       find (λ e. eqb (task_of e) task) (entries stamps) ≡ cond (test (row_at stamps task).standing) (Some (entry_at stamps task)) None
   entry_found task_of named stamps task given below =
       let ids = standing_so test stamps in
@@ -37,7 +37,7 @@ module _ {E : Type 0} (front : E → E → Bool) (test : Standing → Bool) (ent
       ∙ ap (λ b. cond b (Some (entry_at stamps task)) None)
       (list_any-ranked front is_its (map (entry_at stamps) ids) ∙ list_any-map is_its (entry_at stamps) ids ∙ ap (λ p. list_any p ids) named_so ∙ has-standing_so test stamps task given below)
 
-  module _ (stamps : Stamps) (task : ℕ) (standing : Standing) (below : task < length stamps.rows) where
+  module _ (stamps : Stamps) (task : ℕ) (standing : TaskState) (below : task < length stamps.rows) where
     abbrev moved : Stamps
     moved = restamped task standing stamps
 
@@ -46,7 +46,7 @@ module _ {E : Type 0} (front : E → E → Bool) (test : Standing → Bool) (ent
         (All-weaker (λ i. not (eqb i task) ≡ true) (λ i. entry_at moved i ≡ entry_at stamps i)
         (λ i h. ap (λ (r : TaskRow). entry i r.standing) (row_other stamps task standing below i (λ e. grind (arith, nat_tests, h, e)))) (without task ids) (All-filter_passes (λ i. not (eqb i task)) ids))
 
-    -- behind the others stands the task's, where its new standing passes the test
+    -- after the others stands the task's, where its new standing passes the test
     pushed : (ids : List ℕ) → ranked front (map (entry_at moved) (without task ids ++ cond (test standing) (task ∷ []) [])) ≡ cond (test standing) (placed front (entry task standing) (ranked front (map (entry_at stamps) (without task ids)))) (ranked front (map (entry_at stamps) (without task ids)))
     pushed ids = at (test standing)
       where
@@ -67,7 +67,7 @@ module _ {E : Type 0} (front : E → E → Bool) (test : Standing → Bool) (ent
         ∙ ap (λ others. cond (test standing) (placed front (entry task standing) (ranked front (map (entry_at stamps) others))) (ranked front (map (entry_at stamps) others))) absent
 
     -- the entry of a task goes where its new standing fails the test
-    pub entries_over : (task_of : E → ℕ) → ((i : ℕ) (s : Standing) → task_of (entry i s) ≡ i) → IsRank front → IsGiven stamps → test standing ≡ false → entries moved ≡ filter (λ e. not (eqb (task_of e) task)) (entries stamps)
+    pub entries_over : (task_of : E → ℕ) → ((i : ℕ) (s : TaskState) → task_of (entry i s) ≡ i) → IsRank front → IsGiven stamps → test standing ≡ false → entries moved ≡ filter (λ e. not (eqb (task_of e) task)) (entries stamps)
     entries_over task_of named rank given fails =
         let ids = standing_so test stamps in
         let other = λ (e : E). not (eqb (task_of e) task) in

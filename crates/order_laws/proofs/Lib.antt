@@ -9,5 +9,6 @@ pub mod Restamps
 pub mod SeenMoves
 pub mod SeenSteps
 pub mod Selects
+pub mod Sizes
 pub mod SoundMutexes
 pub mod SoundSteps

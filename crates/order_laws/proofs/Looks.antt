@@ -8,21 +8,21 @@ use Rattle.bench_types.specs.declared.kernel_data.TaskControl.{TaskControl}
 use Rattle.bench_types.specs.declared.kernel_data.TaskLook.{TaskLook}
 use Rattle.bench_types.specs.declared.kernel_data.Waiter.{Waiter}
 use Rattle.bench_types.specs.declared.note.Notification.{Notification}
-use Rattle.bench_model.specs.declared.row.Standing.{Standing}
-use Rattle.bench_model.specs.declared.row.Standing.TheVariants.{Ready, Blocked}
+use Rattle.bench_model.specs.declared.row.TaskState.{TaskState}
+use Rattle.bench_model.specs.declared.row.TaskState.TheVariants.{Ready, Blocked}
 use Rattle.bench_model.specs.Control.{Control, task_at}
 use Rattle.bench_model.specs.Mutexes.{held_by}
 use Rattle.bench_model.specs.Notes.{note_at}
 use Rattle.bench_model.specs.State.{call_at}
 use Rattle.bench_model.specs.Table.{Stamps, Table, row_at, wake_in, wait_in}
-use Rattle.bench_model.specs.Lists.{lists_of, wakes_first, waits_first, image}
+use Rattle.bench_model.specs.Lists.{lists_of, wakes_first, waits_first, view_of}
 use Rattle.bench_model.specs.Looks.{ticks_left, task_look, left_in, look_in}
 use Rattle.bench_model.specs.Sound.{IsConsistent}
 use Rattle.order_laws.proofs.Entries.{entry_found}
 use Rattle.order_laws.proofs.Restamps.{IsGiven, waits}
 use Rattle.order_laws.proofs.SeenMoves.{delayed_from, waiter_from, queues, is_ready_seen}
 
-left_at : (tick task : ℕ) (standing : Standing) → option_map (λ (entry : Delayed). entry.left) (cond (waits standing) (Some (record { task = task; left = unwrap_or (wake_in standing) 0 - tick })) None) ≡ option_map (λ wake. wake - tick) (wake_in standing)
+left_at : (tick task : ℕ) (standing : TaskState) → option_map (λ (entry : Delayed). entry.left) (cond (waits standing) (Some (record { task = task; left = unwrap_or (wake_in standing) 0 - tick })) None) ≡ option_map (λ wake. wake - tick) (wake_in standing)
 left_at tick task Ready = refl
 left_at tick task (Blocked None wait) = refl
 left_at tick task (Blocked (Some wake) wait) = refl
@@ -38,7 +38,7 @@ left_seen control stamps task given below =
 abbrev pub wait_among : ℕ → List Waiter → Option MutexWait
 wait_among task waiters = option_map (λ waiter. waiter.wait) (find (λ waiter. eqb waiter.task task) waiters)
 
-wait_at : (task : ℕ) (standing : Standing) → option_map (λ (waiter : Waiter). waiter.wait) (cond (queues standing) (Some (waiter_from task standing)) None) ≡ wait_in standing
+wait_at : (task : ℕ) (standing : TaskState) → option_map (λ (waiter : Waiter). waiter.wait) (cond (queues standing) (Some (waiter_from task standing)) None) ≡ wait_in standing
 wait_at task Ready = refl
 wait_at task (Blocked wake None) = refl
 wait_at task (Blocked wake (Some wait)) = refl
@@ -55,7 +55,7 @@ look_from block in_call note held ready left = record { in_use = block.in_use; b
 same_look : (block : TaskControl) (in_call : Bool) (note : Notification) (held : ℕ) (ready other : Bool) (left ticks : Option ℕ) → ready ≡ other → left ≡ ticks → look_from block in_call note held ready left ≡ look_from block in_call note held other ticks
 same_look block in_call note held ready other left ticks a b = cc
 
-pub look_seen : (table : Table) (task : ℕ) → IsConsistent table → task < table.settings.tasks → look_in (image table) task ≡ task_look table task
+pub look_seen : (table : Table) (task : ℕ) → IsConsistent table → task < table.settings.tasks → look_in (view_of table) task ≡ task_look table task
 unfolding look_in task_look
 look_seen table task sound low =
     let below : task < length table.orders.rows = omega (arith, sound.sized.rows, low) in

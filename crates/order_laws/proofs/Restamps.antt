@@ -5,8 +5,8 @@ use Rattle.std.proofs.lemmas.List.{length-set, get_or-set_same, get_or-set_other
 use Rattle.std.proofs.Common.{inl, inr}
 use Rattle.std.proofs.lemmas.Bool.{cases_eq}
 use Rattle.std.proofs.lemmas.Bool.Decides.{nat_tests}
-use Rattle.bench_model.specs.declared.row.Standing.{Standing}
-use Rattle.bench_model.specs.declared.row.Standing.TheVariants.{Ready}
+use Rattle.bench_model.specs.declared.row.TaskState.{TaskState}
+use Rattle.bench_model.specs.declared.row.TaskState.TheVariants.{Ready}
 use Rattle.bench_model.specs.declared.row.TaskRow.{TaskRow}
 use Rattle.list_orders.specs.Search.{numbers, by_stamp, without, has}
 use Rattle.bench_model.specs.Table.{Stamps, row_at, stamp_of, tasks_of, wake_in, restamped}
@@ -18,17 +18,17 @@ abbrev pub IsGiven : Stamps → Type 0
 IsGiven stamps = (i : ℕ) → i < length stamps.rows → stamp_of stamps i < stamps.next
 
 -- the tasks whose standing passes a test, by ascending stamp
-abbrev pub standing_so : (Standing → Bool) → Stamps → List ℕ
+abbrev pub standing_so : (TaskState → Bool) → Stamps → List ℕ
 standing_so test stamps = by_stamp (stamp_of stamps) (λ i. test (row_at stamps i).standing) (tasks_of stamps) stamps.next
 
-abbrev pub waits : Standing → Bool
+abbrev pub waits : TaskState → Bool
 waits standing = is_some (wake_in standing)
 
 -- whether a task is among them
-pub has-standing_so : (test : Standing → Bool) (stamps : Stamps) (i : ℕ) → IsGiven stamps → i < length stamps.rows → has i (standing_so test stamps) ≡ test (row_at stamps i).standing
+pub has-standing_so : (test : TaskState → Bool) (stamps : Stamps) (i : ℕ) → IsGiven stamps → i < length stamps.rows → has i (standing_so test stamps) ≡ test (row_at stamps i).standing
 has-standing_so test stamps i given below = grind (arith, nat_tests, has-by_stamp (stamp_of stamps) (λ i. test (row_at stamps i).standing) (tasks_of stamps) i stamps.next, given i below, numbers_have (length stamps.rows) i below)
 
-module _ (stamps : Stamps) (task : ℕ) (standing : Standing) (below : task < length stamps.rows) where
+module _ (stamps : Stamps) (task : ℕ) (standing : TaskState) (below : task < length stamps.rows) where
   abbrev moved : Stamps
   moved = restamped task standing stamps
 
@@ -69,7 +69,7 @@ module _ (stamps : Stamps) (task : ℕ) (standing : Standing) (below : task < le
   }
 
   -- it leaves its place, and stands last where its new standing passes the test
-  pub standing_so_moved : (test : Standing → Bool) → IsGiven stamps → standing_so test moved ≡ without task (standing_so test stamps) ++ cond (test standing) (task ∷ []) []
+  pub standing_so_moved : (test : TaskState → Bool) → IsGiven stamps → standing_so test moved ≡ without task (standing_so test stamps) ++ cond (test standing) (task ∷ []) []
   standing_so_moved test given =
       let by_moved = by_stamp_moved (stamp_of stamps) (stamp_of moved) (λ i. test (row_at stamps i).standing) (λ i. test (row_at moved i).standing) (length stamps.rows) stamps.next task below given stamp_other (λ i other. ap (λ (r : TaskRow). test r.standing) (row_other i other)) stamp_same in
       let sized = ap (λ n. by_stamp (stamp_of moved) (λ i. test (row_at moved i).standing) (numbers n) moved.next) moved_length in

@@ -12,11 +12,11 @@ use Rattle.std.proofs.lemmas.Bool.Decides.{nat_tests}
 use Rattle.bench_types.specs.declared.kernel_data.Delayed.{Delayed}
 use Rattle.bench_types.specs.declared.kernel_data.MutexWait.{MutexWait}
 use Rattle.bench_types.specs.declared.kernel_data.Waiter.{Waiter}
-use Rattle.bench_model.specs.declared.row.Standing.{Standing}
-use Rattle.bench_model.specs.declared.row.Standing.TheVariants.{Ready, Blocked}
+use Rattle.bench_model.specs.declared.row.TaskState.{TaskState}
+use Rattle.bench_model.specs.declared.row.TaskState.TheVariants.{Ready, Blocked}
 use Rattle.list_orders.specs.Search.{numbers, by_stamp, placed, ranked, without, has}
 use Rattle.bench_model.specs.Control.{Control, may_select}
-use Rattle.bench_model.specs.Table.{Stamps, row_at, stamp_of, tasks_of, is_ready, stands_ready, wake_in, wait_in, ahead, wakes_at, pick, make_ready, delay, deadline_left, forget_deadline, advance, due}
+use Rattle.bench_model.specs.Table.{Stamps, row_at, stamp_of, tasks_of, is_ready, stands_ready, wake_in, wait_in, ahead, wakes_at, pick, add_to_ready_list, delay, deadline_left, forget_deadline, advance, due}
 use Rattle.bench_model.specs.Lists as seen
 use Rattle.bench_model.specs.Lists.{Lists, lists_of, delayed_of, outranks, wakes_first, waits_first}
 use Rattle.bench_model.specs.Sound.{IsStamped}
@@ -55,13 +55,13 @@ pub same_seen : (ready other : List ℕ) (tick later : ℕ) (delayed left : List
 same_seen ready other tick later delayed left waiters ones deadlines ends a b c d e = cc
 
 -- the entries of tasks that wait for some ticks, and of those that wait for mutexes
-abbrev pub delayed_from : ℕ → ℕ → Standing → Delayed
+abbrev pub delayed_from : ℕ → ℕ → TaskState → Delayed
 delayed_from tick task standing = record { task = task; left = unwrap_or (wake_in standing) 0 - tick }
 
-abbrev pub waiter_from : ℕ → Standing → Waiter
+abbrev pub waiter_from : ℕ → TaskState → Waiter
 waiter_from task standing = record { task = task; wait = unwrap_or (wait_in standing) (record { mutex = 0; priority = 0 }) }
 
-abbrev pub queues : Standing → Bool
+abbrev pub queues : TaskState → Bool
 queues standing = is_some (wait_in standing)
 
 abbrev pub deadline_from : ℕ → Option ℕ → Option ℕ
@@ -72,8 +72,8 @@ ready_without : (control : Control) (task : ℕ) (ids : List ℕ) → ranked (ou
 ready_without control task ids = sym (filter-ranked (outranks control) (outranks-IsRank control) (λ m. not (eqb m task)) ids)
 
 -- a task made ready
-pub make_ready_seen : (control : Control) (stamps : Stamps) (task : ℕ) → IsGiven stamps → task < length stamps.rows → lists_of control (make_ready task stamps) ≡ seen.make_ready control task (lists_of control stamps)
-unfolding lists_of make_ready seen.make_ready
+pub make_ready_seen : (control : Control) (stamps : Stamps) (task : ℕ) → IsGiven stamps → task < length stamps.rows → lists_of control (add_to_ready_list task stamps) ≡ seen.add_to_ready_list control task (lists_of control stamps)
+unfolding lists_of add_to_ready_list seen.add_to_ready_list
 make_ready_seen control stamps task given below =
     let ready = standing_so stands_ready stamps in
     same_seen _ _ _ _ _ _ _ _ _ _
@@ -83,12 +83,12 @@ make_ready_seen control stamps task given below =
     (entries_over waits_first queues waiter_from stamps task Ready below (λ e. e.task) (λ i s. refl) waits_first-IsRank given refl)
     refl
 
-ready_waits_not : (standing : Standing) → stands_ready standing ≡ true → (waits standing ≡ false) × (queues standing ≡ false)
+ready_waits_not : (standing : TaskState) → stands_ready standing ≡ true → (waits standing ≡ false) × (queues standing ≡ false)
 ready_waits_not Ready ready = (refl, refl)
 ready_waits_not (Blocked wake wait) ready = absurd (cc)
 
 -- where a task stands that waits from now on
-abbrev begun : Stamps → Option ℕ → Option MutexWait → Standing
+abbrev begun : Stamps → Option ℕ → Option MutexWait → TaskState
 begun stamps ticks wait = Blocked (ahead stamps ticks) wait
 
 -- one more entry, where there is what it is of

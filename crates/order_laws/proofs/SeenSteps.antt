@@ -8,13 +8,13 @@ use Rattle.bench_types.specs.declared.kernel_data.MutexWait.{MutexWait}
 use Rattle.bench_types.specs.declared.kernel_data.Settings.{Settings}
 use Rattle.bench_types.specs.declared.kernel_data.CoreLook.{CoreLook}
 use Rattle.bench_types.specs.declared.note.Notification.{Notification}
-use Rattle.bench_model.specs.declared.row.Standing.TheVariants.{Ready}
+use Rattle.bench_model.specs.declared.row.TaskState.TheVariants.{Ready}
 use Rattle.list_orders.specs.Search.{numbers}
 use Rattle.bench_model.specs.Control.{Control, current, run_on}
-use Rattle.bench_model.specs.State.{State, switched, yielded, blocked}
-use Rattle.bench_model.specs.Table.{Stamps, Table, table_moves, wakes_at, is_ready, row_at, stamp_of, pick, make_ready, delay, advance, due}
+use Rattle.bench_model.specs.State.{State, after_select, yielded, blocked}
+use Rattle.bench_model.specs.Table.{Stamps, Table, stamp_queues, wakes_at, is_ready, row_at, stamp_of, pick, add_to_ready_list, delay, advance, due}
 use Rattle.bench_model.specs.Lists as seen
-use Rattle.bench_model.specs.Lists.{Lists, list_moves, lists_of, image}
+use Rattle.bench_model.specs.Lists.{Lists, list_queues, lists_of, view_of}
 use Rattle.bench_model.specs.Sound.{IsStamped, WakesInTime}
 use Rattle.list_orders.proofs.Stamped.{numbers_below, All-by_stamp}
 use Rattle.order_laws.proofs.Restamps.{IsGiven, moved_length, moved_given, moved_once}
@@ -33,7 +33,7 @@ lists_of_cores control cores stamps = refl
 
 -- the orders of a core's choice: its task goes to the end of its list where it is ready
 abbrev pub queued : Stamps → ℕ → Stamps
-queued stamps task = cond (is_ready task stamps) (make_ready task stamps) stamps
+queued stamps task = cond (is_ready task stamps) (add_to_ready_list task stamps) stamps
 
 cond_seen : (control : Control) (b : Bool) (x y : Stamps) → lists_of control (cond b x y) ≡ cond b (lists_of control x) (lists_of control y)
 cond_seen control true x y = refl
@@ -43,24 +43,24 @@ cond_stamped : (b : Bool) (x y : Stamps) → IsStamped x → IsStamped y → IsS
 cond_stamped true x y one other = one
 cond_stamped false x y one other = other
 
-pub make_ready_once : (stamps : Stamps) (task : ℕ) → IsStamped stamps → task < length stamps.rows → IsStamped (make_ready task stamps)
-unfolding make_ready
+pub make_ready_once : (stamps : Stamps) (task : ℕ) → IsStamped stamps → task < length stamps.rows → IsStamped (add_to_ready_list task stamps)
+unfolding add_to_ready_list
 make_ready_once stamps task stamped below = moved_once stamps task Ready below stamped
 
 pub queued_once : (stamps : Stamps) (task : ℕ) → IsStamped stamps → task < length stamps.rows → IsStamped (queued stamps task)
-queued_once stamps task stamped below = cond_stamped (is_ready task stamps) (make_ready task stamps) stamps (make_ready_once stamps task stamped below) stamped
+queued_once stamps task stamped below = cond_stamped (is_ready task stamps) (add_to_ready_list task stamps) stamps (make_ready_once stamps task stamped below) stamped
 
 abbrev seen_queue : Control → Stamps → ℕ → Lists
-seen_queue control stamps task = cond (seen.is_ready task (lists_of control stamps)) (seen.make_ready control task (lists_of control stamps)) (lists_of control stamps)
+seen_queue control stamps task = cond (seen.is_ready task (lists_of control stamps)) (seen.add_to_ready_list control task (lists_of control stamps)) (lists_of control stamps)
 
-queued_seen : (control : Control) (stamps : Stamps) (task : ℕ) → IsGiven stamps → task < length stamps.rows → lists_of control (queued stamps task) ≡ cond (seen.is_ready task (lists_of control stamps)) (seen.make_ready control task (lists_of control stamps)) (lists_of control stamps)
+queued_seen : (control : Control) (stamps : Stamps) (task : ℕ) → IsGiven stamps → task < length stamps.rows → lists_of control (queued stamps task) ≡ cond (seen.is_ready task (lists_of control stamps)) (seen.add_to_ready_list control task (lists_of control stamps)) (lists_of control stamps)
 queued_seen control stamps task given below =
     let moved = make_ready_seen control stamps task given below in
     let tested = is_ready_seen control stamps task given below in
-    cond_seen control (is_ready task stamps) (make_ready task stamps) stamps ∙ cc (moved, tested)
+    cond_seen control (is_ready task stamps) (add_to_ready_list task stamps) stamps ∙ cc (moved, tested)
 
-pub switched_seen : (core : ℕ) (table : Table) → IsStamped table.orders → current table.control core < length table.orders.rows → image (switched table_moves core table) ≡ switched list_moves core (image table)
-unfolding switched
+pub switched_seen : (core : ℕ) (table : Table) → IsStamped table.orders → current table.control core < length table.orders.rows → view_of (after_select stamp_queues core table) ≡ after_select list_queues core (view_of table)
+unfolding after_select
 switched_seen core table stamped below =
     let left = current table.control core in
     let orders = queued table.orders left in
@@ -71,12 +71,12 @@ switched_seen core table stamped below =
     (ap (λ o. run_on core (unwrap_or o left) table.control) (sym picked ∙ chosen))
     (lists_of_cores table.control _ orders ∙ lists)
 
-pub make_ready_given : (stamps : Stamps) (task : ℕ) → IsGiven stamps → task < length stamps.rows → IsGiven (make_ready task stamps)
-unfolding make_ready
+pub make_ready_given : (stamps : Stamps) (task : ℕ) → IsGiven stamps → task < length stamps.rows → IsGiven (add_to_ready_list task stamps)
+unfolding add_to_ready_list
 make_ready_given stamps task given below = moved_given stamps task Ready below given
 
-pub make_ready_length : (stamps : Stamps) (task : ℕ) → task < length stamps.rows → length (make_ready task stamps).rows ≡ length stamps.rows
-unfolding make_ready
+pub make_ready_length : (stamps : Stamps) (task : ℕ) → task < length stamps.rows → length (add_to_ready_list task stamps).rows ≡ length stamps.rows
+unfolding add_to_ready_list
 make_ready_length stamps task below = moved_length stamps task Ready below
 
 pub advanced_given : (stamps : Stamps) → IsGiven stamps → IsGiven (advance stamps)
@@ -94,11 +94,11 @@ pub due_below : (stamps : Stamps) → AllByRecursion (λ task. task < length sta
 unfolding due
 due_below stamps = All-by_stamp (stamp_of stamps) (λ task. wakes_at stamps.tick (row_at stamps task).standing) (numbers (length stamps.rows)) (λ task. task < length stamps.rows) stamps.next (numbers_below (length stamps.rows))
 
-pub yielded_seen : (core : ℕ) (table : Table) → image (yielded table_moves core table) ≡ yielded list_moves core (image table)
+pub yielded_seen : (core : ℕ) (table : Table) → view_of (yielded stamp_queues core table) ≡ yielded list_queues core (view_of table)
 unfolding yielded
 yielded_seen core table = same_state table.settings _ _ table.calls table.notes table.holders table.hold _ _ refl (lists_of_cores table.control _ table.orders)
 
-pub blocked_seen : (core task : ℕ) (call : Unfinished) (ticks : Option ℕ) (wait : Option MutexWait) (table : Table) → IsGiven table.orders → task < length table.orders.rows → is_ready task table.orders ≡ true → image (blocked table_moves core task call ticks wait table) ≡ blocked list_moves core task call ticks wait (image table)
+pub blocked_seen : (core task : ℕ) (call : Unfinished) (ticks : Option ℕ) (wait : Option MutexWait) (table : Table) → IsGiven table.orders → task < length table.orders.rows → is_ready task table.orders ≡ true → view_of (blocked stamp_queues core task call ticks wait table) ≡ blocked list_queues core task call ticks wait (view_of table)
 unfolding blocked
 blocked_seen core task call ticks wait table given below ready =
     same_state table.settings _ _ (slice_set table.calls task (Some call)) table.notes table.holders table.hold _ _ refl (lists_of_cores table.control _ (delay task ticks wait table.orders) ∙ delay_seen table.control table.orders task ticks wait given below ready)

@@ -6,24 +6,24 @@ use Rattle.std.proofs.lemmas.List.{get_or-set_same, get_or-set_other}
 use Rattle.bench_types.specs.declared.kernel_data.MutexWait.{MutexWait}
 use Rattle.bench_types.specs.declared.kernel_data.Settings.{Settings}
 use Rattle.bench_types.specs.declared.step.Unfinished.{Unfinished}
-use Rattle.bench_model.specs.declared.row.Standing.{Standing}
-use Rattle.bench_model.specs.declared.row.Standing.TheVariants.{Ready, Blocked}
+use Rattle.bench_model.specs.declared.row.TaskState.{TaskState}
+use Rattle.bench_model.specs.declared.row.TaskState.TheVariants.{Ready, Blocked}
 use Rattle.bench_model.specs.declared.row.TaskRow.{TaskRow}
 use Rattle.bench_model.specs.State.{call_at, holder_at}
-use Rattle.bench_model.specs.Table.{Stamps, row_at, wait_in, ahead, deadline_at, restamped, make_ready, delay, forget_deadline, advance}
+use Rattle.bench_model.specs.Table.{Stamps, row_at, wait_in, ahead, deadline_at, restamped, add_to_ready_list, delay, forget_deadline, advance}
 use Rattle.bench_model.specs.Sound.{IsMutexWait, IsMutexTime, HasMutexes, takes_mutex}
 use Rattle.order_laws.proofs.Restamps.{moved_length, row_same, row_other}
 
 -- a task that was set to stand so, and the others
-pub standing_same : (stamps : Stamps) (task : ℕ) (standing : Standing) → task < length stamps.rows → (row_at (restamped task standing stamps) task).standing ≡ standing
+pub standing_same : (stamps : Stamps) (task : ℕ) (standing : TaskState) → task < length stamps.rows → (row_at (restamped task standing stamps) task).standing ≡ standing
 standing_same stamps task standing below = ap (λ (r : TaskRow). r.standing) (row_same stamps task standing below)
 
-pub standing_other : (stamps : Stamps) (task : ℕ) (standing : Standing) → task < length stamps.rows → (i : ℕ) → i ≢ task → (row_at (restamped task standing stamps) i).standing ≡ (row_at stamps i).standing
+pub standing_other : (stamps : Stamps) (task : ℕ) (standing : TaskState) → task < length stamps.rows → (i : ℕ) → i ≢ task → (row_at (restamped task standing stamps) i).standing ≡ (row_at stamps i).standing
 standing_other stamps task standing below i away = ap (λ (r : TaskRow). r.standing) (row_other stamps task standing below i away)
 
 -- what stands for a task that is not ready stood for it before some task was made ready, and that is another
-pub readied_field : {V : Type 0} (field : Standing → Option V) → field Ready ≡ None → (stamps : Stamps) (task i : ℕ) (value : V) → task < length stamps.rows → field (row_at (make_ready task stamps) i).standing ≡ Some value → (field (row_at stamps i).standing ≡ Some value) × (i ≢ task)
-unfolding make_ready
+pub readied_field : {V : Type 0} (field : TaskState → Option V) → field Ready ≡ None → (stamps : Stamps) (task i : ℕ) (value : V) → task < length stamps.rows → field (row_at (add_to_ready_list task stamps) i).standing ≡ Some value → (field (row_at stamps i).standing ≡ Some value) × (i ≢ task)
+unfolding add_to_ready_list
 readied_field field none stamps task i value below has =
     let moved = restamped task Ready stamps in
     elim (cases_eq i task) [
@@ -32,8 +32,8 @@ readied_field field none stamps task i value below has =
     ]
 
 module _ (settings : Settings) (calls : List (Option Unfinished)) (holders : List (Option ℕ)) (stamps : Stamps) (kept : HasMutexes settings calls holders stamps) where
-  pub readied_mutexes : (task : ℕ) → task < length stamps.rows → HasMutexes settings calls holders (make_ready task stamps)
-  unfolding make_ready
+  pub readied_mutexes : (task : ℕ) → task < length stamps.rows → HasMutexes settings calls holders (add_to_ready_list task stamps)
+  unfolding add_to_ready_list
   readied_mutexes task below = record {
     held_by_tasks = kept.held_by_tasks;
     waits = λ i wait low has. kept.waits i wait (omega (arith, moved_length stamps task Ready below)) (readied_field wait_in refl stamps task i wait below has).0;
@@ -108,7 +108,7 @@ module _ (settings : Settings) (calls : List (Option Unfinished)) (holders : Lis
     ];
   }
     where
-      standing : Standing
+      standing : TaskState
       standing = Blocked (ahead stamps ticks) wait
 
       moved : Stamps

@@ -1,5 +1,5 @@
 -- The rules that seek no core keep a sound table sound.
-use Rattle.std.proofs.Common.{◌≡◌, ◌≢◌, ℕ, suc, ◌+◌, ◌<◌, ◌≤◌, ◌^◌, Bool, true, false, cond, not, eqb, ◌&&◌, ◌||◌, List, [], ◌∷◌, length, Option, Some, None, refl, sym, ap, subst, ◌∙◌, arith, inl, inr}
+use Rattle.std.proofs.Common.{◌≡◌, ◌≢◌, ℕ, suc, ◌+◌, ◌<◌, ◌≤◌, ◌^◌, Bool, true, false, cond, not, eqb, ◌&&◌, ◌||◌, List, [], ◌∷◌, length, Option, Some, None, refl, sym, ap, ap₂, subst, ◌∙◌, arith, inl, inr}
 use Rattle.std.specs.Prelude.{unwrap_or, slice_set, option_map, is_some, IsSome, IfSome}
 use Rattle.std.specs.Option.{option_map_or}
 use Rattle.std.specs.List.{fold, AllByRecursion}
@@ -12,18 +12,19 @@ use Rattle.bench_types.specs.declared.kernel_data.CoreLook.{CoreLook}
 use Rattle.bench_types.specs.declared.kernel_data.Settings.{Settings}
 use Rattle.bench_types.specs.declared.kernel_data.TaskControl.{TaskControl}
 use Rattle.bench_types.specs.Step.{IsCheckedUnfinished}
-use Rattle.bench_model.specs.declared.row.Standing.{Standing}
-use Rattle.bench_model.specs.declared.row.Standing.TheVariants.{Ready, Blocked}
+use Rattle.bench_model.specs.declared.row.TaskState.{TaskState}
+use Rattle.bench_model.specs.declared.row.TaskState.TheVariants.{Ready, Blocked}
 use Rattle.list_orders.specs.Search.{numbers, has}
 use Rattle.bench_model.specs.Control.{Control, core_at, task_at, with_core, current, is_due, may_select, asked_by, ask, run_on}
-use Rattle.bench_model.specs.State.{selected, call_at, switched, yielded, blocked}
-use Rattle.bench_model.specs.Table.{Stamps, Table, table_moves, row_at, stamp_of, is_ready, stands_ready, wake_in, ahead, wakes_at, tasks_of, restamped, pick, make_ready, delay, advance, due}
-use Rattle.bench_model.specs.Sound.{IsCaller, IsStamped, IsPlaced, IsWait, IsMutexWait, IsMutexTime, WakesInTime, IsControlBlock, HasMutexes, IsConsistent, takes_mutex}
+use Rattle.bench_model.specs.State.{selected, call_at, after_select, yielded, blocked}
+use Rattle.bench_model.specs.Table.{Stamps, Table, stamp_queues, row_at, stamp_of, is_ready, stands_ready, wake_in, ahead, wakes_at, tasks_of, restamped, pick, add_to_ready_list, delay, advance, due}
+use Rattle.bench_model.specs.Sound.{IsCaller, IsStamped, HasCurrentTasks, IsWait, IsMutexWait, IsMutexTime, WakesInTime, IsControlBlock, HasMutexes, IsConsistent, takes_mutex}
 use Rattle.list_orders.proofs.Filters.{All-weaker}
 use Rattle.list_orders.proofs.Stamped.{numbers_have, has-by_stamp}
 use Rattle.order_laws.proofs.Restamps.{moved_length, moved_once}
 use Rattle.order_laws.proofs.SoundMutexes.{standing_same, standing_other, readied_field, readied_mutexes, advanced_mutexes, waiting_mutexes}
 use Rattle.order_laws.proofs.Selects.{selects, list_any_at}
+use Rattle.order_laws.proofs.Sizes.{lengths_of, resized}
 use Rattle.order_laws.proofs.SeenSteps.{queued, queued_once, make_ready_once, due_below}
 
 module _ (control : Control) (core : ℕ) (look : CoreLook) where
@@ -40,7 +41,7 @@ module _ (control : Control) (core : ℕ) (look : CoreLook) where
   cores_length = length-set control.cores core look
 
 -- a task that was set to stand so
-module _ (stamps : Stamps) (task : ℕ) (standing : Standing) (below : task < length stamps.rows) where
+module _ (stamps : Stamps) (task : ℕ) (standing : TaskState) (below : task < length stamps.rows) where
   abbrev moved : Stamps
   moved = restamped task standing stamps
 
@@ -48,23 +49,23 @@ module _ (stamps : Stamps) (task : ℕ) (standing : Standing) (below : task < le
   ready_other i away = ap stands_ready (standing_other stamps task standing below i away)
 
 -- a ready task stays ready when some task is made ready
-pub make_ready_keeps : (stamps : Stamps) (task i : ℕ) → task < length stamps.rows → is_ready i stamps ≡ true → is_ready i (make_ready task stamps) ≡ true
-unfolding make_ready
+pub make_ready_keeps : (stamps : Stamps) (task i : ℕ) → task < length stamps.rows → is_ready i stamps ≡ true → is_ready i (add_to_ready_list task stamps) ≡ true
+unfolding add_to_ready_list
 make_ready_keeps stamps task i below ready = elim (cases_eq i task) [
   | inl here ↦ ap (λ j. is_ready j (restamped task Ready stamps)) here ∙ ap stands_ready (standing_same stamps task Ready below)
   | inr away ↦ ready_other stamps task Ready below i away ∙ ready
 ]
 
-pub make_ready_length : (stamps : Stamps) (task : ℕ) → task < length stamps.rows → length (make_ready task stamps).rows ≡ length stamps.rows
-unfolding make_ready
+pub make_ready_length : (stamps : Stamps) (task : ℕ) → task < length stamps.rows → length (add_to_ready_list task stamps).rows ≡ length stamps.rows
+unfolding add_to_ready_list
 make_ready_length stamps task below = moved_length stamps task Ready below
 
-make_ready_deadlines : (stamps : Stamps) (task : ℕ) → length (make_ready task stamps).deadlines ≡ length stamps.deadlines
-unfolding make_ready
+make_ready_deadlines : (stamps : Stamps) (task : ℕ) → length (add_to_ready_list task stamps).deadlines ≡ length stamps.deadlines
+unfolding add_to_ready_list
 make_ready_deadlines stamps task = refl
 
-pub make_ready_tick : (stamps : Stamps) (task : ℕ) → (make_ready task stamps).tick ≡ stamps.tick
-unfolding make_ready
+pub make_ready_tick : (stamps : Stamps) (task : ℕ) → (add_to_ready_list task stamps).tick ≡ stamps.tick
+unfolding add_to_ready_list
 make_ready_tick stamps task = refl
 
 false_before : (b : Bool) → (b ≡ true → ⊥) → b ≡ false
@@ -75,7 +76,7 @@ abbrev running_look : ℕ → CoreLook
 running_look task = record { current = task; pend = false; asked = false }
 
 -- making a task ready keeps the places of all
-make_ready_placed : (control : Control) (stamps : Stamps) (task : ℕ) → task < length stamps.rows → IsPlaced control stamps → IsPlaced control (make_ready task stamps)
+make_ready_placed : (control : Control) (stamps : Stamps) (task : ℕ) → task < length stamps.rows → HasCurrentTasks control stamps → HasCurrentTasks control (add_to_ready_list task stamps)
 make_ready_placed control stamps task below place = record {
   is_task = λ c low. omega (arith, place.is_task c low, make_ready_length stamps task below);
   on_one_core = place.on_one_core;
@@ -83,7 +84,7 @@ make_ready_placed control stamps task below place = record {
   idle_is_ready = λ i low. make_ready_keeps stamps task i below (place.idle_is_ready i low);
 }
 
-make_ready_in_time : (stamps : Stamps) (task : ℕ) → task < length stamps.rows → WakesInTime stamps → WakesInTime (make_ready task stamps)
+make_ready_in_time : (stamps : Stamps) (task : ℕ) → task < length stamps.rows → WakesInTime stamps → WakesInTime (add_to_ready_list task stamps)
 make_ready_in_time stamps task below in_time i wake low waits =
     let before = readied_field wake_in refl stamps task i wake below waits in
     let bounds = in_time i wake (omega (arith, make_ready_length stamps task below)) before.0 in
@@ -91,7 +92,7 @@ make_ready_in_time stamps task below in_time i wake low waits =
     (omega (arith, same, bounds.0), omega (arith, same, bounds.1))
 
 -- a ready task runs on a core that may select it
-run_placed : (control : Control) (core task : ℕ) (stamps : Stamps) → IsPlaced control stamps → core < length control.cores → task < length stamps.rows → is_ready task stamps ≡ true → may_select control core task ≡ true → IsPlaced (run_on core task control) stamps
+run_placed : (control : Control) (core task : ℕ) (stamps : Stamps) → HasCurrentTasks control stamps → core < length control.cores → task < length stamps.rows → is_ready task stamps ≡ true → may_select control core task ≡ true → HasCurrentTasks (run_on core task control) stamps
 run_placed control core task stamps place below low ready may = record {
   is_task = λ c h. elim (cases_eq c core) [
     | inl here ↦ subst (λ i. i < length stamps.rows) (sym (current_here c here)) low
@@ -126,21 +127,11 @@ run_placed control core task stamps place below low ready may = record {
         absurd (grind (arith, seen, may))
 
 -- making a task ready keeps a table sound
-pub ready_sound : (table : Table) (task : ℕ) → IsConsistent table → task < table.settings.tasks → IsConsistent (record table { orders = make_ready task table.orders })
+pub ready_sound : (table : Table) (task : ℕ) → IsConsistent table → task < table.settings.tasks → IsConsistent (record table { orders = add_to_ready_list task table.orders })
 ready_sound table task sound low =
     let below : task < length table.orders.rows = omega (arith, sound.sized.rows) in
     record {
-      sized = record {
-        cores = sound.sized.cores;
-        controls = sound.sized.controls;
-        calls = sound.sized.calls;
-        holders = sound.sized.holders;
-        rows = make_ready_length table.orders task below ∙ sound.sized.rows;
-        deadlines = make_ready_deadlines table.orders task ∙ sound.sized.deadlines;
-        some_core = sound.sized.some_core;
-        idle_tasks = sound.sized.idle_tasks;
-        notes = sound.sized.notes;
-      };
+      sized = resized table _ refl (ap₂ (λ a b. record (lengths_of table) { rows = a; deadlines = b }) (make_ready_length table.orders task below) (make_ready_deadlines table.orders task)) sound.sized;
       stamped = make_ready_once table.orders task sound.stamped below;
       in_place = make_ready_placed table.control table.orders task below sound.in_place;
       in_time = make_ready_in_time table.orders task below sound.in_time;
@@ -150,43 +141,43 @@ ready_sound table task sound low =
       mutexes = readied_mutexes table.settings table.calls table.holders table.orders sound.mutexes task below;
     }
 
-queued_placed : (control : Control) (stamps : Stamps) (task : ℕ) → task < length stamps.rows → IsPlaced control stamps → IsPlaced control (queued stamps task)
+queued_placed : (control : Control) (stamps : Stamps) (task : ℕ) → task < length stamps.rows → HasCurrentTasks control stamps → HasCurrentTasks control (queued stamps task)
 queued_placed control stamps task below place = either (is_ready task stamps)
   where
-    either : (b : Bool) → IsPlaced control (cond b (make_ready task stamps) stamps)
+    either : (b : Bool) → HasCurrentTasks control (cond b (add_to_ready_list task stamps) stamps)
     either true = make_ready_placed control stamps task below place
     either false = place
 
 queued_in_time : (stamps : Stamps) (task : ℕ) → task < length stamps.rows → WakesInTime stamps → WakesInTime (queued stamps task)
 queued_in_time stamps task below in_time = either (is_ready task stamps)
   where
-    either : (b : Bool) → WakesInTime (cond b (make_ready task stamps) stamps)
+    either : (b : Bool) → WakesInTime (cond b (add_to_ready_list task stamps) stamps)
     either true = make_ready_in_time stamps task below in_time
     either false = in_time
 
 pub queued_length : (stamps : Stamps) (task : ℕ) → task < length stamps.rows → length (queued stamps task).rows ≡ length stamps.rows
 queued_length stamps task below = either (is_ready task stamps)
   where
-    either : (b : Bool) → length (cond b (make_ready task stamps) stamps).rows ≡ length stamps.rows
+    either : (b : Bool) → length (cond b (add_to_ready_list task stamps) stamps).rows ≡ length stamps.rows
     either true = make_ready_length stamps task below
     either false = refl
 
 queued_deadlines : (stamps : Stamps) (task : ℕ) → length (queued stamps task).deadlines ≡ length stamps.deadlines
 queued_deadlines stamps task = either (is_ready task stamps)
   where
-    either : (b : Bool) → length (cond b (make_ready task stamps) stamps).deadlines ≡ length stamps.deadlines
+    either : (b : Bool) → length (cond b (add_to_ready_list task stamps) stamps).deadlines ≡ length stamps.deadlines
     either true = make_ready_deadlines stamps task
     either false = refl
 
 queued_mutexes : (table : Table) (task : ℕ) → task < length table.orders.rows → HasMutexes table.settings table.calls table.holders table.orders → HasMutexes table.settings table.calls table.holders (queued table.orders task)
 queued_mutexes table task below kept = either (is_ready task table.orders)
   where
-    either : (b : Bool) → HasMutexes table.settings table.calls table.holders (cond b (make_ready task table.orders) table.orders)
+    either : (b : Bool) → HasMutexes table.settings table.calls table.holders (cond b (add_to_ready_list task table.orders) table.orders)
     either true = readied_mutexes table.settings table.calls table.holders table.orders kept task below
     either false = kept
 
-pub switched_sound : (core : ℕ) (table : Table) → IsConsistent table → core < length table.control.cores → IsConsistent (switched table_moves core table)
-unfolding switched
+pub switched_sound : (core : ℕ) (table : Table) → IsConsistent table → core < length table.control.cores → IsConsistent (after_select stamp_queues core table)
+unfolding after_select
 switched_sound core table sound below =
     let control = table.control in
     let left = current control core in
@@ -197,19 +188,9 @@ switched_sound core table sound below =
     let found = selects control core orders (queued_once table.orders left sound.stamped low) below (omega (arith, same, sound.sized.cores, sound.sized.rows, sound.sized.idle_tasks)) place.idle_is_ready in
     let now = ap (λ o. unwrap_or o left) found.1 in
     record {
-      sized = record {
-        cores = cores_length control core _ ∙ sound.sized.cores;
-        controls = sound.sized.controls;
-        calls = sound.sized.calls;
-        holders = sound.sized.holders;
-        rows = same ∙ sound.sized.rows;
-        deadlines = queued_deadlines table.orders left ∙ sound.sized.deadlines;
-        some_core = sound.sized.some_core;
-        idle_tasks = sound.sized.idle_tasks;
-        notes = sound.sized.notes;
-      };
+      sized = resized table _ refl (cc (cores_length control core _, same, queued_deadlines table.orders left)) sound.sized;
       stamped = queued_once table.orders left sound.stamped low;
-      in_place = subst (λ task. IsPlaced (run_on core task control) orders) (sym now) (run_placed control core found.0 orders place below found.2 found.3 found.4);
+      in_place = subst (λ task. HasCurrentTasks (run_on core task control) orders) (sym now) (run_placed control core found.0 orders place below found.2 found.3 found.4);
       in_time = queued_in_time table.orders left low sound.in_time;
       blocks = sound.blocks;
       calls = sound.calls;
@@ -219,32 +200,32 @@ switched_sound core table sound below =
 
 -- the tasks that are made ready in turn
 abbrev pub readied : Stamps → List ℕ → Stamps
-readied stamps tasks = fold (λ orders task. make_ready task orders) stamps tasks
+readied stamps tasks = fold (λ orders task. add_to_ready_list task orders) stamps tasks
 
-readied_low : (stamps : Stamps) (task : ℕ) (tasks : List ℕ) → task < length stamps.rows → AllByRecursion (λ i. i < length stamps.rows) tasks → AllByRecursion (λ i. i < length (make_ready task stamps).rows) tasks
-readied_low stamps task tasks below all = All-weaker (λ i. i < length stamps.rows) (λ i. i < length (make_ready task stamps).rows) (λ i h. omega (arith, make_ready_length stamps task below)) tasks all
+readied_low : (stamps : Stamps) (task : ℕ) (tasks : List ℕ) → task < length stamps.rows → AllByRecursion (λ i. i < length stamps.rows) tasks → AllByRecursion (λ i. i < length (add_to_ready_list task stamps).rows) tasks
+readied_low stamps task tasks below all = All-weaker (λ i. i < length stamps.rows) (λ i. i < length (add_to_ready_list task stamps).rows) (λ i h. omega (arith, make_ready_length stamps task below)) tasks all
 
 readied_length : (tasks : List ℕ) (stamps : Stamps) → AllByRecursion (λ i. i < length stamps.rows) tasks → length (readied stamps tasks).rows ≡ length stamps.rows
 readied_length [] stamps all = refl
-readied_length (task ∷ tasks) stamps all = readied_length tasks (make_ready task stamps) (readied_low stamps task tasks all.0 all.1) ∙ make_ready_length stamps task all.0
+readied_length (task ∷ tasks) stamps all = readied_length tasks (add_to_ready_list task stamps) (readied_low stamps task tasks all.0 all.1) ∙ make_ready_length stamps task all.0
 
 pub readied_tick : (tasks : List ℕ) (stamps : Stamps) → (readied stamps tasks).tick ≡ stamps.tick
 readied_tick [] stamps = refl
-readied_tick (task ∷ tasks) stamps = readied_tick tasks (make_ready task stamps) ∙ make_ready_tick stamps task
+readied_tick (task ∷ tasks) stamps = readied_tick tasks (add_to_ready_list task stamps) ∙ make_ready_tick stamps task
 
 readied_stamped : (tasks : List ℕ) (stamps : Stamps) → AllByRecursion (λ i. i < length stamps.rows) tasks → IsStamped stamps → IsStamped (readied stamps tasks)
 readied_stamped [] stamps all stamped = stamped
-readied_stamped (task ∷ tasks) stamps all stamped = readied_stamped tasks (make_ready task stamps) (readied_low stamps task tasks all.0 all.1) (make_ready_once stamps task stamped all.0)
+readied_stamped (task ∷ tasks) stamps all stamped = readied_stamped tasks (add_to_ready_list task stamps) (readied_low stamps task tasks all.0 all.1) (make_ready_once stamps task stamped all.0)
 
-readied_placed : (control : Control) (tasks : List ℕ) (stamps : Stamps) → AllByRecursion (λ i. i < length stamps.rows) tasks → IsPlaced control stamps → IsPlaced control (readied stamps tasks)
+readied_placed : (control : Control) (tasks : List ℕ) (stamps : Stamps) → AllByRecursion (λ i. i < length stamps.rows) tasks → HasCurrentTasks control stamps → HasCurrentTasks control (readied stamps tasks)
 readied_placed control [] stamps all place = place
-readied_placed control (task ∷ tasks) stamps all place = readied_placed control tasks (make_ready task stamps) (readied_low stamps task tasks all.0 all.1) (make_ready_placed control stamps task all.0 place)
+readied_placed control (task ∷ tasks) stamps all place = readied_placed control tasks (add_to_ready_list task stamps) (readied_low stamps task tasks all.0 all.1) (make_ready_placed control stamps task all.0 place)
 
 -- what still waits waited before, and is none of them
 readied_blocked : (tasks : List ℕ) (stamps : Stamps) → AllByRecursion (λ i. i < length stamps.rows) tasks → (i wake : ℕ) → wake_in (row_at (readied stamps tasks) i).standing ≡ Some wake → (wake_in (row_at stamps i).standing ≡ Some wake) × (has i tasks ≡ false)
 readied_blocked [] stamps all i wake waits = (waits, refl)
 readied_blocked (task ∷ tasks) stamps all i wake waits =
-    let rest = readied_blocked tasks (make_ready task stamps) (readied_low stamps task tasks all.0 all.1) i wake waits in
+    let rest = readied_blocked tasks (add_to_ready_list task stamps) (readied_low stamps task tasks all.0 all.1) i wake waits in
     let first = readied_field wake_in refl stamps task i wake all.0 rest.0 in
     (first.0, grind (arith, nat_tests, first.1, rest.1))
 
@@ -259,7 +240,7 @@ pub advanced_stamped : (stamps : Stamps) → IsStamped stamps → IsStamped (adv
 unfolding advance
 advanced_stamped stamps stamped = record { given = stamped.given; once = stamped.once }
 
-advanced_placed : (control : Control) (stamps : Stamps) → IsPlaced control stamps → IsPlaced control (advance stamps)
+advanced_placed : (control : Control) (stamps : Stamps) → HasCurrentTasks control stamps → HasCurrentTasks control (advance stamps)
 unfolding advance
 advanced_placed control stamps place = record { is_task = place.is_task; on_one_core = place.on_one_core; blocked_is_due = place.blocked_is_due; idle_is_ready = place.idle_is_ready }
 
@@ -289,7 +270,7 @@ still_in_time stamps stamped in_time i wake low waits =
 
 readied_deadlines : (tasks : List ℕ) (stamps : Stamps) → length (readied stamps tasks).deadlines ≡ length stamps.deadlines
 readied_deadlines [] stamps = refl
-readied_deadlines (task ∷ tasks) stamps = readied_deadlines tasks (make_ready task stamps) ∙ make_ready_deadlines stamps task
+readied_deadlines (task ∷ tasks) stamps = readied_deadlines tasks (add_to_ready_list task stamps) ∙ make_ready_deadlines stamps task
 
 advanced_deadlines : (stamps : Stamps) → length (advance stamps).deadlines ≡ length stamps.deadlines
 unfolding advance
@@ -298,7 +279,7 @@ advanced_deadlines stamps = refl
 all_readied_mutexes : (table : Table) (tasks : List ℕ) (stamps : Stamps) → AllByRecursion (λ i. i < length stamps.rows) tasks → HasMutexes table.settings table.calls table.holders stamps → HasMutexes table.settings table.calls table.holders (readied stamps tasks)
 all_readied_mutexes table [] stamps all kept = kept
 all_readied_mutexes table (task ∷ tasks) stamps all kept =
-    all_readied_mutexes table tasks (make_ready task stamps) (readied_low stamps task tasks all.0 all.1) (readied_mutexes table.settings table.calls table.holders stamps kept task all.0)
+    all_readied_mutexes table tasks (add_to_ready_list task stamps) (readied_low stamps task tasks all.0 all.1) (readied_mutexes table.settings table.calls table.holders stamps kept task all.0)
 
 -- when a tick has passed, and the tasks that are due are ready
 pub readied_sound : (table : Table) → IsConsistent table → IsConsistent (record table { orders = readied (advance table.orders) (due (advance table.orders)) })
@@ -306,17 +287,7 @@ readied_sound table sound =
     let later = advance table.orders in
     let low = due_below later in
     record {
-      sized = record {
-        cores = sound.sized.cores;
-        controls = sound.sized.controls;
-        calls = sound.sized.calls;
-        holders = sound.sized.holders;
-        rows = readied_length (due later) later low ∙ advanced_length table.orders ∙ sound.sized.rows;
-        deadlines = readied_deadlines (due later) later ∙ advanced_deadlines table.orders ∙ sound.sized.deadlines;
-        some_core = sound.sized.some_core;
-        idle_tasks = sound.sized.idle_tasks;
-        notes = sound.sized.notes;
-      };
+      sized = resized table _ refl (ap₂ (λ a b. record (lengths_of table) { rows = a; deadlines = b }) (readied_length (due later) later low ∙ advanced_length table.orders) (readied_deadlines (due later) later ∙ advanced_deadlines table.orders)) sound.sized;
       stamped = readied_stamped (due later) later low (advanced_stamped table.orders sound.stamped);
       in_place = readied_placed table.control (due later) later low (advanced_placed table.control table.orders sound.in_place);
       in_time = still_in_time table.orders sound.stamped sound.in_time;
@@ -333,7 +304,7 @@ pub record IsAskedMore (control other : Control) : Type 0 where
   pub currents : (c : ℕ) → current other c ≡ current control c
   pub due : (c : ℕ) → is_due control c ≡ true → is_due other c ≡ true
 
-more_placed : (control other : Control) (stamps : Stamps) → IsAskedMore control other → IsPlaced control stamps → IsPlaced other stamps
+more_placed : (control other : Control) (stamps : Stamps) → IsAskedMore control other → HasCurrentTasks control stamps → HasCurrentTasks other stamps
 more_placed control other stamps more place = record {
   is_task = λ c low. subst (λ i. i < length stamps.rows) (sym (more.currents c)) (place.is_task c (omega (arith, more.cores)));
   on_one_core = λ c d low high same. place.on_one_core c d (omega (arith, more.cores)) (omega (arith, more.cores)) (sym (more.currents c) ∙ same ∙ more.currents d);
@@ -347,17 +318,7 @@ with_control table control = record table { control = control }
 -- asking cores keeps a table sound
 pub more_sound : (table : Table) (other : Control) → IsAskedMore table.control other → IsConsistent table → IsConsistent (with_control table other)
 more_sound table other more sound = record {
-  sized = record {
-    cores = more.cores ∙ sound.sized.cores;
-    controls = ap (λ (tasks : List TaskControl). length tasks) more.tasks ∙ sound.sized.controls;
-    calls = sound.sized.calls;
-    holders = sound.sized.holders;
-    rows = sound.sized.rows;
-    deadlines = sound.sized.deadlines;
-    some_core = sound.sized.some_core;
-    idle_tasks = sound.sized.idle_tasks;
-    notes = sound.sized.notes;
-  };
+  sized = resized table _ refl (ap₂ (λ a b. record (lengths_of table) { cores = a; controls = b }) (more.cores) (ap (λ (tasks : List TaskControl). length tasks) more.tasks)) sound.sized;
   stamped = sound.stamped;
   in_place = more_placed table.control other table.orders more sound.in_place;
   in_time = sound.in_time;
@@ -409,7 +370,7 @@ module _ (control : Control) (acting core : ℕ) (below : core < length control.
   }
 
   -- its task waits from now on
-  waiting_placed : (stamps : Stamps) (task : ℕ) (standing : Standing) → task < length stamps.rows → current control core ≡ task → length control.cores ≤ task → IsPlaced control stamps → IsPlaced (ask acting core control) (restamped task standing stamps)
+  waiting_placed : (stamps : Stamps) (task : ℕ) (standing : TaskState) → task < length stamps.rows → current control core ≡ task → length control.cores ≤ task → HasCurrentTasks control stamps → HasCurrentTasks (ask acting core control) (restamped task standing stamps)
   waiting_placed stamps task standing low here user place = record {
     is_task = λ c h. omega (arith, moved_length stamps task standing low, asked_current c, place.is_task c (omega (arith, asked_length)));
     on_one_core = (more_placed control (ask acting core control) stamps asked_more place).on_one_core;
@@ -420,7 +381,7 @@ module _ (control : Control) (acting core : ℕ) (below : core < length control.
     idle_is_ready = λ i h. ready_other stamps task standing low i (λ same. absurd (omega (arith, asked_length))) ∙ place.idle_is_ready i (omega (arith, asked_length));
   }
 
-pub yielded_sound : (core : ℕ) (table : Table) → IsConsistent table → core < length table.control.cores → IsConsistent (yielded table_moves core table)
+pub yielded_sound : (core : ℕ) (table : Table) → IsConsistent table → core < length table.control.cores → IsConsistent (yielded stamp_queues core table)
 unfolding yielded
 yielded_sound core table sound below = more_sound table (ask core core table.control) (asked_more table.control core core below) sound
 
@@ -432,7 +393,7 @@ call_set settings calls task given below one all i call found = elim (cases_eq i
 ]
 
 -- where a task stands that waits from now on
-abbrev waiting_for : Stamps → Option ℕ → Option MutexWait → Standing
+abbrev waiting_for : Stamps → Option ℕ → Option MutexWait → TaskState
 waiting_for stamps ticks wait = Blocked (ahead stamps ticks) wait
 
 -- a wake that is there is in time
@@ -466,29 +427,19 @@ module _ (stamps : Stamps) (task : ℕ) (ticks : Option ℕ) (wait : Option Mute
       let moved = moved_once stamps task (waiting_for stamps ticks wait) below stamped in
       record { given = moved.given; once = moved.once }
 
-  delayed_placed : (control : Control) (core : ℕ) → core < length control.cores → current control core ≡ task → length control.cores ≤ task → IsPlaced control stamps → IsPlaced (ask core core control) (delay task ticks wait stamps)
+  delayed_placed : (control : Control) (core : ℕ) → core < length control.cores → current control core ≡ task → length control.cores ≤ task → HasCurrentTasks control stamps → HasCurrentTasks (ask core core control) (delay task ticks wait stamps)
   unfolding delay
   delayed_placed control core low here user place =
       let moved = waiting_placed control core core low stamps task (waiting_for stamps ticks wait) below here user place in
       record { is_task = moved.is_task; on_one_core = moved.on_one_core; blocked_is_due = moved.blocked_is_due; idle_is_ready = moved.idle_is_ready }
 
-pub blocked_sound : (core task : ℕ) (call : Unfinished) (ticks : Option ℕ) (wait : Option MutexWait) (table : Table) → IsConsistent table → IsCaller table core task → IsCheckedUnfinished table.settings call → length table.control.cores ≤ task → IsWait ticks → IfSome wait (IsMutexWait table.settings) → (is_some wait ≡ true → (takes_mutex (Some call) ≡ true) × IsMutexTime ticks) → IsConsistent (blocked table_moves core task call ticks wait table)
+pub blocked_sound : (core task : ℕ) (call : Unfinished) (ticks : Option ℕ) (wait : Option MutexWait) (table : Table) → IsConsistent table → IsCaller table core task → IsCheckedUnfinished table.settings call → length table.control.cores ≤ task → IsWait ticks → IfSome wait (IsMutexWait table.settings) → (is_some wait ≡ true → (takes_mutex (Some call) ≡ true) × IsMutexTime ticks) → IsConsistent (blocked stamp_queues core task call ticks wait table)
 unfolding blocked
 blocked_sound core task call ticks wait table sound place checked user fits there takes =
     let low : task < table.settings.tasks = omega (arith, sound.sized.rows, place.2) in
     let in_calls : task < length table.calls = omega (arith, sound.sized.calls, low) in
     record {
-      sized = record {
-        cores = asked_length table.control core core place.0 ∙ sound.sized.cores;
-        controls = sound.sized.controls;
-        calls = length-set table.calls task (Some call) ∙ sound.sized.calls;
-        holders = sound.sized.holders;
-        rows = delayed_length table.orders task ticks wait place.2 ∙ sound.sized.rows;
-        deadlines = delayed_deadlines table.orders task ticks wait place.2 ∙ sound.sized.deadlines;
-        some_core = sound.sized.some_core;
-        idle_tasks = sound.sized.idle_tasks;
-        notes = sound.sized.notes;
-      };
+      sized = resized table _ refl (cc (asked_length table.control core core place.0, length-set table.calls task (Some call), delayed_length table.orders task ticks wait place.2, delayed_deadlines table.orders task ticks wait place.2)) sound.sized;
       stamped = delayed_stamped table.orders task ticks wait place.2 sound.stamped;
       in_place = delayed_placed table.orders task ticks wait place.2 table.control core place.0 place.1 user sound.in_place;
       in_time = delayed_in_time table.orders task ticks wait place.2 fits sound.in_time;
@@ -502,7 +453,7 @@ blocked_sound core task call ticks wait table sound place checked user fits ther
     call_of one other same = cc
 
 -- a switch of a sound table selects a task
-pub switch_selects : (table : Table) (core : ℕ) → IsConsistent table → core < table.settings.cores → IsSome (selected table_moves core table)
+pub switch_selects : (table : Table) (core : ℕ) → IsConsistent table → core < table.settings.cores → IsSome (selected stamp_queues core table)
 switch_selects table core sound low =
     let below : core < length table.control.cores = omega (arith, sound.sized.cores) in
     let left = current table.control core in

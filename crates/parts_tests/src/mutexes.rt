@@ -19,7 +19,7 @@ fn has_five_priorities(cores: &Cores) -> bool
     cores.has_priority(4) && !cores.has_priority(5)
 }
 
-// Task 3 waits for mutex 0. Answers the mark.
+// Task 3 waits for mutex 0. Returns the mark.
 fn wait(rt: &impl Abort, cores: &mut Cores, mutexes: &mut Mutexes) -> bool
     requires tasks { mutexes.old.tasks ≡ 4 }
     requires priorities { mutexes.old.priorities ≡ 5 }
@@ -36,7 +36,7 @@ fn wait(rt: &impl Abort, cores: &mut Cores, mutexes: &mut Mutexes) -> bool
     mutexes.wait_on(cores, 0, 3, 0)
 }
 
-// Task 2 gives mutex 0. Answers the first task that waits for it.
+// Task 2 gives mutex 0. Returns the first task that waits for it.
 fn give(rt: &impl Abort, cores: &mut Cores, mutexes: &mut Mutexes) -> Option<u32>
     requires tasks { mutexes.old.tasks ≡ 4 }
     requires mutexes { length mutexes.old.holders ≡ 2 }

@@ -7,7 +7,7 @@ use std::test::Fail;
 
 fn make_ready(rt: &impl Abort, cores: &mut Cores, task: u32) {
     assert!(rt; cores.has_task(task));
-    cores.make_ready(0, task);
+    cores.wake(0, task);
 }
 
 fn set_in_use(rt: &impl Abort, cores: &mut Cores, task: u32, priority: u32) {

@@ -2,7 +2,7 @@
 use bench_commands::{Counted, CountedRead, CountedWrite, DEFAULT_SPAN, Mode, Status, run};
 use std::io::{self, Read, Write};
 
-const MOST_OUTPUT: usize = 4096;
+const MAX_OUTPUT: usize = 4096;
 
 /// Gives so many bytes at a read, and is interrupted once so many reads were made.
 #[derive(Drop)]
@@ -28,7 +28,7 @@ impl Read for Source {
 /// Takes so many bytes at a write, and has room for so many. It asks for no memory.
 #[derive(Drop)]
 pub(crate) struct Sink {
-    bytes: [u8; MOST_OUTPUT],
+    bytes: [u8; MAX_OUTPUT],
     count: usize,
     piece: usize,
     room: usize,
@@ -39,31 +39,31 @@ pub(crate) struct Sink {
 impl Sink {
     pub(crate) fn new(piece: usize, room: usize, fails: bool) -> Self {
         Sink {
-            bytes: [0; MOST_OUTPUT],
+            bytes: [0; MAX_OUTPUT],
             count: 0,
             piece,
-            room: room.min(MOST_OUTPUT),
+            room: room.min(MAX_OUTPUT),
             fails,
         }
     }
 
     /// Takes as much as there is, at once.
     pub(crate) fn wide() -> Self {
-        Sink::new(MOST_OUTPUT, MOST_OUTPUT, false)
+        Sink::new(MAX_OUTPUT, MAX_OUTPUT, false)
     }
 
     pub(crate) fn taken(&self) -> &[u8] {
-        &self.bytes[..self.count.min(MOST_OUTPUT)]
+        &self.bytes[..self.count.min(MAX_OUTPUT)]
     }
 }
 
 impl Write for Sink {
     fn write(&mut self, buf: &[u8]) -> io::Result<usize> {
-        let start = self.count.min(self.room.min(MOST_OUTPUT));
+        let start = self.count.min(self.room.min(MAX_OUTPUT));
         let count = buf
             .len()
             .min(self.piece)
-            .min(self.room.min(MOST_OUTPUT) - start);
+            .min(self.room.min(MAX_OUTPUT) - start);
         if count == 0 && self.fails {
             return Err(io::Error::from(io::ErrorKind::BrokenPipe));
         }

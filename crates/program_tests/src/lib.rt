@@ -1,4 +1,5 @@
-//! Tests of the bench's commands over devices in memory, and what they share. There is nothing else here.
+//! Tests of the bench's commands over devices in memory, and what they share. There is nothing else
+//! here.
 #![tactic(auto)]
 
 #[cfg(test)]

@@ -4,7 +4,7 @@ use Rattle.std.specs.Option.{option_map_or}
 use Rattle.std.proofs.lemmas.Bool.{cases_eq}
 use Rattle.std.proofs.lemmas.Bool.Decides.{nat_tests}
 use Rattle.bench_model.specs.Control.{Control, ask}
-use Rattle.bench_model.specs.Seek.{is_running, is_asked_before, asked_for, seek}
+use Rattle.bench_model.specs.Seek.{is_running, yields_first, core_to_yield, seek}
 use Rattle.order_laws.specs.AskedCores.{IsCandidate, IsAnswer}
 use Rattle.order_laws.proofs.AskedCores.{best_core}
 use Rattle.list_orders.specs.Scans.{better_of}
@@ -14,7 +14,7 @@ module _ (control : Control) (task : ℕ) (among : ℕ → Bool) where
   -- of the cores below n: one that may be asked and is asked before every other, or none may be asked
   abbrev pub IsBestBelow : ℕ → Option ℕ → Type 0
   IsBestBelow n None = (d : ℕ) → d < n → may_be_asked control task among d ≡ false
-  IsBestBelow n (Some c) = (c < n) × (may_be_asked control task among c ≡ true) × ((d : ℕ) → d < n → may_be_asked control task among d ≡ true → is_asked_before control c d ≡ true)
+  IsBestBelow n (Some c) = (c < n) × (may_be_asked control task among c ≡ true) × ((d : ℕ) → d < n → may_be_asked control task among d ≡ true → yields_first control c d ≡ true)
 
   pub none_below : IsBestBelow 0 None
   none_below = λ d low. absurd (omega (arith, low))
@@ -79,12 +79,12 @@ module _ (control : Control) (task : ℕ) (among : ℕ → Bool) where
   one_answer (Some c) None a b = absurd (b c a.0)
   one_answer (Some c) (Some d) a b = ap Some (grind (arith, nat_tests, a.1 d b.0, b.1 c a.0))
 
-  pub best_is_asked : (best : Option ℕ) → IsBestBelow (length control.cores) best → best ≡ asked_for control task among
-  best_is_asked best is = one_answer best (asked_for control task among) (best_is_answer best is) (best_core control task among)
+  pub best_is_asked : (best : Option ℕ) → IsBestBelow (length control.cores) best → best ≡ core_to_yield control task among
+  best_is_asked best is = one_answer best (core_to_yield control task among) (best_is_answer best is) (best_core control task among)
 
 -- tests that agree on the cores ask the same one
-pub asked_agrees : (control : Control) (task : ℕ) (among others : ℕ → Bool) → ((core : ℕ) → core < length control.cores → among core ≡ others core) → asked_for control task among ≡ asked_for control task others
-asked_agrees control task among others same = one_answer control task others (asked_for control task among) (asked_for control task others) (over (asked_for control task among) (best_core control task among)) (best_core control task others)
+pub asked_agrees : (control : Control) (task : ℕ) (among others : ℕ → Bool) → ((core : ℕ) → core < length control.cores → among core ≡ others core) → core_to_yield control task among ≡ core_to_yield control task others
+asked_agrees control task among others same = one_answer control task others (core_to_yield control task among) (core_to_yield control task others) (over (core_to_yield control task among) (best_core control task among)) (best_core control task others)
   where
     there : (core : ℕ) → IsCandidate control task among core → IsCandidate control task others core
     there core candidate = (candidate.0, sym (same core candidate.0) ∙ candidate.1, candidate.2)

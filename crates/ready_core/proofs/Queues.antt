@@ -6,9 +6,9 @@ use Rattle.bench_types.specs.declared.kernel_data.CoreLook.{CoreLook}
 use Rattle.bench_types.specs.declared.kernel_data.TaskControl.{TaskControl}
 use Rattle.list_orders.specs.Search.{placed, ranked, without, has}
 use Rattle.bench_model.specs.Control.{Control, task_at}
-use Rattle.bench_model.specs.Lists.{list_moves, make_ready, outranks}
-use Rattle.bench_model.specs.Changes.{with_task, with_in_use, in_use_set}
-use Rattle.bench_model.specs.Cores.{CoresView, cores_of, alone, on_cores}
+use Rattle.bench_model.specs.Lists.{list_queues, add_to_ready_list, outranks}
+use Rattle.bench_model.specs.ControlFields.{with_task, with_in_use, in_use_set}
+use Rattle.bench_model.specs.Cores.{CoresView, cores_of, bare_view, cores_rule}
 use Rattle.order_laws.proofs.ControlBlocks.{others_stay}
 use Rattle.list_orders.proofs.Ranks.{ranked-push, filter-ranked, list_any-ranked}
 use Rattle.order_laws.proofs.Entries.{without_absent}
@@ -50,8 +50,8 @@ pub seen_has : (priorities : ℕ) (slicing : Bool) (control : Control) (queue : 
 seen_has priorities slicing control queue task view shows = sym (ready-has control task queue) ∙ ap (λ (v : CoresView). has task v.ready) shows
 
 -- what can be seen where the priority in use of a task was set, and the task went to the end of its list if it is ready
-in_use_shown : (priorities : ℕ) (slicing : Bool) (control : Control) (queue : List ℕ) (task priority : ℕ) (is_ready : Bool) → has task queue ≡ is_ready → seen_of priorities slicing (with_in_use task priority control) (cond is_ready (without task queue ++ task ∷ []) queue) ≡ on_cores (in_use_set list_moves task priority) (seen_of priorities slicing control queue)
-unfolding in_use_set make_ready
+in_use_shown : (priorities : ℕ) (slicing : Bool) (control : Control) (queue : List ℕ) (task priority : ℕ) (is_ready : Bool) → has task queue ≡ is_ready → seen_of priorities slicing (with_in_use task priority control) (cond is_ready (without task queue ++ task ∷ []) queue) ≡ cores_rule (in_use_set list_queues task priority) (seen_of priorities slicing control queue)
+unfolding in_use_set add_to_ready_list
 in_use_shown priorities slicing control queue task priority is_ready is = at is_ready is (has task (ranked (outranks control) queue)) (ready-has control task queue ∙ is)
   where
     before : CoresView
@@ -63,7 +63,7 @@ in_use_shown priorities slicing control queue task priority is_ready is = at is_
     shown : List ℕ → CoresView
     shown ready = record (seen_of priorities slicing changed queue) { ready = ready }
 
-    at : (b : Bool) → has task queue ≡ b → (d : Bool) → d ≡ b → seen_of priorities slicing changed (cond b (without task queue ++ task ∷ []) queue) ≡ cores_of (record (alone before) { control = changed; orders = cond d (make_ready changed task (alone before).orders) (alone before).orders })
+    at : (b : Bool) → has task queue ≡ b → (d : Bool) → d ≡ b → seen_of priorities slicing changed (cond b (without task queue ++ task ∷ []) queue) ≡ cores_of (record (bare_view before) { control = changed; orders = cond d (add_to_ready_list changed task (bare_view before).orders) (bare_view before).orders })
     at true there true same = ap shown (ready_changed_last control task _ queue)
     at false absent false same = ap shown (ready_changed control task _ queue absent)
     at true there false same = absurd (cc (same))
@@ -75,14 +75,14 @@ no_task = record { base = 0; in_use = 0; mask = 0; preempt = false }
 -- the same on fields and what they show, where `old` is the control block that the task had
 pub seen_in_use : (priorities : ℕ) (slicing : Bool) (cores : List CoreLook) (tasks : List TaskControl) (queue : List ℕ) (task priority : ℕ) (old : TaskControl) (view : CoresView) (is_ready : Bool) →
     seen_of priorities slicing (control_from cores tasks) queue ≡ view → old ≡ get_or tasks task old → task < length view.control.tasks → has task view.ready ≡ is_ready →
-    seen_of priorities slicing (control_from cores (slice_set tasks task (record old { in_use = priority }))) (cond is_ready (without task queue ++ task ∷ []) queue) ≡ on_cores (in_use_set list_moves task priority) view
+    seen_of priorities slicing (control_from cores (slice_set tasks task (record old { in_use = priority }))) (cond is_ready (without task queue ++ task ∷ []) queue) ≡ cores_rule (in_use_set list_queues task priority) view
 seen_in_use priorities slicing cores tasks queue task priority old view is_ready shows is_old low is =
     let control = control_from cores tasks in
     let below : task < length tasks = omega (arith, low, ap (λ (v : CoresView). length v.control.tasks) shows) in
     let block : old ≡ task_at control task = is_old ∙ get_or_default tasks task old no_task below in
     ap (λ (b : TaskControl). seen_of priorities slicing (with_task task (record b { in_use = priority }) control) (cond is_ready (without task queue ++ task ∷ []) queue)) block
     ∙ in_use_shown priorities slicing control queue task priority is_ready (seen_has priorities slicing control queue task view shows ∙ is)
-    ∙ ap (on_cores (in_use_set list_moves task priority)) shows
+    ∙ ap (cores_rule (in_use_set list_queues task priority)) shows
 
 abbrev view_from : ℕ → Bool → Control → List ℕ → CoresView
 view_from priorities slicing control ready = record { priorities = priorities; slicing = slicing; control = control; ready = ready }

@@ -8,9 +8,9 @@ use Rattle.std.proofs.lemmas.List.FromFn.{get_or-map-range_with_len, length-map-
 use Rattle.bench_types.specs.declared.kernel_data.CoreLook.{CoreLook}
 use Rattle.list_orders.specs.Search.{numbers, without, has}
 use Rattle.bench_model.specs.Control.{Control, core_at, task_at, ask, asked_by, asked_where, ask_each}
-use Rattle.bench_model.specs.Lists.{list_moves}
+use Rattle.bench_model.specs.Lists.{list_queues}
 use Rattle.bench_model.specs.Seek.{ready_in, shares_its_time, sliced}
-use Rattle.bench_model.specs.Cores.{CoresView, cores_of, alone, on_cores}
+use Rattle.bench_model.specs.Cores.{CoresView, cores_of, bare_view, cores_rule}
 use Rattle.list_orders.proofs.Filters.{filter-filter}
 use Rattle.list_orders.proofs.Stamped.{numbers_have, numbers_one}
 
@@ -86,11 +86,11 @@ module _ (acting : ℕ) (control : Control) where
       look_at (below n test) n low ∙ ap (look_by n) not_yet
 
 -- whether a core's task shares its time depends on that core alone, of the cores
-pub shares_stays : (view : CoresView) (cores : List CoreLook) (core : ℕ) → core_at (record view.control { cores = cores }) core ≡ core_at view.control core → shares_its_time list_moves (alone (record view { control = record view.control { cores = cores } })) core ≡ shares_its_time list_moves (alone view) core
+pub shares_stays : (view : CoresView) (cores : List CoreLook) (core : ℕ) → core_at (record view.control { cores = cores }) core ≡ core_at view.control core → shares_its_time list_queues (bare_view (record view { control = record view.control { cores = cores } })) core ≡ shares_its_time list_queues (bare_view view) core
 shares_stays view cores core same = ap shares same
   where
     shares : CoreLook → Bool
-    shares look = not (look.pend || look.asked) && (task_at view.control look.current).preempt && has look.current view.ready && ltb 1 (length (ready_in list_moves (task_at view.control look.current).in_use (alone view)))
+    shares look = not (look.pend || look.asked) && (task_at view.control look.current).preempt && has look.current view.ready && ltb 1 (length (ready_in list_queues (task_at view.control look.current).in_use (bare_view view)))
 
 -- how many a filter keeps and drops
 length_parts : (p : ℕ → Bool) (ns : List ℕ) → length (filter p ns) + length (filter (λ n. not (p n)) ns) ≡ length ns
@@ -143,7 +143,7 @@ more_than_one p n x low passes =
 
 -- a ready task stands in a list of more than one where the queue has another of its priority
 pub shares_by_queue : (view : CoresView) (queue : List ℕ) (task : ℕ) → ((t : ℕ) → has t view.ready ≡ has t queue) → AllByRecursion (λ t. t < length view.control.tasks) queue → task < length view.control.tasks → has task view.ready ≡ true →
-    ltb 1 (length (ready_in list_moves (task_at view.control task).in_use (alone view))) ≡ list_any (λ other. not (eqb other task) && eqb (task_at view.control other).in_use (task_at view.control task).in_use) queue
+    ltb 1 (length (ready_in list_queues (task_at view.control task).in_use (bare_view view))) ≡ list_any (λ other. not (eqb other task) && eqb (task_at view.control other).in_use (task_at view.control task).in_use) queue
 shares_by_queue view queue task same low within ready =
     let n = length view.control.tasks in
     let rank = λ (t : ℕ). (task_at view.control t).in_use in
@@ -153,13 +153,13 @@ shares_by_queue view queue task same low within ready =
     ∙ list_any-among (λ t. not (eqb t task) && alike t) n queue low
 
 -- a core that was looked at too
-pub slice_more : (view later : CoresView) (core : ℕ) → core < length view.control.cores → later ≡ record view { control = ask_each 0 (below core (shares_its_time list_moves (alone view))) view.control } →
-    cond (shares_its_time list_moves (alone later) core) (record later { control = ask 0 core later.control }) later ≡ record view { control = ask_each 0 (below (core + 1) (shares_its_time list_moves (alone view))) view.control }
-slice_more view later core low is = subst (λ v. cond (shares_its_time list_moves (alone v) core) (record v { control = ask 0 core v.control }) v ≡ record view { control = ask_each 0 (below (core + 1) test) view.control }) (sym is)
+pub slice_more : (view later : CoresView) (core : ℕ) → core < length view.control.cores → later ≡ record view { control = ask_each 0 (below core (shares_its_time list_queues (bare_view view))) view.control } →
+    cond (shares_its_time list_queues (bare_view later) core) (record later { control = ask 0 core later.control }) later ≡ record view { control = ask_each 0 (below (core + 1) (shares_its_time list_queues (bare_view view))) view.control }
+slice_more view later core low is = subst (λ v. cond (shares_its_time list_queues (bare_view v) core) (record v { control = ask 0 core v.control }) v ≡ record view { control = ask_each 0 (below (core + 1) test) view.control }) (sym is)
     (ap (λ b. cond b (record before { control = ask 0 core before.control }) before) (shares_stays view (looks 0 view.control (below core test)) core (look_stays 0 view.control test core low)) ∙ at (test core) refl)
   where
     test : ℕ → Bool
-    test = shares_its_time list_moves (alone view)
+    test = shares_its_time list_queues (bare_view view)
 
     before : CoresView
     before = record view { control = ask_each 0 (below core test) view.control }
@@ -168,11 +168,11 @@ slice_more view later core low is = subst (λ v. cond (shares_its_time list_move
     at true passes = ap (λ (control : Control). record view { control = control }) (asked_one 0 view.control test core low passes)
     at false fails = ap (λ (control : Control). record view { control = control }) (asked_not 0 view.control test core fails)
 
-pub sliced_on : (view : CoresView) → view.slicing ≡ true → record view { control = ask_each 0 (below (length view.control.cores) (shares_its_time list_moves (alone view))) view.control } ≡ on_cores (sliced list_moves) view
+pub sliced_on : (view : CoresView) → view.slicing ≡ true → record view { control = ask_each 0 (below (length view.control.cores) (shares_its_time list_queues (bare_view view))) view.control } ≡ cores_rule (sliced list_queues) view
 unfolding sliced
-sliced_on view on = ap (λ (control : Control). record view { control = control }) (asked_all 0 view.control (shares_its_time list_moves (alone view)))
-    ∙ ap (λ b. cores_of (cond b (record (alone view) { control = ask_each 0 (shares_its_time list_moves (alone view)) view.control }) (alone view))) (sym on)
+sliced_on view on = ap (λ (control : Control). record view { control = control }) (asked_all 0 view.control (shares_its_time list_queues (bare_view view)))
+    ∙ ap (λ b. cores_of (cond b (record (bare_view view) { control = ask_each 0 (shares_its_time list_queues (bare_view view)) view.control }) (bare_view view))) (sym on)
 
-pub sliced_off : (view : CoresView) → view.slicing ≡ false → view ≡ on_cores (sliced list_moves) view
+pub sliced_off : (view : CoresView) → view.slicing ≡ false → view ≡ cores_rule (sliced list_queues) view
 unfolding sliced
-sliced_off view off = ap (λ b. cores_of (cond b (record (alone view) { control = ask_each 0 (shares_its_time list_moves (alone view)) view.control }) (alone view))) (sym off)
+sliced_off view off = ap (λ b. cores_of (cond b (record (bare_view view) { control = ask_each 0 (shares_its_time list_queues (bare_view view)) view.control }) (bare_view view))) (sym off)

@@ -5,9 +5,10 @@ use Rattle.bench_types.specs.declared.kernel_data.CoreLook.{CoreLook}
 use Rattle.bench_types.specs.declared.kernel_data.TaskControl.{TaskControl}
 use Rattle.bench_types.specs.Limits.{max_cores}
 
--- each core runs a task, the priorities are below their number, the ready tasks are a listing, and there is a place
--- for every task among them
-pub record IsShape (priorities : ℕ) (cores : List CoreLook) (tasks : List TaskControl) (queue : List ℕ) (places : ℕ) : Type 0 where
+-- each core runs a task, the priorities are below their number, the ready tasks are a listing, and
+-- there is a place for every task among them
+pub record IsShape (priorities : ℕ) (cores : List CoreLook) (tasks : List TaskControl)
+    (queue : List ℕ) (places : ℕ) : Type 0 where
   pub few_cores : length cores ≤ max_cores
   pub running : All (λ core. core.current < length tasks) cores
   pub in_use : All (λ task. task.in_use < priorities) tasks

@@ -3,14 +3,13 @@ ghost use Rattle.std.specs.Option.{ForSome};
 ghost use Rattle.bench_types.specs.Header.{header_check};
 ghost use Rattle.bench_types.specs.Limits.{max_cores};
 ghost use Rattle.list_orders.specs.Search.{placed, without, has};
-ghost use Rattle.bench_model.specs.Control.{core_at, task_at, current, is_idle, is_elsewhere, may_select, ask, run_on};
-ghost use Rattle.bench_model.specs.State.{switched};
-ghost use Rattle.bench_model.specs.Lists.{list_moves, outranks};
+ghost use Rattle.bench_model.specs.Control.{core_at, task_at, current, is_idle, is_elsewhere, may_select, ask, run_on, runs_on, ask_its_core};
+ghost use Rattle.bench_model.specs.State.{after_select};
+ghost use Rattle.bench_model.specs.Lists.{list_queues, outranks};
 ghost use Rattle.bench_model.specs.Start.{first_lists, unstarted};
-ghost use Rattle.bench_model.specs.Seek.{effective, is_running, gives_way, asked_for, seek, may_move, wake, switched_and_sought, ready_in, shares_its_time, sliced};
-ghost use Rattle.bench_model.specs.Sets.{runs_on, ask_its_core};
-ghost use Rattle.bench_model.specs.Changes.{with_base, with_affinity, with_preemption, in_use_set};
-ghost use Rattle.bench_model.specs.Cores.{cores_of, alone, on_cores, has_core};
+ghost use Rattle.bench_model.specs.Seek.{effective, is_running, is_preemptible_by, core_to_yield, seek, may_move, wake, after_switch, ready_in, shares_its_time, sliced};
+ghost use Rattle.bench_model.specs.ControlFields.{with_base, with_affinity, with_preemption, in_use_set};
+ghost use Rattle.bench_model.specs.Cores.{cores_of, bare_view, cores_rule, has_core};
 ghost use Rattle.list_orders.specs.Scans.{better_of};
 ghost use Rattle.ready_core.specs.Fields.{may_be_asked, stays_asked};
 
@@ -28,7 +27,8 @@ pub struct Cores {
     slicing: bool,
     cores: Vec<CoreLook>,
     tasks: Vec<TaskControl>,
-    /// The ready tasks, running ones too. The longer a task has been in its ready list, the earlier it stands here.
+    /// The ready tasks, running ones too. The longer a task has been in its ready list, the earlier
+    /// it stands here.
     ready: Vec<u32>,
 }
 
@@ -40,17 +40,20 @@ impl Model for Cores {
 
     ghost Value = { CoresView };
 
-    ghost view = { λ of. seen_of of.priorities of.slicing (control_from of.cores.items of.tasks.items) of.ready.items };
+    ghost view = { λ of. seen_of of.priorities of.slicing
+        (control_from of.cores.items of.tasks.items) of.ready.items };
 
-    ghost invariant = { λ of. IsShape of.priorities of.cores.items of.tasks.items of.ready.items (vec_capacity of.ready) };
+    ghost invariant = { λ of. IsShape of.priorities of.cores.items of.tasks.items of.ready.items
+        (vec_capacity of.ready) };
 }
 
 impl Cores {
-    /// The start, before any core has selected: core c has idle task c, and all tasks are ready, the user tasks in
-    /// header order and the idle tasks behind them.
+    /// The start, before any core has selected: core c has idle task c, and all tasks are ready,
+    /// the user tasks in header order and the idle tasks after them.
     pub fn new(alloc: Global, header: &Header) -> Result<Self, AllocError>
         requires { header_check header.now ≡ Ok tt }
-        ensures { IfOk result (λ start. start ≡ cores_of (unstarted (first_lists header.now) header.now)) }
+        ensures { IfOk result
+            (λ start. start ≡ cores_of (unstarted (first_lists header.now) header.now)) }
     {
         let cores = header.config.cores;
         let users = header.tasks.as_slice().len() as u32;
@@ -179,10 +182,11 @@ impl Cores {
     }
 
     /// The core that the task runs on is asked, if there is one.
-    #[tactic(auto, unfolding(bench_model::specs::Sets::ask_its_core))]
+    #[tactic(auto, unfolding(bench_model::specs::Control::ask_its_core))]
     pub fn ask_its_core(&mut self, acting: u32, task: u32)
         requires { task < length self.old.control.tasks }
-        ensures { self.new ≡ record self.old { control = ask_its_core acting task self.old.control } }
+        ensures { self.new
+            ≡ record self.old { control = ask_its_core acting task self.old.control } }
     {
         if let Some(core) = self.its_core(task) {
             self.ask(acting, core);
@@ -193,16 +197,18 @@ impl Cores {
     pub fn yield_for(&mut self, acting: u32, task: u32, cores: u32)
         requires task { task < length self.old.control.tasks }
         requires ready { has task self.old.ready ≡ true }
-        ensures { self.new ≡ record self.old { control = seek acting task (has_core cores) self.old.control } }
+        ensures { self.new
+            ≡ record self.old { control = seek acting task (has_core cores) self.old.control } }
     {
         self.seek(acting, task, cores);
     }
 
-    /// The task goes to the end of the ready list of its priority in use, and a core of its mask is sought for it.
-    #[tactic(auto, unfolding(bench_model::specs::Seek::wake, bench_model::specs::Lists::make_ready))]
-    pub fn make_ready(&mut self, acting: u32, task: u32)
+    /// The task goes to the end of the ready list of its priority in use, and a core of its mask is
+    /// sought for it.
+    #[tactic(auto, unfolding(bench_model::specs::Seek::wake, bench_model::specs::Lists::add_to_ready_list))]
+    pub fn wake(&mut self, acting: u32, task: u32)
         requires { task < length self.old.control.tasks }
-        ensures { self.new ≡ on_cores (wake list_moves acting task) self.old }
+        ensures { self.new ≡ cores_rule (wake list_queues acting task) self.old }
     {
         self.move_last(task);
         self.seek(acting, task, self.mask(task));
@@ -216,12 +222,13 @@ impl Cores {
         remove_task(&mut self.ready, task);
     }
 
-    /// The switch: the core's ready current task goes to the end of its list, and the core runs the first ready task
-    /// that it may select then. It is due no more. For a ready task that lost the core another is sought.
-    #[tactic(auto, unfolding(bench_model::specs::Seek::switched_and_sought, bench_model::specs::Seek::resettled))]
+    /// The switch: the core's ready current task goes to the end of its list, and the core runs the
+    /// first ready task that it may select then. It is due no more. For a ready task that lost the
+    /// core another is sought.
+    #[tactic(auto, unfolding(bench_model::specs::Seek::after_switch, bench_model::specs::Seek::after_eviction))]
     pub fn select(&mut self, core: u32)
         requires { core < length self.old.control.cores }
-        ensures { self.new ≡ on_cores (switched_and_sought list_moves core) self.old }
+        ensures { self.new ≡ cores_rule (after_switch list_queues core) self.old }
     {
         let left = self.running(core);
         self.switch(core);
@@ -231,10 +238,11 @@ impl Cores {
         }
     }
 
-    /// The end of time slices, where they are on: each core that is not due, and whose task has preemption on and stands
-    /// in a ready list of more than one, is asked to switch, core 0 by itself.
+    /// The end of time slices, where they are on: each core that is not due, and whose task has
+    /// preemption on and stands in a ready list of more than one, is asked to switch, core 0 by
+    /// itself.
     pub fn slice(&mut self)
-        ensures { self.new ≡ on_cores (sliced list_moves) self.old }
+        ensures { self.new ≡ cores_rule (sliced list_queues) self.old }
     {
         if self.slicing {
             for core in 0..self.core_numbers().end {
@@ -243,12 +251,12 @@ impl Cores {
         }
     }
 
-    /// The priority in use of the task becomes this one. A ready task goes to the end of the ready list of it, also
-    /// where it had that priority.
+    /// The priority in use of the task becomes this one. A ready task goes to the end of the ready
+    /// list of it, also where it had that priority.
     pub fn set_in_use(&mut self, task: u32, priority: u32)
         requires task { task < length self.old.control.tasks }
         requires priority { priority < self.old.priorities }
-        ensures { self.new ≡ on_cores (in_use_set list_moves task priority) self.old }
+        ensures { self.new ≡ cores_rule (in_use_set list_queues task priority) self.old }
     {
         let is_ready = self.ready(task);
         self.tasks[task as usize].in_use = priority;
@@ -261,7 +269,8 @@ impl Cores {
     pub fn set_base(&mut self, task: u32, priority: u32)
         requires task { task < length self.old.control.tasks }
         requires priority { priority < self.old.priorities }
-        ensures { self.new ≡ record self.old { control = with_base task priority self.old.control } }
+        ensures { self.new
+            ≡ record self.old { control = with_base task priority self.old.control } }
     {
         self.tasks[task as usize].base = priority;
     }
@@ -269,7 +278,8 @@ impl Cores {
     /// The core affinity mask of the task becomes this one, cut to the bits that mean a core.
     pub fn set_mask(&mut self, task: u32, mask: u32)
         requires { task < length self.old.control.tasks }
-        ensures { self.new ≡ record self.old { control = with_affinity task mask self.old.control } }
+        ensures { self.new
+            ≡ record self.old { control = with_affinity task mask self.old.control } }
     {
         let cut = cores_of_mask(self.core_numbers().end, mask);
         self.tasks[task as usize].mask = cut;
@@ -278,7 +288,8 @@ impl Cores {
     /// Whether a core may be asked to give the task up for another.
     pub fn set_preempt(&mut self, task: u32, on: bool)
         requires { task < length self.old.control.tasks }
-        ensures { self.new ≡ record self.old { control = with_preemption task on self.old.control } }
+        ensures { self.new
+            ≡ record self.old { control = with_preemption task on self.old.control } }
     {
         self.tasks[task as usize].preempt = on;
     }
@@ -301,7 +312,9 @@ impl Cores {
 
     // Whether the number of priorities and slicing are equal.
     fn has_same_settings(&self, other: &Self) -> bool
-        ensures { IsTrue result ↔ ((self.now.priorities ≡ other.now.priorities) × (self.now.slicing ≡ other.now.slicing)) }
+        ensures { IsTrue result ↔
+            ((self.now.priorities ≡ other.now.priorities)
+            × (self.now.slicing ≡ other.now.slicing)) }
     {
         self.priorities == other.priorities && self.slicing == other.slicing
     }
@@ -338,7 +351,8 @@ impl Cores {
     // Whether the core has the task and no other core asked it to switch.
     fn keeps_running(&self, core: u32, task: u32) -> bool
         requires { core < length self.now.control.cores }
-        ensures { result ≡ (current self.now.control core == task && not (core_at self.now.control core).asked) }
+        ensures { result
+            ≡ (current self.now.control core == task && not (core_at self.now.control core).asked) }
     {
         self.running(core) == task && !self.flags(core).asked
     }
@@ -356,17 +370,18 @@ impl Cores {
     fn stands_below(&self, task: u32, other: u32) -> bool
         requires task { task < length self.now.control.tasks }
         requires other { other < length self.now.control.tasks }
-        ensures { result ≡ nat_lt (effective self.now.control task) (effective self.now.control other) }
+        ensures { result
+            ≡ nat_lt (effective self.now.control task) (effective self.now.control other) }
     {
         let is_lower = self.is_idle(task) || self.in_use(task) < self.in_use(other);
         !self.is_idle(other) && is_lower
     }
 
     // Whether the core is not due and runs a task that may be given up for this one.
-    fn gives_way(&self, task: u32, core: u32) -> bool
+    fn is_preemptible_by(&self, task: u32, core: u32) -> bool
         requires task { task < length self.now.control.tasks }
         requires core { core < length self.now.control.cores }
-        ensures { result ≡ gives_way self.now.control task core }
+        ensures { result ≡ is_preemptible_by self.now.control task core }
     {
         let look = self.flags(core);
         let runs = self.running(core);
@@ -378,14 +393,16 @@ impl Cores {
         requires task { task < length self.now.control.tasks }
         requires core { core < length self.now.control.cores }
         requires best { ForSome best (λ b. b < length self.now.control.cores) }
-        ensures better { result ≡ better_of (stays_asked self.now.control) (may_be_asked self.now.control task (has_core among)) best core }
+        ensures better { result
+            ≡ better_of (stays_asked self.now.control)
+            (may_be_asked self.now.control task (has_core among)) best core }
         ensures core { ForSome result (λ better. better < length self.now.control.cores) }
     {
         let is_better = match best {
             None => true,
             Some(best) => !self.stands_below(self.running(best), self.running(core)),
         };
-        let may_be_asked = self.has_bit(among, core) && self.gives_way(task, core);
+        let may_be_asked = self.has_bit(among, core) && self.is_preemptible_by(task, core);
         if may_be_asked && is_better {
             Some(core)
         } else {
@@ -394,9 +411,9 @@ impl Cores {
     }
 
     // The core that is asked for the task among those whose bit is set.
-    fn asked_for(&self, task: u32, among: u32) -> Option<u32>
+    fn core_to_yield(&self, task: u32, among: u32) -> Option<u32>
         requires { task < length self.now.control.tasks }
-        ensures asked { result ≡ asked_for self.now.control task (has_core among) }
+        ensures asked { result ≡ core_to_yield self.now.control task (has_core among) }
         ensures core { ForSome result (λ core. core < length self.now.control.cores) }
     {
         let mut best = None;
@@ -409,10 +426,11 @@ impl Cores {
     #[tactic(auto, unfolding(bench_model::specs::Seek::seek))]
     fn seek(&mut self, acting: u32, task: u32, among: u32)
         requires { task < length self.old.control.tasks }
-        ensures { self.new ≡ record self.old { control = seek acting task (has_core among) self.old.control } }
+        ensures { self.new
+            ≡ record self.old { control = seek acting task (has_core among) self.old.control } }
     {
         if !self.is_running(task) {
-            if let Some(core) = self.asked_for(task, among) {
+            if let Some(core) = self.core_to_yield(task, among) {
                 self.ask(acting, core);
             }
         }
@@ -436,12 +454,14 @@ impl Cores {
         is_allowed && !self.is_elsewhere(core, task)
     }
 
-    // The best task so far, or one that came to its ready list behind it, where the core may select it and it is better.
+    // The best task so far, or one that came to its ready list after it, where the core may select
+    // it and it is better.
     fn better_task(&self, core: u32, best: Option<u32>, task: u32) -> Option<u32>
         requires core { core < length self.now.control.cores }
         requires best { ForSome best (λ b. b < length self.now.control.tasks) }
         requires task { task < length self.now.control.tasks }
-        ensures better { result ≡ better_of (outranks self.now.control) (may_select self.now.control core) best task }
+        ensures better { result
+            ≡ better_of (outranks self.now.control) (may_select self.now.control core) best task }
         ensures task { ForSome result (λ better. better < length self.now.control.tasks) }
     {
         let is_better = match best {
@@ -455,7 +475,8 @@ impl Cores {
         }
     }
 
-    // The first task of the ready lists that the core may select, from the greatest priority in use down.
+    // The first task of the ready lists that the core may select, from the greatest priority in use
+    // down.
     fn pick(&self, core: u32) -> Option<u32>
         requires { core < length self.now.control.cores }
         ensures first { result ≡ find (may_select self.now.control core) self.now.ready }
@@ -471,7 +492,9 @@ impl Cores {
     // The task goes to the end of the ready list of its priority in use.
     fn move_last(&mut self, task: u32)
         requires { task < length self.old.control.tasks }
-        ensures { self.new ≡ record self.old { ready = placed (outranks self.old.control) task (without task self.old.ready) } }
+        ensures { self.new ≡ record self.old {
+          ready = placed (outranks self.old.control) task (without task self.old.ready);
+        } }
     {
         requeue(&mut self.ready, task);
     }
@@ -489,10 +512,10 @@ impl Cores {
     }
 
     // The switch without the seek.
-    #[tactic(auto, unfolding(bench_model::specs::State::switched, bench_model::specs::Lists::pick, bench_model::specs::Lists::make_ready))]
+    #[tactic(auto, unfolding(bench_model::specs::State::after_select, bench_model::specs::Lists::pick, bench_model::specs::Lists::add_to_ready_list))]
     fn switch(&mut self, core: u32)
         requires { core < length self.old.control.cores }
-        ensures switched { self.new ≡ on_cores (switched list_moves core) self.old }
+        ensures selected { self.new ≡ cores_rule (after_select list_queues core) self.old }
         ensures cores { length self.new.control.cores ≡ length self.old.control.cores }
         ensures tasks { self.new.control.tasks ≡ self.old.control.tasks }
     {
@@ -504,13 +527,14 @@ impl Cores {
         self.run(core, next);
     }
 
-    // Where a task may go that lost a core to another: the cores of its mask; where it could stay on the lost core, those
-    // of them that the other can't run on.
+    // Where a task may go that lost a core to another: the cores of its mask; where it could stay
+    // on the lost core, those of them that the other can't run on.
     fn cores_left(&self, loser: u32, winner: u32, lost: u32) -> u32
         requires loser { loser < length self.now.control.tasks }
         requires winner { winner < length self.now.control.tasks }
         requires lost { lost < length self.now.control.cores }
-        ensures { (core : ℕ) → core < length self.now.control.cores → has_core result core ≡ may_move self.now.control loser winner lost core }
+        ensures { (core : ℕ) → core < length self.now.control.cores
+            → has_core result core ≡ may_move self.now.control loser winner lost core }
     {
         let mask = self.mask(loser);
         if self.has_bit(mask, lost) {
@@ -523,7 +547,11 @@ impl Cores {
     // Whether the task stands in a ready list of more than one.
     fn has_company(&self, task: u32) -> bool
         requires { task < length self.now.control.tasks }
-        ensures { result ≡ (has task self.now.ready && nat_lt 1 (length (ready_in list_moves (task_at self.now.control task).in_use (alone self.now)))) }
+        ensures { result
+            ≡ (has task self.now.ready
+            && nat_lt 1
+            (length
+            (ready_in list_queues (task_at self.now.control task).in_use (bare_view self.now)))) }
     {
         self.ready(task) && has_company(&self.tasks, &self.ready, task)
     }
@@ -531,7 +559,7 @@ impl Cores {
     // Whether the core's task has to share its time with another of its priority.
     fn shares_its_time(&self, core: u32) -> bool
         requires { core < length self.now.control.cores }
-        ensures { result ≡ shares_its_time list_moves (alone self.now) core }
+        ensures { result ≡ shares_its_time list_queues (bare_view self.now) core }
     {
         let look = self.flags(core);
         let runs = self.running(core);
@@ -540,7 +568,9 @@ impl Cores {
 
     fn end_slice(&mut self, core: u32)
         requires { core < length self.old.control.cores }
-        ensures { self.new ≡ (if shares_its_time list_moves (alone self.old) core then record self.old { control = ask 0 core self.old.control } else self.old) }
+        ensures { self.new
+            ≡ (if shares_its_time list_queues (bare_view self.old) core
+            then record self.old { control = ask 0 core self.old.control } else self.old) }
     {
         if self.shares_its_time(core) {
             self.ask(0, core);

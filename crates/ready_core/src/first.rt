@@ -23,7 +23,7 @@ pub(crate) fn first_looks(alloc: Global, cores: u32) -> Result<Vec<CoreLook>, Al
     Ok(looks)
 }
 
-// The control blocks of the idle tasks, and behind them those of the user tasks.
+// The control blocks of the idle tasks, and after them those of the user tasks.
 pub(crate) fn first_controls(alloc: Global, header: &Header) -> Result<Vec<TaskControl>, AllocError>
     requires { header.now.config.cores ≤ max_cores }
     ensures { IfOk result (λ tasks. tasks.items ≡ (first_control header.now).tasks) }
@@ -64,11 +64,12 @@ fn idle_control(cores: u32) -> TaskControl
     }
 }
 
-// The user tasks and behind them the idle tasks, with a place for each.
+// The user tasks and after them the idle tasks, with a place for each.
 pub(crate) fn first_queue(alloc: Global, cores: u32, users: u32) -> Result<Vec<u32>, AllocError>
     requires cores { cores ≤ max_cores }
     requires users { users ≤ max_tasks }
-    ensures items { IfOk result (λ queue. queue.items ≡ range_with_len cores users ++ numbers cores) }
+    ensures items { IfOk result
+        (λ queue. queue.items ≡ range_with_len cores users ++ numbers cores) }
     ensures room { IfOk result (λ queue. cores + users ≤ vec_capacity queue) }
 {
     let mut queue = Vec::with_capacity(alloc, (cores + users) as usize)?;
@@ -79,7 +80,8 @@ pub(crate) fn first_queue(alloc: Global, cores: u32, users: u32) -> Result<Vec<u
 
 fn push_numbers(queue: &mut Vec<u32>, from: u32, to: u32) -> Result<(), AllocError>
     requires { from ≤ to }
-    ensures items { OnOk result (queue.new.items ≡ queue.old.items ++ range_with_len from (to - from)) }
+    ensures items { OnOk result
+        (queue.new.items ≡ queue.old.items ++ range_with_len from (to - from)) }
     ensures capacity { vec_capacity queue.old ≤ vec_capacity queue.new }
 {
     for number in from..to {

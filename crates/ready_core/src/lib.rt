@@ -1,4 +1,5 @@
-//! The cores, the tasks' control blocks and the ready lists: which core is asked for a task, and which task a core selects.
+//! The cores, the tasks' control blocks and the ready lists: which core is asked for a task, and
+//! which task a core selects.
 #![tactic(auto)]
 
 mod cores;

@@ -58,9 +58,11 @@ pub(crate) fn has_company(tasks: &[TaskControl], queue: &[u32], task: u32) -> bo
     queue.iter().any(|other| *other != task && has_priority(tasks, priority, *other))
 }
 
-// The first task of the priority, and what stands behind it.
+// The first task of the priority, and what stands after it.
 fn first_of<'a>(tasks: &[TaskControl], priority: u32, queue: &'a [u32]) -> Option<(u32, &'a [u32])>
-    ensures { MatchOption result (filter (has_priority tasks.now priority) queue.now ≡ []) (λ first. filter (has_priority tasks.now priority) queue.now ≡ first.0 ∷ filter (has_priority tasks.now priority) first.1.now) }
+    ensures { MatchOption result (filter (has_priority tasks.now priority) queue.now ≡ [])
+        (λ first. filter (has_priority tasks.now priority) queue.now
+        ≡ first.0 ∷ filter (has_priority tasks.now priority) first.1.now) }
 {
     for (index, task) in queue.iter().enumerate() {
         if has_priority(tasks, priority, *task) {
@@ -72,13 +74,15 @@ fn first_of<'a>(tasks: &[TaskControl], priority: u32, queue: &'a [u32]) -> Optio
 
 // Whether the tasks of the priority are the same in both queues, in the same order.
 fn has_same_list(tasks: &[TaskControl], priority: u32, queue: &[u32], other: &[u32]) -> bool
-    ensures { IsTrue result ↔ (filter (has_priority tasks.now priority) queue.now ≡ filter (has_priority tasks.now priority) other.now) }
+    ensures { IsTrue result ↔
+        (filter (has_priority tasks.now priority) queue.now
+        ≡ filter (has_priority tasks.now priority) other.now) }
 {
     let mut rest = other;
     for task in queue {
         if has_priority(tasks, priority, *task) {
             match first_of(tasks, priority, rest) {
-                Some((first, behind)) if first == *task => rest = behind,
+                Some((first, later)) if first == *task => rest = later,
                 _ => return false,
             }
         }
@@ -96,7 +100,9 @@ pub(crate) fn have_same_lists(
     requires priorities { All (λ task. task.in_use < priorities) tasks.now }
     requires queue { All (λ task. task < length tasks.now) queue.now }
     requires other { All (λ task. task < length tasks.now) other.now }
-    ensures { let front = outranks (control_from [] tasks.now) in IsTrue result ↔ (ranked front queue.now ≡ ranked front other.now) }
+    ensures { let front
+        = outranks (control_from [] tasks.now) in IsTrue result ↔
+        (ranked front queue.now ≡ ranked front other.now) }
 {
     for priority in 0..priorities {
         if !has_same_list(tasks, priority, queue, other) {

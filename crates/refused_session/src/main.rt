@@ -1,4 +1,5 @@
-//! The program on a session that is refused: one whose last step is on a core that it has not. Its exit status is 1.
+//! The program on a session that is refused: one whose last step is on a core that it has not. Its
+//! exit status is 1.
 #![tactic(auto)]
 
 use bench_commands::{Counted, run_program};

@@ -15,10 +15,10 @@ use Rattle.bench_types.specs.declared.step.Call.TheVariants as calls
 use Rattle.bench_types.specs.Step.{IsActionOfWord, IsCheckedCall}
 use Rattle.bench_model.specs.Control.{core_at}
 use Rattle.bench_model.specs.Notes.{note_at, is_received, without_bits, wait_begun, wait_ended, take_begun, take_ended, state_cleared, value_cleared}
-use Rattle.bench_model.specs.Notifying.{awaited_for, is_passed, interrupted, state_forgotten, bits_cleared, completed, awaited}
+use Rattle.bench_model.specs.Notifying.{timeout_of, is_passed, interrupted, state_forgotten, bits_cleared, completed, awaited}
 use Rattle.bench_model.specs.State.{State, blocked}
-use Rattle.bench_model.specs.Table.{Table, table_moves, is_ready}
-use Rattle.bench_model.specs.Lists.{View, list_moves, image}
+use Rattle.bench_model.specs.Table.{Table, stamp_queues, is_ready}
+use Rattle.bench_model.specs.Lists.{View, list_queues, view_of}
 use Rattle.bench_model.specs.Lists.{seen_of}
 use Rattle.bench_model.specs.Sound.{IsCaller, IsConsistent, IsWait, IsMutexTime}
 use Rattle.rule_laws.proofs.Notifying.{notify_seen, notify_sound, ruled_sound}
@@ -100,19 +100,19 @@ seen_from reply view = (reply, view)
 same_seen : (reply : Reply) (one other : View) → one ≡ other → seen_from reply one ≡ seen_from reply other
 same_seen reply one other a = ap (seen_from reply) a
 
-pub interrupted_seen : (table : Table) (core : ℕ) (note : Note) → IsConsistent table → note.task < table.settings.tasks → seen_of (interrupted table_moves core note table) ≡ interrupted list_moves core note (image table)
+pub interrupted_seen : (table : Table) (core : ℕ) (note : Note) → IsConsistent table → note.task < table.settings.tasks → seen_of (interrupted stamp_queues core note table) ≡ interrupted list_queues core note (view_of table)
 unfolding interrupted
 interrupted_seen table core note sound low = ap (λ (view : View). (Isr (is_passed note table) (core_at view.control core).pend, view)) (notify_seen table core note.task note.action sound low)
 
-pub forgotten_seen : (table : Table) (task : ℕ) → seen_of (state_forgotten task table) ≡ state_forgotten task (image table)
+pub forgotten_seen : (table : Table) (task : ℕ) → seen_of (state_forgotten task table) ≡ state_forgotten task (view_of table)
 unfolding state_forgotten
 forgotten_seen table task = refl
 
-pub bits_seen : (table : Table) (task bits : ℕ) → seen_of (bits_cleared task bits table) ≡ bits_cleared task bits (image table)
+pub bits_seen : (table : Table) (task bits : ℕ) → seen_of (bits_cleared task bits table) ≡ bits_cleared task bits (view_of table)
 unfolding bits_cleared
 bits_seen table task bits = refl
 
-pub completed_seen : (table : Table) (task : ℕ) (call : Call) → seen_of (completed task call table) ≡ completed task call (image table)
+pub completed_seen : (table : Table) (task : ℕ) (call : Call) → seen_of (completed task call table) ≡ completed task call (view_of table)
 unfolding completed
 completed_seen table task calls.Yield = refl
 completed_seen table task (calls.Delay ticks) = refl
@@ -133,20 +133,20 @@ completed_seen table task calls.HoldOpen = refl
 completed_seen table task calls.HoldClose = refl
 
 pub awaited_seen : (table : Table) (core task : ℕ) (call : Call) (ticks : ℕ) (begun : Bool × List Notification) → IsConsistent table → task < length table.orders.rows → is_ready task table.orders ≡ true →
-    seen_of (awaited table_moves core task call ticks begun table) ≡ awaited list_moves core task call ticks begun (image table)
+    seen_of (awaited stamp_queues core task call ticks begun table) ≡ awaited list_queues core task call ticks begun (view_of table)
 unfolding awaited
 awaited_seen table core task call ticks begun sound below ready = either (begun.0 && ltb 0 ticks)
   where
     waiting : Table
     waiting = record table { notes = begun.1 }
 
-    either : (b : Bool) → seen_of (cond b (Blocked, blocked table_moves core task (Made call) (awaited_for ticks) None waiting) (completed task call waiting)) ≡ cond b (Blocked, blocked list_moves core task (Made call) (awaited_for ticks) None (image waiting)) (completed task call (image waiting))
-    either true = same_seen Blocked _ _ (blocked_seen core task (Made call) (awaited_for ticks) None waiting sound.stamped.given below ready)
+    either : (b : Bool) → seen_of (cond b (Blocked, blocked stamp_queues core task (Made call) (timeout_of ticks) None waiting) (completed task call waiting)) ≡ cond b (Blocked, blocked list_queues core task (Made call) (timeout_of ticks) None (view_of waiting)) (completed task call (view_of waiting))
+    either true = same_seen Blocked _ _ (blocked_seen core task (Made call) (timeout_of ticks) None waiting sound.stamped.given below ready)
     either false = completed_seen waiting task call
 
 -- ---- soundness stays
 
-pub interrupted_sound : (table : Table) (core : ℕ) (note : Note) → IsConsistent table → note.task < table.settings.tasks → IsActionOfWord note.action → IsConsistent (interrupted table_moves core note table).1
+pub interrupted_sound : (table : Table) (core : ℕ) (note : Note) → IsConsistent table → note.task < table.settings.tasks → IsActionOfWord note.action → IsConsistent (interrupted stamp_queues core note table).1
 unfolding interrupted
 interrupted_sound table core note sound low word = notify_sound table core note.task note.action sound low word
 
@@ -179,7 +179,7 @@ completed_sound table task calls.HoldOpen sound low = sound
 completed_sound table task calls.HoldClose sound low = sound
 
 -- the ticks of a wait that does not end at once
-pub waits_on : (ticks : ℕ) → 0 < ticks → ticks < 2 ^ 32 → IsWait (awaited_for ticks)
+pub waits_on : (ticks : ℕ) → 0 < ticks → ticks < 2 ^ 32 → IsWait (timeout_of ticks)
 waits_on ticks some low = either (eqb ticks (2 ^ 32 - 1))
   where
     either : (b : Bool) → IsWait (cond b None (Some ticks))
@@ -187,7 +187,7 @@ waits_on ticks some low = either (eqb ticks (2 ^ 32 - 1))
     either false = (some, low)
 
 -- and of a wait for a mutex
-pub waits_short : (ticks : ℕ) → ticks < 2 ^ 32 → IsMutexTime (awaited_for ticks)
+pub waits_short : (ticks : ℕ) → ticks < 2 ^ 32 → IsMutexTime (timeout_of ticks)
 waits_short ticks low = either (eqb ticks (2 ^ 32 - 1)) refl
   where
     either : (b : Bool) → eqb ticks (2 ^ 32 - 1) ≡ b → IsMutexTime (cond b None (Some ticks))
@@ -195,13 +195,13 @@ waits_short ticks low = either (eqb ticks (2 ^ 32 - 1)) refl
     either false short = grind (arith, nat_tests, short, low)
 
 pub awaited_sound : (table : Table) (core task : ℕ) (call : Call) (ticks : ℕ) (begun : Bool × List Notification) → IsConsistent (record table { notes = begun.1 }) → IsCaller table core task → IsCheckedCall table.settings call → length table.control.cores ≤ task → ticks < 2 ^ 32 →
-    IsConsistent (awaited table_moves core task call ticks begun table).1
+    IsConsistent (awaited stamp_queues core task call ticks begun table).1
 unfolding awaited
 awaited_sound table core task call ticks begun sound place checked user low = either (begun.0 && ltb 0 ticks) refl
   where
     waiting : Table
     waiting = record table { notes = begun.1 }
 
-    either : (b : Bool) → (begun.0 && ltb 0 ticks) ≡ b → IsConsistent (cond {A = Reply × Table} b (Blocked, blocked table_moves core task (Made call) (awaited_for ticks) None waiting) (completed task call waiting)).1
-    either true waits = blocked_sound core task (Made call) (awaited_for ticks) None waiting sound place checked user (waits_on ticks (grind (arith, nat_tests, waits)) low) tt (λ none. absurd (cc (none)))
+    either : (b : Bool) → (begun.0 && ltb 0 ticks) ≡ b → IsConsistent (cond {A = Reply × Table} b (Blocked, blocked stamp_queues core task (Made call) (timeout_of ticks) None waiting) (completed task call waiting)).1
+    either true waits = blocked_sound core task (Made call) (timeout_of ticks) None waiting sound place checked user (waits_on ticks (grind (arith, nat_tests, waits)) low) tt (λ none. absurd (cc (none)))
     either false done = completed_sound waiting task call sound (omega (arith, sound.sized.rows, place.2))

@@ -1,8 +1,8 @@
 pub mod Awaiting
-pub mod Changes
+pub mod ControlFields
 pub mod CoresAlone
 pub mod Mutexes
 pub mod Notifying
+pub mod PriorityAffinity
 pub mod Seeks
-pub mod Sets
 pub mod Ticks

@@ -1,5 +1,5 @@
 -- Mutexes with priority inheritance: each rule as lists, and that it keeps a table sound.
-use Rattle.std.proofs.Common.{◌≡◌, suc, ℕ, ◌+◌, ◌-◌, ◌<◌, ◌≤◌, ◌^◌, Bool, true, false, cond, not, eqb, ltb, ◌&&◌, length, Option, Some, None, refl, sym, ap, subst, ◌∙◌, arith}
+use Rattle.std.proofs.Common.{◌≡◌, suc, ℕ, ◌+◌, ◌-◌, ◌<◌, ◌≤◌, ◌^◌, Bool, true, false, cond, not, eqb, ltb, ◌&&◌, length, Option, Some, None, refl, sym, ap, ap₂, subst, ◌∙◌, arith}
 use Rattle.std.specs.Prelude.{slice_set, option_map}
 use Rattle.std.specs.Option.{option_map_or}
 use Rattle.std.proofs.lemmas.Bool.Decides.{nat_tests}
@@ -11,49 +11,40 @@ use Rattle.bench_types.specs.declared.reply.Reply.TheVariants.{Blocked, Flag}
 use Rattle.bench_types.specs.declared.step.Unfinished.{Unfinished}
 use Rattle.bench_types.specs.declared.step.Unfinished.TheVariants.{Made, Take}
 use Rattle.bench_types.specs.Step.{IsCheckedUnfinished}
-use Rattle.bench_model.specs.Changes.{in_use_set}
-use Rattle.bench_model.specs.Control.{task_at, current, in_mask}
+use Rattle.bench_model.specs.ControlFields.{in_use_set}
+use Rattle.bench_model.specs.Control.{task_at, current, in_mask, ask_its_core}
 use Rattle.bench_model.specs.Lists.{seen_of}
-use Rattle.bench_model.specs.Lists.{View, list_moves, image}
-use Rattle.bench_model.specs.Mutexes.{held_by, is_marked, taken, inherited, waited_at, mutex_take, owed, lowered, timed_out, ended, owed_to, take_finished, finished, disinherited, first_woken, mutex_give}
-use Rattle.bench_model.specs.Notifying.{awaited_for, completed}
+use Rattle.bench_model.specs.Lists.{View, list_queues, view_of}
+use Rattle.bench_model.specs.Steps.{after_finish}
+use Rattle.bench_model.specs.Mutexes.{held_by, is_marked, taken, inherited, waited_at, mutex_take, owed, after_disinherit, timed_out, disinherit_priority, take_finished, disinherited, first_woken, mutex_give}
+use Rattle.bench_model.specs.Notifying.{timeout_of, completed}
 use Rattle.bench_model.specs.Seek.{seek, wake}
 use Rattle.rule_laws.specs.SeekLaws.{sought}
 use Rattle.rule_laws.specs.SetLaws.{on_control}
-use Rattle.bench_model.specs.Sets.{ask_its_core}
 use Rattle.bench_model.specs.Sound.{IsCaller, IsConsistent, IsWait, IsMutexTime}
-use Rattle.bench_model.specs.State.{State, holder_at, blocked}
-use Rattle.bench_model.specs.Table.{Stamps, Table, table_moves, is_ready, make_ready, deadline_at, deadline_left, forget_deadline, first_waiter}
+use Rattle.bench_model.specs.State.{State, holder_at, blocked, after_return}
+use Rattle.bench_model.specs.Table.{Stamps, Table, stamp_queues, is_ready, add_to_ready_list, deadline_at, deadline_left, forget_deadline, first_waiter}
 use Rattle.rule_laws.proofs.Awaiting.{waits_on, waits_short, completed_seen, completed_sound}
-use Rattle.rule_laws.proofs.Changes.{in_use_seen, in_use_sound}
+use Rattle.rule_laws.proofs.ControlFields.{in_use_seen, in_use_sound}
 use Rattle.order_laws.proofs.FirstWaiters.{first_waiter_seen, first_waiter_waits}
 use Rattle.order_laws.proofs.SeenMoves.{deadline_left_seen, forget_deadline_seen}
 use Rattle.order_laws.proofs.SeenSteps.{blocked_seen}
 use Rattle.rule_laws.proofs.Seeks.{seek_seen, seek_sound, seek_more, wake_seen, wake_sound}
-use Rattle.rule_laws.proofs.Sets.{either_seen, either_sound, ready_seen, its_core_seen, its_core_sound}
+use Rattle.rule_laws.proofs.PriorityAffinity.{either_seen, either_sound, ready_seen, its_core_seen, its_core_sound}
 use Rattle.order_laws.proofs.SoundMutexes.{freed_mutexes, held_mutexes}
 use Rattle.order_laws.proofs.SoundSteps.{blocked_sound, call_set, make_ready_keeps}
+use Rattle.order_laws.proofs.Sizes.{lengths_of, resized}
 
 -- ---- holding
 
-pub taken_seen : (table : Table) (task mutex : ℕ) → image (taken task mutex table) ≡ taken task mutex (image table)
+pub taken_seen : (table : Table) (task mutex : ℕ) → view_of (taken task mutex table) ≡ taken task mutex (view_of table)
 unfolding taken
 taken_seen table task mutex = refl
 
 -- a mutex that a task holds from now on, or none
 given_sound : (table : Table) (mutex : ℕ) (given : Option ℕ) → IsConsistent table → mutex < table.settings.mutexes → ((task : ℕ) → given ≡ Some task → task < table.settings.tasks) → IsConsistent (record table { holders = slice_set table.holders mutex given })
 given_sound table mutex given sound low one = record {
-  sized = record {
-    cores = sound.sized.cores;
-    controls = sound.sized.controls;
-    calls = sound.sized.calls;
-    notes = sound.sized.notes;
-    holders = length-set table.holders mutex given ∙ sound.sized.holders;
-    rows = sound.sized.rows;
-    deadlines = sound.sized.deadlines;
-    some_core = sound.sized.some_core;
-    idle_tasks = sound.sized.idle_tasks;
-  };
+  sized = resized table _ refl (ap (λ a. record (lengths_of table) { holders = a }) (length-set table.holders mutex given)) sound.sized;
   stamped = sound.stamped;
   in_place = sound.in_place;
   in_time = sound.in_time;
@@ -74,10 +65,10 @@ taken_sound table task mutex sound low below = given_sound table mutex (Some tas
 
 module _ (table : Table) (acting holder priority : ℕ) (sound : IsConsistent table) (low : holder < table.settings.tasks) where
   abbrev later : Table
-  later = in_use_set table_moves holder priority table
+  later = in_use_set stamp_queues holder priority table
 
   abbrev later_view : View
-  later_view = in_use_set list_moves holder priority (image table)
+  later_view = in_use_set list_queues holder priority (view_of table)
 
   abbrev sought_for : {Orders : Type 0} → State Orders → State Orders
   sought_for state = record state { control = seek acting holder (in_mask state.control holder) state.control }
@@ -85,17 +76,17 @@ module _ (table : Table) (acting holder priority : ℕ) (sound : IsConsistent ta
   abbrev is_below : Bool
   is_below = ltb (task_at table.control holder).in_use priority
 
-  pub inherited_seen : image (inherited table_moves acting holder priority table) ≡ inherited list_moves acting holder priority (image table)
+  pub inherited_seen : view_of (inherited stamp_queues acting holder priority table) ≡ inherited list_queues acting holder priority (view_of table)
   unfolding inherited
   inherited_seen =
       let raised = in_use_seen table holder priority sound low in
       let ready = is_ready holder table.orders in
-      either_seen is_below (cond ready (sought_for later) later) table (cond ready (sought_for later_view) later_view) (image table)
+      either_seen is_below (cond ready (sought_for later) later) table (cond ready (sought_for later_view) later_view) (view_of table)
       (either_seen ready (sought_for later) later (sought_for later_view) later_view (seek_seen later acting holder (in_mask later.control holder) ∙ ap sought_for raised) raised)
       refl
-      ∙ ap (λ ready. cond is_below (cond ready (sought_for later_view) later_view) (image table)) (ready_seen table holder sound low)
+      ∙ ap (λ ready. cond is_below (cond ready (sought_for later_view) later_view) (view_of table)) (ready_seen table holder sound low)
 
-  pub inherited_sound : priority < table.settings.priorities → IsConsistent (inherited table_moves acting holder priority table)
+  pub inherited_sound : priority < table.settings.priorities → IsConsistent (inherited stamp_queues acting holder priority table)
   unfolding inherited
   inherited_sound below =
       let raised = in_use_sound table holder priority sound low below in
@@ -118,7 +109,7 @@ either_kept : (b : Bool) (table one other : Table) → IsKept table one → IsKe
 either_kept true table one other first second = first
 either_kept false table one other first second = second
 
-in_use_kept : (table : Table) (task priority : ℕ) → IsConsistent table → task < table.settings.tasks → IsKept table (in_use_set table_moves task priority table)
+in_use_kept : (table : Table) (task priority : ℕ) → IsConsistent table → task < table.settings.tasks → IsKept table (in_use_set stamp_queues task priority table)
 unfolding in_use_set
 in_use_kept table task priority sound low = record {
   cores = refl;
@@ -126,7 +117,7 @@ in_use_kept table task priority sound low = record {
   ready = λ i is. still (is_ready task table.orders) i is;
 }
   where
-    still : (b : Bool) (i : ℕ) → is_ready i table.orders ≡ true → is_ready i (cond b (make_ready task table.orders) table.orders) ≡ true
+    still : (b : Bool) (i : ℕ) → is_ready i table.orders ≡ true → is_ready i (cond b (add_to_ready_list task table.orders) table.orders) ≡ true
     still true i is = make_ready_keeps table.orders task i (omega (arith, sound.sized.rows)) is
     still false i is = is
 
@@ -135,22 +126,22 @@ sought_kept table other acting task among kept =
     let more = seek_more acting task among other.control in
     record { cores = more.cores ∙ kept.cores; currents = λ core. more.currents core ∙ kept.currents core; ready = kept.ready }
 
-inherited_kept : (table : Table) (acting holder priority : ℕ) → IsConsistent table → holder < table.settings.tasks → IsKept table (inherited table_moves acting holder priority table)
+inherited_kept : (table : Table) (acting holder priority : ℕ) → IsConsistent table → holder < table.settings.tasks → IsKept table (inherited stamp_queues acting holder priority table)
 unfolding inherited
 inherited_kept table acting holder priority sound low =
-    let later = in_use_set table_moves holder priority table in
+    let later = in_use_set stamp_queues holder priority table in
     let kept = in_use_kept table holder priority sound low in
     either_kept (ltb (task_at table.control holder).in_use priority) table _ table
     (either_kept (is_ready holder table.orders) table _ later (sought_kept table later acting holder (in_mask later.control holder) kept) kept)
     (kept_same table)
 
 -- settings and mutexes are as they were
-inherited_settings : (table : Table) (acting holder priority : ℕ) → (inherited table_moves acting holder priority table).settings ≡ table.settings
+inherited_settings : (table : Table) (acting holder priority : ℕ) → (inherited stamp_queues acting holder priority table).settings ≡ table.settings
 unfolding inherited in_use_set
 inherited_settings table acting holder priority = at (ltb (task_at table.control holder).in_use priority) (is_ready holder table.orders)
   where
     later : Table
-    later = in_use_set table_moves holder priority table
+    later = in_use_set stamp_queues holder priority table
 
     at : (b d : Bool) → (cond b (cond d (record later { control = seek acting holder (in_mask later.control holder) later.control }) later) table).settings ≡ table.settings
     at true true = refl
@@ -167,7 +158,7 @@ module _ (table : Table) (core task mutex holder : ℕ) (ticks : Option ℕ) (so
   mine = (task_at table.control task).in_use
 
   abbrev raised : Table
-  raised = inherited table_moves core holder mine table
+  raised = inherited stamp_queues core holder mine table
 
   abbrev marked : Unfinished
   marked = Take mutex (is_marked table.control task holder)
@@ -188,11 +179,11 @@ module _ (table : Table) (core task mutex holder : ℕ) (ticks : Option ℕ) (so
       let tasks : task < raised.settings.tasks = subst (λ s. task < s.tasks) (sym same) caller_low in
       (omega (arith, kept.cores, place.0), kept.currents core ∙ place.1, omega (arith, raised_sound.sized.rows, tasks), kept.ready task place.3)
 
-  pub waited_seen : image (waited_at table_moves core task mutex holder ticks table) ≡ waited_at list_moves core task mutex holder ticks (image table)
+  pub waited_seen : view_of (waited_at stamp_queues core task mutex holder ticks table) ≡ waited_at list_queues core task mutex holder ticks (view_of table)
   unfolding waited_at
-  waited_seen = blocked_seen core task marked ticks wait raised raised_sound.stamped.given raised_place.2 raised_place.3 ∙ ap (blocked list_moves core task marked ticks wait) (inherited_seen table core holder mine sound low)
+  waited_seen = blocked_seen core task marked ticks wait raised raised_sound.stamped.given raised_place.2 raised_place.3 ∙ ap (blocked list_queues core task marked ticks wait) (inherited_seen table core holder mine sound low)
 
-  pub waited_sound : length table.control.cores ≤ task → IsWait ticks → IsMutexTime ticks → mutex < table.settings.mutexes → IsConsistent (waited_at table_moves core task mutex holder ticks table)
+  pub waited_sound : length table.control.cores ≤ task → IsWait ticks → IsMutexTime ticks → mutex < table.settings.mutexes → IsConsistent (waited_at stamp_queues core task mutex holder ticks table)
   unfolding waited_at
   waited_sound user fits short below =
       let same = sym (inherited_settings table core holder mine) in
@@ -203,54 +194,44 @@ module _ (table : Table) (core task mutex holder : ℕ) (ticks : Option ℕ) (so
 -- ---- taking
 
 module _ (table : Table) (core task mutex ticks : ℕ) (sound : IsConsistent table) (place : IsCaller table core task) where
-  pub take_seen : seen_of (mutex_take table_moves core task mutex ticks table) ≡ mutex_take list_moves core task mutex ticks (image table)
+  pub take_seen : seen_of (mutex_take stamp_queues core task mutex ticks table) ≡ mutex_take list_queues core task mutex ticks (view_of table)
   unfolding mutex_take
   take_seen = from (holder_at table.holders mutex) refl
     where
-      either : (b : Bool) (holder : ℕ) → holder < table.settings.tasks → seen_of (cond b (Flag false, table) (Blocked, waited_at table_moves core task mutex holder (awaited_for ticks) table)) ≡ cond b (Flag false, image table) (Blocked, waited_at list_moves core task mutex holder (awaited_for ticks) (image table))
+      either : (b : Bool) (holder : ℕ) → holder < table.settings.tasks → seen_of (cond b (Flag false, table) (Blocked, waited_at stamp_queues core task mutex holder (timeout_of ticks) table)) ≡ cond b (Flag false, view_of table) (Blocked, waited_at list_queues core task mutex holder (timeout_of ticks) (view_of table))
       either true holder low = refl
-      either false holder low = ap (outcome Blocked) (waited_seen table core task mutex holder (awaited_for ticks) sound place low)
+      either false holder low = ap (outcome Blocked) (waited_seen table core task mutex holder (timeout_of ticks) sound place low)
 
-      from : (held : Option ℕ) → holder_at table.holders mutex ≡ held → seen_of (option_map_or (λ holder. cond (eqb ticks 0) (Flag false, table) (Blocked, waited_at table_moves core task mutex holder (awaited_for ticks) table)) held (Flag true, taken task mutex table)) ≡ option_map_or (λ holder. cond (eqb ticks 0) (Flag false, image table) (Blocked, waited_at list_moves core task mutex holder (awaited_for ticks) (image table))) held (Flag true, taken task mutex (image table))
+      from : (held : Option ℕ) → holder_at table.holders mutex ≡ held → seen_of (option_map_or (λ holder. cond (eqb ticks 0) (Flag false, table) (Blocked, waited_at stamp_queues core task mutex holder (timeout_of ticks) table)) held (Flag true, taken task mutex table)) ≡ option_map_or (λ holder. cond (eqb ticks 0) (Flag false, view_of table) (Blocked, waited_at list_queues core task mutex holder (timeout_of ticks) (view_of table))) held (Flag true, taken task mutex (view_of table))
       from None free = ap (outcome (Flag true)) (taken_seen table task mutex)
       from (Some holder) held = either (eqb ticks 0) holder (sound.mutexes.held_by_tasks mutex holder held)
 
-  pub take_sound : length table.control.cores ≤ task → ticks < 2 ^ 32 → mutex < table.settings.mutexes → IsConsistent (mutex_take table_moves core task mutex ticks table).1
+  pub take_sound : length table.control.cores ≤ task → ticks < 2 ^ 32 → mutex < table.settings.mutexes → IsConsistent (mutex_take stamp_queues core task mutex ticks table).1
   unfolding mutex_take
   take_sound user few below = from (holder_at table.holders mutex) refl
     where
-      either : (b : Bool) → eqb ticks 0 ≡ b → (holder : ℕ) → holder < table.settings.tasks → IsConsistent (cond {A = Reply × Table} b (Flag false, table) (Blocked, waited_at table_moves core task mutex holder (awaited_for ticks) table)).1
+      either : (b : Bool) → eqb ticks 0 ≡ b → (holder : ℕ) → holder < table.settings.tasks → IsConsistent (cond {A = Reply × Table} b (Flag false, table) (Blocked, waited_at stamp_queues core task mutex holder (timeout_of ticks) table)).1
       either true none holder low = sound
-      either false some holder low = waited_sound table core task mutex holder (awaited_for ticks) sound place low user (waits_on ticks (grind (arith, nat_tests, some)) few) (waits_short ticks few) below
+      either false some holder low = waited_sound table core task mutex holder (timeout_of ticks) sound place low user (waits_on ticks (grind (arith, nat_tests, some)) few) (waits_short ticks few) below
 
-      from : (held : Option ℕ) → holder_at table.holders mutex ≡ held → IsConsistent (option_map_or {U = Reply × Table} (λ holder. cond (eqb ticks 0) (Flag false, table) (Blocked, waited_at table_moves core task mutex holder (awaited_for ticks) table)) held (Flag true, taken task mutex table)).1
+      from : (held : Option ℕ) → holder_at table.holders mutex ≡ held → IsConsistent (option_map_or {U = Reply × Table} (λ holder. cond (eqb ticks 0) (Flag false, table) (Blocked, waited_at stamp_queues core task mutex holder (timeout_of ticks) table)) held (Flag true, taken task mutex table)).1
       from None free = taken_sound table task mutex sound (omega (arith, sound.sized.rows, place.2)) below
       from (Some holder) held = either (eqb ticks 0) refl holder (sound.mutexes.held_by_tasks mutex holder held)
 
 -- ---- a wait that is over
 
-pub ended_seen : (table : Table) (task : ℕ) → image (ended table_moves task table) ≡ ended list_moves task (image table)
-ended_seen table task = ap (λ orders. record (image table) { calls = slice_set table.calls task None; orders = orders }) (forget_deadline_seen table.control table.orders task)
+pub ended_seen : (table : Table) (task : ℕ) → view_of (after_return stamp_queues task table) ≡ after_return list_queues task (view_of table)
+ended_seen table task = ap (λ orders. record (view_of table) { calls = slice_set table.calls task None; orders = orders }) (forget_deadline_seen table.control table.orders task)
 
 forgotten_length : (stamps : Stamps) (task : ℕ) → length (forget_deadline task stamps).deadlines ≡ length stamps.deadlines
 unfolding forget_deadline
 forgotten_length stamps task = length-set stamps.deadlines task None
 
 -- a table with a forgotten deadline is otherwise as it was
-forgotten_sound : (table : Table) (task : ℕ) → IsConsistent table → task < table.settings.tasks → IsConsistent (ended table_moves task table)
+forgotten_sound : (table : Table) (task : ℕ) → IsConsistent table → task < table.settings.tasks → IsConsistent (after_return stamp_queues task table)
 unfolding forget_deadline
 forgotten_sound table task sound low = record {
-  sized = record {
-    cores = sound.sized.cores;
-    controls = sound.sized.controls;
-    calls = length-set table.calls task None ∙ sound.sized.calls;
-    notes = sound.sized.notes;
-    holders = sound.sized.holders;
-    rows = sound.sized.rows;
-    deadlines = forgotten_length table.orders task ∙ sound.sized.deadlines;
-    some_core = sound.sized.some_core;
-    idle_tasks = sound.sized.idle_tasks;
-  };
+  sized = resized table _ refl (ap₂ (λ a b. record (lengths_of table) { calls = a; deadlines = b }) (length-set table.calls task None) (forgotten_length table.orders task)) sound.sized;
   stamped = record { given = sound.stamped.given; once = sound.stamped.once };
   in_place = record {
     is_task = sound.in_place.is_task;
@@ -268,23 +249,23 @@ forgotten_sound table task sound low = record {
 -- ---- disinheriting
 
 module _ (table : Table) (acting task priority : ℕ) (sound : IsConsistent table) (low : task < table.settings.tasks) where
-  pub lowered_seen : image (lowered table_moves acting task priority table) ≡ lowered list_moves acting task priority (image table)
-  unfolding lowered
+  pub lowered_seen : view_of (after_disinherit stamp_queues acting task priority table) ≡ after_disinherit list_queues acting task priority (view_of table)
+  unfolding after_disinherit
   lowered_seen =
-      let now = in_use_set table_moves task priority table in
-      either_seen (eqb (task_at table.control task).in_use priority) table (on_control (ask_its_core acting task) now) (image table) (on_control (ask_its_core acting task) (in_use_set list_moves task priority (image table)))
+      let now = in_use_set stamp_queues task priority table in
+      either_seen (eqb (task_at table.control task).in_use priority) table (on_control (ask_its_core acting task) now) (view_of table) (on_control (ask_its_core acting task) (in_use_set list_queues task priority (view_of table)))
       refl
       (its_core_seen now acting task ∙ ap (on_control (ask_its_core acting task)) (in_use_seen table task priority sound low))
 
-  pub lowered_sound : priority < table.settings.priorities → IsConsistent (lowered table_moves acting task priority table)
-  unfolding lowered
+  pub lowered_sound : priority < table.settings.priorities → IsConsistent (after_disinherit stamp_queues acting task priority table)
+  unfolding after_disinherit
   lowered_sound below =
-      let now = in_use_set table_moves task priority table in
+      let now = in_use_set stamp_queues task priority table in
       either_sound (eqb (task_at table.control task).in_use priority) table (on_control (ask_its_core acting task) now) sound
       (its_core_sound now acting task (in_use_sound table task priority sound low below))
 
-owed_seen : (table : Table) (task mutex : ℕ) → IsConsistent table → owed list_moves task mutex (image table) ≡ owed table_moves task mutex table
-owed_seen table task mutex sound = ap (λ first. owed_to first (task_at table.control task).base) (first_waiter_seen mutex table.orders table.control sound.stamped)
+owed_seen : (table : Table) (task mutex : ℕ) → IsConsistent table → owed list_queues task mutex (view_of table) ≡ owed stamp_queues task mutex table
+owed_seen table task mutex sound = ap (λ first. disinherit_priority first (task_at table.control task).base) (first_waiter_seen mutex table.orders table.control sound.stamped)
 
 greater_below : (base rank bound : ℕ) → base < bound → rank < bound → cond (ltb base rank) rank base < bound
 greater_below base rank bound low high = at (ltb base rank)
@@ -293,13 +274,13 @@ greater_below base rank bound low high = at (ltb base rank)
     at true = high
     at false = low
 
-owed_below : (table : Table) (task mutex : ℕ) → IsConsistent table → task < table.settings.tasks → owed table_moves task mutex table < table.settings.priorities
+owed_below : (table : Table) (task mutex : ℕ) → IsConsistent table → task < table.settings.tasks → owed stamp_queues task mutex table < table.settings.priorities
 owed_below table task mutex sound low = from (first_waiter mutex table.orders) refl
   where
     base : ℕ
     base = (task_at table.control task).base
 
-    from : (first : Option Waiter) → first_waiter mutex table.orders ≡ first → owed_to first base < table.settings.priorities
+    from : (first : Option Waiter) → first_waiter mutex table.orders ≡ first → disinherit_priority first base < table.settings.priorities
     from None none = greater_below base base table.settings.priorities (sound.blocks task low).base (sound.blocks task low).base
     from (Some waiter) some =
         let waits = first_waiter_waits mutex table.orders waiter some in
@@ -309,19 +290,19 @@ module _ (table : Table) (acting task mutex : ℕ) (mark : Bool) (holder : ℕ) 
   abbrev gives_back : Bool
   gives_back = mark && not (eqb holder task) && eqb (held_by table.holders holder) 1
 
-  pub timed_out_seen : image (timed_out table_moves acting task mutex mark holder table) ≡ timed_out list_moves acting task mutex mark holder (image table)
+  pub timed_out_seen : view_of (timed_out stamp_queues acting task mutex mark holder table) ≡ timed_out list_queues acting task mutex mark holder (view_of table)
   unfolding timed_out
   timed_out_seen =
-      either_seen gives_back (lowered table_moves acting holder (owed table_moves holder mutex table) table) table
-      (lowered list_moves acting holder (owed table_moves holder mutex table) (image table)) (image table)
-      (lowered_seen table acting holder (owed table_moves holder mutex table) sound low) refl
-      ∙ ap (λ rank. cond gives_back (lowered list_moves acting holder rank (image table)) (image table)) (sym (owed_seen table holder mutex sound))
+      either_seen gives_back (after_disinherit stamp_queues acting holder (owed stamp_queues holder mutex table) table) table
+      (after_disinherit list_queues acting holder (owed stamp_queues holder mutex table) (view_of table)) (view_of table)
+      (lowered_seen table acting holder (owed stamp_queues holder mutex table) sound low) refl
+      ∙ ap (λ rank. cond gives_back (after_disinherit list_queues acting holder rank (view_of table)) (view_of table)) (sym (owed_seen table holder mutex sound))
 
-  pub timed_out_sound : IsConsistent (timed_out table_moves acting task mutex mark holder table)
+  pub timed_out_sound : IsConsistent (timed_out stamp_queues acting task mutex mark holder table)
   unfolding timed_out
   timed_out_sound =
-      either_sound gives_back (lowered table_moves acting holder (owed table_moves holder mutex table) table) table
-      (lowered_sound table acting holder (owed table_moves holder mutex table) sound low (owed_below table holder mutex sound low)) sound
+      either_sound gives_back (after_disinherit stamp_queues acting holder (owed stamp_queues holder mutex table) table) table
+      (lowered_sound table acting holder (owed stamp_queues holder mutex table) sound low (owed_below table holder mutex sound low)) sound
 
 -- ---- finishing a wait
 
@@ -341,7 +322,7 @@ still_waits table task sound on = goes_on table.orders.tick (deadline_at table.o
 
 module _ (table : Table) (core task mutex : ℕ) (mark : Bool) (sound : IsConsistent table) (place : IsCaller table core task) where
   abbrev over : Table
-  over = ended table_moves task table
+  over = after_return stamp_queues task table
 
   over_low : task < table.settings.tasks
   over_low = omega (arith, sound.sized.rows, place.2)
@@ -353,41 +334,41 @@ module _ (table : Table) (core task mutex : ℕ) (mark : Bool) (sound : IsConsis
   finished_by left held =
       option_map_or
       (λ holder. cond (is_over left)
-      (Flag false, timed_out table_moves core task mutex mark holder over)
-      (Blocked, waited_at table_moves core task mutex holder left table))
+      (Flag false, timed_out stamp_queues core task mutex mark holder over)
+      (Blocked, waited_at stamp_queues core task mutex holder left table))
       held (Flag true, taken task mutex over)
 
   abbrev finished_view : Option ℕ → Option ℕ → Reply × View
   finished_view left held =
       option_map_or
       (λ holder. cond (is_over left)
-      (Flag false, timed_out list_moves core task mutex mark holder (ended list_moves task (image table)))
-      (Blocked, waited_at list_moves core task mutex holder left (image table)))
-      held (Flag true, taken task mutex (ended list_moves task (image table)))
+      (Flag false, timed_out list_queues core task mutex mark holder (after_return list_queues task (view_of table)))
+      (Blocked, waited_at list_queues core task mutex holder left (view_of table)))
+      held (Flag true, taken task mutex (after_return list_queues task (view_of table)))
 
-  finish_seen : seen_of (take_finished table_moves core task mutex mark table) ≡ take_finished list_moves core task mutex mark (image table)
+  finish_seen : seen_of (take_finished stamp_queues core task mutex mark table) ≡ take_finished list_queues core task mutex mark (view_of table)
   unfolding take_finished
   finish_seen = from (holder_at table.holders mutex) refl ∙ ap (λ left. finished_view left (holder_at table.holders mutex)) (sym (deadline_left_seen table.control table.orders task))
     where
       left : Option ℕ
       left = deadline_left task table.orders
 
-      either : (b : Bool) (holder : ℕ) → holder < table.settings.tasks → seen_of (cond b (Flag false, timed_out table_moves core task mutex mark holder over) (Blocked, waited_at table_moves core task mutex holder left table)) ≡ cond b (Flag false, timed_out list_moves core task mutex mark holder (ended list_moves task (image table))) (Blocked, waited_at list_moves core task mutex holder left (image table))
-      either true holder low = ap (outcome (Flag false)) (timed_out_seen over core task mutex mark holder over_sound low ∙ ap (timed_out list_moves core task mutex mark holder) (ended_seen table task))
+      either : (b : Bool) (holder : ℕ) → holder < table.settings.tasks → seen_of (cond b (Flag false, timed_out stamp_queues core task mutex mark holder over) (Blocked, waited_at stamp_queues core task mutex holder left table)) ≡ cond b (Flag false, timed_out list_queues core task mutex mark holder (after_return list_queues task (view_of table))) (Blocked, waited_at list_queues core task mutex holder left (view_of table))
+      either true holder low = ap (outcome (Flag false)) (timed_out_seen over core task mutex mark holder over_sound low ∙ ap (timed_out list_queues core task mutex mark holder) (ended_seen table task))
       either false holder low = ap (outcome Blocked) (waited_seen table core task mutex holder left sound place low)
 
       from : (held : Option ℕ) → holder_at table.holders mutex ≡ held → seen_of (finished_by left held) ≡ finished_view left held
       from None free = ap (outcome (Flag true)) (taken_seen over task mutex ∙ ap (taken task mutex) (ended_seen table task))
       from (Some holder) held = either (is_over left) holder (sound.mutexes.held_by_tasks mutex holder held)
 
-  finish_sound : length table.control.cores ≤ task → mutex < table.settings.mutexes → IsConsistent (take_finished table_moves core task mutex mark table).1
+  finish_sound : length table.control.cores ≤ task → mutex < table.settings.mutexes → IsConsistent (take_finished stamp_queues core task mutex mark table).1
   unfolding take_finished
   finish_sound user below = from (holder_at table.holders mutex) refl
     where
       left : Option ℕ
       left = deadline_left task table.orders
 
-      either : (b : Bool) → is_over left ≡ b → (holder : ℕ) → holder < table.settings.tasks → IsConsistent (cond {A = Reply × Table} b (Flag false, timed_out table_moves core task mutex mark holder over) (Blocked, waited_at table_moves core task mutex holder left table)).1
+      either : (b : Bool) → is_over left ≡ b → (holder : ℕ) → holder < table.settings.tasks → IsConsistent (cond {A = Reply × Table} b (Flag false, timed_out stamp_queues core task mutex mark holder over) (Blocked, waited_at stamp_queues core task mutex holder left table)).1
       either true is holder low = timed_out_sound over core task mutex mark holder over_sound low
       either false on holder low =
           let waits = still_waits table task sound on in
@@ -397,50 +378,50 @@ module _ (table : Table) (core task mutex : ℕ) (mark : Bool) (sound : IsConsis
       from None free = taken_sound over task mutex over_sound over_low below
       from (Some holder) held = either (is_over left) refl holder (sound.mutexes.held_by_tasks mutex holder held)
 
-pub finished_seen : (table : Table) (core task : ℕ) (call : Unfinished) → IsConsistent table → IsCaller table core task → seen_of (finished table_moves core task call table) ≡ finished list_moves core task call (image table)
-unfolding finished
-finished_seen table core task (Made call) sound place = completed_seen (ended table_moves task table) task call ∙ ap (completed task call) (ended_seen table task)
+pub finished_seen : (table : Table) (core task : ℕ) (call : Unfinished) → IsConsistent table → IsCaller table core task → seen_of (after_finish stamp_queues core task call table) ≡ after_finish list_queues core task call (view_of table)
+unfolding after_finish
+finished_seen table core task (Made call) sound place = completed_seen (after_return stamp_queues task table) task call ∙ ap (completed task call) (ended_seen table task)
 finished_seen table core task (Take mutex mark) sound place = finish_seen table core task mutex mark sound place
 
-pub finished_sound : (table : Table) (core task : ℕ) (call : Unfinished) → IsConsistent table → IsCaller table core task → IsCheckedUnfinished table.settings call → length table.control.cores ≤ task → IsConsistent (finished table_moves core task call table).1
-unfolding finished
+pub finished_sound : (table : Table) (core task : ℕ) (call : Unfinished) → IsConsistent table → IsCaller table core task → IsCheckedUnfinished table.settings call → length table.control.cores ≤ task → IsConsistent (after_finish stamp_queues core task call table).1
+unfolding after_finish
 finished_sound table core task (Made call) sound place checked user =
     let low : task < table.settings.tasks = omega (arith, sound.sized.rows, place.2) in
-    completed_sound (ended table_moves task table) task call (forgotten_sound table task sound low) low
+    completed_sound (after_return stamp_queues task table) task call (forgotten_sound table task sound low) low
 finished_sound table core task (Take mutex mark) sound place checked user = finish_sound table core task mutex mark sound place user checked
 
 -- ---- giving
 
 module _ (table : Table) (acting mutex : ℕ) (sound : IsConsistent table) where
-  pub woken_seen : image (first_woken table_moves acting mutex table) ≡ first_woken list_moves acting mutex (image table)
+  pub woken_seen : view_of (first_woken stamp_queues acting mutex table) ≡ first_woken list_queues acting mutex (view_of table)
   unfolding first_woken
-  woken_seen = from (first_waiter mutex table.orders) refl ∙ ap (λ first. option_map_or (λ (waiter : Waiter). wake list_moves acting waiter.task (image table)) first (image table)) (sym (first_waiter_seen mutex table.orders table.control sound.stamped))
+  woken_seen = from (first_waiter mutex table.orders) refl ∙ ap (λ first. option_map_or (λ (waiter : Waiter). wake list_queues acting waiter.task (view_of table)) first (view_of table)) (sym (first_waiter_seen mutex table.orders table.control sound.stamped))
     where
-      from : (first : Option Waiter) → first_waiter mutex table.orders ≡ first → image (option_map_or (λ (waiter : Waiter). wake table_moves acting waiter.task table) first table) ≡ option_map_or (λ (waiter : Waiter). wake list_moves acting waiter.task (image table)) first (image table)
+      from : (first : Option Waiter) → first_waiter mutex table.orders ≡ first → view_of (option_map_or (λ (waiter : Waiter). wake stamp_queues acting waiter.task table) first table) ≡ option_map_or (λ (waiter : Waiter). wake list_queues acting waiter.task (view_of table)) first (view_of table)
       from None none = refl
       from (Some waiter) some = wake_seen table acting waiter.task sound.stamped.given (first_waiter_waits mutex table.orders waiter some).0
 
-  pub woken_sound : IsConsistent (first_woken table_moves acting mutex table)
+  pub woken_sound : IsConsistent (first_woken stamp_queues acting mutex table)
   unfolding first_woken
   woken_sound = from (first_waiter mutex table.orders) refl
     where
-      from : (first : Option Waiter) → first_waiter mutex table.orders ≡ first → IsConsistent (option_map_or (λ (waiter : Waiter). wake table_moves acting waiter.task table) first table)
+      from : (first : Option Waiter) → first_waiter mutex table.orders ≡ first → IsConsistent (option_map_or (λ (waiter : Waiter). wake stamp_queues acting waiter.task table) first table)
       from None none = sound
       from (Some waiter) some = wake_sound table acting waiter.task sound (omega (arith, sound.sized.rows, (first_waiter_waits mutex table.orders waiter some).0))
 
 module _ (table : Table) (core task : ℕ) (sound : IsConsistent table) (low : task < table.settings.tasks) where
-  pub disinherited_seen : image (disinherited table_moves core task table) ≡ disinherited list_moves core task (image table)
+  pub disinherited_seen : view_of (disinherited stamp_queues core task table) ≡ disinherited list_queues core task (view_of table)
   unfolding disinherited
   disinherited_seen =
       let base = (task_at table.control task).base in
-      either_seen (eqb (held_by table.holders task) 0) (lowered table_moves core task base table) table (lowered list_moves core task base (image table)) (image table)
+      either_seen (eqb (held_by table.holders task) 0) (after_disinherit stamp_queues core task base table) table (after_disinherit list_queues core task base (view_of table)) (view_of table)
       (lowered_seen table core task base sound low) refl
 
-  pub disinherited_sound : IsConsistent (disinherited table_moves core task table)
+  pub disinherited_sound : IsConsistent (disinherited stamp_queues core task table)
   unfolding disinherited
   disinherited_sound =
       let base = (task_at table.control task).base in
-      either_sound (eqb (held_by table.holders task) 0) (lowered table_moves core task base table) table
+      either_sound (eqb (held_by table.holders task) 0) (after_disinherit stamp_queues core task base table) table
       (lowered_sound table core task base sound low (sound.blocks task low).base) sound
 
 module _ (table : Table) (core task mutex : ℕ) (sound : IsConsistent table) (low : task < table.settings.tasks) (below : mutex < table.settings.mutexes) where
@@ -450,20 +431,20 @@ module _ (table : Table) (core task mutex : ℕ) (sound : IsConsistent table) (l
   freed_sound : IsConsistent freed
   freed_sound = given_sound table mutex None sound below (λ other same. absurd (cc (same)))
 
-  pub give_seen : seen_of (mutex_give table_moves core task mutex table) ≡ mutex_give list_moves core task mutex (image table)
+  pub give_seen : seen_of (mutex_give stamp_queues core task mutex table) ≡ mutex_give list_queues core task mutex (view_of table)
   unfolding mutex_give
   give_seen = from (holder_at table.holders mutex)
     where
-      from : (held : Option ℕ) → seen_of (option_map_or (λ holder. (Flag true, first_woken table_moves core mutex (disinherited table_moves core task freed))) held (Flag false, table)) ≡ option_map_or (λ holder. (Flag true, first_woken list_moves core mutex (disinherited list_moves core task (image freed)))) held (Flag false, image table)
+      from : (held : Option ℕ) → seen_of (option_map_or (λ holder. (Flag true, first_woken stamp_queues core mutex (disinherited stamp_queues core task freed))) held (Flag false, table)) ≡ option_map_or (λ holder. (Flag true, first_woken list_queues core mutex (disinherited list_queues core task (view_of freed)))) held (Flag false, view_of table)
       from None = refl
       from (Some holder) = ap (outcome (Flag true))
-          (woken_seen (disinherited table_moves core task freed) core mutex (disinherited_sound freed core task freed_sound low)
-          ∙ ap (first_woken list_moves core mutex) (disinherited_seen freed core task freed_sound low))
+          (woken_seen (disinherited stamp_queues core task freed) core mutex (disinherited_sound freed core task freed_sound low)
+          ∙ ap (first_woken list_queues core mutex) (disinherited_seen freed core task freed_sound low))
 
-  pub give_sound : IsConsistent (mutex_give table_moves core task mutex table).1
+  pub give_sound : IsConsistent (mutex_give stamp_queues core task mutex table).1
   unfolding mutex_give
   give_sound = from (holder_at table.holders mutex)
     where
-      from : (held : Option ℕ) → IsConsistent (option_map_or {U = Reply × Table} (λ holder. (Flag true, first_woken table_moves core mutex (disinherited table_moves core task freed))) held (Flag false, table)).1
+      from : (held : Option ℕ) → IsConsistent (option_map_or {U = Reply × Table} (λ holder. (Flag true, first_woken stamp_queues core mutex (disinherited stamp_queues core task freed))) held (Flag false, table)).1
       from None = sound
-      from (Some holder) = woken_sound (disinherited table_moves core task freed) core mutex (disinherited_sound freed core task freed_sound low)
+      from (Some holder) = woken_sound (disinherited stamp_queues core task freed) core mutex (disinherited_sound freed core task freed_sound low)

@@ -11,27 +11,18 @@ use Rattle.bench_types.specs.Step.{IsActionOfWord}
 use Rattle.bench_model.specs.Notes.{no_note, note_at, is_waiting, passes, acted, notified, of_task}
 use Rattle.bench_model.specs.Notifying.{notify}
 use Rattle.bench_model.specs.Seek.{wake}
-use Rattle.bench_model.specs.Table.{Table, table_moves}
-use Rattle.bench_model.specs.Lists.{list_moves, image}
+use Rattle.bench_model.specs.Table.{Table, stamp_queues}
+use Rattle.bench_model.specs.Lists.{list_queues, view_of}
 use Rattle.bench_model.specs.Sound.{HasWords, IsConsistent}
 use Rattle.rule_laws.proofs.Seeks.{wake_seen, wake_sound}
+use Rattle.order_laws.proofs.Sizes.{lengths_of, resized}
 
-pub notes_apart : (table : Table) (notes : List Notification) → image (record table { notes = notes }) ≡ record (image table) { notes = notes }
+pub notes_apart : (table : Table) (notes : List Notification) → view_of (record table { notes = notes }) ≡ record (view_of table) { notes = notes }
 notes_apart table notes = refl
 
 pub notes_sound : (table : Table) (notes : List Notification) → IsConsistent table → length notes ≡ table.settings.tasks → HasWords notes → IsConsistent (record table { notes = notes })
 notes_sound table notes sound each words = record {
-  sized = record {
-    cores = sound.sized.cores;
-    controls = sound.sized.controls;
-    calls = sound.sized.calls;
-    notes = each;
-    holders = sound.sized.holders;
-    rows = sound.sized.rows;
-    deadlines = sound.sized.deadlines;
-    some_core = sound.sized.some_core;
-    idle_tasks = sound.sized.idle_tasks;
-  };
+  sized = resized table _ refl (ap (λ a. record (lengths_of table) { notes = a }) (each ∙ sym sound.sized.notes)) sound.sized;
   stamped = sound.stamped;
   in_place = sound.in_place;
   in_time = sound.in_time;
@@ -56,7 +47,7 @@ notified_word action note word low = at (passes action note.state)
     at true = acted_word action note.value word low
     at false = low
 
--- all notifications behind a rule of one task's
+-- all notifications after a rule of one task's
 module _ {A : Type 0} (task : ℕ) (rule : Notification → A × Notification) where
   abbrev ruled : List Notification → List Notification
   ruled notes = (of_task task rule notes).1
@@ -80,18 +71,18 @@ module _ (table : Table) (acting task : ℕ) (action : Action) (sound : IsConsis
   told_sound : IsActionOfWord action → IsConsistent told
   told_sound word = ruled_sound task (λ note. (note, notified action note)) table sound low (λ note. notified_word action note word)
 
-  pub notify_seen : image (notify table_moves acting task action table) ≡ notify list_moves acting task action (image table)
+  pub notify_seen : view_of (notify stamp_queues acting task action table) ≡ notify list_queues acting task action (view_of table)
   unfolding notify
   notify_seen = at (is_waiting (note_at table.notes task).state)
     where
-      at : (b : Bool) → image (cond b (wake table_moves acting task told) told) ≡ cond b (wake list_moves acting task (image told)) (image told)
+      at : (b : Bool) → view_of (cond b (wake stamp_queues acting task told) told) ≡ cond b (wake list_queues acting task (view_of told)) (view_of told)
       at true = wake_seen told acting task sound.stamped.given (omega (arith, sound.sized.rows))
       at false = refl
 
-  pub notify_sound : IsActionOfWord action → IsConsistent (notify table_moves acting task action table)
+  pub notify_sound : IsActionOfWord action → IsConsistent (notify stamp_queues acting task action table)
   unfolding notify
   notify_sound word = at (is_waiting (note_at table.notes task).state)
     where
-      at : (b : Bool) → IsConsistent (cond b (wake table_moves acting task told) told)
+      at : (b : Bool) → IsConsistent (cond b (wake stamp_queues acting task told) told)
       at true = wake_sound told acting task (told_sound word) low
       at false = told_sound word

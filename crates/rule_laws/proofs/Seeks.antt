@@ -7,11 +7,11 @@ use Rattle.std.proofs.lemmas.List.FromFn.{get_or-map-range_with_len, length-map-
 use Rattle.bench_types.specs.declared.kernel_data.CoreLook.{CoreLook}
 use Rattle.list_orders.specs.Search.{numbers}
 use Rattle.bench_model.specs.Control.{Control, core_at, task_at, current, is_due, in_mask, ask, asked_by, asked_where, ask_each}
-use Rattle.bench_model.specs.State.{switched}
-use Rattle.bench_model.specs.Table.{Stamps, Table, table_moves, is_ready, make_ready}
+use Rattle.bench_model.specs.State.{after_select}
+use Rattle.bench_model.specs.Table.{Stamps, Table, stamp_queues, is_ready, add_to_ready_list}
 use Rattle.bench_model.specs.Lists as seen
-use Rattle.bench_model.specs.Lists.{list_moves, lists_of, image}
-use Rattle.bench_model.specs.Seek.{is_running, asked_for, seek, may_move, wake, resettled, switched_and_sought, ready_in, shares_its_time, sliced}
+use Rattle.bench_model.specs.Lists.{list_queues, lists_of, view_of}
+use Rattle.bench_model.specs.Seek.{is_running, core_to_yield, seek, may_move, wake, after_eviction, after_switch, ready_in, shares_its_time, sliced}
 use Rattle.rule_laws.specs.SeekLaws.{sought}
 use Rattle.order_laws.proofs.AskedCores.{best_core}
 use Rattle.order_laws.specs.AskedCores.{IsAnswer}
@@ -26,88 +26,88 @@ use Rattle.list_orders.proofs.Stamped.{numbers_below}
 -- the orders do not read the cores, of which seeking may ask one
 seek_apart : (acting task : ℕ) (among : ℕ → Bool) (control : Control) (stamps : Stamps) → lists_of (seek acting task among control) stamps ≡ lists_of control stamps
 unfolding seek
-seek_apart acting task among control stamps = at (is_running control task) (asked_for control task among)
+seek_apart acting task among control stamps = at (is_running control task) (core_to_yield control task among)
   where
     at : (b : Bool) (o : Option ℕ) → lists_of (cond b control (option_map_or (λ core. ask acting core control) o control)) stamps ≡ lists_of control stamps
     at true o = refl
     at false None = refl
     at false (Some core) = lists_of_cores control _ stamps
 
-pub seek_seen : (table : Table) (acting task : ℕ) (among : ℕ → Bool) → image (sought acting task among table) ≡ sought acting task among (image table)
+pub seek_seen : (table : Table) (acting task : ℕ) (among : ℕ → Bool) → view_of (sought acting task among table) ≡ sought acting task among (view_of table)
 seek_seen table acting task among = same_state table.settings _ _ table.calls table.notes table.holders table.hold _ _ refl (seek_apart acting task among table.control table.orders)
 
-pub wake_seen : (table : Table) (acting task : ℕ) → IsGiven table.orders → task < length table.orders.rows → image (wake table_moves acting task table) ≡ wake list_moves acting task (image table)
+pub wake_seen : (table : Table) (acting task : ℕ) → IsGiven table.orders → task < length table.orders.rows → view_of (wake stamp_queues acting task table) ≡ wake list_queues acting task (view_of table)
 unfolding wake
 wake_seen table acting task given below =
     same_state table.settings _ _ table.calls table.notes table.holders table.hold _ _ refl
-    (seek_apart acting task (in_mask table.control task) table.control (make_ready task table.orders) ∙ make_ready_seen table.control table.orders task given below)
+    (seek_apart acting task (in_mask table.control task) table.control (add_to_ready_list task table.orders) ∙ make_ready_seen table.control table.orders task given below)
 
-resettled_seen : (table : Table) (core loser : ℕ) → IsGiven table.orders → loser < length table.orders.rows → image (resettled table_moves core loser table) ≡ resettled list_moves core loser (image table)
-unfolding resettled
+resettled_seen : (table : Table) (core loser : ℕ) → IsGiven table.orders → loser < length table.orders.rows → view_of (after_eviction stamp_queues core loser table) ≡ after_eviction list_queues core loser (view_of table)
+unfolding after_eviction
 resettled_seen table core loser given below =
     at (lost && is_ready loser table.orders) (lost && seen.is_ready loser (lists_of table.control table.orders)) (ap (λ b. lost && b) (sym (is_ready_seen table.control table.orders loser given below)))
   where
     lost : Bool
     lost = not (eqb (current table.control core) loser)
 
-    at : (b d : Bool) → b ≡ d → image (cond b (sought core loser (may_move table.control loser (current table.control core) core) table) table) ≡ cond d (sought core loser (may_move table.control loser (current table.control core) core) (image table)) (image table)
+    at : (b d : Bool) → b ≡ d → view_of (cond b (sought core loser (may_move table.control loser (current table.control core) core) table) table) ≡ cond d (sought core loser (may_move table.control loser (current table.control core) core) (view_of table)) (view_of table)
     at true true same = seek_seen table core loser (may_move table.control loser (current table.control core) core)
     at false false same = refl
     at true false same = absurd (cc (same))
     at false true same = absurd (cc (same))
 
-pub switched_rows : (table : Table) (core : ℕ) → IsConsistent table → core < length table.control.cores → length (switched table_moves core table).orders.rows ≡ length table.orders.rows
-unfolding switched
+pub switched_rows : (table : Table) (core : ℕ) → IsConsistent table → core < length table.control.cores → length (after_select stamp_queues core table).orders.rows ≡ length table.orders.rows
+unfolding after_select
 switched_rows table core sound below = queued_length table.orders (current table.control core) (sound.in_place.is_task core below)
 
-pub sought_switch_seen : (table : Table) (core : ℕ) → IsConsistent table → core < table.settings.cores → image (switched_and_sought table_moves core table) ≡ switched_and_sought list_moves core (image table)
-unfolding switched_and_sought
+pub sought_switch_seen : (table : Table) (core : ℕ) → IsConsistent table → core < table.settings.cores → view_of (after_switch stamp_queues core table) ≡ after_switch list_queues core (view_of table)
+unfolding after_switch
 sought_switch_seen table core sound low =
     let below : core < length table.control.cores = omega (arith, sound.sized.cores) in
     let loser = current table.control core in
     let on = sound.in_place.is_task core below in
     let there = switched_sound core table sound below in
-    resettled_seen (switched table_moves core table) core loser there.stamped.given (omega (arith, on, switched_rows table core sound below))
-    ∙ ap (resettled list_moves core loser) (switched_seen core table sound.stamped on)
+    resettled_seen (after_select stamp_queues core table) core loser there.stamped.given (omega (arith, on, switched_rows table core sound below))
+    ∙ ap (after_eviction list_queues core loser) (switched_seen core table sound.stamped on)
 
 -- the tasks of a ready list
-ready_in_seen : (table : Table) (priority : ℕ) → IsConsistent table → ready_in table_moves priority table ≡ ready_in list_moves priority (image table)
+ready_in_seen : (table : Table) (priority : ℕ) → IsConsistent table → ready_in stamp_queues priority table ≡ ready_in list_queues priority (view_of table)
 ready_in_seen table priority sound =
     let tasks = length table.control.tasks in
     filter_agrees (λ task. is_ready task table.orders && eqb (task_at table.control task).in_use priority) (λ task. seen.is_ready task (lists_of table.control table.orders) && eqb (task_at table.control task).in_use priority) (numbers tasks)
     (All-weaker (λ task. task < tasks) _ (λ task below. ap (λ b. b && eqb (task_at table.control task).in_use priority) (sym (is_ready_seen table.control table.orders task sound.stamped.given (omega (arith, sound.sized.controls, sound.sized.rows))))) (numbers tasks) (numbers_below tasks))
 
-shares_seen : (table : Table) (core : ℕ) → IsConsistent table → core < length table.control.cores → shares_its_time table_moves table core ≡ shares_its_time list_moves (image table) core
+shares_seen : (table : Table) (core : ℕ) → IsConsistent table → core < length table.control.cores → shares_its_time stamp_queues table core ≡ shares_its_time list_queues (view_of table) core
 shares_seen table core sound below =
     let runs = current table.control core in
     let ready = is_ready_seen table.control table.orders runs sound.stamped.given (sound.in_place.is_task core below) in
     let list = ready_in_seen table (task_at table.control runs).in_use sound in
     cc (ready, list)
 
-sliced_control : (table : Table) → IsConsistent table → ask_each 0 (shares_its_time table_moves table) table.control ≡ ask_each 0 (shares_its_time list_moves (image table)) table.control
+sliced_control : (table : Table) → IsConsistent table → ask_each 0 (shares_its_time stamp_queues table) table.control ≡ ask_each 0 (shares_its_time list_queues (view_of table)) table.control
 sliced_control table sound =
     let cores = length table.control.cores in
     ap (λ (looks : List CoreLook). record table.control { cores = looks })
-    (map_agrees (asked_where 0 (shares_its_time table_moves table) table.control) (asked_where 0 (shares_its_time list_moves (image table)) table.control) (numbers cores)
+    (map_agrees (asked_where 0 (shares_its_time stamp_queues table) table.control) (asked_where 0 (shares_its_time list_queues (view_of table)) table.control) (numbers cores)
     (All-weaker (λ core. core < cores) _ (λ core below. ap (λ b. cond b (asked_by 0 core (core_at table.control core)) (core_at table.control core)) (shares_seen table core sound below)) (numbers cores) (numbers_below cores)))
 
-pub sliced_seen : (table : Table) → IsConsistent table → image (sliced table_moves table) ≡ sliced list_moves (image table)
+pub sliced_seen : (table : Table) → IsConsistent table → view_of (sliced stamp_queues table) ≡ sliced list_queues (view_of table)
 unfolding sliced
 sliced_seen table sound = at table.settings.slicing
   where
-    at : (b : Bool) → image (cond b (record table { control = ask_each 0 (shares_its_time table_moves table) table.control }) table) ≡ cond b (record (image table) { control = ask_each 0 (shares_its_time list_moves (image table)) table.control }) (image table)
+    at : (b : Bool) → view_of (cond b (record table { control = ask_each 0 (shares_its_time stamp_queues table) table.control }) table) ≡ cond b (record (view_of table) { control = ask_each 0 (shares_its_time list_queues (view_of table)) table.control }) (view_of table)
     at true = same_state table.settings _ _ table.calls table.notes table.holders table.hold _ _ (sliced_control table sound) (lists_of_cores table.control _ table.orders)
     at false = refl
 
 -- seeking asks one core, or none
 pub seek_more : (acting task : ℕ) (among : ℕ → Bool) (control : Control) → IsAskedMore control (seek acting task among control)
 unfolding seek
-seek_more acting task among control = at (is_running control task) (asked_for control task among) refl
+seek_more acting task among control = at (is_running control task) (core_to_yield control task among) refl
   where
     none : IsAskedMore control control
     none = record { cores = refl; tasks = refl; currents = λ c. refl; due = λ c is. is }
 
-    at : (b : Bool) (o : Option ℕ) → asked_for control task among ≡ o → IsAskedMore control (cond b control (option_map_or (λ core. ask acting core control) o control))
+    at : (b : Bool) (o : Option ℕ) → core_to_yield control task among ≡ o → IsAskedMore control (cond b control (option_map_or (λ core. ask acting core control) o control))
     at true o same = none
     at false None same = none
     at false (Some core) same = asked_more control acting core (subst (IsAnswer control task among) same (best_core control task among)).0.0
@@ -118,14 +118,14 @@ ask_sound table acting core sound low = more_sound table (ask acting core table.
 pub seek_sound : (table : Table) (acting task : ℕ) (among : ℕ → Bool) → IsConsistent table → IsConsistent (sought acting task among table)
 seek_sound table acting task among sound = more_sound table (seek acting task among table.control) (seek_more acting task among table.control) sound
 
-pub wake_sound : (table : Table) (acting task : ℕ) → IsConsistent table → task < table.settings.tasks → IsConsistent (wake table_moves acting task table)
+pub wake_sound : (table : Table) (acting task : ℕ) → IsConsistent table → task < table.settings.tasks → IsConsistent (wake stamp_queues acting task table)
 unfolding wake
 wake_sound table acting task sound low =
     let readied = ready_sound table task sound low in
-    more_sound (record table { orders = make_ready task table.orders }) (seek acting task (in_mask table.control task) table.control) (seek_more acting task (in_mask table.control task) table.control) readied
+    more_sound (record table { orders = add_to_ready_list task table.orders }) (seek acting task (in_mask table.control task) table.control) (seek_more acting task (in_mask table.control task) table.control) readied
 
-resettled_sound : (table : Table) (core loser : ℕ) → IsConsistent table → IsConsistent (resettled table_moves core loser table)
-unfolding resettled
+resettled_sound : (table : Table) (core loser : ℕ) → IsConsistent table → IsConsistent (after_eviction stamp_queues core loser table)
+unfolding after_eviction
 resettled_sound table core loser sound = at (not (eqb (current table.control core) loser) && is_ready loser table.orders)
   where
     among : ℕ → Bool
@@ -135,12 +135,12 @@ resettled_sound table core loser sound = at (not (eqb (current table.control cor
     at true = seek_sound table core loser among sound
     at false = sound
 
-pub sought_switch_sound : (table : Table) (core : ℕ) → IsConsistent table → core < table.settings.cores → IsConsistent (switched_and_sought table_moves core table)
-unfolding switched_and_sought
-sought_switch_sound table core sound low = resettled_sound (switched table_moves core table) core (current table.control core) (switched_sound core table sound (omega (arith, sound.sized.cores)))
+pub sought_switch_sound : (table : Table) (core : ℕ) → IsConsistent table → core < table.settings.cores → IsConsistent (after_switch stamp_queues core table)
+unfolding after_switch
+sought_switch_sound table core sound low = resettled_sound (after_select stamp_queues core table) core (current table.control core) (switched_sound core table sound (omega (arith, sound.sized.cores)))
 
-resettled_length : (table : Table) (core loser : ℕ) → length (resettled table_moves core loser table).control.cores ≡ length table.control.cores
-unfolding resettled
+resettled_length : (table : Table) (core loser : ℕ) → length (after_eviction stamp_queues core loser table).control.cores ≡ length table.control.cores
+unfolding after_eviction
 resettled_length table core loser = at (not (eqb (current table.control core) loser) && is_ready loser table.orders)
   where
     among : ℕ → Bool
@@ -150,13 +150,13 @@ resettled_length table core loser = at (not (eqb (current table.control core) lo
     at true = (seek_more core loser among table.control).cores
     at false = refl
 
-switched_length : (core : ℕ) (table : Table) → length (switched table_moves core table).control.cores ≡ length table.control.cores
-unfolding switched
+switched_length : (core : ℕ) (table : Table) → length (after_select stamp_queues core table).control.cores ≡ length table.control.cores
+unfolding after_select
 switched_length core table = length-set table.control.cores core _
 
-pub sought_switch_length : (core : ℕ) (table : Table) → length (switched_and_sought table_moves core table).control.cores ≡ length table.control.cores
-unfolding switched_and_sought
-sought_switch_length core table = resettled_length (switched table_moves core table) core (current table.control core) ∙ switched_length core table
+pub sought_switch_length : (core : ℕ) (table : Table) → length (after_switch stamp_queues core table).control.cores ≡ length table.control.cores
+unfolding after_switch
+sought_switch_length core table = resettled_length (after_select stamp_queues core table) core (current table.control core) ∙ switched_length core table
 
 -- the looks of cores some of which were asked
 abbrev no_look : CoreLook
@@ -197,10 +197,10 @@ each_more acting test control = record {
   ];
 }
 
-pub sliced_sound : (table : Table) → IsConsistent table → IsConsistent (sliced table_moves table)
+pub sliced_sound : (table : Table) → IsConsistent table → IsConsistent (sliced stamp_queues table)
 unfolding sliced
 sliced_sound table sound = at table.settings.slicing
   where
-    at : (b : Bool) → IsConsistent (cond b (record table { control = ask_each 0 (shares_its_time table_moves table) table.control }) table)
-    at true = more_sound table (ask_each 0 (shares_its_time table_moves table) table.control) (each_more 0 (shares_its_time table_moves table) table.control) sound
+    at : (b : Bool) → IsConsistent (cond b (record table { control = ask_each 0 (shares_its_time stamp_queues table) table.control }) table)
+    at true = more_sound table (ask_each 0 (shares_its_time stamp_queues table) table.control) (each_more 0 (shares_its_time stamp_queues table) table.control) sound
     at false = sound

@@ -1,12 +1,12 @@
--- The tick: tasks that are woken in turn, each with its seek, and the slices behind them; as lists, and that soundness stays.
+-- The tick: tasks that are woken in turn, each with its seek, and the slices after them; as lists, and that soundness stays.
 use Rattle.std.proofs.Common.{◌≡◌, ℕ, ◌<◌, List, [], ◌∷◌, length, refl, sym, ap, subst, ◌∙◌, arith}
 use Rattle.std.specs.List.{fold, AllByRecursion}
 use Rattle.bench_model.specs.Control.{Control, in_mask}
 use Rattle.bench_model.specs.State.{State}
 use Rattle.bench_model.specs.Steps.{woken, ticked}
-use Rattle.bench_model.specs.Table.{Table, table_moves, advance, due}
+use Rattle.bench_model.specs.Table.{Table, stamp_queues, advance, due}
 use Rattle.bench_model.specs.Lists as seen
-use Rattle.bench_model.specs.Lists.{list_moves, image}
+use Rattle.bench_model.specs.Lists.{list_queues, view_of}
 use Rattle.bench_model.specs.Seek.{seek, wake, sliced}
 use Rattle.bench_model.specs.Sound.{WakesInTime, IsConsistent}
 use Rattle.list_orders.proofs.Filters.{All-weaker}
@@ -19,23 +19,23 @@ use Rattle.rule_laws.proofs.Seeks.{wake_seen, seek_more, sliced_seen, sliced_sou
 abbrev pub with_orders : {Orders : Type 0} → State Orders → Orders → State Orders
 with_orders state orders = record state { orders = orders }
 
-wake_given : (table : Table) (task : ℕ) → IsGiven table.orders → task < length table.orders.rows → IsGiven (wake table_moves 0 task table).orders
+wake_given : (table : Table) (task : ℕ) → IsGiven table.orders → task < length table.orders.rows → IsGiven (wake stamp_queues 0 task table).orders
 unfolding wake
 wake_given table task given below = make_ready_given table.orders task given below
 
-wake_length : (table : Table) (task : ℕ) → task < length table.orders.rows → length (wake table_moves 0 task table).orders.rows ≡ length table.orders.rows
+wake_length : (table : Table) (task : ℕ) → task < length table.orders.rows → length (wake stamp_queues 0 task table).orders.rows ≡ length table.orders.rows
 unfolding wake
 wake_length table task below = make_ready_length table.orders task below
 
 -- tasks that are woken in turn
-pub woken_seen : (tasks : List ℕ) (table : Table) → IsGiven table.orders → AllByRecursion (λ task. task < length table.orders.rows) tasks → image (woken table_moves tasks table) ≡ woken list_moves tasks (image table)
+pub woken_seen : (tasks : List ℕ) (table : Table) → IsGiven table.orders → AllByRecursion (λ task. task < length table.orders.rows) tasks → view_of (woken stamp_queues tasks table) ≡ woken list_queues tasks (view_of table)
 woken_seen [] table given below = refl
 woken_seen (task ∷ tasks) table given below =
-    let later = wake table_moves 0 task table in
+    let later = wake stamp_queues 0 task table in
     let rest = All-weaker (λ i. i < length table.orders.rows) (λ i. i < length later.orders.rows) (λ i h. omega (arith, wake_length table task below.0)) tasks below.1 in
-    woken_seen tasks later (wake_given table task given below.0) rest ∙ ap (woken list_moves tasks) (wake_seen table 0 task given below.0)
+    woken_seen tasks later (wake_given table task given below.0) rest ∙ ap (woken list_queues tasks) (wake_seen table 0 task given below.0)
 
--- the cores behind the seeks of tasks that are woken in turn
+-- the cores after the seeks of tasks that are woken in turn
 abbrev sought_each : List ℕ → Control → Control
 sought_each tasks control = fold (λ later task. seek 0 task (in_mask later task) later) control tasks
 
@@ -54,40 +54,40 @@ sought_more (task ∷ tasks) control =
     more_chain control later (sought_each tasks later) (seek_more 0 task (in_mask control task) control) (sought_more tasks later)
 
 -- what waking does to the cores, and what it does to the orders
-pub woken_parts : (tasks : List ℕ) (table : Table) → woken table_moves tasks table ≡ record table { control = sought_each tasks table.control; orders = readied table.orders tasks }
+pub woken_parts : (tasks : List ℕ) (table : Table) → woken stamp_queues tasks table ≡ record table { control = sought_each tasks table.control; orders = readied table.orders tasks }
 unfolding wake
 woken_parts [] table = refl
-woken_parts (task ∷ tasks) table = woken_parts tasks (wake table_moves 0 task table)
+woken_parts (task ∷ tasks) table = woken_parts tasks (wake stamp_queues 0 task table)
 
--- the table behind the wakes of a tick
-abbrev pub behind_wakes : Table → Table
-behind_wakes table = let later = advance table.orders in woken table_moves (due later) (with_orders table later)
+-- the table after the wakes of a tick
+abbrev pub after_wakes : Table → Table
+after_wakes table = let later = advance table.orders in woken stamp_queues (due later) (with_orders table later)
 
-pub wakes_sound : (table : Table) → IsConsistent table → IsConsistent (behind_wakes table)
+pub wakes_sound : (table : Table) → IsConsistent table → IsConsistent (after_wakes table)
 wakes_sound table sound =
     let later = advance table.orders in
     let tasks = due later in
     subst IsConsistent (sym (woken_parts tasks (with_orders table later)))
     (more_sound (with_orders table (readied later tasks)) (sought_each tasks table.control) (sought_more tasks table.control) (readied_sound table sound))
 
-pub ticked_sound : (table : Table) → IsConsistent table → IsConsistent (ticked table_moves table)
+pub ticked_sound : (table : Table) → IsConsistent table → IsConsistent (ticked stamp_queues table)
 unfolding ticked
-ticked_sound table sound = sliced_sound (behind_wakes table) (wakes_sound table sound)
+ticked_sound table sound = sliced_sound (after_wakes table) (wakes_sound table sound)
 
-advanced_image : (table : Table) → WakesInTime table.orders → image (with_orders table (advance table.orders)) ≡ with_orders (image table) (seen.advance (image table).orders)
-advanced_image table in_time = same_state table.settings table.control table.control table.calls table.notes table.holders table.hold _ _ refl (advance_seen table.control table.orders (in_time_ahead table.orders in_time))
+advanced_view : (table : Table) → WakesInTime table.orders → view_of (with_orders table (advance table.orders)) ≡ with_orders (view_of table) (seen.advance (view_of table).orders)
+advanced_view table in_time = same_state table.settings table.control table.control table.calls table.notes table.holders table.hold _ _ refl (advance_seen table.control table.orders (in_time_ahead table.orders in_time))
 
-due_seen_later : (table : Table) → WakesInTime table.orders → due (advance table.orders) ≡ seen.due (seen.advance (image table).orders)
+due_seen_later : (table : Table) → WakesInTime table.orders → due (advance table.orders) ≡ seen.due (seen.advance (view_of table).orders)
 due_seen_later table in_time =
     sym (due_seen table.control (advance table.orders) (advanced_near table.orders in_time)) ∙ ap seen.due (advance_seen table.control table.orders (in_time_ahead table.orders in_time))
 
-pub ticked_seen : (table : Table) → IsConsistent table → image (ticked table_moves table) ≡ ticked list_moves (image table)
+pub ticked_seen : (table : Table) → IsConsistent table → view_of (ticked stamp_queues table) ≡ ticked list_queues (view_of table)
 unfolding ticked
 ticked_seen table sound =
     let later = advance table.orders in
-    let advanced = with_orders (image table) (seen.advance (image table).orders) in
-    sliced_seen (behind_wakes table) (wakes_sound table sound)
-    ∙ ap (sliced list_moves)
+    let advanced = with_orders (view_of table) (seen.advance (view_of table).orders) in
+    sliced_seen (after_wakes table) (wakes_sound table sound)
+    ∙ ap (sliced list_queues)
     (woken_seen (due later) (with_orders table later) (advanced_given table.orders sound.stamped.given) (due_below later)
-    ∙ ap (woken list_moves (due later)) (advanced_image table sound.in_time)
-    ∙ ap (λ tasks. woken list_moves tasks advanced) (due_seen_later table sound.in_time))
+    ∙ ap (woken list_queues (due later)) (advanced_view table sound.in_time)
+    ∙ ap (λ tasks. woken list_queues tasks advanced) (due_seen_later table sound.in_time))

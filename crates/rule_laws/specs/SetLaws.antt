@@ -1,16 +1,18 @@
--- The laws of the calls that set a task's priority, core affinity mask and preemption. Each is the contract of a public function.
+-- The laws of the calls that set a task's priority, core affinity mask and preemption. Each is the
+-- contract of a public function.
 use Rattle.std.specs.Prelude.{◌≡◌, ℕ, ◌<◌, Bool, is_some}
-use Rattle.bench_model.specs.Control.{Control}
+use Rattle.bench_model.specs.Control.{Control, runs_on, ask_its_core}
 use Rattle.bench_model.specs.State.{State}
-use Rattle.bench_model.specs.Table.{Table, table_moves}
-use Rattle.bench_model.specs.Lists.{list_moves, image}
+use Rattle.bench_model.specs.Table.{Table, stamp_queues}
+use Rattle.bench_model.specs.Lists.{list_queues, view_of}
 use Rattle.bench_model.specs.Seek.{is_running}
-use Rattle.bench_model.specs.Sets.{runs_on, ask_its_core, ranked_anew, masked_anew, priority_set, affinity_set, preemption_off, preemption_on}
+use Rattle.bench_model.specs.PriorityAffinity.{yields_after_priority_set, yields_after_affinity_set, priority_set, affinity_set, preemption_off, preemption_on}
 use Rattle.bench_model.specs.Sound.{IsConsistent}
 
 -- a task runs where there is a core that it runs on
 abbrev pub RunsOnSomeCore : Type 0
-RunsOnSomeCore = (control : Control) (task : ℕ) → is_some (runs_on control task) ≡ is_running control task
+RunsOnSomeCore =
+    (control : Control) (task : ℕ) → is_some (runs_on control task) ≡ is_running control task
 
 -- a state with other cores or control blocks
 abbrev pub on_control : {Orders : Type 0} → (Control → Control) → State Orders → State Orders
@@ -18,50 +20,79 @@ on_control rule state = record state { control = rule state.control }
 
 -- seen as lists, each rule of a table is the rule over lists
 
-abbrev pub AskItsCoreIsSeen : Type 0
-AskItsCoreIsSeen = (table : Table) (acting task : ℕ) → image (on_control (ask_its_core acting task) table) ≡ on_control (ask_its_core acting task) (image table)
+abbrev pub AskItsCoreSimulates : Type 0
+AskItsCoreSimulates =
+    (table : Table) (acting task : ℕ)
+    → view_of (on_control (ask_its_core acting task) table)
+    ≡ on_control (ask_its_core acting task) (view_of table)
 
-abbrev pub RankedAnewIsSeen : Type 0
-RankedAnewIsSeen = (table : Table) (acting task old new : ℕ) (ready : Bool) →
-    image (on_control (ranked_anew acting task old new ready) table) ≡ on_control (ranked_anew acting task old new ready) (image table)
+abbrev pub YieldsAfterPrioritySetSimulates : Type 0
+YieldsAfterPrioritySetSimulates = (table : Table) (acting task old new : ℕ) (ready : Bool) →
+    view_of (on_control (yields_after_priority_set acting task old new ready) table)
+    ≡ on_control (yields_after_priority_set acting task old new ready) (view_of table)
 
-abbrev pub MaskedAnewIsSeen : Type 0
-MaskedAnewIsSeen = (table : Table) (acting task : ℕ) (ready : Bool) →
-    image (on_control (masked_anew acting task ready) table) ≡ on_control (masked_anew acting task ready) (image table)
+abbrev pub YieldsAfterAffinitySetSimulates : Type 0
+YieldsAfterAffinitySetSimulates = (table : Table) (acting task : ℕ) (ready : Bool) →
+    view_of (on_control (yields_after_affinity_set acting task ready) table)
+    ≡ on_control (yields_after_affinity_set acting task ready) (view_of table)
 
-abbrev pub PrioritySetIsSeen : Type 0
-PrioritySetIsSeen = (table : Table) (acting task priority : ℕ) → IsConsistent table → task < table.settings.tasks →
-    image (priority_set table_moves acting task priority table) ≡ priority_set list_moves acting task priority (image table)
+abbrev pub PrioritySetSimulates : Type 0
+PrioritySetSimulates =
+    (table : Table) (acting task priority : ℕ) → IsConsistent table → task < table.settings.tasks →
+    view_of (priority_set stamp_queues acting task priority table)
+    ≡ priority_set list_queues acting task priority (view_of table)
 
-abbrev pub AffinitySetIsSeen : Type 0
-AffinitySetIsSeen = (table : Table) (acting task mask : ℕ) → IsConsistent table → task < table.settings.tasks →
-    image (affinity_set table_moves acting task mask table) ≡ affinity_set list_moves acting task mask (image table)
+abbrev pub AffinitySetSimulates : Type 0
+AffinitySetSimulates =
+    (table : Table) (acting task mask : ℕ) → IsConsistent table → task < table.settings.tasks →
+    view_of (affinity_set stamp_queues acting task mask table)
+    ≡ affinity_set list_queues acting task mask (view_of table)
 
-abbrev pub PreemptionOffIsSeen : Type 0
-PreemptionOffIsSeen = (table : Table) (task : ℕ) → image (preemption_off table_moves task table) ≡ preemption_off list_moves task (image table)
+abbrev pub PreemptionOffSimulates : Type 0
+PreemptionOffSimulates =
+    (table : Table) (task : ℕ)
+    → view_of (preemption_off stamp_queues task table)
+    ≡ preemption_off list_queues task (view_of table)
 
-abbrev pub PreemptionOnIsSeen : Type 0
-PreemptionOnIsSeen = (table : Table) (acting task : ℕ) → image (preemption_on table_moves acting task table) ≡ preemption_on list_moves acting task (image table)
+abbrev pub PreemptionOnSimulates : Type 0
+PreemptionOnSimulates =
+    (table : Table) (acting task : ℕ)
+    → view_of (preemption_on stamp_queues acting task table)
+    ≡ preemption_on list_queues acting task (view_of table)
 
 -- each rule keeps a table sound
 
 abbrev pub AskItsCoreKeepsConsistent : Type 0
-AskItsCoreKeepsConsistent = (table : Table) (acting task : ℕ) → IsConsistent table → IsConsistent (on_control (ask_its_core acting task) table)
+AskItsCoreKeepsConsistent =
+    (table : Table) (acting task : ℕ) → IsConsistent table
+    → IsConsistent (on_control (ask_its_core acting task) table)
 
-abbrev pub RankedAnewKeepsConsistent : Type 0
-RankedAnewKeepsConsistent = (table : Table) (acting task old new : ℕ) (ready : Bool) → IsConsistent table → IsConsistent (on_control (ranked_anew acting task old new ready) table)
+abbrev pub YieldsAfterPrioritySetKeepsConsistent : Type 0
+YieldsAfterPrioritySetKeepsConsistent =
+    (table : Table) (acting task old new : ℕ) (ready : Bool) → IsConsistent table
+    → IsConsistent (on_control (yields_after_priority_set acting task old new ready) table)
 
-abbrev pub MaskedAnewKeepsConsistent : Type 0
-MaskedAnewKeepsConsistent = (table : Table) (acting task : ℕ) (ready : Bool) → IsConsistent table → IsConsistent (on_control (masked_anew acting task ready) table)
+abbrev pub YieldsAfterAffinitySetKeepsConsistent : Type 0
+YieldsAfterAffinitySetKeepsConsistent =
+    (table : Table) (acting task : ℕ) (ready : Bool) → IsConsistent table
+    → IsConsistent (on_control (yields_after_affinity_set acting task ready) table)
 
 abbrev pub PrioritySetKeepsConsistent : Type 0
-PrioritySetKeepsConsistent = (table : Table) (acting task priority : ℕ) → IsConsistent table → task < table.settings.tasks → IsConsistent (priority_set table_moves acting task priority table)
+PrioritySetKeepsConsistent =
+    (table : Table) (acting task priority : ℕ) → IsConsistent table → task < table.settings.tasks
+    → IsConsistent (priority_set stamp_queues acting task priority table)
 
 abbrev pub AffinitySetKeepsConsistent : Type 0
-AffinitySetKeepsConsistent = (table : Table) (acting task mask : ℕ) → IsConsistent table → task < table.settings.tasks → IsConsistent (affinity_set table_moves acting task mask table)
+AffinitySetKeepsConsistent =
+    (table : Table) (acting task mask : ℕ) → IsConsistent table → task < table.settings.tasks
+    → IsConsistent (affinity_set stamp_queues acting task mask table)
 
 abbrev pub PreemptionOffKeepsConsistent : Type 0
-PreemptionOffKeepsConsistent = (table : Table) (task : ℕ) → IsConsistent table → task < table.settings.tasks → IsConsistent (preemption_off table_moves task table)
+PreemptionOffKeepsConsistent =
+    (table : Table) (task : ℕ) → IsConsistent table → task < table.settings.tasks
+    → IsConsistent (preemption_off stamp_queues task table)
 
 abbrev pub PreemptionOnKeepsConsistent : Type 0
-PreemptionOnKeepsConsistent = (table : Table) (acting task : ℕ) → IsConsistent table → task < table.settings.tasks → IsConsistent (preemption_on table_moves acting task table)
+PreemptionOnKeepsConsistent =
+    (table : Table) (acting task : ℕ) → IsConsistent table → task < table.settings.tasks
+    → IsConsistent (preemption_on stamp_queues acting task table)

@@ -1,65 +1,65 @@
-//! The laws of single rules: a rule over stamps is the same rule over lists, and it keeps a table consistent. Each function does nothing: its contract
-//! is the laws, one a clause.
+//! The laws of single rules: a rule over stamps is the same rule over lists, and it keeps a table
+//! consistent. Each function does nothing: its contract is the laws, one a clause.
 #![tactic(auto)]
 
-ghost use Rattle.rule_laws.specs.CoresLaws.{ChangeIsApart, ChangeKeepsConsistent, InUseIsSeen, InUseKeepsConsistent, AskOnCores, SeekOnCores, WakeOnCores, WaitOnCores, SwitchOnCores, SlicesOnCores, InUseOnCores};
-ghost use Rattle.rule_laws.specs.MutexLaws.{FirstWaiterIsSeen, DeadlineIsSeen, ForgettingIsSeen, InheritIsSeen, InheritKeepsConsistent, TakeIsSeen, TakeKeepsConsistent, FinishIsSeen, FinishKeepsConsistent, GiveIsSeen, GiveKeepsConsistent, LowerIsSeen, LowerKeepsConsistent, InheritOnCores, LowerOnCores};
-ghost use Rattle.rule_laws.specs.NoteLaws.{NotifyIsSeen, NotifyKeepsConsistent, NotesAreApart, NotesKeepConsistent};
-ghost use Rattle.rule_laws.specs.SeekLaws.{BestCoreIsAsked, SeekIsSeen, WakeIsSeen, SoughtSwitchIsSeen, SlicesAreSeen, AskKeepsConsistent, SeekKeepsConsistent, WakeKeepsConsistent, SoughtSwitchKeepsConsistent, SlicesKeepConsistent};
-ghost use Rattle.rule_laws.specs.SetLaws.{RunsOnSomeCore, AskItsCoreIsSeen, RankedAnewIsSeen, MaskedAnewIsSeen, PrioritySetIsSeen, AffinitySetIsSeen, PreemptionOffIsSeen, PreemptionOnIsSeen, AskItsCoreKeepsConsistent, RankedAnewKeepsConsistent, MaskedAnewKeepsConsistent, PrioritySetKeepsConsistent, AffinitySetKeepsConsistent, PreemptionOffKeepsConsistent, PreemptionOnKeepsConsistent};
+ghost use Rattle.rule_laws.specs.CoresLaws.{ChangeIsApart, ChangeKeepsConsistent, InUseSimulates, InUseKeepsConsistent, AskOnCores, SeekOnCores, WakeOnCores, WaitOnCores, SwitchOnCores, SlicesOnCores, InUseOnCores};
+ghost use Rattle.rule_laws.specs.MutexLaws.{FirstWaiterSimulates, DeadlineSimulates, ForgettingSimulates, InheritSimulates, InheritKeepsConsistent, TakeSimulates, TakeKeepsConsistent, FinishSimulates, FinishKeepsConsistent, GiveSimulates, GiveKeepsConsistent, LowerSimulates, LowerKeepsConsistent, InheritOnCores, LowerOnCores};
+ghost use Rattle.rule_laws.specs.NoteLaws.{NotifySimulates, NotifyKeepsConsistent, NotesKeepOrders, NotesKeepConsistent};
+ghost use Rattle.rule_laws.specs.SeekLaws.{BestCoreIsAsked, SeekSimulates, WakeSimulates, SoughtSwitchSimulates, SlicesAreSeen, AskKeepsConsistent, SeekKeepsConsistent, WakeKeepsConsistent, SoughtSwitchKeepsConsistent, SlicesKeepConsistent};
+ghost use Rattle.rule_laws.specs.SetLaws.{RunsOnSomeCore, AskItsCoreSimulates, YieldsAfterPrioritySetSimulates, YieldsAfterAffinitySetSimulates, PrioritySetSimulates, AffinitySetSimulates, PreemptionOffSimulates, PreemptionOnSimulates, AskItsCoreKeepsConsistent, YieldsAfterPrioritySetKeepsConsistent, YieldsAfterAffinitySetKeepsConsistent, PrioritySetKeepsConsistent, AffinitySetKeepsConsistent, PreemptionOffKeepsConsistent, PreemptionOnKeepsConsistent};
 
-/// Seeking a core for a task, waking one, switches and time slices. Each rule is the same over stamps and over lists, and keeps a
-/// table consistent (FreeRTOS SMP, `prvYieldForTask`).
+/// Seeking a core for a task, waking one, switches and time slices. Each rule is the same over
+/// stamps and over lists, and keeps a table consistent (FreeRTOS SMP, `prvYieldForTask`).
 pub fn laws_of_seeking()
     // The core that is asked for a task is the best of those that give way to it, and none is
     // asked only where none does.
     ensures best_core_is_asked { BestCoreIsAsked }
     // Seeking a core changes no order of tasks, so it is the same over lists.
-    ensures seek_is_seen { SeekIsSeen }
+    ensures seek_simulates { SeekSimulates }
     // Waking a task, and seeking a core for it, is so over lists.
-    ensures wake_is_seen { WakeIsSeen }
+    ensures wake_simulates { WakeSimulates }
     // A switch, with the seek for the task that lost the core, is so over lists.
-    ensures sought_switch_is_seen { SoughtSwitchIsSeen }
+    ensures sought_switch_simulates { SoughtSwitchSimulates }
     // The cores that are asked as time slices end are the same over lists.
-    ensures slices_are_seen { SlicesAreSeen }
+    ensures slices_simulate { SlicesAreSeen }
     // A sound table is sound when any core was asked.
     ensures ask_keeps_consistent { AskKeepsConsistent }
     // A sound table is sound when a core was sought for any task.
     ensures seek_keeps_consistent { SeekKeepsConsistent }
     // A sound table is sound when a task was woken and a core sought for it.
     ensures wake_keeps_consistent { WakeKeepsConsistent }
-    // A sound table is sound behind a switch and the seek for the task that lost the core.
+    // A sound table is sound after a switch and the seek for the task that lost the core.
     ensures sought_switch_keeps_consistent { SoughtSwitchKeepsConsistent }
     // A sound table is sound when cores were asked as time slices ended.
     ensures slices_keep_consistent { SlicesKeepConsistent }
 {}
 
-/// The calls that set a task's priority, core affinity mask and preemption, and who is asked then. Each rule is the same over
-/// stamps and over lists, and keeps a table consistent.
+/// The calls that set a task's priority, core affinity mask and preemption, and who is asked then.
+/// Each rule is the same over stamps and over lists, and keeps a table consistent.
 pub fn laws_of_priority_and_affinity()
     // A task runs where there is a core that it runs on.
     ensures runs_on_some_core { RunsOnSomeCore }
     // Asking the core of a task changes no order of tasks, so it is the same over lists.
-    ensures ask_its_core_is_seen { AskItsCoreIsSeen }
-    // Who is asked behind a new base priority changes no order of tasks, so it is the same over
+    ensures ask_its_core_simulates { AskItsCoreSimulates }
+    // Who is asked after a new base priority changes no order of tasks, so it is the same over
     // lists.
-    ensures ranked_anew_is_seen { RankedAnewIsSeen }
-    // Who is asked behind a new mask changes no order of tasks, so it is the same over lists.
-    ensures masked_anew_is_seen { MaskedAnewIsSeen }
+    ensures yields_after_priority_set_simulates { YieldsAfterPrioritySetSimulates }
+    // Who is asked after a new mask changes no order of tasks, so it is the same over lists.
+    ensures yields_after_affinity_set_simulates { YieldsAfterAffinitySetSimulates }
     // Setting a priority is so over lists.
-    ensures priority_set_is_seen { PrioritySetIsSeen }
+    ensures priority_set_simulates { PrioritySetSimulates }
     // Setting a core affinity mask is so over lists.
-    ensures affinity_set_is_seen { AffinitySetIsSeen }
+    ensures affinity_set_simulates { AffinitySetSimulates }
     // Turning preemption off is so over lists.
-    ensures preemption_off_is_seen { PreemptionOffIsSeen }
+    ensures preemption_off_simulates { PreemptionOffSimulates }
     // Turning preemption on is so over lists.
-    ensures preemption_on_is_seen { PreemptionOnIsSeen }
+    ensures preemption_on_simulates { PreemptionOnSimulates }
     // A sound table is sound when the core of any task was asked.
     ensures ask_its_core_keeps_consistent { AskItsCoreKeepsConsistent }
-    // A sound table is sound when a core was asked behind a new base priority.
-    ensures ranked_anew_keeps_consistent { RankedAnewKeepsConsistent }
-    // A sound table is sound when a core was asked behind a new mask.
-    ensures masked_anew_keeps_consistent { MaskedAnewKeepsConsistent }
+    // A sound table is sound when a core was asked after a new base priority.
+    ensures yields_after_priority_set_keeps_consistent { YieldsAfterPrioritySetKeepsConsistent }
+    // A sound table is sound when a core was asked after a new mask.
+    ensures yields_after_affinity_set_keeps_consistent { YieldsAfterAffinitySetKeepsConsistent }
     // A sound table is sound when a priority was set.
     ensures priority_set_keeps_consistent { PrioritySetKeepsConsistent }
     // A sound table is sound when a core affinity mask was set.
@@ -73,44 +73,45 @@ pub fn laws_of_priority_and_affinity()
 /// Notifying a task. The rule is the same over stamps and over lists, and keeps a table consistent.
 pub fn laws_of_notifications()
     // Notifying a task, and waking it where it waits for that, is so over lists.
-    ensures notify_is_seen { NotifyIsSeen }
+    ensures notify_simulates { NotifySimulates }
     // A sound table is sound when a task was notified with a number of 32 bits.
     ensures notify_keeps_consistent { NotifyKeepsConsistent }
     // Notifications are seen as they are, and no order of tasks reads them.
-    ensures notes_are_apart { NotesAreApart }
+    ensures notes_keep_orders { NotesKeepOrders }
     // A sound table is sound with other notifications, one for each task, whose values are numbers
     // of 32 bits.
     ensures notes_keep_consistent { NotesKeepConsistent }
 {}
 
-/// Mutexes and priority inheritance. Each rule is the same over stamps and over lists, and keeps a table consistent.
+/// Mutexes and priority inheritance. Each rule is the same over stamps and over lists, and keeps a
+/// table consistent.
 pub fn laws_of_mutexes()
     // The first waiter of a mutex in its list is the best of all tasks that wait for it.
-    ensures first_waiter_is_seen { FirstWaiterIsSeen }
+    ensures first_waiter_simulates { FirstWaiterSimulates }
     // The ticks that are left to a deadline are seen as they are.
-    ensures deadline_is_seen { DeadlineIsSeen }
+    ensures deadline_simulates { DeadlineSimulates }
     // Forgetting a deadline is so over lists.
-    ensures forgetting_is_seen { ForgettingIsSeen }
+    ensures forgetting_simulates { ForgettingSimulates }
     // A holder that takes over a greater priority in use does so over lists.
-    ensures inherit_is_seen { InheritIsSeen }
+    ensures inherit_simulates { InheritSimulates }
     // A sound table is sound when a holder took over a priority in use.
     ensures inherit_keeps_consistent { InheritKeepsConsistent }
     // Taking a mutex, with the inheritance that comes with waiting for it, is so over lists.
-    ensures take_is_seen { TakeIsSeen }
+    ensures take_simulates { TakeSimulates }
     // A sound table is sound when a user task took a mutex, or waits for it.
     ensures take_keeps_consistent { TakeKeepsConsistent }
     // Finishing a call that has not returned is so over lists: with what it waited for, without
     // it, or by waiting again.
-    ensures finish_is_seen { FinishIsSeen }
+    ensures finish_simulates { FinishSimulates }
     // A sound table is sound when a user task finished its call.
     ensures finish_keeps_consistent { FinishKeepsConsistent }
     // Giving a mutex, which ends what its holder inherited and wakes its first waiter, is so over
     // lists.
-    ensures give_is_seen { GiveIsSeen }
+    ensures give_simulates { GiveSimulates }
     // A sound table is sound when a task gave a mutex.
     ensures give_keeps_consistent { GiveKeepsConsistent }
-    // Giving up an inherited priority in use, and who is asked behind it, is so over lists.
-    ensures lower_is_seen { LowerIsSeen }
+    // Giving up an inherited priority in use, and who is asked after it, is so over lists.
+    ensures lower_simulates { LowerSimulates }
     // A sound table is sound when a task gave up an inherited priority in use.
     ensures lower_keeps_consistent { LowerKeepsConsistent }
     // What inheriting does to the cores and ready lists depends on them alone.
@@ -120,7 +121,8 @@ pub fn laws_of_mutexes()
     ensures lower_on_cores { LowerOnCores }
 {}
 
-/// Cores, control blocks and ready lists by themselves: what each rule does to them depends on them alone.
+/// Cores, control blocks and ready lists by themselves: what each rule does to them depends on them
+/// alone.
 pub fn laws_of_cores()
     // A change of the base priority, the mask or the preemption flag of a task changes no order of
     // tasks.
@@ -129,7 +131,7 @@ pub fn laws_of_cores()
     ensures change_keeps_consistent { ChangeKeepsConsistent }
     // A new stamp for a ready task whose priority in use was set is, seen as lists, the end of the
     // list of that priority.
-    ensures in_use_is_seen { InUseIsSeen }
+    ensures in_use_simulates { InUseSimulates }
     // A sound table is sound when a priority in use was set to one below their number.
     ensures in_use_keeps_consistent { InUseKeepsConsistent }
     // What asking a core does to the cores and ready lists that are seen of a table.
@@ -140,7 +142,7 @@ pub fn laws_of_cores()
     ensures wake_on_cores { WakeOnCores }
     // A task that begins to wait leaves the ready lists, and changes no core.
     ensures wait_on_cores { WaitOnCores }
-    // What a switch, with the seek behind it, does to the cores and ready lists depends on them
+    // What a switch, with the seek after it, does to the cores and ready lists depends on them
     // alone.
     ensures switch_on_cores { SwitchOnCores }
     // What the ends of time slices do to the cores and ready lists depends on them alone.

@@ -10,7 +10,7 @@ use Rattle.bench_types.specs.declared.kernel_data.Settings.{Settings}
 use Rattle.bench_types.specs.declared.kernel_data.Waiter.{Waiter}
 use Rattle.bench_types.specs.declared.note.Notification.{Notification}
 use Rattle.bench_types.specs.declared.step.Unfinished.{Unfinished}
-use Rattle.bench_model.specs.Alike.{AreAlike, AreReadyTogether, AreDelayedTogether, AreQueuedTogether, CameAlike, wait_of}
+use Rattle.bench_model.specs.Alike.{SamePairwise, InOneReadyList, AreDelayedTogether, InOneWaitQueue, SameOrder, wait_of}
 use Rattle.bench_model.specs.Control.{Control, task_at}
 use Rattle.bench_model.specs.Equal.{Same}
 use Rattle.bench_model.specs.Looks.{ticks_left, left_in}
@@ -64,11 +64,11 @@ one_wait i j (Some x) (Some y) some other forth back =
 first_of_one : (i j : ℕ) (wait : MutexWait) → waits_first (record { task = i; wait = wait }) (record { task = j; wait = wait }) ≡ true
 first_of_one i j wait = grind (arith, nat_tests)
 
-same_image : (settings other : Settings) (control cores : Control) (calls unfinished : List (Option Unfinished)) (notes noted : List Notification) (holders held : List (Option ℕ)) (hold kept : Option Hold) (orders lists : Lists) →
+same_view : (settings other : Settings) (control cores : Control) (calls unfinished : List (Option Unfinished)) (notes noted : List Notification) (holders held : List (Option ℕ)) (hold kept : Option Hold) (orders lists : Lists) →
     settings ≡ other → control ≡ cores → calls ≡ unfinished → notes ≡ noted → holders ≡ held → hold ≡ kept → orders ≡ lists →
     (let view : View = record { settings = settings; control = control; calls = calls; notes = notes; holders = holders; hold = hold; orders = orders } in view)
     ≡ record { settings = other; control = cores; calls = unfinished; notes = noted; holders = held; hold = kept; orders = lists }
-same_image settings other control cores calls unfinished notes noted holders held hold kept orders lists a b c d e f g = cc
+same_view settings other control cores calls unfinished notes noted holders held hold kept orders lists a b c d e f g = cc
 
 module _ (a b : Table) (first : IsConsistent a) (second : IsConsistent b) (settings : a.settings ≡ b.settings) (control : a.control ≡ b.control) where
   tasks : a.settings.tasks ≡ b.settings.tasks
@@ -123,7 +123,7 @@ module _ (a b : Table) (first : IsConsistent a) (second : IsConsistent b) (setti
 
     -- the lists are equal just where the tasks that stand together came in the same order
 
-    ready_pairs : (ready_of a ≡ ready_of b) ↔ CameAlike AreReadyTogether a b
+    ready_pairs : (ready_of a ≡ ready_of b) ↔ SameOrder InOneReadyList a b
     ready_pairs =
         let rank = λ (i : ℕ). (task_at a.control i).in_use in
         let both = same_orders (outranks a.control) (outranks-IsRank a.control) stands_ready (λ i. i) (λ i. i) (λ i. i) a.orders b.orders rows (λ i. refl) (λ i h. agree.ready i (is_task i h)) (λ i h. refl) first.stamped second.stamped in (
@@ -131,7 +131,7 @@ module _ (a b : Table) (first : IsConsistent a) (second : IsConsistent b) (setti
           λ came. both.1 (λ i j low below one. came i j (is_task i low) (is_task j below) (one.0, one.1, both_ways (rank i) (rank j) one.3 one.2)),
         )
 
-    delayed_pairs : (delayed_in a ≡ delayed_in b) ↔ CameAlike AreDelayedTogether a b
+    delayed_pairs : (delayed_in a ≡ delayed_in b) ↔ SameOrder AreDelayedTogether a b
     delayed_pairs =
         let tick = a.orders.tick in
         let wake = λ (i : ℕ). wake_in (row_at a.orders i).standing in
@@ -147,7 +147,7 @@ module _ (a b : Table) (first : IsConsistent a) (second : IsConsistent b) (setti
               came i j (is_task i low) (is_task j below) (sym (some i) ∙ one.0, one_left (ticks_left i a.orders) (ticks_left j a.orders) (sym (some i) ∙ one.0) (sym (some j) ∙ one.1) (sym (value i) ∙ same ∙ value j))),
         )
 
-    queued_pairs : (waiters_in a ≡ waiters_in b) ↔ CameAlike AreQueuedTogether a b
+    queued_pairs : (waiters_in a ≡ waiters_in b) ↔ SameOrder InOneWaitQueue a b
     queued_pairs =
         let both = same_orders waits_first waits_first-IsRank queues (λ e. e.task) (waiter_of a.orders) (waiter_of b.orders) a.orders b.orders rows (λ i. refl) (λ i h. ap is_some (agree.queued i (is_task i h))) waiter_so first.stamped second.stamped in (
           λ same i j low below together.
@@ -165,7 +165,7 @@ module _ (a b : Table) (first : IsConsistent a) (second : IsConsistent b) (setti
       ext_get_or None (left a.orders) (left b.orders) (long_a ∙ tasks ∙ sym long_b)
       (λ i low. deadline_left_seen a.control a.orders i ∙ same i (omega (arith, long_a, low)) ∙ sym (deadline_left_seen b.control b.orders i))
 
-  lists_same : AreAlike a b → lists_of a.control a.orders ≡ lists_of b.control b.orders
+  lists_same : SamePairwise a b → lists_of a.control a.orders ≡ lists_of b.control b.orders
   unfolding lists_of
   lists_same alike =
       let agree : AgreeOnTasks = record { ready = alike.ready; left = alike.left; queued = alike.waits } in
@@ -176,11 +176,11 @@ module _ (a b : Table) (first : IsConsistent a) (second : IsConsistent b) (setti
       ((queued_pairs agree).1 alike.queue_order)
       (deadlines_same alike.deadlines)
 
-pub same_from_alike : (a b : Table) → IsConsistent a → IsConsistent b → AreAlike a b → Same a b
+pub same_from_alike : (a b : Table) → IsConsistent a → IsConsistent b → SamePairwise a b → Same a b
 same_from_alike a b first second alike =
-    same_image _ _ _ _ _ _ _ _ _ _ _ _ _ _ alike.settings alike.control alike.calls alike.notes alike.holders alike.hold (lists_same a b first second alike.settings alike.control alike)
+    same_view _ _ _ _ _ _ _ _ _ _ _ _ _ _ alike.settings alike.control alike.calls alike.notes alike.holders alike.hold (lists_same a b first second alike.settings alike.control alike)
 
-pub alike_from_same : (a b : Table) → IsConsistent a → IsConsistent b → Same a b → AreAlike a b
+pub alike_from_same : (a b : Table) → IsConsistent a → IsConsistent b → Same a b → SamePairwise a b
 unfolding lists_of
 alike_from_same a b first second same = record {
   settings = settings;

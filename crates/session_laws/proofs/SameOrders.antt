@@ -3,7 +3,7 @@ use Rattle.std.proofs.Common.{◌≡◌, ℕ, ◌<◌, Bool, true, false, eqb, l
 use Rattle.std.specs.Prelude.{◌↔◌}
 use Rattle.std.proofs.lemmas.Bool.{cases_eq}
 use Rattle.std.proofs.lemmas.Bool.Decides.{nat_tests}
-use Rattle.bench_model.specs.declared.row.Standing.{Standing}
+use Rattle.bench_model.specs.declared.row.TaskState.{TaskState}
 use Rattle.list_orders.specs.Search.{numbers, by_stamp, ranked, has}
 use Rattle.bench_model.specs.Table.{Stamps, row_at, stamp_of}
 use Rattle.bench_model.specs.Sound.{IsStamped}
@@ -23,7 +23,7 @@ has_stamped stamp test n bound given i = at (has i (numbers n)) refl
     at false absent = grind (arith, nat_tests, has-by_stamp stamp test (numbers n) i bound, absent)
 
 -- Two tables of as many rows, of which a test says the same and which have the same entries.
-module _ {E : Type 0} (front : E → E → Bool) (rank : IsRank front) (test : Standing → Bool) (task_of : E → ℕ) (entry other : ℕ → E) (a b : Stamps) (rows : length a.rows ≡ length b.rows)
+module _ {E : Type 0} (front : E → E → Bool) (rank : IsRank front) (test : TaskState → Bool) (task_of : E → ℕ) (entry other : ℕ → E) (a b : Stamps) (rows : length a.rows ≡ length b.rows)
     (named : (i : ℕ) → task_of (entry i) ≡ i)
     (tests : (i : ℕ) → i < length a.rows → test (row_at a i).standing ≡ test (row_at b i).standing)
     (entries : (i : ℕ) → i < length a.rows → entry i ≡ other i) (first : IsStamped a) (second : IsStamped b) where
@@ -99,7 +99,7 @@ module _ {E : Type 0} (front : E → E → Bool) (rank : IsRank front) (test : S
     | inr off ↦ elim (either_way (order a) (order b) (ranked goes (by a)) a_ordered (subst (IsOrdered (order b)) (sym same) b_ordered) i j
         (grind (arith, has_a i, alike.0, numbers_have (length a.rows) i low)) (grind (arith, has_a j, alike.1, numbers_have (length a.rows) j below)) off) [
           | inl ahead ↦ (λ _. grind (arith, nat_tests, ahead.1, alike.2, alike.3), λ _. grind (arith, nat_tests, ahead.0, alike.2, alike.3))
-          | inr behind ↦ (λ h. absurd (grind (arith, nat_tests, behind.0, alike.2, alike.3, h)), λ h. absurd (grind (arith, nat_tests, behind.1, alike.2, alike.3, h)))
+          | inr later ↦ (λ h. absurd (grind (arith, nat_tests, later.0, alike.2, alike.3, h)), λ h. absurd (grind (arith, nat_tests, later.1, alike.2, alike.3, h)))
         ]
   ]
 
@@ -110,7 +110,7 @@ module _ {E : Type 0} (front : E → E → Bool) (rank : IsRank front) (test : S
       came_so i j low below alike tasks
 
   apart : (i j : ℕ) → order a i j ≡ true → order a j i ≡ true → ⊥
-  apart i j ahead behind = grind (arith, nat_tests, rank.total (entry i) (entry j), ahead, behind)
+  apart i j ahead later = grind (arith, nat_tests, rank.total (entry i) (entry j), ahead, later)
 
   IsListed : ℕ → Type 0
   IsListed i = (i < length a.rows) × (passes i ≡ true)

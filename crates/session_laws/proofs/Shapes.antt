@@ -6,9 +6,9 @@ use Rattle.bench_types.specs.declared.header.Header.{Header}
 use Rattle.bench_types.specs.declared.step.Step.{Step}
 use Rattle.bench_types.specs.Step.{settings_of}
 use Rattle.list_orders.specs.Search.{numbers}
-use Rattle.bench_model.specs.State.{Moves}
+use Rattle.bench_model.specs.State.{QueueOps}
 use Rattle.bench_model.specs.Tally.{TaskTally, Moment, is_found_on, run_ticks, tally_of, tallies}
-use Rattle.bench_model.specs.Tallied.{tally_at, run_at, no_counts, one_if, counted, tallied, added_tally, added, shape, shape_of}
+use Rattle.bench_model.specs.Tallied.{tally_at, run_at, no_counts, one_if, tally_after, tallied, added_tally, added, shape, shape_of}
 use Rattle.session_laws.proofs.Tallies.{numbers_agree, length_each, own_items}
 
 -- for how many cores the tally of the task has a number
@@ -30,14 +30,14 @@ kept_shape tallies f same =
     ∙ numbers_agree (λ task. length (f task).run) (size_at tallies) (length tallies) (λ task below. same task)
     ∙ own_shape tallies
 
-module _ {Orders : Type 0} (moves : Moves Orders) (moment : Moment Orders) where
-  counted_size : (task : ℕ) (tally : TaskTally) → length (counted moves moment task tally).run ≡ length tally.run
-  unfolding counted
+module _ {Orders : Type 0} (ops : QueueOps Orders) (moment : Moment Orders) where
+  counted_size : (task : ℕ) (tally : TaskTally) → length (tally_after ops moment task tally).run ≡ length tally.run
+  unfolding tally_after
   counted_size task tally = length_each (λ core. run_at tally core + one_if (is_found_on core task moment)) (length tally.run)
 
-  pub tallied_shape : (tallies : List TaskTally) → shape (tallied moves moment tallies) ≡ shape tallies
+  pub tallied_shape : (tallies : List TaskTally) → shape (tallied ops moment tallies) ≡ shape tallies
   unfolding tallied
-  tallied_shape tallies = kept_shape tallies (λ task. counted moves moment task (tally_at tallies task)) (λ task. counted_size task (tally_at tallies task))
+  tallied_shape tallies = kept_shape tallies (λ task. tally_after ops moment task (tally_at tallies task)) (λ task. counted_size task (tally_at tallies task))
 
 added_size : (a b : TaskTally) → length (added_tally a b).run ≡ length a.run
 unfolding added_tally

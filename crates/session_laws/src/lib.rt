@@ -1,10 +1,10 @@
-//! The laws of sessions: edits keep one, equality is equality pair by pair, tallies add up. Each function does nothing: its contract
-//! is the laws, one a clause.
+//! The laws of sessions: edits keep one, equality is equality pair by pair, tallies add up. Each
+//! function does nothing: its contract is the laws, one a clause.
 #![tactic(auto)]
 
 ghost use Rattle.session_laws.specs.AlikeLaws.{SameIsAlike};
 ghost use Rattle.session_laws.specs.EditLaws.{EditKeepsSession, EditKeepsRoom};
-ghost use Rattle.session_laws.specs.TallyLaws.{TalliesAreStepwise, PartsAddUp, CountsAreFew, CountingKeepsShape, AddingKeepsShape, TalliesFitSettings, TallyIsSeen};
+ghost use Rattle.session_laws.specs.TallyLaws.{TalliesAreStepwise, PartsAddUp, CountsAreFew, CountingKeepsShape, AddingKeepsShape, TalliesFitSettings, TallySimulates};
 
 /// Edits of a session.
 pub fn laws_of_edits()
@@ -36,5 +36,5 @@ pub fn laws_of_tallies()
     ensures counting_keeps_shape { CountingKeepsShape }
     ensures adding_keeps_shape { AddingKeepsShape }
     // A step counts the same over lists.
-    ensures tally_is_seen { TallyIsSeen }
+    ensures tally_simulates { TallySimulates }
 {}

@@ -13,7 +13,7 @@ use Rattle.bench_model.specs.Edits.{accepted, edited, after_edit, after_edits}
 use Rattle.bench_types.specs.Session.{Session}
 use Rattle.list_orders.proofs.Filters.{fold-append}
 use Rattle.session_store.specs.declared.outcome.Outcome.{Outcome}
-use Rattle.session_store.specs.Counting.{counted, CountsUpTo}
+use Rattle.session_store.specs.Counting.{meter_after, CountsUpTo}
 use Rattle.session_store.specs.Outcomes.{whole_replay, answer, answers, replayed_for, all_replayed}
 use Rattle.session_store.specs.StoreView.{StoreView}
 use Rattle.session_store.proofs.Counts.{counted_twice}
@@ -44,25 +44,25 @@ after_ok session edit accepts = ap (λ (r : Result (Unit {0}) EditFault). if is_
 pub after_err : (session : Session) (edit : Edit) (why : EditFault) → accepted session edit ≡ Err why → after_edit session edit ≡ session
 after_err session edit why refuses = ap (λ (r : Result (Unit {0}) EditFault). if is_ok r then edited edit session else session) refuses
 
--- what is answered and kept behind an edit of a store, and counted
+-- what is answered and kept after an edit of a store, and counted
 pub record IsMade (old : StoreView) (edit : Edit) (one : Result Outcome EditFault) (next : StoreView) (before now : ℕ) : Type 0 where
   pub given : one ≡ answer old.session edit
   pub stored : next ≡ record old { session = after_edit old.session edit }
-  pub meter : now ≡ counted (replayed_for (answer old.session edit)) before
+  pub meter : now ≡ meter_after (replayed_for (answer old.session edit)) before
 
 pub made_ok : (old next : StoreView) (edit : Edit) (outcome : Outcome) (before now : ℕ) → accepted old.session edit ≡ Ok tt → outcome ≡ whole_replay (length (edited edit old.session).steps)
-    → next ≡ record old { session = edited edit old.session } → now ≡ counted outcome.replayed before → IsMade old edit (Ok outcome) next before now
+    → next ≡ record old { session = edited edit old.session } → now ≡ meter_after outcome.replayed before → IsMade old edit (Ok outcome) next before now
 made_ok old next edit outcome before now accepts whole goes more = record {
   given = sym (answer_ok old.session edit outcome accepts whole);
   stored = goes ∙ ap (λ (s : Session). record old { session = s }) (sym (after_ok old.session edit accepts));
-  meter = more ∙ ap (λ (o : Result Outcome EditFault). counted (replayed_for o) before) (sym (answer_ok old.session edit outcome accepts whole));
+  meter = more ∙ ap (λ (o : Result Outcome EditFault). meter_after (replayed_for o) before) (sym (answer_ok old.session edit outcome accepts whole));
 }
 
 pub made_err : (old : StoreView) (edit : Edit) (why : EditFault) (before now : ℕ) → accepted old.session edit ≡ Err why → now ≡ before → IsMade old edit (Err why) old before now
 made_err old edit why before now refuses same = record {
   given = sym (answer_err old.session edit why refuses);
   stored = ap (λ (s : Session). record old { session = s }) (sym (after_err old.session edit why refuses));
-  meter = same ∙ ap (λ (o : Result Outcome EditFault). counted (replayed_for o) before) (sym (answer_err old.session edit why refuses));
+  meter = same ∙ ap (λ (o : Result Outcome EditFault). meter_after (replayed_for o) before) (sym (answer_err old.session edit why refuses));
 }
 
 -- memory was wanting for an edit that is accepted
@@ -110,13 +110,13 @@ replayed_within old edits place current given early so_far =
     let all : sum_by replayed_for (given ++ answer current.session edit ∷ rest) ≡ all_replayed old.session edits = ap (sum_by replayed_for) whole in
     omega (arith, one, first, all, sum_by-append replayed_for given (answer current.session edit ∷ rest))
 
--- the count behind one answer more
-pub counted_on : (given : Given) (one : Result Outcome EditFault) (old before now : ℕ) → before ≡ counted (sum_by replayed_for given) old → now ≡ counted (replayed_for one) before → now ≡ counted (sum_by replayed_for (given ++ one ∷ [])) old
+-- the count after one answer more
+pub counted_on : (given : Given) (one : Result Outcome EditFault) (old before now : ℕ) → before ≡ meter_after (sum_by replayed_for given) old → now ≡ meter_after (replayed_for one) before → now ≡ meter_after (sum_by replayed_for (given ++ one ∷ [])) old
 counted_on given one old before now so_far more =
     let sum : sum_by replayed_for given + replayed_for one ≡ sum_by replayed_for (given ++ one ∷ []) = omega (arith, sum_by-append replayed_for given (one ∷ [])) in
-    more ∙ ap (counted (replayed_for one)) so_far ∙ counted_twice (sum_by replayed_for given) (replayed_for one) old ∙ ap (λ steps. counted steps old) sum
+    more ∙ ap (meter_after (replayed_for one)) so_far ∙ counted_twice (sum_by replayed_for given) (replayed_for one) old ∙ ap (λ steps. meter_after steps old) sum
 
--- some steps behind those of earlier answers
-pub counts_on : (given : Given) (old before now most all : ℕ) → before ≡ counted (sum_by replayed_for given) old → CountsUpTo most before now → sum_by replayed_for given + most ≤ all → CountsUpTo all old now
+-- some steps after those of earlier answers
+pub counts_on : (given : Given) (old before now most all : ℕ) → before ≡ meter_after (sum_by replayed_for given) old → CountsUpTo most before now → sum_by replayed_for given + most ≤ all → CountsUpTo all old now
 counts_on given old before now most all so_far some within =
-    (sum_by replayed_for given + some.0, omega (arith, some.1, within), some.2 ∙ ap (counted some.0) so_far ∙ counted_twice (sum_by replayed_for given) some.0 old)
+    (sum_by replayed_for given + some.0, omega (arith, some.1, within), some.2 ∙ ap (meter_after some.0) so_far ∙ counted_twice (sum_by replayed_for given) some.0 old)

@@ -8,7 +8,7 @@ use Rattle.bench_types.specs.declared.header.Header.{Header}
 use Rattle.bench_types.specs.declared.reply.Reply.{Reply}
 use Rattle.bench_types.specs.declared.step.Step.{Step}
 use Rattle.bench_model.specs.Control.{running}
-use Rattle.bench_model.specs.Session.{step_of, behind, state_at, reply_at, running_at, outcome_at, trace}
+use Rattle.bench_model.specs.Session.{step_of, state_after, state_at, reply_at, running_at, outcome_at, trace}
 use Rattle.bench_types.specs.Reply.{shown}
 use Rattle.bench_model.specs.Start.{start}
 use Rattle.session_laws.proofs.Traces.{trace_at}
@@ -74,9 +74,9 @@ row_at_start header steps =
     let early : nat_le 0 (length steps) ≡ true = grind (arith, nat_tests) in
     ap (λ b. if b then Some (running (start header).control) else None) (sym early)
 
-pub state_behind : (header : Header) (steps : List Step) (place : ℕ) → behind (start header) (take place steps) ≡ state_at header steps place
+pub state_at_place : (header : Header) (steps : List Step) (place : ℕ) → state_after (start header) (take place steps) ≡ state_at header steps place
 unfolding state_at
-state_behind header steps place = refl
+state_at_place header steps place = refl
 
 -- none past the end, and what was read within it
 pub reply_past : (header : Header) (steps : List Step) (outcomes : Outcomes) (place : ℕ) → map shown outcomes ≡ trace (start header) steps → length outcomes ≤ place → None ≡ reply_at header steps place

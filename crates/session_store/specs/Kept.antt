@@ -12,7 +12,8 @@ use Rattle.bench_model.specs.Start.{start}
 use Rattle.bench_model.specs.Table.{Table}
 use Rattle.session_store.specs.declared.store.Segment.{Segment}
 
--- the kernel stands for the table at the segment's checkpoint, and the outcomes are those of its steps from there
+-- the kernel stands for the table at the segment's checkpoint, and the outcomes are those of its
+-- steps from there
 pub record IsSegment (table : Table) (segment : Segment) : Type 0 where
   pub stands : StandsFor segment.kernel table
   pub outcomes : map shown segment.outcomes.items ≡ trace table segment.steps.items

@@ -17,21 +17,26 @@ use Rattle.session_store.specs.declared.fault.Refused.{Refused}
 abbrev pub at_no_step : OpenRefusal → Refused
 at_no_step why = record { why = why; at = None }
 
--- F2 to F5: the first of the steps that is at fault, by its index; the first of them has the index at
+-- F2 to F5: the first of the steps that is at fault, by its index; the first of them has the index
+-- at
 abbrev pub steps_check : Settings → ℕ → List Step → Result ⊤ Refused
 steps_check settings at [] = Ok tt
-steps_check settings at (step ∷ steps) = result_map_both (λ _. tt) (λ fault. record { why = Bench fault; at = Some at }) (step_check settings step) >> steps_check settings (at + 1) steps
+steps_check settings at (step ∷ steps) =
+    result_map_both (λ _. tt) (λ fault. record { why = Bench fault; at = Some at })
+    (step_check settings step) >> steps_check settings (at + 1) steps
 
 -- F1, then J3, then J2, then the first step at fault
 abbrev pub open_check : Header → List Step → ℕ → Result ⊤ Refused
-open_check header steps span = result_map_both (λ _. tt) (λ fault. at_no_step (Bench fault)) (header_check header)
+open_check header steps span =
+    result_map_both (λ _. tt) (λ fault. at_no_step (Bench fault)) (header_check header)
     >> (if is_within 1 max_span span then Ok tt else Err (at_no_step BadSpan))
     >> (if nat_le (length steps) max_steps then Ok tt else Err (at_no_step TooLong))
     >> steps_check (settings_of header) 0 steps
 
 -- a refusal gives the session back
 abbrev pub handed_back : Header → List Step → Refused → OpenFault
-handed_back header steps refusal = record { header = header; steps = steps; at = refusal.at; why = refusal.why }
+handed_back header steps refusal =
+    record { header = header; steps = steps; at = refusal.at; why = refusal.why }
 
 abbrev pub no_memory : Header → List Step → OpenFault
 no_memory header steps = handed_back header steps (at_no_step NoMemory)

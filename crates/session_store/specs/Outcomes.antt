@@ -13,9 +13,11 @@ whole_replay steps = record { from = 0; met = steps; replayed = steps }
 
 -- an accepted edit leads to a replay of the whole edited session
 abbrev pub answer : Session → Edit → Result Outcome EditFault
-answer session edit = result_map_both (λ _. whole_replay (length (edited edit session).steps)) (λ why. why) (accepted session edit)
+answer session edit =
+    result_map_both (λ _. whole_replay (length (edited edit session).steps)) (λ why. why)
+    (accepted session edit)
 
--- the answers to edits in their order, each of the session behind those before it
+-- the answers to edits in their order, each of the session after those before it
 abbrev pub answers : Session → List Edit → List (Result Outcome EditFault)
 answers session [] = []
 answers session (edit ∷ edits) = answer session edit ∷ answers (after_edit session edit) edits

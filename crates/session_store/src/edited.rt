@@ -29,14 +29,16 @@ fn changed(
     })
 }
 
-/// The header behind the edit.
+/// The header after the edit.
 pub(crate) fn edited_header(
     alloc: Global,
     header: &Header,
     edit: &Edit,
 ) -> Result<Header, AllocError>
     requires { edit_check header.now edit.now ≡ Ok tt }
-    ensures { IfOk result (λ next. (steps : List Step) → next ≡ (edited edit.now (record { header = header.now; steps = steps })).header) }
+    ensures { IfOk result
+        (λ next. (steps : List Step)
+        → next ≡ (edited edit.now (record { header = header.now; steps = steps })).header) }
 {
     match *edit {
         Edit::ChangeTask {
@@ -48,7 +50,7 @@ pub(crate) fn edited_header(
     }
 }
 
-/// The steps behind the edit.
+/// The steps after the edit.
 pub(crate) fn edited_steps(
     alloc: Global,
     steps: &[Step],
@@ -56,7 +58,9 @@ pub(crate) fn edited_steps(
 ) -> Result<Vec<Step>, AllocError>
     requires place { has_place steps.now edit.now ≡ true }
     requires few { length steps.now < 2 ^ 32 }
-    ensures { IfOk result (λ next. (header : Header) → next.items ≡ (edited edit.now (record { header = header; steps = steps.now })).steps) }
+    ensures { IfOk result
+        (λ next. (header : Header)
+        → next.items ≡ (edited edit.now (record { header = header; steps = steps.now })).steps) }
 {
     let mut next = Vec::with_capacity(alloc, steps.len() + 1)?;
     next.extend_from_slice(steps)?;

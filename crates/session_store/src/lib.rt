@@ -1,4 +1,5 @@
-//! A session that is kept with the replies and the running tasks of its replay, and is changed by edits.
+//! A session that is kept with the replies and the running tasks of its replay, and is changed by
+//! edits.
 #![tactic(auto)]
 
 mod checks;

@@ -4,13 +4,13 @@ ghost use Rattle.bench_types.specs.Step.{settings_of, step_check};
 ghost use Rattle.bench_model.specs.Control.{running};
 ghost use Rattle.bench_types.specs.Session.{IsSession};
 ghost use Rattle.bench_model.specs.Equal.{StandsFor};
-ghost use Rattle.bench_model.specs.Session.{behind, trace};
+ghost use Rattle.bench_model.specs.Session.{state_after, trace};
 ghost use Rattle.bench_types.specs.Reply.{shown};
 ghost use Rattle.bench_types.specs.Limits.{max_cores};
 ghost use Rattle.bench_model.specs.Start.{start};
 ghost use Rattle.bench_model.specs.Table.{Table};
 ghost use Rattle.smp_kernel.specs.Kernel.{StandsForSome};
-ghost use Rattle.session_store.specs.Counting.{counted, CountsUpTo};
+ghost use Rattle.session_store.specs.Counting.{meter_after, CountsUpTo};
 
 use bench_types::{Header, Reply, Row, Step};
 use smp_kernel::{Kernel, Meter};
@@ -55,16 +55,17 @@ pub(crate) fn copy_row(row: &Row) -> Row
 /// Makes the steps on the kernel.
 pub(crate) fn advance(kernel: &mut Kernel, steps: &[Step], meter: &mut Meter)
     requires { All (λ step. step_check kernel.old.settings step ≡ Ok tt) steps.now }
-    ensures state { (table : Table) → StandsFor kernel.old table → StandsFor kernel.new (behind table steps.now) }
+    ensures state { (table : Table) → StandsFor kernel.old table
+        → StandsFor kernel.new (state_after table steps.now) }
     ensures shape { kernel.new.settings ≡ kernel.old.settings }
-    ensures meter { meter.new ≡ counted (length steps.now) meter.old }
+    ensures meter { meter.new ≡ meter_after (length steps.now) meter.old }
 {
     for step in steps {
         kernel.step(meter, step);
     }
 }
 
-/// The replies that the kernel gives to the steps, each with the tasks that run behind it.
+/// The replies that the kernel gives to the steps, each with the tasks that run after it.
 fn outcomes_of(
     alloc: Global,
     kernel: &mut Kernel,
@@ -76,8 +77,10 @@ fn outcomes_of(
     requires cores { cores ≡ kernel.old.settings.cores }
     requires few { cores ≤ max_cores }
     requires steps { All (λ step. step_check kernel.old.settings step ≡ Ok tt) steps.now }
-    ensures outcomes { IfOk result (λ outcomes. (table : Table) → StandsFor kernel.old table → map shown outcomes.items ≡ trace table steps.now) }
-    ensures meter { OnOk result (meter.new ≡ counted (length steps.now) meter.old) }
+    ensures outcomes { IfOk result
+        (λ outcomes. (table : Table) → StandsFor kernel.old table
+        → map shown outcomes.items ≡ trace table steps.now) }
+    ensures meter { OnOk result (meter.new ≡ meter_after (length steps.now) meter.old) }
     ensures some { OnErr result (CountsUpTo (length steps.now) meter.old meter.new) }
 {
     let mut outcomes = Vec::with_capacity(alloc, steps.len())?;
@@ -96,8 +99,9 @@ fn outcomes_from_start(
     meter: &mut Meter,
 ) -> Result<Vec<(Reply, Row)>, AllocError>
     requires { IsSession (record { header = header.now; steps = steps.now }) }
-    ensures outcomes { IfOk result (λ outcomes. map shown outcomes.items ≡ trace (start header.now) steps.now) }
-    ensures meter { OnOk result (meter.new ≡ counted (length steps.now) meter.old) }
+    ensures outcomes { IfOk result
+        (λ outcomes. map shown outcomes.items ≡ trace (start header.now) steps.now) }
+    ensures meter { OnOk result (meter.new ≡ meter_after (length steps.now) meter.old) }
     ensures some { OnErr result (CountsUpTo (length steps.now) meter.old meter.new) }
 {
     let mut kernel = started(alloc, header)?;
@@ -114,8 +118,9 @@ pub(crate) fn replayed(
     requires { IsSession (record { header = header.now; steps = steps.now }) }
     ensures stands { IfOk result (λ kept. StandsFor kept.0 (start header.now)) }
     ensures shape { IfOk result (λ kept. kept.0.settings ≡ settings_of header.now) }
-    ensures outcomes { IfOk result (λ kept. map shown kept.1.items ≡ trace (start header.now) steps.now) }
-    ensures meter { OnOk result (meter.new ≡ counted (length steps.now) meter.old) }
+    ensures outcomes { IfOk result
+        (λ kept. map shown kept.1.items ≡ trace (start header.now) steps.now) }
+    ensures meter { OnOk result (meter.new ≡ meter_after (length steps.now) meter.old) }
     ensures some { OnErr result (CountsUpTo (length steps.now) meter.old meter.new) }
 {
     let kernel = started(alloc, header)?;

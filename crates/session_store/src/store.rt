@@ -8,7 +8,7 @@ ghost use Rattle.bench_types.specs.Session.{IsSession};
 ghost use Rattle.bench_model.specs.Equal.{StandsFor};
 ghost use Rattle.bench_model.specs.Session.{state_at, reply_at, running_at};
 ghost use Rattle.session_store.specs.declared.fault.Refused.{Refused as Refusal};
-ghost use Rattle.session_store.specs.Counting.{counted, CountsUpTo};
+ghost use Rattle.session_store.specs.Counting.{meter_after, CountsUpTo};
 ghost use Rattle.session_store.specs.Opening.{open_check, handed_back, no_memory};
 ghost use Rattle.session_store.specs.Outcomes.{answer, answers, all_replayed, replayed_for, whole_replay};
 ghost use Rattle.session_store.specs.StoreView.{opened, row_items, distance};
@@ -30,7 +30,7 @@ pub(crate) struct Segment {
     from: u32,
     kernel: Kernel,
     steps: Vec<Step>,
-    /// Each step's reply, and the tasks that run behind it.
+    /// Each step's reply, and the tasks that run after it.
     outcomes: Vec<(Reply, Row)>,
 }
 
@@ -60,9 +60,11 @@ impl Model for Store {
 }
 
 impl Store {
-    /// Replays the session from its start and keeps it. Every `span` steps are to have a checkpoint.
+    /// Replays the session from its start and keeps it. Every `span` steps are to have a
+    /// checkpoint.
     ///
-    /// A refusal gives the session back: F1, else J3, else J2, else the first fault of a step, with the step's index.
+    /// A refusal gives the session back: F1, else J3, else J2, else the first fault of a step, with
+    /// the step's index.
     pub fn open(
         alloc: Global,
         header: Header,
@@ -70,12 +72,16 @@ impl Store {
         span: u32,
         meter: &mut Meter,
     ) -> Result<Store, OpenFault>
-        ensures opened { IfOk result (λ store. store ≡ opened (record { header = header; steps = steps.items }) span) }
+        ensures opened { IfOk result
+            (λ store. store ≡ opened (record { header = header; steps = steps.items }) span) }
         ensures accepted { OnOk result (open_check header steps.items span ≡ Ok tt) }
-        ensures refused { (refusal : Refusal) → open_check header steps.items span ≡ Err refusal → result ≡ Err (handed_back header steps.items refusal) }
-        ensures no_memory { open_check header steps.items span ≡ Ok tt → IfErr result (λ fault. fault ≡ no_memory header steps.items) }
-        ensures meter { OnOk result (meter.new ≡ counted (length steps.items) meter.old) }
-        ensures uncounted { (refusal : Refusal) → open_check header steps.items span ≡ Err refusal → meter.new ≡ meter.old }
+        ensures refused { (refusal : Refusal) → open_check header steps.items span ≡ Err refusal
+            → result ≡ Err (handed_back header steps.items refusal) }
+        ensures no_memory { open_check header steps.items span ≡ Ok tt
+            → IfErr result (λ fault. fault ≡ no_memory header steps.items) }
+        ensures meter { OnOk result (meter.new ≡ meter_after (length steps.items) meter.old) }
+        ensures uncounted { (refusal : Refusal) → open_check header steps.items span ≡ Err refusal
+            → meter.new ≡ meter.old }
         ensures some { OnErr result (CountsUpTo (length steps.items) meter.old meter.new) }
     {
         if let Err(Refused { why, at }) = check_opening(&header, steps.as_slice(), span) {
@@ -108,40 +114,51 @@ impl Store {
 
     /// Makes an edit: the edited session is replayed beside the kept one, which it then replaces.
     ///
-    /// A refusal leaves the store as it was: F1 to F5 of [`Edit::check`], else J1, else J2, else want of memory.
+    /// A refusal leaves the store as it was: F1 to F5 of [`Edit::check`], else J1, else J2, else
+    /// want of memory.
     pub fn apply(
         &mut self,
         alloc: Global,
         edit: Edit,
         meter: &mut Meter,
     ) -> Result<Outcome, StoreFault>
-        ensures refused { (why : Why) → (result ≡ Err (StoreFault.Edit why)) ↔ (accepted self.old.session edit ≡ Err why) }
-        ensures session { OnOk result (self.new ≡ record self.old { session = edited edit self.old.session }) }
-        ensures outcome { IfOk result (λ outcome. outcome ≡ whole_replay (length (edited edit self.old.session).steps)) }
+        ensures refused { (why : Why)
+            → (result ≡ Err (StoreFault.Edit why)) ↔ (accepted self.old.session edit ≡ Err why) }
+        ensures session { OnOk result
+            (self.new ≡ record self.old { session = edited edit self.old.session }) }
+        ensures outcome { IfOk result
+            (λ outcome. outcome ≡ whole_replay (length (edited edit self.old.session).steps)) }
         ensures unchanged { OnErr result (self.new ≡ self.old) }
-        ensures meter { IfOk result (λ outcome. meter.new ≡ counted outcome.replayed meter.old) }
-        ensures uncounted { (why : Why) → result ≡ Err (StoreFault.Edit why) → meter.new ≡ meter.old }
-        ensures some { OnErr result (CountsUpTo (length (edited edit self.old.session).steps) meter.old meter.new) }
+        ensures meter { IfOk result
+            (λ outcome. meter.new ≡ meter_after outcome.replayed meter.old) }
+        ensures uncounted { (why : Why) → result ≡ Err (StoreFault.Edit why)
+            → meter.new ≡ meter.old }
+        ensures some { OnErr result
+            (CountsUpTo (length (edited edit self.old.session).steps) meter.old meter.new) }
     {
         *self = self.edited(alloc, edit, meter)?;
         Ok(Outcome::whole(self.len()))
     }
 
-    /// Makes edits one after another, each of the session that those before it left. An edit that is not accepted is
-    /// passed over.
+    /// Makes edits one after another, each of the session that those before it left. An edit that
+    /// is not accepted is passed over.
     ///
-    /// It answers for each edit what [`Store::apply`] would. Where memory is wanting, none of the edits was made.
+    /// It answers for each edit what [`Store::apply`] would. Where memory is wanting, none of the
+    /// edits was made.
     pub fn apply_all(
         &mut self,
         alloc: Global,
         edits: &[Edit],
         meter: &mut Meter,
     ) -> Result<Vec<Result<Outcome, EditFault>>, AllocError>
-        ensures session { OnOk result (self.new ≡ record self.old { session = after_edits self.old.session edits.now }) }
+        ensures session { OnOk result
+            (self.new ≡ record self.old { session = after_edits self.old.session edits.now }) }
         ensures answers { IfOk result (λ given. given.items ≡ answers self.old.session edits.now) }
         ensures unchanged { OnErr result (self.new ≡ self.old) }
-        ensures meter { OnOk result (meter.new ≡ counted (all_replayed self.old.session edits.now) meter.old) }
-        ensures some { OnErr result (CountsUpTo (all_replayed self.old.session edits.now) meter.old meter.new) }
+        ensures meter { OnOk result
+            (meter.new ≡ meter_after (all_replayed self.old.session edits.now) meter.old) }
+        ensures some { OnErr result
+            (CountsUpTo (all_replayed self.old.session edits.now) meter.old meter.new) }
     {
         let mut last = None;
         let given = self.edited_by_all(alloc, &mut last, edits, meter)?;
@@ -157,6 +174,7 @@ impl Store {
         self.segment.steps.len() as u32
     }
 
+    /// The settings and tasks of the session as it stands after all edits.
     pub fn header(&self) -> &Header
         ensures header { result.now ≡ self.now.session.header }
         ensures session { IsSession self.now.session }
@@ -164,6 +182,8 @@ impl Store {
         &self.header
     }
 
+    /// The step at index `i` of the session as it stands after all edits, the first at 0; `None`
+    /// past the last.
     pub fn step(&self, i: u32) -> Option<Step>
         ensures { result ≡ slice_get self.now.session.steps i }
     {
@@ -180,7 +200,8 @@ impl Store {
 
     /// The current tasks at the place, core 0 first.
     pub fn row(&self, place: u32) -> Option<Row>
-        ensures { option_map row_items result ≡ running_at self.now.session.header self.now.session.steps place }
+        ensures { option_map row_items result
+            ≡ running_at self.now.session.header self.now.session.steps place }
     {
         if place == 0 {
             return Some(row_of(&self.segment.kernel, self.header.config.cores));
@@ -197,20 +218,28 @@ impl Store {
         (k == 0).then_some(self.segment.from)
     }
 
-    /// A kernel that stands for the state at the place. It is replayed from the checkpoint before, which the meter
-    /// counts.
+    /// A kernel that stands for the state at the place. It is replayed from the checkpoint before,
+    /// which the meter counts.
     pub fn state(
         &self,
         alloc: Global,
         place: u32,
         meter: &mut Meter,
     ) -> Result<Option<Kernel>, AllocError>
-        ensures stands { IfOk result (λ found. IfSome found (λ kernel. StandsFor kernel (state_at self.now.session.header self.now.session.steps place))) }
-        ensures shape { IfOk result (λ found. IfSome found (λ kernel. kernel.settings ≡ settings_of self.now.session.header)) }
-        ensures within { place ≤ length self.now.session.steps → IfOk result (λ found. IsSome found) }
+        ensures stands { IfOk result
+            (λ found. IfSome found
+            (λ kernel. StandsFor kernel
+            (state_at self.now.session.header self.now.session.steps place))) }
+        ensures shape { IfOk result
+            (λ found. IfSome found
+            (λ kernel. kernel.settings ≡ settings_of self.now.session.header)) }
+        ensures within { place ≤ length self.now.session.steps
+            → IfOk result (λ found. IsSome found) }
         ensures past { length self.now.session.steps < place → result ≡ Ok None }
-        ensures meter { OnOk result (meter.new ≡ counted (distance self.now.session.steps place) meter.old) }
-        ensures some { OnErr result (CountsUpTo (distance self.now.session.steps place) meter.old meter.new) }
+        ensures meter { OnOk result
+            (meter.new ≡ meter_after (distance self.now.session.steps place) meter.old) }
+        ensures some { OnErr result
+            (CountsUpTo (distance self.now.session.steps place) meter.old meter.new) }
     {
         let steps = self.segment.steps.as_slice();
         if place as usize > steps.len() {
@@ -232,13 +261,19 @@ impl Store {
 
     // The store after the edit, beside this one.
     fn edited(&self, alloc: Global, edit: Edit, meter: &mut Meter) -> Result<Store, StoreFault>
-        ensures refused { (why : Why) → (result ≡ Err (StoreFault.Edit why)) ↔ (accepted self.now.session edit ≡ Err why) }
-        ensures session { IfOk result (λ next. next ≡ record self.now { session = edited edit self.now.session }) }
+        ensures refused { (why : Why)
+            → (result ≡ Err (StoreFault.Edit why)) ↔ (accepted self.now.session edit ≡ Err why) }
+        ensures session { IfOk result
+            (λ next. next ≡ record self.now { session = edited edit self.now.session }) }
         ensures taken { OnOk result (accepted self.now.session edit ≡ Ok tt) }
-        ensures wanting { result ≡ Err StoreFault.NoMemory → accepted self.now.session edit ≡ Ok tt }
-        ensures meter { OnOk result (meter.new ≡ counted (length (edited edit self.now.session).steps) meter.old) }
-        ensures uncounted { (why : Why) → result ≡ Err (StoreFault.Edit why) → meter.new ≡ meter.old }
-        ensures some { OnErr result (CountsUpTo (length (edited edit self.now.session).steps) meter.old meter.new) }
+        ensures wanting { result ≡ Err StoreFault.NoMemory
+            → accepted self.now.session edit ≡ Ok tt }
+        ensures meter { OnOk result
+            (meter.new ≡ meter_after (length (edited edit self.now.session).steps) meter.old) }
+        ensures uncounted { (why : Why) → result ≡ Err (StoreFault.Edit why)
+            → meter.new ≡ meter.old }
+        ensures some { OnErr result
+            (CountsUpTo (length (edited edit self.now.session).steps) meter.old meter.new) }
     {
         let kept = self.segment.steps.as_slice();
         check_edit(&self.header, kept, &edit)?;
@@ -258,8 +293,8 @@ impl Store {
         })
     }
 
-    // The answer to an edit of the store that was made last, or of this one where none was. What the edit makes is then
-    // the store made last.
+    // The answer to an edit of the store that was made last, or of this one where none was. What
+    // the edit makes is then the store made last.
     fn edited_last(
         &self,
         alloc: Global,
@@ -267,10 +302,20 @@ impl Store {
         edit: Edit,
         meter: &mut Meter,
     ) -> Result<Result<Outcome, EditFault>, AllocError>
-        ensures answer { IfOk result (λ given. given ≡ answer (unwrap_or last.old self.now).session edit) }
-        ensures session { OnOk result (let old = unwrap_or last.old self.now in unwrap_or last.new self.now ≡ record old { session = after_edit old.session edit }) }
-        ensures meter { OnOk result (meter.new ≡ counted (replayed_for (answer (unwrap_or last.old self.now).session edit)) meter.old) }
-        ensures some { OnErr result (CountsUpTo (replayed_for (answer (unwrap_or last.old self.now).session edit)) meter.old meter.new) }
+        ensures answer { IfOk result
+            (λ given. given ≡ answer (unwrap_or last.old self.now).session edit) }
+        ensures session { OnOk result
+            (let old
+            = unwrap_or last.old self.now in unwrap_or last.new self.now
+            ≡ record old { session = after_edit old.session edit }) }
+        ensures meter { OnOk result
+            (meter.new
+            ≡ meter_after
+            (replayed_for (answer (unwrap_or last.old self.now).session edit)) meter.old) }
+        ensures some { OnErr result
+            (CountsUpTo
+            (replayed_for (answer (unwrap_or last.old self.now).session edit)) meter.old
+            meter.new) }
     {
         let store = last.as_ref().unwrap_or(self);
         match store.edited(alloc, edit, meter) {
@@ -284,7 +329,8 @@ impl Store {
         }
     }
 
-    // The answers to the edits, the first of which is of the store that was made last, or of this one where none was.
+    // The answers to the edits, the first of which is of the store that was made last, or of this
+    // one where none was.
     fn edited_by_all(
         &self,
         alloc: Global,
@@ -292,10 +338,19 @@ impl Store {
         edits: &[Edit],
         meter: &mut Meter,
     ) -> Result<Vec<Result<Outcome, EditFault>>, AllocError>
-        ensures answers { IfOk result (λ given. given.items ≡ answers (unwrap_or last.old self.now).session edits.now) }
-        ensures session { OnOk result (let old = unwrap_or last.old self.now in unwrap_or last.new self.now ≡ record old { session = after_edits old.session edits.now }) }
-        ensures meter { OnOk result (meter.new ≡ counted (all_replayed (unwrap_or last.old self.now).session edits.now) meter.old) }
-        ensures some { OnErr result (CountsUpTo (all_replayed (unwrap_or last.old self.now).session edits.now) meter.old meter.new) }
+        ensures answers { IfOk result
+            (λ given. given.items ≡ answers (unwrap_or last.old self.now).session edits.now) }
+        ensures session { OnOk result
+            (let old
+            = unwrap_or last.old self.now in unwrap_or last.new self.now
+            ≡ record old { session = after_edits old.session edits.now }) }
+        ensures meter { OnOk result
+            (meter.new
+            ≡ meter_after
+            (all_replayed (unwrap_or last.old self.now).session edits.now) meter.old) }
+        ensures some { OnErr result
+            (CountsUpTo
+            (all_replayed (unwrap_or last.old self.now).session edits.now) meter.old meter.new) }
     {
         let mut given = Vec::with_capacity(alloc, edits.len())?;
         for edit in edits {

@@ -1,4 +1,4 @@
--- Lists behind references, and the members of an object, as the definitions see them.
+-- Lists at references, and the members of an object, as the definitions see them.
 use Rattle.std.proofs.Common.{◌≡◌, ℕ, Bool, not, ◌||◌, ◌&&◌, List, [], ◌∷◌, map, bytes_eq, ap, refl}
 use Rattle.std.specs.Prelude.{String, string_bytes}
 use Rattle.std.specs.declared.alloc.Global.{Global}

@@ -12,7 +12,8 @@ item_accepted at (Ok done) = Ok done
 item_accepted at (Err fault) = Err (record { why = Bench fault; path = path_text at })
 
 -- the first fault of the items from an index on of the array at a place
-abbrev pub items_accepted : {A : Type 0} → (A → Result ⊤ Fault) → List ℕ → ℕ → List A → Result ⊤ TextFault
+abbrev pub items_accepted :
+    {A : Type 0} → (A → Result ⊤ Fault) → List ℕ → ℕ → List A → Result ⊤ TextFault
 items_accepted fault_of at index [] = Ok tt
 items_accepted fault_of at index (item ∷ rest) = do
   done ← item_accepted (item_path at index) (fault_of item)

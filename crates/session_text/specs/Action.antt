@@ -20,7 +20,8 @@ action_kinds =
     (codes "set_new", SetNew) ∷ []
 
 abbrev pub action_kind_of : List ℕ → Option ActionKind
-action_kind_of word = option_map (λ entry. entry.1) (find (λ entry. bytes_eq word entry.0) action_kinds)
+action_kind_of word =
+    option_map (λ entry. entry.1) (find (λ entry. bytes_eq word entry.0) action_kinds)
 
 unfoldable pub action_kind_at : List ℕ → Data → Result ActionKind TextFault
 action_kind_at at d = do

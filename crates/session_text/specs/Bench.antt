@@ -29,9 +29,10 @@ unedited_at at d = do
   held ← session_accepted at read.0 read.1
   Ok (record { header = held.0; steps = held.1; edits = [] })
 
--- the header, accepted or not, of the session that was found as the member `session`, its steps, and the edits; shapes
--- alone are judged
-unfoldable pub shapes_at : List ℕ → Data → Data → Result (Result Header Fault × List Step × List Edit) TextFault
+-- the header, accepted or not, of the session that was found as the member `session`, its steps,
+-- and the edits; shapes alone are judged
+unfoldable pub shapes_at :
+    List ℕ → Data → Data → Result (Result Header Fault × List Step × List Edit) TextFault
 shapes_at at d inner = do
   members ← object_at at d
   read ← session_at (member_path at (codes "session")) inner
@@ -41,10 +42,12 @@ shapes_at at d inner = do
 
 -- the first fault of the edits
 unfoldable pub edits_accepted : Header → List ℕ → List Edit → Result ⊤ TextFault
-edits_accepted header at edits = items_accepted (edit_check header) (member_path at (codes "edits")) 0 edits
+edits_accepted header at edits =
+    items_accepted (edit_check header) (member_path at (codes "edits")) 0 edits
 
 -- the faults of the session come before those of the edits
-unfoldable pub bench_accepted : List ℕ → Result Header Fault → List Step → List Edit → Result Bench TextFault
+unfoldable pub bench_accepted :
+    List ℕ → Result Header Fault → List Step → List Edit → Result Bench TextFault
 bench_accepted at header steps edits = do
   held ← session_accepted (member_path at (codes "session")) header steps
   done ← edits_accepted held.0 at edits

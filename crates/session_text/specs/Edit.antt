@@ -19,7 +19,9 @@ use Rattle.session_text.specs.Step.{step_at, task_named_at}
 
 -- the words of `edit`
 abbrev pub edit_kinds : List (List ℕ × EditKind)
-edit_kinds = (codes "insert", Insert) ∷ (codes "remove", Remove) ∷ (codes "replace", Replace) ∷ (codes "change", Change) ∷ []
+edit_kinds =
+    (codes "insert", Insert) ∷ (codes "remove", Remove) ∷ (codes "replace", Replace)
+    ∷ (codes "change", Change) ∷ []
 
 abbrev pub edit_kind_of : List ℕ → Option EditKind
 edit_kind_of word = option_map (λ entry. entry.1) (find (λ entry. bytes_eq word entry.0) edit_kinds)

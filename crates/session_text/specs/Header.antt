@@ -21,7 +21,8 @@ config_at at d = do
   slicing ← flag_at at (codes "slicing") d
   tick ← number_at at (codes "tick") d
   mutexes ← number_at at (codes "mutexes") d
-  Ok (record { cores = cores; priorities = priorities; slicing = slicing; tick = tick; mutexes = mutexes })
+  Ok (record
+      { cores = cores; priorities = priorities; slicing = slicing; tick = tick; mutexes = mutexes })
 
 abbrev pub task_members : List (List ℕ)
 task_members = codes "name" ∷ codes "priority" ∷ codes "mask" ∷ []
@@ -42,7 +43,9 @@ named task = if is_name task.name then Ok task else Err BadHeader
 
 -- F1 where a name is none, or where the header is outside its limits
 abbrev pub accepted : Header → Result Header Fault
-accepted header = if list_all (λ task. is_name task.name) header.tasks && is_header header then Ok header else Err BadHeader
+accepted header =
+    if list_all (λ task. is_name task.name) header.tasks && is_header header then Ok header
+    else Err BadHeader
 
 -- the header, accepted or not: its shape alone is judged
 unfoldable pub header_at : List ℕ → Data → Result (Result Header Fault) TextFault

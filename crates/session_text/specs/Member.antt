@@ -1,4 +1,5 @@
--- Objects and their members: each reading takes the place of the object, the name of the member and the value there.
+-- Objects and their members: each reading takes the place of the object, the name of the member and
+-- the value there.
 use Rattle.std.specs.Prelude.{ℕ, ◌^◌, ◌&&◌, List, Bool, true, bytes_eq, nat_lt, Option, Some, None, option_and_then, Result, Ok, Err, if◌then◌else◌, ⊤}
 use Rattle.std.specs.List.{list_any}
 use Rattle.serde_json.specs.Data.{Data, Items, Members, no_members, member}
@@ -17,7 +18,9 @@ member_at at name d = found (get name d) (member_path at name)
 
 -- a whole number from 0 to 4294967295, written without fraction or exponent
 abbrev pub as_u32 : Data → Option ℕ
-as_u32 d = option_and_then (λ n. if nat_lt n (2 ^ 32) then Some n else None) (option_and_then as_u64 (as_number d))
+as_u32 d =
+    option_and_then (λ n. if nat_lt n (2 ^ 32) then Some n else None)
+    (option_and_then as_u64 (as_number d))
 
 unfoldable pub number_at : List ℕ → List ℕ → Data → Result ℕ TextFault
 number_at at name d = do

@@ -1,4 +1,5 @@
--- The numbers that names stand for: user tasks are numbered from the number of cores on, in the order of the header.
+-- The numbers that names stand for: user tasks are numbered from the number of cores on, in the
+-- order of the header.
 use Rattle.std.specs.Prelude.{ℕ, ◌+◌, List, [], map, position, bytes_eq, Option, Some, None, Result, Ok, Err}
 use Rattle.bench_types.specs.declared.fault.Fault.{Fault}
 use Rattle.bench_types.specs.declared.header.Header.{Header}
@@ -9,13 +10,15 @@ pub record TaskNames : Type 0 where
   pub names : List (List ℕ)
 
 abbrev pub names_of : Header → TaskNames
-names_of header = record { cores = header.config.cores; names = map (λ task. task.name) header.tasks }
+names_of header =
+    record { cores = header.config.cores; names = map (λ task. task.name) header.tasks }
 
 -- no user task has a name
 abbrev pub no_names : TaskNames
 no_names = record { cores = 0; names = [] }
 
--- the names that the steps may use; under a header that is refused, no number of theirs is ever looked at
+-- the names that the steps may use; under a header that is refused, no number of theirs is ever
+-- looked at
 abbrev pub known_names : Result Header Fault → TaskNames
 known_names (Ok header) = names_of header
 known_names (Err fault) = no_names

@@ -2,12 +2,13 @@
 use Rattle.std.specs.Prelude.{◌≡◌, ℕ, List, [], Option, Some, None, Result, Ok, Err}
 use Rattle.session_text.specs.declared.fault.Why.TheVariants.{BadShape, NoMemory}
 use Rattle.session_text.specs.declared.fault.TextFault.{TextFault}
-use Rattle.session_text.specs.declared.fault.Stop.{Stop}
-use Rattle.session_text.specs.declared.fault.Stop.TheVariants.{Memory, Fault}
+use Rattle.session_text.specs.declared.fault.ReadFault.{ReadFault}
+use Rattle.session_text.specs.declared.fault.ReadFault.TheVariants.{Memory, Fault}
 use Rattle.session_text.specs.Path.{path_text}
 
 infixl 10 ◌>>=◌
-abbrev pub ◌>>=◌ : {A B : Type 0} → Result A TextFault → (A → Result B TextFault) → Result B TextFault
+abbrev pub ◌>>=◌ : {A B : Type 0} → Result A TextFault → (A → Result B TextFault)
+    → Result B TextFault
 Ok x >>= next = next x
 Err fault >>= next = Err fault
 
@@ -21,21 +22,21 @@ found (Some x) at = Ok x
 found None at = Err (bad_shape at)
 
 -- A reading stops at this fault, unless memory runs out before.
-abbrev pub StopsAt : TextFault → Stop → Type 0
+abbrev pub StopsAt : TextFault → ReadFault → Type 0
 StopsAt fault Memory = Unit {0}
 StopsAt fault (Fault first) = first ≡ fault
 
 -- A reading ends in this way, unless memory runs out before.
-abbrev pub Ends : {A : Type 0} → Stop → Result A TextFault → Type 0
+abbrev pub Ends : {A : Type 0} → ReadFault → Result A TextFault → Type 0
 Ends Memory reading = Unit {0}
 Ends (Fault fault) reading = reading ≡ Err fault
 
 -- A function returned what the reading gives, unless memory ran out. Its value is seen by `view`.
-abbrev pub Gives : {A B : Type 0} → (A → B) → Result A Stop → Result B TextFault → Type 0
+abbrev pub Gives : {A B : Type 0} → (A → B) → Result A ReadFault → Result B TextFault → Type 0
 Gives view (Ok x) reading = reading ≡ Ok (view x)
 Gives view (Err stop) reading = Ends stop reading
 
 -- what a caller is told of it
-abbrev pub told : Stop → TextFault
+abbrev pub told : ReadFault → TextFault
 told Memory = record { why = NoMemory; path = [] }
 told (Fault fault) = fault

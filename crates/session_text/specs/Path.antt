@@ -1,4 +1,5 @@
--- The place of a value in a document, as the text that a fault carries. The top has the empty text until it is carried.
+-- The place of a value in a document, as the text that a fault carries. The top has the empty text
+-- until it is carried.
 use Rattle.std.specs.Prelude.{ℕ, List, [], ◌∷◌, ◌++◌, Option, Some, None, String, string_bytes, decimal, codes}
 use Rattle.std.specs.declared.alloc.Global.{Global}
 use Rattle.session_text.specs.declared.path.Place.{Place, fold-Place}

@@ -33,7 +33,9 @@ format_at at d = do
   if format == 1 then Ok tt else Err (bad_shape (member_path at (codes "format")))
 
 abbrev pub session_members : List (List ℕ)
-session_members = codes "format" ∷ codes "cores" ∷ codes "priorities" ∷ codes "slicing" ∷ codes "tick" ∷ codes "mutexes" ∷ codes "tasks" ∷ codes "steps" ∷ []
+session_members =
+    codes "format" ∷ codes "cores" ∷ codes "priorities" ∷ codes "slicing" ∷ codes "tick"
+    ∷ codes "mutexes" ∷ codes "tasks" ∷ codes "steps" ∷ []
 
 -- the header, accepted or not, and the steps; shapes alone are judged
 unfoldable pub session_at : List ℕ → Data → Result (Result Header Fault × List Step) TextFault
@@ -50,7 +52,8 @@ abbrev pub step_fault : Header → Step → Result ⊤ Fault
 step_fault header step = step_check (settings_of header) step
 
 -- F1 of the header has no place
-unfoldable pub session_accepted : List ℕ → Result Header Fault → List Step → Result (Header × List Step) TextFault
+unfoldable pub session_accepted :
+    List ℕ → Result Header Fault → List Step → Result (Header × List Step) TextFault
 session_accepted at (Err fault) steps = Err (record { why = Bench fault; path = [] })
 session_accepted at (Ok header) steps = do
   done ← items_accepted (step_fault header) (member_path at (codes "steps")) 0 steps
@@ -66,4 +69,5 @@ session text = do
 -- What a call answers: what the reading gives, or that memory ran out.
 abbrev pub Answers : {A B : Type 0} → (A → B) → Result A TextFault → Result B TextFault → Type 0
 Answers view (Ok x) reading = reading ≡ Ok (view x)
-Answers view (Err fault) reading = (reading ≡ Err fault) ⊎ (fault ≡ record { why = NoMemory; path = [] })
+Answers view (Err fault) reading =
+    (reading ≡ Err fault) ⊎ (fault ≡ record { why = NoMemory; path = [] })

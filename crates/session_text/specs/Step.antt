@@ -81,7 +81,8 @@ abbrev pub members_of : Step → List (List ℕ)
 members_of step.Tick = codes "do" ∷ []
 members_of (step.Switch core) = codes "do" ∷ codes "core" ∷ []
 members_of (step.Call core task made) = members_of_call made
-members_of (step.Interrupt core note) = codes "do" ∷ codes "core" ∷ note_members (action_number note.action)
+members_of (step.Interrupt core note) =
+    codes "do" ∷ codes "core" ∷ note_members (action_number note.action)
 
 -- the number of the task that a member names
 unfoldable pub task_named_at : TaskNames → List ℕ → List ℕ → Data → Result ℕ TextFault

@@ -3,7 +3,7 @@ ghost use Rattle.session_text.specs.Accepted.{item_accepted, items_accepted};
 ghost use Rattle.session_text.specs.Outcome.{Gives};
 ghost use Rattle.session_text.specs.Path.{path_of};
 
-use crate::fault::{Stop, Why};
+use crate::fault::{ReadFault, Why};
 use crate::path::Place;
 use bench_types::{Edit, Fault, Header, Step};
 use std::alloc::Global;
@@ -54,14 +54,14 @@ pub(crate) fn item_accepted<T: Judged>(
     header: &Header,
     place: &Place<'_>,
     item: &T,
-) -> Result<(), Stop>
+) -> Result<(), ReadFault>
     ensures reading { Gives (λ done. done) result
         (item_accepted (path_of place.now) (T.fault_of header.now item.now)) }
     ensures checked { OnOk result (T.IsChecked header.now item.now) }
 {
     match item.judge(header) {
         Ok(()) => Ok(()),
-        Err(fault) => Err(Stop::at(alloc, place, Why::Bench(fault))),
+        Err(fault) => Err(ReadFault::at(alloc, place, Why::Bench(fault))),
     }
 }
 
@@ -71,7 +71,7 @@ pub(crate) fn items_accepted<T: Judged>(
     header: &Header,
     place: &Place<'_>,
     items: &[T],
-) -> Result<(), Stop>
+) -> Result<(), ReadFault>
     ensures reading { Gives (λ done. done) result
         (items_accepted (T.fault_of header.now) (path_of place.now) 0 items.now) }
     ensures checked { OnOk result (All (T.IsChecked header.now) items.now) }

@@ -4,7 +4,7 @@ ghost use Rattle.session_text.specs.Action.{action_at, action_kind_at, action_ki
 ghost use Rattle.session_text.specs.Node.{data_of, place_of};
 ghost use Rattle.session_text.specs.Outcome.{Gives};
 
-use crate::fault::Stop;
+use crate::fault::ReadFault;
 use crate::node::Node;
 use bench_types::Action;
 
@@ -19,7 +19,7 @@ pub(crate) enum ActionKind {
 }
 
 #[tactic(auto, unfolding(crate::specs::Action::action_kind_at))]
-fn action_kind_at(node: &Node<'_, '_>) -> Result<ActionKind, Stop>
+fn action_kind_at(node: &Node<'_, '_>) -> Result<ActionKind, ReadFault>
     ensures { Gives (λ kind. kind) result
         (action_kind_at (place_of node.now) (data_of node.now)) }
 {
@@ -42,7 +42,7 @@ impl ActionKind {
 }
 
 #[tactic(auto, unfolding(crate::specs::Action::action_of_kind_at))]
-fn action_of_kind_at(kind: ActionKind, node: &Node<'_, '_>) -> Result<Action, Stop>
+fn action_of_kind_at(kind: ActionKind, node: &Node<'_, '_>) -> Result<Action, ReadFault>
     ensures { Gives (λ action. action) result
         (action_of_kind_at kind (place_of node.now) (data_of node.now)) }
 {
@@ -57,7 +57,7 @@ fn action_of_kind_at(kind: ActionKind, node: &Node<'_, '_>) -> Result<Action, St
 
 /// What a notification does to its task's value.
 #[tactic(auto, unfolding(crate::specs::Action::action_at))]
-pub(crate) fn action_at(node: &Node<'_, '_>) -> Result<Action, Stop>
+pub(crate) fn action_at(node: &Node<'_, '_>) -> Result<Action, ReadFault>
     ensures { Gives (λ action. action) result
         (action_at (place_of node.now) (data_of node.now)) }
 {

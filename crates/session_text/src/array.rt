@@ -5,7 +5,7 @@ ghost use Rattle.session_text.specs.Node.{data_of, place_of};
 ghost use Rattle.session_text.specs.Outcome.{Gives};
 ghost use Rattle.session_text.specs.Path.{path_of};
 
-use crate::fault::Stop;
+use crate::fault::ReadFault;
 use crate::node::Node;
 use crate::path::Place;
 use serde_json::Value;
@@ -23,7 +23,7 @@ pub(crate) trait ReadItem<'v> {
 
     ghost reading: { Self → List ℕ → Data → Result Self.Item TextFault };
 
-    fn read(&self, node: &Node<'_, 'v>) -> Result<Self::Item, Stop>
+    fn read(&self, node: &Node<'_, 'v>) -> Result<Self::Item, ReadFault>
         ensures { Gives (λ item. item) result
             (reading self.now (place_of node.now) (data_of node.now)) };
 }
@@ -34,7 +34,7 @@ fn each<'v, R: ReadItem<'v>>(
     reader: &R,
     place: &Place<'_>,
     values: &'v Vec<Value>,
-) -> Result<Vec<R::Item>, Stop>
+) -> Result<Vec<R::Item>, ReadFault>
     ensures { Gives (λ items. items.items) result
         (each_at (R.reading reader.now) (path_of place.now) 0 (items_view values.now.items)) }
 {
@@ -56,7 +56,7 @@ pub(crate) fn list_at<'v, R: ReadItem<'v>>(
     reader: &R,
     node: &Node<'_, 'v>,
     name: &str,
-) -> Result<Vec<R::Item>, Stop>
+) -> Result<Vec<R::Item>, ReadFault>
     ensures { Gives (λ items. items.items) result
         (list_at (R.reading reader.now) (place_of node.now) name.now (data_of node.now)) }
 {

@@ -11,8 +11,8 @@ ghost use Rattle.session_text.specs.Session.{Answers};
 
 use crate::accepted::items_accepted;
 use crate::array::list_at;
-use crate::edit::Edits;
-use crate::fault::{Stop, TextFault};
+use crate::edit::EditReader;
+use crate::fault::{ReadFault, TextFault};
 use crate::node::Node;
 use crate::path::Place;
 use crate::session::{document, known_names, session_accepted, session_at};
@@ -28,7 +28,8 @@ pub struct Bench {
     pub edits: Items<Edit>,
 }
 
-/// Reads a bench document from a JSON text: an object with `session` and `edits`, or a session alone.
+/// Reads a bench document from a JSON text: an object with `session` and `edits`, or a session
+/// alone.
 ///
 /// Whether a session has the places of its edits is not looked at.
 pub fn read_bench(alloc: Global, text: &[u8]) -> Result<Bench, TextFault>
@@ -41,7 +42,7 @@ pub fn read_bench(alloc: Global, text: &[u8]) -> Result<Bench, TextFault>
 }
 
 #[tactic(auto, unfolding(crate::specs::Bench::bench_text))]
-fn bench_text(alloc: Global, text: &[u8]) -> Result<Bench, Stop>
+fn bench_text(alloc: Global, text: &[u8]) -> Result<Bench, ReadFault>
     ensures reading { Gives (λ bench. bench) result (bench_text text.now) }
     ensures checked { IfOk result IsCheckedBench }
 {
@@ -53,8 +54,9 @@ fn bench_text(alloc: Global, text: &[u8]) -> Result<Bench, Stop>
     })
 }
 
-fn bench_at(node: &Node<'_, '_>) -> Result<Bench, Stop>
-    ensures reading { Gives (λ bench. bench) result (bench_at (place_of node.now) (data_of node.now)) }
+fn bench_at(node: &Node<'_, '_>) -> Result<Bench, ReadFault>
+    ensures reading { Gives (λ bench. bench) result
+        (bench_at (place_of node.now) (data_of node.now)) }
     ensures checked { IfOk result IsCheckedBench }
 {
     match node.value.get("session") {
@@ -65,7 +67,7 @@ fn bench_at(node: &Node<'_, '_>) -> Result<Bench, Stop>
 
 /// The session with no edits.
 #[tactic(auto, unfolding(crate::specs::Bench::unedited_at))]
-fn unedited_at(node: &Node<'_, '_>) -> Result<Bench, Stop>
+fn unedited_at(node: &Node<'_, '_>) -> Result<Bench, ReadFault>
     ensures reading { Gives (λ bench. bench) result
         (unedited_at (place_of node.now) (data_of node.now)) }
     ensures checked { IfOk result IsCheckedBench }
@@ -81,7 +83,7 @@ fn unedited_at(node: &Node<'_, '_>) -> Result<Bench, Stop>
 
 /// The session, which was found as the member `session`, and its edits.
 #[tactic(auto, unfolding(crate::specs::Bench::edited_at))]
-fn edited_at(node: &Node<'_, '_>, session: &Value) -> Result<Bench, Stop>
+fn edited_at(node: &Node<'_, '_>, session: &Value) -> Result<Bench, ReadFault>
     ensures reading { Gives (λ bench. bench) result
         (edited_at (place_of node.now) (data_of node.now) (view session.now)) }
     ensures checked { IfOk result IsCheckedBench }
@@ -95,7 +97,7 @@ fn edited_at(node: &Node<'_, '_>, session: &Value) -> Result<Bench, Stop>
 fn shapes_at(
     node: &Node<'_, '_>,
     session: &Value,
-) -> Result<(Result<Header, Fault>, Vec<Step>, Vec<Edit>), Stop>
+) -> Result<(Result<Header, Fault>, Vec<Step>, Vec<Edit>), ReadFault>
     ensures reading { Gives (λ read. (read.0, read.1.items, read.2.items)) result
         (shapes_at (place_of node.now) (data_of node.now) (view session.now)) }
     ensures valid { IfOk result (λ read. IfOk read.0 IsCheckedHeader) }
@@ -107,7 +109,7 @@ fn shapes_at(
         value: session,
     })?;
     let names = known_names(node.alloc, &header)?;
-    let edits = list_at(&Edits { names: &names }, node, "edits")?;
+    let edits = list_at(&EditReader { names: &names }, node, "edits")?;
     drop(names);
     node.only(&["session", "edits"], members)?;
     Ok((header, steps, edits))
@@ -121,7 +123,7 @@ fn bench_accepted(
     header: Result<Header, Fault>,
     steps: Vec<Step>,
     edits: Vec<Edit>,
-) -> Result<Bench, Stop>
+) -> Result<Bench, ReadFault>
     requires { ForOk header IsCheckedHeader }
     ensures reading { Gives (λ bench. bench) result
         (bench_accepted (path_of place.now) header steps.items edits.items) }
@@ -143,7 +145,7 @@ fn edits_accepted(
     place: &Place<'_>,
     header: &Header,
     edits: &[Edit],
-) -> Result<(), Stop>
+) -> Result<(), ReadFault>
     ensures reading { Gives (λ done. done) result
         (edits_accepted header.now (path_of place.now) edits.now) }
     ensures checked { OnOk result (All (IsCheckedEdit header.now) edits.now) }

@@ -4,7 +4,7 @@ ghost use Rattle.session_text.specs.Outcome.{Gives};
 ghost use Rattle.session_text.specs.Step.{call_at, members_of_call, note_at, wait_at};
 
 use crate::action::{action_at, action_number};
-use crate::fault::Stop;
+use crate::fault::ReadFault;
 use crate::names::Names;
 use crate::node::Node;
 use bench_types::{Call, Note};
@@ -33,7 +33,7 @@ pub(crate) enum CallKind {
 
 /// The notification of a call or of an interrupt.
 #[tactic(auto, unfolding(crate::specs::Step::note_at))]
-pub(crate) fn note_at(names: &Names<'_>, node: &Node<'_, '_>) -> Result<Note, Stop>
+pub(crate) fn note_at(names: &Names<'_>, node: &Node<'_, '_>) -> Result<Note, ReadFault>
     ensures { Gives (λ note. note) result
         (note_at names.now (place_of node.now) (data_of node.now)) }
 {
@@ -44,7 +44,7 @@ pub(crate) fn note_at(names: &Names<'_>, node: &Node<'_, '_>) -> Result<Note, St
 }
 
 #[tactic(auto, unfolding(crate::specs::Step::wait_at))]
-fn wait_at(node: &Node<'_, '_>) -> Result<Call, Stop>
+fn wait_at(node: &Node<'_, '_>) -> Result<Call, ReadFault>
     ensures { Gives (λ call. call) result (wait_at (place_of node.now) (data_of node.now)) }
 {
     Ok(Call::NotifyWait {
@@ -55,7 +55,11 @@ fn wait_at(node: &Node<'_, '_>) -> Result<Call, Stop>
 }
 
 #[tactic(auto, unfolding(crate::specs::Step::call_at))]
-pub(crate) fn call_at(names: &Names<'_>, kind: CallKind, node: &Node<'_, '_>) -> Result<Call, Stop>
+pub(crate) fn call_at(
+    names: &Names<'_>,
+    kind: CallKind,
+    node: &Node<'_, '_>,
+) -> Result<Call, ReadFault>
     ensures { Gives (λ call. call) result
         (call_at names.now kind (place_of node.now) (data_of node.now)) }
 {

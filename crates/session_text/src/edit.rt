@@ -8,11 +8,12 @@ ghost use Rattle.session_text.specs.Session.{Answers};
 
 use crate::accepted::item_accepted;
 use crate::array::ReadItem;
-use crate::fault::{Stop, TextFault};
+use crate::fault::{ReadFault, TextFault};
 use crate::names::Names;
 use crate::node::Node;
 use crate::path::Place;
 use crate::session::document;
+use crate::step::StepReader;
 use bench_types::{Edit, Header, Step};
 use std::alloc::Global;
 
@@ -30,14 +31,14 @@ pub fn read_edit(alloc: Global, text: &[u8], header: &Header) -> Result<Edit, Te
 }
 
 #[tactic(auto, unfolding(crate::specs::Edit::edit_text))]
-fn edit_text(alloc: Global, text: &[u8], header: &Header) -> Result<Edit, Stop>
+fn edit_text(alloc: Global, text: &[u8], header: &Header) -> Result<Edit, ReadFault>
     requires { header_check header.now ≡ Ok tt }
     ensures reading { Gives (λ edit. edit) result (edit_text header.now text.now) }
     ensures checked { IfOk result (IsCheckedEdit header.now) }
 {
     let value = document(alloc, text)?;
     let names = Names::of(alloc, header)?;
-    let edit = Edits { names: &names }.read(&Node {
+    let edit = EditReader { names: &names }.read(&Node {
         alloc,
         place: &Place::Top,
         value: &value,
@@ -81,7 +82,7 @@ impl EditKind {
 }
 
 #[tactic(auto, unfolding(crate::specs::Edit::edit_kind_at))]
-fn edit_kind_at(node: &Node<'_, '_>) -> Result<EditKind, Stop>
+fn edit_kind_at(node: &Node<'_, '_>) -> Result<EditKind, ReadFault>
     ensures { Gives (λ kind. kind) result (edit_kind_at (place_of node.now) (data_of node.now)) }
 {
     node.found("edit", EditKind::of(node.text("edit")?))
@@ -89,12 +90,12 @@ fn edit_kind_at(node: &Node<'_, '_>) -> Result<EditKind, Stop>
 
 /// The step that the edit brings.
 #[tactic(auto, unfolding(crate::specs::Edit::new_step_at))]
-fn new_step_at(names: &Names<'_>, node: &Node<'_, '_>) -> Result<Step, Stop>
+fn new_step_at(names: &Names<'_>, node: &Node<'_, '_>) -> Result<Step, ReadFault>
     ensures { Gives (λ step. step) result
         (new_step_at names.now (place_of node.now) (data_of node.now)) }
 {
     let step = node.member("step")?;
-    names.read(&Node {
+    StepReader { names }.read(&Node {
         alloc: node.alloc,
         place: &Place::Member(node.place, "step"),
         value: step,
@@ -102,7 +103,11 @@ fn new_step_at(names: &Names<'_>, node: &Node<'_, '_>) -> Result<Step, Stop>
 }
 
 #[tactic(auto, unfolding(crate::specs::Edit::edit_of_kind_at))]
-fn edit_of_kind_at(names: &Names<'_>, kind: EditKind, node: &Node<'_, '_>) -> Result<Edit, Stop>
+fn edit_of_kind_at(
+    names: &Names<'_>,
+    kind: EditKind,
+    node: &Node<'_, '_>,
+) -> Result<Edit, ReadFault>
     ensures { Gives (λ edit. edit) result
         (edit_of_kind_at names.now kind (place_of node.now) (data_of node.now)) }
 {
@@ -128,11 +133,11 @@ fn edit_of_kind_at(names: &Names<'_>, kind: EditKind, node: &Node<'_, '_>) -> Re
 
 /// Reads edits, under the names of the tasks.
 #[derive(Clone, Copy)]
-pub(crate) struct Edits<'n, 'a> {
+pub(crate) struct EditReader<'n, 'a> {
     pub(crate) names: &'n Names<'a>,
 }
 
-impl<'v> ReadItem<'v> for Edits<'_, '_> {
+impl<'v> ReadItem<'v> for EditReader<'_, '_> {
     type Item = Edit;
 
     ghost use Rattle.session_text.specs.Edit.{edit_at};
@@ -140,7 +145,7 @@ impl<'v> ReadItem<'v> for Edits<'_, '_> {
     ghost reading = { λ edits. edit_at edits.names.now };
 
     #[tactic(auto, unfolding(crate::specs::Edit::edit_at))]
-    fn read(&self, node: &Node<'_, 'v>) -> Result<Edit, Stop> {
+    fn read(&self, node: &Node<'_, 'v>) -> Result<Edit, ReadFault> {
         let members = node.object()?;
         let kind = edit_kind_at(node)?;
         let edit = edit_of_kind_at(self.names, kind, node)?;

@@ -1,5 +1,5 @@
 ghost use Rattle.std.specs.Prelude.{◌≡◌};
-ghost use Rattle.session_text.specs.declared.fault.Stop.TheVariants.{Memory};
+ghost use Rattle.session_text.specs.declared.fault.ReadFault.TheVariants.{Memory};
 ghost use Rattle.session_text.specs.Outcome.{told, StopsAt};
 ghost use Rattle.session_text.specs.Path.{path_of, path_text};
 
@@ -48,49 +48,49 @@ impl StdError for TextFault {}
 
 /// What ends a reading early.
 #[derive(Debug, Drop)]
-pub(crate) enum Stop {
+pub(crate) enum ReadFault {
     Memory,
     Fault(TextFault),
 }
 
-impl Stop {
+impl ReadFault {
     /// The fault at the place, or that no memory is left for its path.
-    pub(crate) fn at(alloc: Global, place: &Place<'_>, why: Why) -> Stop
+    pub(crate) fn at(alloc: Global, place: &Place<'_>, why: Why) -> ReadFault
         ensures { StopsAt (record { why = why; path = path_text (path_of place.now) }) result }
     {
         match place.to_path(alloc) {
-            Ok(path) => Stop::Fault(TextFault { why, path }),
-            Err(_) => Stop::Memory,
+            Ok(path) => ReadFault::Fault(TextFault { why, path }),
+            Err(_) => ReadFault::Memory,
         }
     }
 }
 
-impl From<Stop> for TextFault {
+impl From<ReadFault> for TextFault {
     ghost from_gives = { λ stop fault. fault ≡ told stop };
 
-    fn from(stop: Stop) -> TextFault {
+    fn from(stop: ReadFault) -> TextFault {
         match stop {
-            Stop::Memory => TextFault {
+            ReadFault::Memory => TextFault {
                 why: Why::NoMemory,
                 path: Path::empty(),
             },
-            Stop::Fault(fault) => fault,
+            ReadFault::Fault(fault) => fault,
         }
     }
 }
 
-impl From<AllocError> for Stop {
+impl From<AllocError> for ReadFault {
     ghost from_gives = { λ _ stop. stop ≡ Memory };
 
-    fn from(_refused: AllocError) -> Stop {
-        Stop::Memory
+    fn from(_refused: AllocError) -> ReadFault {
+        ReadFault::Memory
     }
 }
 
-impl<T: Drop> From<AllocFailed<T>> for Stop {
+impl<T: Drop> From<AllocFailed<T>> for ReadFault {
     ghost from_gives = { λ _ stop. stop ≡ Memory };
 
-    fn from(_refused: AllocFailed<T>) -> Stop {
-        Stop::Memory
+    fn from(_refused: AllocFailed<T>) -> ReadFault {
+        ReadFault::Memory
     }
 }

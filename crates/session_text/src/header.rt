@@ -5,7 +5,7 @@ ghost use Rattle.session_text.specs.Node.{data_of, place_of};
 ghost use Rattle.session_text.specs.Outcome.{Gives};
 
 use crate::array::{ReadItem, list_at};
-use crate::fault::Stop;
+use crate::fault::ReadFault;
 use crate::node::Node;
 use bench_types::{Config, Fault, Header, Items, Name, TaskArgs};
 use std::alloc::{AllocError, Global};
@@ -24,7 +24,8 @@ impl<'v> Model for TaskShape<'v> {
 
     ghost Value = { TaskArgs };
 
-    ghost view = { λ task. record { name = task.name.now; priority = task.priority; mask = task.mask } };
+    ghost view = { λ task.
+        record { name = task.name.now; priority = task.priority; mask = task.mask } };
 }
 
 impl TaskShape<'_> {
@@ -41,7 +42,7 @@ impl TaskShape<'_> {
 }
 
 #[tactic(auto, unfolding(crate::specs::Header::config_at))]
-fn config_at(node: &Node<'_, '_>) -> Result<Config, Stop>
+fn config_at(node: &Node<'_, '_>) -> Result<Config, ReadFault>
     ensures { Gives (λ config. config) result (config_at (place_of node.now) (data_of node.now)) }
 {
     Ok(Config {
@@ -54,15 +55,15 @@ fn config_at(node: &Node<'_, '_>) -> Result<Config, Stop>
 }
 
 /// Reads the user tasks.
-struct Tasks;
+struct TaskReader;
 
-impl<'v> ReadItem<'v> for Tasks {
+impl<'v> ReadItem<'v> for TaskReader {
     type Item = TaskShape<'v>;
 
     ghost reading = { λ _. task_at };
 
     #[tactic(auto, unfolding(crate::specs::Header::task_at))]
-    fn read(&self, node: &Node<'_, 'v>) -> Result<TaskShape<'v>, Stop> {
+    fn read(&self, node: &Node<'_, 'v>) -> Result<TaskShape<'v>, ReadFault> {
         let members = node.object()?;
         let name = node.text("name")?;
         let priority = node.number("priority")?;
@@ -105,12 +106,12 @@ fn accepted(
 
 /// The header, accepted or not: its shape alone is judged.
 #[tactic(auto, unfolding(crate::specs::Header::header_at))]
-pub(crate) fn header_at(node: &Node<'_, '_>) -> Result<Result<Header, Fault>, Stop>
+pub(crate) fn header_at(node: &Node<'_, '_>) -> Result<Result<Header, Fault>, ReadFault>
     ensures reading { Gives (λ header. header) result
         (header_at (place_of node.now) (data_of node.now)) }
     ensures valid { IfOk result (λ header. IfOk header IsCheckedHeader) }
 {
     let config = config_at(node)?;
-    let shapes = list_at(&Tasks, node, "tasks")?;
+    let shapes = list_at(&TaskReader, node, "tasks")?;
     Ok(accepted(node.alloc, config, shapes.as_slice())?)
 }

@@ -5,12 +5,12 @@ ghost use Rattle.session_text.specs.Member.{are_known, array_at, as_u32, flag_at
 ghost use Rattle.session_text.specs.Node.{data_of, place_of};
 ghost use Rattle.session_text.specs.Outcome.{Gives};
 
-use crate::fault::Stop;
+use crate::fault::ReadFault;
 use crate::node::Node;
 use serde_json::{Map, Value};
 
 impl<'v> Node<'_, 'v> {
-    pub(crate) fn object(&self) -> Result<&'v Map<String, Value>, Stop>
+    pub(crate) fn object(&self) -> Result<&'v Map<String, Value>, ReadFault>
         ensures { Gives (λ members. members_view members.now.entries) result
             (object_at (place_of self.now) (data_of self.now)) }
     {
@@ -20,7 +20,7 @@ impl<'v> Node<'_, 'v> {
         }
     }
 
-    pub(crate) fn member(&self, name: &str) -> Result<&'v Value, Stop>
+    pub(crate) fn member(&self, name: &str) -> Result<&'v Value, ReadFault>
         ensures { Gives (λ member. view member.now) result
             (member_at (place_of self.now) name.now (data_of self.now)) }
     {
@@ -28,7 +28,7 @@ impl<'v> Node<'_, 'v> {
     }
 
     #[tactic(auto, unfolding(crate::specs::Member::number_at))]
-    pub(crate) fn number(&self, name: &str) -> Result<u32, Stop>
+    pub(crate) fn number(&self, name: &str) -> Result<u32, ReadFault>
         ensures { Gives (λ number. number) result
             (number_at (place_of self.now) name.now (data_of self.now)) }
     {
@@ -36,7 +36,7 @@ impl<'v> Node<'_, 'v> {
     }
 
     #[tactic(auto, unfolding(crate::specs::Member::text_at))]
-    pub(crate) fn text(&self, name: &str) -> Result<&'v str, Stop>
+    pub(crate) fn text(&self, name: &str) -> Result<&'v str, ReadFault>
         ensures { Gives (λ text. text.now) result
             (text_at (place_of self.now) name.now (data_of self.now)) }
     {
@@ -44,7 +44,7 @@ impl<'v> Node<'_, 'v> {
     }
 
     #[tactic(auto, unfolding(crate::specs::Member::flag_at))]
-    pub(crate) fn flag(&self, name: &str) -> Result<bool, Stop>
+    pub(crate) fn flag(&self, name: &str) -> Result<bool, ReadFault>
         ensures { Gives (λ flag. flag) result
             (flag_at (place_of self.now) name.now (data_of self.now)) }
     {
@@ -52,7 +52,7 @@ impl<'v> Node<'_, 'v> {
     }
 
     #[tactic(auto, unfolding(crate::specs::Member::array_at))]
-    pub(crate) fn array(&self, name: &str) -> Result<&'v Vec<Value>, Stop>
+    pub(crate) fn array(&self, name: &str) -> Result<&'v Vec<Value>, ReadFault>
         ensures { Gives (λ items. items_view items.now.items) result
             (array_at (place_of self.now) name.now (data_of self.now)) }
     {
@@ -60,9 +60,10 @@ impl<'v> Node<'_, 'v> {
     }
 
     /// H2 here, where the object has a member that is none of the names.
-    pub(crate) fn only(&self, names: &[&str], members: &Map<String, Value>) -> Result<(), Stop>
+    pub(crate) fn only(&self, names: &[&str], members: &Map<String, Value>) -> Result<(), ReadFault>
         ensures { Gives (λ done. done) result
-            (only_at (place_of self.now) (map (λ name. name.now) names.now) (members_view members.now.entries)) }
+            (only_at (place_of self.now) (map (λ name. name.now) names.now)
+            (members_view members.now.entries)) }
     {
         if are_known(names, members) {
             Ok(())

@@ -5,7 +5,7 @@ ghost use Rattle.session_text.specs.Node.{data_of, place_of};
 ghost use Rattle.session_text.specs.Outcome.{Gives};
 ghost use Rattle.session_text.specs.Step.{task_named_at};
 
-use crate::fault::Stop;
+use crate::fault::ReadFault;
 use crate::node::Node;
 use bench_types::Header;
 use indexmap::IndexSet;
@@ -26,7 +26,8 @@ impl<'a> Model for Names<'a> {
 
     ghost Value = { TaskNames };
 
-    ghost view = { λ it. record { cores = it.cores; names = map (λ name. name.now) it.names.keys } };
+    ghost view = { λ it.
+        record { cores = it.cores; names = map (λ name. name.now) it.names.keys } };
 
     ghost invariant = { (λ it. (it.cores ≤ max_cores) × (length it.names.keys ≤ max_tasks)) };
 }
@@ -67,7 +68,7 @@ impl<'a> Names<'a> {
 
     /// The number of the task that the member names.
     #[tactic(auto, unfolding(crate::specs::Step::task_named_at))]
-    pub(crate) fn task_named_at(&self, node: &Node<'_, '_>, name: &str) -> Result<u32, Stop>
+    pub(crate) fn task_named_at(&self, node: &Node<'_, '_>, name: &str) -> Result<u32, ReadFault>
         ensures { Gives (λ task. task) result
             (task_named_at self.now (place_of node.now) name.now (data_of node.now)) }
     {

@@ -2,7 +2,7 @@ ghost use Rattle.session_text.specs.Node.{place_of};
 ghost use Rattle.session_text.specs.Outcome.{bad_shape, found, Gives, StopsAt};
 ghost use Rattle.session_text.specs.Path.{member_path};
 
-use crate::fault::{Stop, Why};
+use crate::fault::{ReadFault, Why};
 use crate::path::Place;
 use serde_json::Value;
 use std::alloc::Global;
@@ -17,22 +17,23 @@ pub(crate) struct Node<'p, 'v> {
 
 impl<'v> Node<'_, 'v> {
     /// H2 here.
-    pub(crate) fn bad_shape(&self) -> Stop
+    pub(crate) fn bad_shape(&self) -> ReadFault
         ensures { StopsAt (bad_shape (place_of self.now)) result }
     {
-        Stop::at(self.alloc, self.place, Why::BadShape)
+        ReadFault::at(self.alloc, self.place, Why::BadShape)
     }
 
     /// H2 at the member.
-    pub(crate) fn bad_member(&self, name: &str) -> Stop
+    pub(crate) fn bad_member(&self, name: &str) -> ReadFault
         ensures { StopsAt (bad_shape (member_path (place_of self.now) name.now)) result }
     {
-        Stop::at(self.alloc, &Place::Member(self.place, name), Why::BadShape)
+        ReadFault::at(self.alloc, &Place::Member(self.place, name), Why::BadShape)
     }
 
     /// What was looked for at the member, or H2 there.
-    pub(crate) fn found<T: Drop>(&self, name: &str, sought: Option<T>) -> Result<T, Stop>
-        ensures { Gives (λ it. it) result (found sought (member_path (place_of self.now) name.now)) }
+    pub(crate) fn found<T: Drop>(&self, name: &str, sought: Option<T>) -> Result<T, ReadFault>
+        ensures { Gives (λ it. it) result
+            (found sought (member_path (place_of self.now) name.now)) }
     {
         match sought {
             Some(it) => Ok(it),

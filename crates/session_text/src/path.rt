@@ -27,6 +27,7 @@ impl Path {
         Path { text: None }
     }
 
+    /// The members and indices down to the place, as `steps[3].core`; empty for the whole text.
     pub fn as_str(&self) -> &str
         ensures { result.now ≡ self.now }
     {

@@ -13,11 +13,12 @@ ghost use Rattle.session_text.specs.Session.{document, format_at, session, sessi
 
 use crate::accepted::items_accepted;
 use crate::array::list_at;
-use crate::fault::{Stop, TextFault, Why};
+use crate::fault::{ReadFault, TextFault, Why};
 use crate::header::header_at;
 use crate::names::Names;
 use crate::node::Node;
 use crate::path::{Path, Place};
+use crate::step::StepReader;
 use bench_types::{Fault, Header, Step};
 use serde_json::{Category, Value};
 use std::alloc::{AllocError, Global};
@@ -27,15 +28,17 @@ pub fn read_session(alloc: Global, text: &[u8]) -> Result<(Header, Vec<Step>), T
     // The header and the steps, or the first fault with its path, or that memory ran out.
     ensures reading { Answers (λ read. (read.0, read.1.items)) result (session text.now) }
     // So no check of the header or of a step fails later.
-    ensures checked { IfOk result (λ read. IsSession (record { header = read.0; steps = read.1.items })) }
+    ensures checked { IfOk result
+        (λ read. IsSession (record { header = read.0; steps = read.1.items })) }
 {
     Ok(session(alloc, text)?)
 }
 
 #[tactic(auto, unfolding(crate::specs::Session::session))]
-fn session(alloc: Global, text: &[u8]) -> Result<(Header, Vec<Step>), Stop>
+fn session(alloc: Global, text: &[u8]) -> Result<(Header, Vec<Step>), ReadFault>
     ensures reading { Gives (λ read. (read.0, read.1.items)) result (session text.now) }
-    ensures checked { IfOk result (λ read. IsSession (record { header = read.0; steps = read.1.items })) }
+    ensures checked { IfOk result
+        (λ read. IsSession (record { header = read.0; steps = read.1.items })) }
 {
     let value = document(alloc, text)?;
     let (header, steps) = session_at(&Node {
@@ -47,14 +50,14 @@ fn session(alloc: Global, text: &[u8]) -> Result<(Header, Vec<Step>), Stop>
 }
 
 /// The value that the bytes spell, or H1.
-pub(crate) fn document(alloc: Global, text: &[u8]) -> Result<Value, Stop>
+pub(crate) fn document(alloc: Global, text: &[u8]) -> Result<Value, ReadFault>
     ensures { Gives view result (document text.now) }
 {
     match Value::from_slice(alloc, text) {
         Ok(value) => Ok(value),
         Err(error) => match error.classify() {
-            Category::Memory => Err(Stop::Memory),
-            _ => Err(Stop::Fault(TextFault {
+            Category::Memory => Err(ReadFault::Memory),
+            _ => Err(ReadFault::Fault(TextFault {
                 why: Why::NotJson,
                 path: Path::empty(),
             })),
@@ -63,7 +66,7 @@ pub(crate) fn document(alloc: Global, text: &[u8]) -> Result<Value, Stop>
 }
 
 #[tactic(auto, unfolding(crate::specs::Session::format_at))]
-fn format_at(node: &Node<'_, '_>) -> Result<(), Stop>
+fn format_at(node: &Node<'_, '_>) -> Result<(), ReadFault>
     ensures { Gives (λ done. done) result (format_at (place_of node.now) (data_of node.now)) }
 {
     if node.number("format")? == 1 {
@@ -88,18 +91,20 @@ pub(crate) fn known_names(
 }
 
 /// The steps, under the names of the header.
-fn steps_at(header: &Result<Header, Fault>, node: &Node<'_, '_>) -> Result<Vec<Step>, Stop>
+fn steps_at(header: &Result<Header, Fault>, node: &Node<'_, '_>) -> Result<Vec<Step>, ReadFault>
     requires { ForOk header.now IsCheckedHeader }
     ensures { Gives (λ steps. steps.items) result
         (list_at (step_at (known_names header.now)) (place_of node.now) (codes "steps") (data_of node.now)) }
 {
     let names = known_names(node.alloc, header)?;
-    list_at(&names, node, "steps")
+    list_at(&StepReader { names: &names }, node, "steps")
 }
 
 /// The header, accepted or not, and the steps: shapes alone are judged.
 #[tactic(auto, unfolding(crate::specs::Session::session_at))]
-pub(crate) fn session_at(node: &Node<'_, '_>) -> Result<(Result<Header, Fault>, Vec<Step>), Stop>
+pub(crate) fn session_at(
+    node: &Node<'_, '_>,
+) -> Result<(Result<Header, Fault>, Vec<Step>), ReadFault>
     ensures reading { Gives (λ read. (read.0, read.1.items)) result
         (session_at (place_of node.now) (data_of node.now)) }
     ensures valid { IfOk result (λ read. IfOk read.0 IsCheckedHeader) }
@@ -131,14 +136,15 @@ pub(crate) fn session_accepted(
     place: &Place<'_>,
     header: Result<Header, Fault>,
     steps: Vec<Step>,
-) -> Result<(Header, Vec<Step>), Stop>
+) -> Result<(Header, Vec<Step>), ReadFault>
     requires { ForOk header IsCheckedHeader }
     ensures reading { Gives (λ read. (read.0, read.1.items)) result
         (session_accepted (path_of place.now) header steps.items) }
-    ensures checked { IfOk result (λ read. IsSession (record { header = read.0; steps = read.1.items })) }
+    ensures checked { IfOk result
+        (λ read. IsSession (record { header = read.0; steps = read.1.items })) }
 {
     match header {
-        Err(fault) => Err(Stop::Fault(TextFault {
+        Err(fault) => Err(ReadFault::Fault(TextFault {
             why: Why::Bench(fault),
             path: Path::empty(),
         })),

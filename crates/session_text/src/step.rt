@@ -6,7 +6,7 @@ ghost use Rattle.session_text.specs.Step.{kind_at, kind_of, members_of, step_at,
 use crate::action::action_number;
 use crate::array::ReadItem;
 use crate::call::{CallKind, call_at, call_members, note_at};
-use crate::fault::Stop;
+use crate::fault::ReadFault;
 use crate::names::Names;
 use crate::node::Node;
 use bench_types::Step;
@@ -66,14 +66,14 @@ fn known_members(step: &Step) -> &'static [&'static str]
 }
 
 #[tactic(auto, unfolding(crate::specs::Step::kind_at))]
-fn kind_at(node: &Node<'_, '_>) -> Result<Kind, Stop>
+fn kind_at(node: &Node<'_, '_>) -> Result<Kind, ReadFault>
     ensures { Gives (λ kind. kind) result (kind_at (place_of node.now) (data_of node.now)) }
 {
     node.found("do", Kind::of(node.text("do")?))
 }
 
 #[tactic(auto, unfolding(crate::specs::Step::step_of_kind_at))]
-fn step_of_kind_at(names: &Names<'_>, kind: Kind, node: &Node<'_, '_>) -> Result<Step, Stop>
+fn step_of_kind_at(names: &Names<'_>, kind: Kind, node: &Node<'_, '_>) -> Result<Step, ReadFault>
     ensures { Gives (λ step. step) result
         (step_of_kind_at names.now kind (place_of node.now) (data_of node.now)) }
 {
@@ -94,16 +94,22 @@ fn step_of_kind_at(names: &Names<'_>, kind: Kind, node: &Node<'_, '_>) -> Result
     }
 }
 
-impl<'v> ReadItem<'v> for Names<'_> {
+/// Reads steps, under the names of the tasks.
+#[derive(Clone, Copy)]
+pub(crate) struct StepReader<'n, 'a> {
+    pub(crate) names: &'n Names<'a>,
+}
+
+impl<'v> ReadItem<'v> for StepReader<'_, '_> {
     type Item = Step;
 
-    ghost reading = { step_at };
+    ghost reading = { λ steps. step_at steps.names.now };
 
     #[tactic(auto, unfolding(crate::specs::Step::step_at))]
-    fn read(&self, node: &Node<'_, 'v>) -> Result<Step, Stop> {
+    fn read(&self, node: &Node<'_, 'v>) -> Result<Step, ReadFault> {
         let members = node.object()?;
         let kind = kind_at(node)?;
-        let step = step_of_kind_at(self, kind, node)?;
+        let step = step_of_kind_at(self.names, kind, node)?;
         node.only(known_members(&step), members)?;
         Ok(step)
     }

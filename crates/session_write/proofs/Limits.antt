@@ -46,11 +46,11 @@ pub record IsInterruptInPlace (header : Header) (core task : ℕ) : Type 0 where
   pub target : IsUserTask header task
 
 -- the same of a step
-abbrev pub IsInPlace : Header → Step → Type 0
-IsInPlace header step.Tick = ⊤
-IsInPlace header (step.Switch core) = core < header.config.cores
-IsInPlace header (step.Call core task made) = IsCallInPlace header core task made
-IsInPlace header (step.Interrupt core note) = IsInterruptInPlace header core note.task
+abbrev pub StepFits : Header → Step → Type 0
+StepFits header step.Tick = ⊤
+StepFits header (step.Switch core) = core < header.config.cores
+StepFits header (step.Call core task made) = IsCallInPlace header core task made
+StepFits header (step.Interrupt core note) = IsInterruptInPlace header core note.task
 
 has_target : (header : Header) (made : Call) → call_check (settings_of header) made ≡ Ok tt → HasTarget header made
 has_target header call.Yield passes = tt
@@ -73,7 +73,7 @@ has_target header call.Finish passes = tt
 has_target header call.HoldOpen passes = tt
 has_target header call.HoldClose passes = tt
 
-pub in_place : (header : Header) (made : Step) → step_fault header made ≡ Ok tt → IsInPlace header made
+pub in_place : (header : Header) (made : Step) → step_fault header made ≡ Ok tt → StepFits header made
 in_place header step.Tick passes = tt
 in_place header (step.Switch core) passes = checked_core (settings_of header) core passes
 in_place header (step.Call core task made) passes =

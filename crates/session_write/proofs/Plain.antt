@@ -23,7 +23,7 @@ use Rattle.bench_types.specs.Step.{IsActionOfWord, IsOfWords, IsStepOfWords}
 use Rattle.bench_types.specs.Limits.{max_priorities}
 use Rattle.session_write.specs.Written.{task_data, task_name, bare_call, call_for, notify_data, interrupt_data, call_data, step_data, session_data}
 use Rattle.bench_types.proofs.Passes.{IsWithinLimits}
-use Rattle.session_write.proofs.Limits.{IsInPlace, HasTarget}
+use Rattle.session_write.proofs.Limits.{StepFits, HasTarget}
 use Rattle.session_write.proofs.ReadBack.{IsPlain, ArePlain}
 
 ascii_bytes : (bytes : List ℕ) → list_all is_name_byte bytes ≡ true → are_ascii bytes ≡ true
@@ -84,13 +84,13 @@ call_plain header by core call.Finish h names target utf8 small words = bare_pla
 call_plain header by core call.HoldOpen h names target utf8 small words = bare_plain by core _ utf8 small (IsUtf8-are_ascii _ refl)
 call_plain header by core call.HoldClose h names target utf8 small words = bare_plain by core _ utf8 small (IsUtf8-are_ascii _ refl)
 
-step_plain : (header : Header) (made : Step) → IsWithinLimits header → AreNames header → IsInPlace header made → IsStepOfWords made → IsPlain (step_data header made)
+step_plain : (header : Header) (made : Step) → IsWithinLimits header → AreNames header → StepFits header made → IsStepOfWords made → IsPlain (step_data header made)
 step_plain header step.Tick h names place words = (refl, refl, IsUtf8-are_ascii _ refl, tt)
 step_plain header (step.Switch core) h names place words = (refl, refl, omega (arith, h.few_cores), (refl, refl, IsUtf8-are_ascii _ refl, tt))
 step_plain header (step.Call core task made) h names place words = call_plain header (task_name header task) core made h names place.target (names task place.caller.1 place.caller.0) (omega (arith, h.few_cores, place.core_there)) words
 step_plain header (step.Interrupt core note) h names place words = interrupt_plain core _ note.action (omega (arith, h.few_cores, place.core_there)) (names note.task place.target.1 place.target.0) words
 
-steps_plain : (header : Header) (steps : List Step) → IsWithinLimits header → AreNames header → AllByRecursion (λ made. IsInPlace header made × IsStepOfWords made) steps → ArePlain (items_of (map (step_data header) steps))
+steps_plain : (header : Header) (steps : List Step) → IsWithinLimits header → AreNames header → AllByRecursion (λ made. StepFits header made × IsStepOfWords made) steps → ArePlain (items_of (map (step_data header) steps))
 steps_plain header [] h names each = tt
 steps_plain header (made ∷ steps) h names each = (step_plain header made h names each.0.0 each.0.1, steps_plain header steps h names each.1)
 
@@ -112,7 +112,7 @@ pub record IsWritable (header : Header) (steps : List Step) : Type 0 where
   pub tick : header.config.tick < 2 ^ 32
   pub each_task : AllByRecursion (IsTask header.config) header.tasks
   pub names : AreNames header
-  pub each_step : AllByRecursion (λ made. IsInPlace header made × IsStepOfWords made) steps
+  pub each_step : AllByRecursion (λ made. StepFits header made × IsStepOfWords made) steps
 
 pub session_plain : (header : Header) (steps : List Step) → IsWritable header steps → IsPlain (session_data header steps)
 unfolding session_data

@@ -60,7 +60,7 @@ abbrev mutual
   MembersArePlain no_members = ⊤
   MembersArePlain (member k d ms) = (is_below k ms ≡ true) × (are_ascii k ≡ true) × IsPlain d × MembersArePlain ms
 
--- ---- members in ascending order go in one behind another
+-- ---- members in ascending order go in one after another
 
 abbrev join : Members → Members → Members
 join no_members ms = ms
@@ -74,16 +74,16 @@ join-join : (front ms rest : Members) → join (join front ms) rest ≡ join fro
 join-join no_members ms rest = refl
 join-join (member k d front) ms rest = ap (member k d) (join-join front ms rest)
 
-goes_behind : (o : Ordering) (a b c : Members) → is_gt o ≡ true → match_ordering o a b c ≡ c
-goes_behind Less a b c e = absurd cc
-goes_behind Equal a b c e = absurd cc
-goes_behind Greater a b c e = refl
+goes_after : (o : Ordering) (a b c : Members) → is_gt o ≡ true → match_ordering o a b c ≡ c
+goes_after Less a b c e = absurd cc
+goes_after Equal a b c e = absurd cc
+goes_after Greater a b c e = refl
 
 put_last : (k : List ℕ) (d : Data) (front : Members) → is_above k front ≡ true → put k d front ≡ join front (member k d no_members)
 put_last k d no_members above = refl
 put_last k d (member l e front) above =
     let both = and_parts (is_gt (slice_cmp nat_cmp k l)) (is_above k front) above in
-    goes_behind (slice_cmp nat_cmp k l) _ _ _ both.0 ∙ ap (member l e) (put_last k d front both.1)
+    goes_after (slice_cmp nat_cmp k l) _ _ _ both.0 ∙ ap (member l e) (put_last k d front both.1)
 
 is_above-join : (k : List ℕ) (front ms : Members) → is_above k front ≡ true → is_above k ms ≡ true → is_above k (join front ms) ≡ true
 is_above-join k no_members ms above more = more

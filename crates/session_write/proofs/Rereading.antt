@@ -31,7 +31,7 @@ use Rattle.session_text.specs.Names.{names_of, number_of}
 use Rattle.session_text.specs.Session.{format_at, session_at, session_accepted, session, step_fault}
 use Rattle.session_text.specs.Step.{step_at, kind_at, step_of_kind_at, task_named_at, note_at, wait_at, call_at}
 use Rattle.session_write.specs.Written.{task_data, task_name, step_data, session_data, WrittenReadsBack}
-use Rattle.session_write.proofs.Limits.{IsInPlace, IsCallInPlace, IsUserTask, in_place}
+use Rattle.session_write.proofs.Limits.{StepFits, IsCallInPlace, IsUserTask, in_place}
 use Rattle.session_write.proofs.Plain.{IsTask, IsWritable, session_plain, session_depth, utf8_name}
 use Rattle.session_write.proofs.ReadBack.{document-compact_text}
 use Rattle.session_write.proofs.TaskNames.{number_of_name}
@@ -91,14 +91,14 @@ call_read header at core task call.Finish h place words = rw (core_number header
 call_read header at core task call.HoldOpen h place words = rw (core_number header core h place.core_there, target_named header task h place.caller) refl
 call_read header at core task call.HoldClose h place words = rw (core_number header core h place.core_there, target_named header task h place.caller) refl
 
-step_read : (header : Header) (at : List ℕ) (made : Step) → IsWithinLimits header → IsInPlace header made → IsStepOfWords made → step_at (names_of header) at (step_data header made) ≡ Ok made
+step_read : (header : Header) (at : List ℕ) (made : Step) → IsWithinLimits header → StepFits header made → IsStepOfWords made → step_at (names_of header) at (step_data header made) ≡ Ok made
 unfolding step_at kind_at text_at step_of_kind_at number_at
 step_read header at step.Tick h place words = refl
 step_read header at (step.Switch core) h place words = rw (core_number header core h place) refl
 step_read header at (step.Call core task made) h place words = call_read header at core task made h place words
 step_read header at (step.Interrupt core note) h place words = interrupt_read header at core note.task note.action h place.core_there place.target words
 
-steps_read : (header : Header) (at : List ℕ) (index : ℕ) (steps : List Step) → IsWithinLimits header → AllByRecursion (λ made. IsInPlace header made × IsStepOfWords made) steps → each_at (step_at (names_of header)) at index (items_of (map (step_data header) steps)) ≡ Ok steps
+steps_read : (header : Header) (at : List ℕ) (index : ℕ) (steps : List Step) → IsWithinLimits header → AllByRecursion (λ made. StepFits header made × IsStepOfWords made) steps → each_at (step_at (names_of header)) at index (items_of (map (step_data header) steps)) ≡ Ok steps
 steps_read header at index [] h each = refl
 steps_read header at index (made ∷ steps) h each = rw (step_read header _ made h each.0.0 each.0.1, steps_read header at (suc index) steps h each.1) refl
 
@@ -148,7 +148,7 @@ writable header steps h =
       tick = h.header.tick;
       each_task = all_of header.config header.tasks within.args names masks;
       names = λ task high low. utf8_name (task_name header task) (h.header.names (task - header.config.cores) _ (omega arith));
-      each_step = recursion_from_All (λ made. IsInPlace header made × IsStepOfWords made) steps (λ k d short. (in_place header _ (h.steps k d short).passes, (h.steps k d short).words));
+      each_step = recursion_from_All (λ made. StepFits header made × IsStepOfWords made) steps (λ k d short. (in_place header _ (h.steps k d short).passes, (h.steps k d short).words));
     }
 
 -- items of which none is at fault pass their checks

@@ -1,4 +1,5 @@
--- A session as it is written: a JSON value, whose members stand in ascending byte order, in its compact text.
+-- A session as it is written: a JSON value, whose members stand in ascending byte order, in its
+-- compact text.
 use Rattle.std.specs.Prelude.{◌≡◌, ◌-◌, ℕ, Bool, List, [], ◌∷◌, map, codes, Option, Some, None, Ok, slice_index_or}
 use Rattle.serde_json.specs.Data.{Data, Members, number, unsigned, string, boolean, array, object, no_members, member}
 use Rattle.serde_json.specs.View.{items_of}
@@ -27,31 +28,50 @@ abbrev pub whole : ℕ → Data
 whole n = number (unsigned n)
 
 abbrev pub task_data : TaskArgs → Data
-task_data task = object_with ((codes "mask", whole task.mask) ∷ (codes "name", string task.name) ∷ (codes "priority", whole task.priority) ∷ [])
+task_data task =
+    object_with ((codes "mask", whole task.mask) ∷ (codes "name", string task.name)
+    ∷ (codes "priority", whole task.priority) ∷ [])
 
 -- the name of a user task
 abbrev pub task_name : Header → ℕ → List ℕ
-task_name header task = (slice_index_or header.tasks (task - header.config.cores) (record { name = []; priority = 0; mask = 0 })).name
+task_name header task =
+    (slice_index_or header.tasks (task - header.config.cores)
+    (record { name = []; priority = 0; mask = 0 })).name
 
 -- a call by the task of this name on a core: the call's word is all that is said of it
 abbrev pub bare_call : List ℕ → ℕ → List ℕ → Data
-bare_call by core word = object_with ((codes "by", string by) ∷ (codes "core", whole core) ∷ (codes "do", string word) ∷ [])
+bare_call by core word =
+    object_with ((codes "by", string by) ∷ (codes "core", whole core) ∷ (codes "do", string word)
+    ∷ [])
 
 -- the same, for the task of the other name
 abbrev pub call_for : List ℕ → ℕ → List ℕ → List ℕ → Data
-call_for by core word to = object_with ((codes "by", string by) ∷ (codes "core", whole core) ∷ (codes "do", string word) ∷ (codes "to", string to) ∷ [])
+call_for by core word to =
+    object_with ((codes "by", string by) ∷ (codes "core", whole core) ∷ (codes "do", string word)
+    ∷ (codes "to", string to) ∷ [])
 
 abbrev pub delay_data : List ℕ → ℕ → ℕ → Data
-delay_data by core ticks = object_with ((codes "by", string by) ∷ (codes "core", whole core) ∷ (codes "do", string (codes "delay")) ∷ (codes "ticks", whole ticks) ∷ [])
+delay_data by core ticks =
+    object_with ((codes "by", string by) ∷ (codes "core", whole core)
+    ∷ (codes "do", string (codes "delay")) ∷ (codes "ticks", whole ticks) ∷ [])
 
 abbrev pub delay_until_data : List ℕ → ℕ → ℕ → ℕ → Data
-delay_until_data by core prev inc = object_with ((codes "by", string by) ∷ (codes "core", whole core) ∷ (codes "do", string (codes "delay_until")) ∷ (codes "inc", whole inc) ∷ (codes "prev", whole prev) ∷ [])
+delay_until_data by core prev inc =
+    object_with ((codes "by", string by) ∷ (codes "core", whole core)
+    ∷ (codes "do", string (codes "delay_until")) ∷ (codes "inc", whole inc)
+    ∷ (codes "prev", whole prev) ∷ [])
 
 abbrev pub priority_data : List ℕ → ℕ → List ℕ → ℕ → Data
-priority_data by core to priority = object_with ((codes "by", string by) ∷ (codes "core", whole core) ∷ (codes "do", string (codes "priority_set")) ∷ (codes "priority", whole priority) ∷ (codes "to", string to) ∷ [])
+priority_data by core to priority =
+    object_with ((codes "by", string by) ∷ (codes "core", whole core)
+    ∷ (codes "do", string (codes "priority_set")) ∷ (codes "priority", whole priority)
+    ∷ (codes "to", string to) ∷ [])
 
 abbrev pub affinity_data : List ℕ → ℕ → List ℕ → ℕ → Data
-affinity_data by core to mask = object_with ((codes "by", string by) ∷ (codes "core", whole core) ∷ (codes "do", string (codes "affinity_set")) ∷ (codes "mask", whole mask) ∷ (codes "to", string to) ∷ [])
+affinity_data by core to mask =
+    object_with ((codes "by", string by) ∷ (codes "core", whole core)
+    ∷ (codes "do", string (codes "affinity_set")) ∷ (codes "mask", whole mask)
+    ∷ (codes "to", string to) ∷ [])
 
 -- the word of an action
 abbrev pub action_word : Action → List ℕ
@@ -67,39 +87,66 @@ value_member None = []
 value_member (Some value) = (codes "value", whole value) ∷ []
 
 abbrev pub notify_data : List ℕ → ℕ → List ℕ → Action → Data
-notify_data by core to what = object_with ((codes "action", string (action_word what)) ∷ (codes "by", string by) ∷ (codes "core", whole core) ∷ (codes "do", string (codes "notify")) ∷ (codes "to", string to) ∷ value_member (action_number what))
+notify_data by core to what =
+    object_with ((codes "action", string (action_word what)) ∷ (codes "by", string by)
+    ∷ (codes "core", whole core) ∷ (codes "do", string (codes "notify")) ∷ (codes "to", string to)
+    ∷ value_member (action_number what))
 
 abbrev pub interrupt_data : ℕ → List ℕ → Action → Data
-interrupt_data core to what = object_with ((codes "action", string (action_word what)) ∷ (codes "core", whole core) ∷ (codes "do", string (codes "isr_notify")) ∷ (codes "to", string to) ∷ value_member (action_number what))
+interrupt_data core to what
+    = object_with
+    ((codes "action", string (action_word what)) ∷ (codes "core", whole core)
+    ∷ (codes "do", string (codes "isr_notify")) ∷ (codes "to", string to)
+    ∷ value_member (action_number what))
 
 abbrev pub wait_data : List ℕ → ℕ → ℕ → ℕ → ℕ → Data
-wait_data by core entry exit ticks = object_with ((codes "by", string by) ∷ (codes "core", whole core) ∷ (codes "do", string (codes "notify_wait")) ∷ (codes "entry", whole entry) ∷ (codes "exit", whole exit) ∷ (codes "ticks", whole ticks) ∷ [])
+wait_data by core entry exit ticks =
+    object_with ((codes "by", string by) ∷ (codes "core", whole core)
+    ∷ (codes "do", string (codes "notify_wait")) ∷ (codes "entry", whole entry)
+    ∷ (codes "exit", whole exit) ∷ (codes "ticks", whole ticks) ∷ [])
 
 abbrev pub take_data : List ℕ → ℕ → Bool → ℕ → Data
-take_data by core clear ticks = object_with ((codes "by", string by) ∷ (codes "clear", boolean clear) ∷ (codes "core", whole core) ∷ (codes "do", string (codes "notify_take")) ∷ (codes "ticks", whole ticks) ∷ [])
+take_data by core clear ticks =
+    object_with ((codes "by", string by) ∷ (codes "clear", boolean clear)
+    ∷ (codes "core", whole core) ∷ (codes "do", string (codes "notify_take"))
+    ∷ (codes "ticks", whole ticks) ∷ [])
 
 abbrev pub value_clear_data : List ℕ → ℕ → List ℕ → ℕ → Data
-value_clear_data by core to bits = object_with ((codes "bits", whole bits) ∷ (codes "by", string by) ∷ (codes "core", whole core) ∷ (codes "do", string (codes "value_clear")) ∷ (codes "to", string to) ∷ [])
+value_clear_data by core to bits =
+    object_with ((codes "bits", whole bits) ∷ (codes "by", string by) ∷ (codes "core", whole core)
+    ∷ (codes "do", string (codes "value_clear")) ∷ (codes "to", string to) ∷ [])
 
 abbrev pub mutex_take_data : List ℕ → ℕ → ℕ → ℕ → Data
-mutex_take_data by core mutex ticks = object_with ((codes "by", string by) ∷ (codes "core", whole core) ∷ (codes "do", string (codes "mutex_take")) ∷ (codes "mutex", whole mutex) ∷ (codes "ticks", whole ticks) ∷ [])
+mutex_take_data by core mutex ticks =
+    object_with ((codes "by", string by) ∷ (codes "core", whole core)
+    ∷ (codes "do", string (codes "mutex_take")) ∷ (codes "mutex", whole mutex)
+    ∷ (codes "ticks", whole ticks) ∷ [])
 
 abbrev pub mutex_give_data : List ℕ → ℕ → ℕ → Data
-mutex_give_data by core mutex = object_with ((codes "by", string by) ∷ (codes "core", whole core) ∷ (codes "do", string (codes "mutex_give")) ∷ (codes "mutex", whole mutex) ∷ [])
+mutex_give_data by core mutex =
+    object_with ((codes "by", string by) ∷ (codes "core", whole core)
+    ∷ (codes "do", string (codes "mutex_give")) ∷ (codes "mutex", whole mutex) ∷ [])
 
 abbrev pub call_data : Header → List ℕ → ℕ → Call → Data
 call_data header by core call.Yield = bare_call by core (codes "yield")
 call_data header by core (call.Delay ticks) = delay_data by core ticks
 call_data header by core (call.DelayUntil prev inc) = delay_until_data by core prev inc
-call_data header by core (call.PrioritySet task priority) = priority_data by core (task_name header task) priority
-call_data header by core (call.AffinitySet task mask) = affinity_data by core (task_name header task) mask
-call_data header by core (call.PreemptOff task) = call_for by core (codes "preempt_off") (task_name header task)
-call_data header by core (call.PreemptOn task) = call_for by core (codes "preempt_on") (task_name header task)
-call_data header by core (call.Notify note) = notify_data by core (task_name header note.task) note.action
+call_data header by core (call.PrioritySet task priority) =
+    priority_data by core (task_name header task) priority
+call_data header by core (call.AffinitySet task mask) =
+    affinity_data by core (task_name header task) mask
+call_data header by core (call.PreemptOff task) =
+    call_for by core (codes "preempt_off") (task_name header task)
+call_data header by core (call.PreemptOn task) =
+    call_for by core (codes "preempt_on") (task_name header task)
+call_data header by core (call.Notify note) =
+    notify_data by core (task_name header note.task) note.action
 call_data header by core (call.NotifyWait entry exit ticks) = wait_data by core entry exit ticks
 call_data header by core (call.NotifyTake clear ticks) = take_data by core clear ticks
-call_data header by core (call.StateClear task) = call_for by core (codes "state_clear") (task_name header task)
-call_data header by core (call.ValueClear task bits) = value_clear_data by core (task_name header task) bits
+call_data header by core (call.StateClear task) =
+    call_for by core (codes "state_clear") (task_name header task)
+call_data header by core (call.ValueClear task bits) =
+    value_clear_data by core (task_name header task) bits
 call_data header by core (call.MutexTake mutex ticks) = mutex_take_data by core mutex ticks
 call_data header by core (call.MutexGive mutex) = mutex_give_data by core mutex
 call_data header by core call.Finish = bare_call by core (codes "finish")
@@ -108,9 +155,11 @@ call_data header by core call.HoldClose = bare_call by core (codes "hold_close")
 
 abbrev pub step_data : Header → Step → Data
 step_data header step.Tick = object_with ((codes "do", string (codes "tick")) ∷ [])
-step_data header (step.Switch core) = object_with ((codes "core", whole core) ∷ (codes "do", string (codes "switch")) ∷ [])
+step_data header (step.Switch core) =
+    object_with ((codes "core", whole core) ∷ (codes "do", string (codes "switch")) ∷ [])
 step_data header (step.Call core task made) = call_data header (task_name header task) core made
-step_data header (step.Interrupt core note) = interrupt_data core (task_name header note.task) note.action
+step_data header (step.Interrupt core note) =
+    interrupt_data core (task_name header note.task) note.action
 
 abbrev pub tasks_data : List TaskArgs → Data
 tasks_data tasks = array (items_of (map task_data tasks))
@@ -134,4 +183,6 @@ written header steps = compact_text (session_data header steps)
 
 -- Every session that is written is read back as itself.
 abbrev pub WrittenReadsBack : Type 0
-WrittenReadsBack = (header : Header) (steps : List Step) → IsSession (record { header = header; steps = steps }) → session (written header steps) ≡ Ok (header, steps)
+WrittenReadsBack =
+    (header : Header) (steps : List Step) → IsSession (record { header = header; steps = steps })
+    → session (written header steps) ≡ Ok (header, steps)

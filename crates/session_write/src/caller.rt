@@ -33,7 +33,8 @@ impl Caller<'_> {
 
     /// A call of which its word is all that is said.
     pub(crate) fn bare(&self, word: &str) -> Result<Value, AllocError>
-        ensures { IfOk result (λ value. view value ≡ bare_call self.now.by.now self.now.core word.now) }
+        ensures { IfOk result
+            (λ value. view value ≡ bare_call self.now.by.now self.now.core word.now) }
     {
         Ok(Value::Object(self.members(word)?))
     }
@@ -49,7 +50,8 @@ impl Caller<'_> {
     }
 
     pub(crate) fn delay(&self, ticks: u32) -> Result<Value, AllocError>
-        ensures { IfOk result (λ value. view value ≡ delay_data self.now.by.now self.now.core ticks) }
+        ensures { IfOk result
+            (λ value. view value ≡ delay_data self.now.by.now self.now.core ticks) }
     {
         let mut object = self.members("delay")?;
         put_whole(&mut object, self.alloc, "ticks", ticks)?;

@@ -9,7 +9,8 @@ use bench_types::{Config, Header, Step, TaskArgs};
 use serde_json::{Value, json};
 use std::alloc::{AllocError, Global};
 
-/// Writes a session as a JSON text without spaces, with the members of each object in ascending byte order.
+/// Writes a session as a JSON text without spaces, with the members of each object in ascending
+/// byte order.
 pub fn write_session(alloc: Global, header: &Header, steps: &[Step]) -> Result<Vec<u8>, AllocError>
     requires { IsSession (record { header = header.now; steps = steps.now }) }
     ensures text { IfOk result (λ text. text.items ≡ written header.now steps.now) }

@@ -14,8 +14,8 @@ use Rattle.bench_types.proofs.Passes.{checked_header}
 use Rattle.bench_types.specs.Step.{settings_of, IsCheckedStep}
 use Rattle.list_orders.specs.Search.{numbers}
 use Rattle.bench_model.specs.Control.{running}
-use Rattle.bench_model.specs.Seek.{switched_and_sought}
-use Rattle.bench_model.specs.Table.{Stamps, Table, table_moves}
+use Rattle.bench_model.specs.Seek.{after_switch}
+use Rattle.bench_model.specs.Table.{Stamps, Table, stamp_queues}
 use Rattle.bench_model.specs.Sound.{IsConsistent, IsSound}
 use Rattle.bench_model.specs.Start.{first_stamps, unstarted, started, start}
 use Rattle.bench_model.specs.Session.{step_of, outcome_at, trace}
@@ -31,7 +31,7 @@ use Rattle.step_laws.proofs.Starts.{start_sound, first_sound, first_next, unstar
 
 -- the first cores of a start have switched
 pub record IsStarting (header : Header) (core : ℕ) (table : Table) : Type 0 where
-  pub so_far : table ≡ fold (λ table core. switched_and_sought table_moves core table) (unstarted (first_stamps header) header) (numbers core)
+  pub so_far : table ≡ fold (λ table core. after_switch stamp_queues core table) (unstarted (first_stamps header) header) (numbers core)
   pub sound : IsConsistent table
   pub cores : length table.control.cores ≡ header.config.cores
   pub room : table.orders.next ≤ max_cores + max_tasks + core
@@ -47,14 +47,14 @@ starting_starts header table passes first =
       room = omega (arith, facts.few_cores, facts.few_tasks, first_next header);
     })
 
-pub starting_goes : (header : Header) (core : ℕ) (table next : Table) → IsStarting header core table → core < header.config.cores → next ≡ switched_and_sought table_moves core table → IsStarting header (core + 1) next
+pub starting_goes : (header : Header) (core : ℕ) (table next : Table) → IsStarting header core table → core < header.config.cores → next ≡ after_switch stamp_queues core table → IsStarting header (core + 1) next
 starting_goes header core table next starting low goes =
-    let turn = λ (table : Table) (core : ℕ). switched_and_sought table_moves core table in
+    let turn = λ (table : Table) (core : ℕ). after_switch stamp_queues core table in
     let before = unstarted (first_stamps header) header in
     let one : range_with_len (0 + core) 1 ≡ core ∷ [] = ap (λ k. k ∷ []) (zero-add core) in
     let cores = ap (fold turn before) (range_parts 0 core 1 ∙ ap (λ last. numbers core ++ last) one) ∙ fold-append turn before (numbers core) (core ∷ []) in
     subst (λ t. IsStarting header (core + 1) t) (sym goes) (record {
-      so_far = ap (switched_and_sought table_moves core) starting.so_far ∙ sym cores;
+      so_far = ap (after_switch stamp_queues core) starting.so_far ∙ sym cores;
       sound = sought_switch_sound table core starting.sound (omega (arith, starting.cores, starting.sound.sized.cores));
       cores = sought_switch_length core table ∙ starting.cores;
       room = omega (arith, turned_next core table, starting.room);
@@ -82,17 +82,17 @@ pub record CanStep (table : Table) : Type 0 where
   pub room : table.orders.next + length table.orders.rows + 1 < 2 ^ 128
   pub time : table.orders.tick + 2 ^ 32 < 2 ^ 128
 
-turns_next : (cores : List ℕ) (table : Table) → (fold (λ table core. switched_and_sought table_moves core table) table cores).orders.next ≤ table.orders.next + length cores
+turns_next : (cores : List ℕ) (table : Table) → (fold (λ table core. after_switch stamp_queues core table) table cores).orders.next ≤ table.orders.next + length cores
 turns_next [] table = omega arith
-turns_next (core ∷ cores) table = omega (arith, turns_next cores (switched_and_sought table_moves core table), turned_next core table)
+turns_next (core ∷ cores) table = omega (arith, turns_next cores (after_switch stamp_queues core table), turned_next core table)
 
-turns_tick : (cores : List ℕ) (table : Table) → (fold (λ table core. switched_and_sought table_moves core table) table cores).orders.tick ≡ table.orders.tick
+turns_tick : (cores : List ℕ) (table : Table) → (fold (λ table core. after_switch stamp_queues core table) table cores).orders.tick ≡ table.orders.tick
 turns_tick [] table = refl
-turns_tick (core ∷ cores) table = turns_tick cores (switched_and_sought table_moves core table) ∙ turned_tick core table
+turns_tick (core ∷ cores) table = turns_tick cores (after_switch stamp_queues core table) ∙ turned_tick core table
 
-turns_settings : (cores : List ℕ) (table : Table) → (fold (λ table core. switched_and_sought table_moves core table) table cores).settings ≡ table.settings
+turns_settings : (cores : List ℕ) (table : Table) → (fold (λ table core. after_switch stamp_queues core table) table cores).settings ≡ table.settings
 turns_settings [] table = refl
-turns_settings (core ∷ cores) table = turns_settings cores (switched_and_sought table_moves core table) ∙ turned_settings core table
+turns_settings (core ∷ cores) table = turns_settings cores (after_switch stamp_queues core table) ∙ turned_settings core table
 
 unstarted_orders : (header : Header) → ((unstarted (first_stamps header) header).orders ≡ first_stamps header) × ((first_stamps header).tick ≡ header.config.tick) × ((unstarted (first_stamps header) header).settings ≡ settings_of header)
 unfolding unstarted first_stamps

@@ -8,7 +8,7 @@ use Rattle.std.proofs.lemmas.List.FromFn.{length-range_with_len, length-map-rang
 use Rattle.bench_types.specs.declared.kernel_data.CoreLook.{CoreLook}
 use Rattle.list_orders.specs.Search.{numbers}
 use Rattle.bench_model.specs.Control.{core_at, task_at, with_core, asked_by, asked_where}
-use Rattle.bench_model.specs.Table.{Table, table_moves, is_ready}
+use Rattle.bench_model.specs.Table.{Table, stamp_queues, is_ready}
 use Rattle.bench_model.specs.Seek.{ready_in, shares_its_time, sliced}
 use Rattle.list_orders.proofs.Stamped.{length_filter}
 use Rattle.list_orders.proofs.Stamped.{range_parts}
@@ -17,13 +17,13 @@ numbers_more : (n : ℕ) → numbers (n + 1) ≡ numbers n ++ n ∷ []
 numbers_more n = range_parts 0 n 1 ∙ ap (λ k. numbers n ++ k ∷ []) (zero-add n)
 
 -- how many numbers below n pass the test
-abbrev pub counted : (ℕ → Bool) → ℕ → ℕ
-counted test n = length (filter test (numbers n))
+abbrev pub count_below : (ℕ → Bool) → ℕ → ℕ
+count_below test n = length (filter test (numbers n))
 
-pub counted_more : (test : ℕ → Bool) (n : ℕ) → counted test (n + 1) ≡ counted test n + cond (test n) 1 0
+pub counted_more : (test : ℕ → Bool) (n : ℕ) → count_below test (n + 1) ≡ count_below test n + cond (test n) 1 0
 counted_more test n = grind (arith, ap (λ ns. length (filter test ns)) (numbers_more n), filter-append test (numbers n) (n ∷ []), length-append (filter test (numbers n)) (filter test (n ∷ [])))
 
-pub counted_few : (test : ℕ → Bool) (n : ℕ) → counted test n ≤ n
+pub counted_few : (test : ℕ → Bool) (n : ℕ) → count_below test n ≤ n
 counted_few test n = omega (arith, length_filter test (numbers n), length-range_with_len 0 n)
 
 -- the task stands in the ready list of the priority
@@ -40,16 +40,16 @@ no_look = record { current = 0; pend = false; asked = false }
 abbrev turned : Table → ℕ → CoreLook → CoreLook
 turned old core look = cond (
     not (look.pend || look.asked) && (task_at old.control look.current).preempt && is_ready look.current old.orders
-    && ltb 1 (length (ready_in table_moves (task_at old.control look.current).in_use old))
+    && ltb 1 (length (ready_in stamp_queues (task_at old.control look.current).in_use old))
     ) (asked_by 0 core look) look
 
 -- ending the slice of one core
 abbrev ended : ℕ → Table → Table
-ended core table = record table { control = with_core core (asked_where 0 (shares_its_time table_moves table) table.control core) table.control }
+ended core table = record table { control = with_core core (asked_where 0 (shares_its_time stamp_queues table) table.control core) table.control }
 
 module _ (old : Table) where
   abbrev each : ℕ → CoreLook
-  each = asked_where 0 (shares_its_time table_moves old) old.control
+  each = asked_where 0 (shares_its_time stamp_queues old) old.control
 
   -- the first cores are done, the others are as they were
   abbrev done_to : ℕ → List CoreLook
@@ -95,7 +95,7 @@ pub slicing_length : (old now : Table) (core : ℕ) → IsSlicing old core now �
 slicing_length old now core slicing low =
     ap (λ (t : Table). length t.control.cores) slicing.so_far ∙ omega (arith, length-append (map (each old) (numbers core)) (drop core old.control.cores), each_length old core, length-drop core old.control.cores)
 
-pub slicing_ends : (old now : Table) → IsSlicing old (length old.control.cores) now → old.settings.slicing ≡ true → now ≡ sliced table_moves old
+pub slicing_ends : (old now : Table) → IsSlicing old (length old.control.cores) now → old.settings.slicing ≡ true → now ≡ sliced stamp_queues old
 unfolding sliced
 slicing_ends old now slicing on =
     let cores = length old.control.cores in
@@ -104,6 +104,6 @@ slicing_ends old now slicing on =
     ∙ ap (with_cores old) (append-nil (map (each old) (numbers cores)))
     ∙ ap (λ b. cond b (with_cores old (map (each old) (numbers cores))) old) (sym on)
 
-pub slicing_off : (table : Table) → table.settings.slicing ≡ false → table ≡ sliced table_moves table
+pub slicing_off : (table : Table) → table.settings.slicing ≡ false → table ≡ sliced stamp_queues table
 unfolding sliced
 slicing_off table off = sym (ap (λ b. cond b (with_cores table (map (each table) (numbers (length table.control.cores)))) table) off)

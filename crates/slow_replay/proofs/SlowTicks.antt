@@ -4,12 +4,12 @@ use Rattle.std.proofs.Common.{◌≡◌, ℕ, zero, suc, ◌+◌, ◌<◌, ◌�
 use Rattle.std.specs.List.{filter, find, range_with_len, AllByRecursion}
 use Rattle.std.proofs.lemmas.Bool.Decides.{nat_tests}
 use Rattle.std.proofs.lemmas.List.{append-nil}
-use Rattle.bench_model.specs.declared.row.Standing.TheVariants.{Ready}
+use Rattle.bench_model.specs.declared.row.TaskState.TheVariants.{Ready}
 use Rattle.list_orders.specs.Search.{numbers, by_stamp, without}
 use Rattle.slow_replay.specs.SlowDue.{first_due}
 use Rattle.bench_model.specs.Steps.{woken, ticked}
 use Rattle.bench_model.specs.Seek.{wake, sliced}
-use Rattle.bench_model.specs.Table.{Stamps, Table, table_moves, advance, row_at, stamp_of, wakes_at, make_ready, due}
+use Rattle.bench_model.specs.Table.{Stamps, Table, stamp_queues, advance, row_at, stamp_of, wakes_at, add_to_ready_list, due}
 use Rattle.bench_model.specs.Sound.{IsStamped, IsConsistent}
 use Rattle.list_orders.proofs.Filters.{All-weaker, All-filter_passes, filter_all}
 use Rattle.list_orders.proofs.Stamped.{numbers_below, numbers_have, range_all, All-by_stamp, has-by_stamp}
@@ -59,15 +59,15 @@ due_once : (stamps : Stamps) → IsOrdered differ (due stamps)
 unfolding due
 due_once stamps = by_stamp_once (stamp_of stamps) (λ i. wakes_at stamps.tick (row_at stamps i).standing) (length stamps.rows) stamps.next
 
-due_without : (stamps : Stamps) (task : ℕ) → IsStamped stamps → task < length stamps.rows → due (make_ready task stamps) ≡ without task (due stamps)
-unfolding due make_ready
+due_without : (stamps : Stamps) (task : ℕ) → IsStamped stamps → task < length stamps.rows → due (add_to_ready_list task stamps) ≡ without task (due stamps)
+unfolding due add_to_ready_list
 due_without stamps task stamped below = standing_so_moved stamps task Ready below (wakes_at stamps.tick) stamped.given ∙ append-nil (without task (standing_so (wakes_at stamps.tick) stamps))
 
 -- waking the first of them leaves the others
-pub first_due_some : (stamps : Stamps) (task : ℕ) → IsStamped stamps → task < length stamps.rows → first_due stamps ≡ Some task → due stamps ≡ task ∷ due (make_ready task stamps)
+pub first_due_some : (stamps : Stamps) (task : ℕ) → IsStamped stamps → task < length stamps.rows → first_due stamps ≡ Some task → due stamps ≡ task ∷ due (add_to_ready_list task stamps)
 first_due_some stamps task stamped below some = from (due stamps) (sym (first_due_is stamps stamped) ∙ some) (due_once stamps) (due_without stamps task stamped below)
   where
-    from : (xs : List ℕ) → find (λ _. true) xs ≡ Some task → IsOrdered differ xs → due (make_ready task stamps) ≡ without task xs → xs ≡ task ∷ due (make_ready task stamps)
+    from : (xs : List ℕ) → find (λ _. true) xs ≡ Some task → IsOrdered differ xs → due (add_to_ready_list task stamps) ≡ without task xs → xs ≡ task ∷ due (add_to_ready_list task stamps)
     from [] e once rest = absurd (cc (e))
     from (x ∷ xs) e once rest =
         let same : x ≡ task = cc (e) in
@@ -76,7 +76,7 @@ first_due_some stamps task stamped below some = from (due stamps) (sym (first_du
 
 -- old is being ticked: waking the tasks that are still due in now, and then slicing, ends in its tick
 pub record IsWaking (old now : Table) : Type 0 where
-  pub rest : sliced table_moves (woken table_moves (due now.orders) now) ≡ ticked table_moves old
+  pub rest : sliced stamp_queues (woken stamp_queues (due now.orders) now) ≡ ticked stamp_queues old
   pub stamped : IsStamped now.orders
   pub room : now.orders.next + length (due now.orders) ≤ old.orders.next + length old.orders.rows
 
@@ -90,15 +90,15 @@ waking_starts old now sound starts =
       room = omega (arith, length_due (advance old.orders), advance_next old.orders);
     })
 
-make_ready_next : (stamps : Stamps) (task : ℕ) → (make_ready task stamps).next ≡ suc stamps.next
-unfolding make_ready
+make_ready_next : (stamps : Stamps) (task : ℕ) → (add_to_ready_list task stamps).next ≡ suc stamps.next
+unfolding add_to_ready_list
 make_ready_next stamps task = refl
 
-pub waking_goes : (old now next : Table) (task : ℕ) → IsWaking old now → task < length now.orders.rows → first_due now.orders ≡ Some task → next ≡ wake table_moves 0 task now → IsWaking old next × (length (due next.orders) < length (due now.orders))
+pub waking_goes : (old now next : Table) (task : ℕ) → IsWaking old now → task < length now.orders.rows → first_due now.orders ≡ Some task → next ≡ wake stamp_queues 0 task now → IsWaking old next × (length (due next.orders) < length (due now.orders))
 unfolding wake
 waking_goes old now next task waking below some goes =
     let first = first_due_some now.orders task waking.stamped below some in
-    let turn = ap (λ tasks. sliced table_moves (woken table_moves tasks now)) first in
+    let turn = ap (λ tasks. sliced stamp_queues (woken stamp_queues tasks now)) first in
     let shorter = ap length first in
     subst (λ t. IsWaking old t × (length (due t.orders) < length (due now.orders))) (sym goes) (
       record {
@@ -109,8 +109,8 @@ waking_goes old now next task waking below some goes =
       omega (arith, shorter),
     )
 
-pub waking_ends : (old now : Table) → IsWaking old now → first_due now.orders ≡ None → sliced table_moves now ≡ ticked table_moves old
-waking_ends old now waking none = sym (ap (λ tasks. sliced table_moves (woken table_moves tasks now)) (first_due_none now.orders waking.stamped none)) ∙ waking.rest
+pub waking_ends : (old now : Table) → IsWaking old now → first_due now.orders ≡ None → sliced stamp_queues now ≡ ticked stamp_queues old
+waking_ends old now waking none = sym (ap (λ tasks. sliced stamp_queues (woken stamp_queues tasks now)) (first_due_none now.orders waking.stamped none)) ∙ waking.rest
 
 pub waking_room : (old now : Table) (task : ℕ) → IsWaking old now → task < length now.orders.rows → first_due now.orders ≡ Some task → now.orders.next + 1 ≤ old.orders.next + length old.orders.rows
 waking_room old now task waking below some = omega (arith, waking.room, ap length (first_due_some now.orders task waking.stamped below some))

@@ -12,5 +12,10 @@ pub record IsFit (table : Inside) : Type 0 where
   pub holders : length table.holders.items ≡ table.settings.mutexes
   pub rows : length table.rows.items ≡ table.settings.tasks
   pub deadlines : length table.deadlines.items ≡ table.settings.tasks
-  pub held_by_tasks : (mutex task : ℕ) → slice_index_or table.holders.items mutex None ≡ Some task → task < table.settings.tasks
-  pub runs_tasks : (core : ℕ) → core < table.settings.cores → (slice_index_or table.cores.items core (record { current = 0; pend = false; asked = false })).current < table.settings.tasks
+  pub held_by_tasks :
+      (mutex task : ℕ) → slice_index_or table.holders.items mutex None ≡ Some task
+      → task < table.settings.tasks
+  pub runs_tasks :
+      (core : ℕ) → core < table.settings.cores
+      → (slice_index_or table.cores.items core
+      (record { current = 0; pend = false; asked = false })).current < table.settings.tasks

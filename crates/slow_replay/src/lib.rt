@@ -1,4 +1,5 @@
-//! A plain replay of the definitions, for tests: a flat table whose choices are searches, made step by step.
+//! A plain replay of the definitions, for tests: a flat table whose choices are searches, made step
+//! by step.
 #![tactic(auto)]
 
 mod slow;

@@ -4,14 +4,14 @@ ghost use Rattle.bench_types.specs.Header.{header_check};
 ghost use Rattle.bench_types.specs.declared.step.Call.TheVariants.{Delay};
 ghost use Rattle.bench_model.specs.Control.{is_elsewhere, is_allowed, may_select, is_due, current, run_on, running};
 ghost use Rattle.bench_model.specs.Notes.{no_note};
-ghost use Rattle.bench_model.specs.State.{queued, switched, yielded, blocked};
-ghost use Rattle.bench_model.specs.Seek.{wake, switched_and_sought};
+ghost use Rattle.bench_model.specs.State.{queued, after_select, yielded, blocked};
+ghost use Rattle.bench_model.specs.Seek.{wake, after_switch};
 ghost use Rattle.bench_model.specs.Steps.{ticked, delayed_until, called, performed};
-ghost use Rattle.bench_model.specs.Sound.{IsConsistent, IsSound, IsInPlace};
+ghost use Rattle.bench_model.specs.Sound.{IsConsistent, IsSound, StepFits};
 ghost use Rattle.bench_model.specs.Session.{step_of, outcome_at};
 ghost use Rattle.bench_types.specs.Reply.{shown};
 ghost use Rattle.bench_types.specs.Limits.{max_cores, max_tasks};
-ghost use Rattle.bench_model.specs.Table.{table_moves, advance, make_ready, is_ready, goes_before, pick, row_at, stamp_of, tasks_of, wakes_at};
+ghost use Rattle.bench_model.specs.Table.{stamp_queues, advance, add_to_ready_list, is_ready, goes_before, pick, row_at, stamp_of, tasks_of, wakes_at};
 ghost use Rattle.list_orders.specs.Search.{is_best, numbers};
 ghost use Rattle.bench_model.specs.Start.{first_look, ready_row, idle_control, user_control, first_control, first_stamps, unstarted, start};
 ghost use Rattle.slow_replay.specs.SlowDue.{first_due};
@@ -23,7 +23,7 @@ mod seek;
 mod sets;
 
 use bench_model::until::{is_ahead, next_wake};
-use bench_model::{Standing, TaskRow};
+use bench_model::{TaskRow, TaskState};
 use bench_types::{
     Call, CoreLook, Header, Hold, MutexWait, NoteState, Notification, Refusal, Reply, Row,
     Settings, Step, TaskArgs, TaskControl, Unfinished, cores_of_mask,
@@ -62,7 +62,12 @@ impl Model for SlowTable {
       notes = t.notes.items;
       holders = t.holders.items;
       hold = t.hold;
-      orders = record { rows = t.rows.items; deadlines = t.deadlines.items; tick = t.tick; next = t.next };
+      orders = record {
+        rows = t.rows.items;
+        deadlines = t.deadlines.items;
+        tick = t.tick;
+        next = t.next;
+      };
     } };
 
     ghost invariant = { IsFit };
@@ -89,8 +94,8 @@ impl SlowTable {
         ensures { result ≡ is_ready task self.now.orders }
     {
         match self.rows[task as usize].standing {
-            Standing::Ready => true,
-            Standing::Blocked { .. } => false,
+            TaskState::Ready => true,
+            TaskState::Blocked { .. } => false,
         }
     }
 
@@ -127,7 +132,8 @@ impl SlowTable {
     fn can_select(&self, core: u32, task: u32) -> bool
         requires core { core < length self.now.control.cores }
         requires task { task < length self.now.orders.rows }
-        ensures { result ≡ (is_ready task self.now.orders && may_select self.now.control core task) }
+        ensures { result
+            ≡ (is_ready task self.now.orders && may_select self.now.control core task) }
     {
         self.is_ready(task) && self.is_allowed(core, task) && !self.is_elsewhere(core, task)
     }
@@ -154,7 +160,9 @@ impl SlowTable {
     fn is_best(&self, core: u32, task: u32) -> bool
         requires core { core < length self.now.control.cores }
         requires task { task < length self.now.orders.rows }
-        ensures { result ≡ is_best (λ i. is_ready i self.now.orders && may_select self.now.control core i) (goes_before self.now.control self.now.orders) (tasks_of self.now.orders) task }
+        ensures { result
+            ≡ is_best (λ i. is_ready i self.now.orders && may_select self.now.control core i)
+            (goes_before self.now.control self.now.orders) (tasks_of self.now.orders) task }
     {
         self.can_select(core, task)
             && self.task_numbers().all(|other| !self.can_select(core, other)
@@ -174,8 +182,8 @@ impl SlowTable {
         ensures { result ≡ wakes_at self.now.orders.tick (row_at self.now.orders task).standing }
     {
         match self.rows[task as usize].standing {
-            Standing::Ready | Standing::Blocked { wake: None, .. } => false,
-            Standing::Blocked {
+            TaskState::Ready | TaskState::Blocked { wake: None, .. } => false,
+            TaskState::Blocked {
                 wake: Some(wake),
                 ..
             } => wake == self.tick,
@@ -185,7 +193,10 @@ impl SlowTable {
     // Whether the task is due and none that is due has a smaller stamp.
     fn is_first_due(&self, task: u32) -> bool
         requires { task < length self.now.orders.rows }
-        ensures { result ≡ is_best (λ i. wakes_at self.now.orders.tick (row_at self.now.orders i).standing) (λ i j. nat_le (stamp_of self.now.orders i) (stamp_of self.now.orders j)) (tasks_of self.now.orders) task }
+        ensures { result
+            ≡ is_best (λ i. wakes_at self.now.orders.tick (row_at self.now.orders i).standing)
+            (λ i j. nat_le (stamp_of self.now.orders i) (stamp_of self.now.orders j))
+            (tasks_of self.now.orders) task }
     {
         self.is_due_now(task)
             && self.task_numbers().all(|other| !self.is_due_now(other)
@@ -199,18 +210,19 @@ impl SlowTable {
         self.task_numbers().find(|task| self.is_first_due(*task))
     }
 
-    #[tactic(auto, unfolding(bench_model::specs::Table::make_ready))]
-    fn make_ready(&mut self, task: u32)
+    #[tactic(auto, unfolding(bench_model::specs::Table::add_to_ready_list))]
+    fn add_to_ready_list(&mut self, task: u32)
         requires task { task < length self.old.orders.rows }
         requires room { self.old.orders.next + 1 < 2 ^ 128 }
-        ensures made { self.new ≡ record self.old { orders = make_ready task self.old.orders } }
+        ensures made { self.new
+            ≡ record self.old { orders = add_to_ready_list task self.old.orders } }
         ensures rows { length self.new.orders.rows ≡ length self.old.orders.rows }
         ensures stamps { self.new.orders.next ≡ self.old.orders.next + 1 }
         ensures tick { self.new.orders.tick ≡ self.old.orders.tick }
     {
         self.rows[task as usize] = TaskRow {
             stamp: self.next,
-            standing: Standing::Ready,
+            standing: TaskState::Ready,
         };
         self.next += 1;
     }
@@ -218,7 +230,7 @@ impl SlowTable {
     #[tactic(auto, unfolding(bench_model::specs::State::yielded))]
     fn ask_itself(&mut self, core: u32)
         requires { core < length self.old.control.cores }
-        ensures { self.new ≡ yielded table_moves core self.old }
+        ensures { self.new ≡ yielded stamp_queues core self.old }
     {
         self.cores[core as usize].pend = true;
     }
@@ -239,20 +251,20 @@ impl SlowTable {
     fn queue(&mut self, core: u32)
         requires core { core < length self.old.control.cores }
         requires room { self.old.orders.next + 1 < 2 ^ 128 }
-        ensures queued { self.new ≡ record self.old { orders = queued table_moves core self.old } }
+        ensures queued { self.new ≡ record self.old { orders = queued stamp_queues core self.old } }
         ensures rows { length self.new.orders.rows ≡ length self.old.orders.rows }
     {
         let left = self.current(core);
         if self.is_ready(left) {
-            self.make_ready(left);
+            self.add_to_ready_list(left);
         }
     }
 
-    #[tactic(auto, unfolding(bench_model::specs::State::switched))]
+    #[tactic(auto, unfolding(bench_model::specs::State::after_select))]
     fn select(&mut self, core: u32)
         requires core { core < length self.old.control.cores }
         requires room { self.old.orders.next + 1 < 2 ^ 128 }
-        ensures switched { self.new ≡ switched table_moves core self.old }
+        ensures selected { self.new ≡ after_select stamp_queues core self.old }
         ensures rows { length self.new.orders.rows ≡ length self.old.orders.rows }
         ensures cores { length self.new.control.cores ≡ length self.old.control.cores }
     {
@@ -262,11 +274,11 @@ impl SlowTable {
         self.run_on(core, task);
     }
 
-    #[tactic(auto, unfolding(bench_model::specs::Seek::switched_and_sought))]
+    #[tactic(auto, unfolding(bench_model::specs::Seek::after_switch))]
     fn switch(&mut self, core: u32)
         requires core { core < length self.old.control.cores }
         requires room { self.old.orders.next + 1 < 2 ^ 128 }
-        ensures { self.new ≡ switched_and_sought table_moves core self.old }
+        ensures { self.new ≡ after_switch stamp_queues core self.old }
     {
         let loser = self.current(core);
         self.select(core);
@@ -277,10 +289,10 @@ impl SlowTable {
     fn wake(&mut self, acting: u32, task: u32)
         requires task { task < length self.old.orders.rows }
         requires room { self.old.orders.next + 1 < 2 ^ 128 }
-        ensures woken { self.new ≡ wake table_moves acting task self.old }
+        ensures woken { self.new ≡ wake stamp_queues acting task self.old }
         ensures settings { self.new.settings ≡ self.old.settings }
     {
-        self.make_ready(task);
+        self.add_to_ready_list(task);
         self.seek(acting, task, None);
     }
 
@@ -297,7 +309,7 @@ impl SlowTable {
         requires sound { IsConsistent self.old }
         requires room { self.old.orders.next + length self.old.orders.rows < 2 ^ 128 }
         requires time { self.old.orders.tick + 1 < 2 ^ 128 }
-        ensures { self.new ≡ ticked table_moves self.old }
+        ensures { self.new ≡ ticked stamp_queues self.old }
     {
         self.count_tick();
         while let Some(task) = self.first_due() {
@@ -319,13 +331,13 @@ impl SlowTable {
         requires task { task < length self.old.orders.rows }
         requires room { self.old.orders.next + 1 < 2 ^ 128 }
         requires time { self.old.orders.tick + 2 ^ 32 < 2 ^ 128 }
-        ensures { self.new ≡ blocked table_moves core task call ticks wait self.old }
+        ensures { self.new ≡ blocked stamp_queues core task call ticks wait self.old }
     {
         let tick = self.tick;
         let wake = ticks.map(|ticks| tick + u128::from(ticks));
         self.rows[task as usize] = TaskRow {
             stamp: self.next,
-            standing: Standing::Blocked { wake, wait },
+            standing: TaskState::Blocked { wake, wait },
         };
         self.next += 1;
         self.deadlines[task as usize] = if wait.is_some() { wake } else { None };
@@ -339,7 +351,7 @@ impl SlowTable {
         requires task { task < length self.old.orders.rows }
         requires room { self.old.orders.next + 1 < 2 ^ 128 }
         requires time { self.old.orders.tick + 2 ^ 32 < 2 ^ 128 }
-        ensures { (result, self.new) ≡ called table_moves core task (Delay ticks) self.old }
+        ensures { (result, self.new) ≡ called stamp_queues core task (Delay ticks) self.old }
     {
         if ticks == 0 {
             self.ask_itself(core);
@@ -356,7 +368,7 @@ impl SlowTable {
         requires task { task < length self.old.orders.rows }
         requires room { self.old.orders.next + 1 < 2 ^ 128 }
         requires time { self.old.orders.tick + 2 ^ 32 < 2 ^ 128 }
-        ensures { (result, self.new) ≡ delayed_until table_moves core task prev inc self.old }
+        ensures { (result, self.new) ≡ delayed_until stamp_queues core task prev inc self.old }
     {
         let now = self.tick_count();
         let wake = next_wake(prev, inc);
@@ -378,7 +390,7 @@ impl SlowTable {
         requires checked { call_check self.old.settings call ≡ Ok tt }
         requires room { self.old.orders.next + 2 < 2 ^ 128 }
         requires time { self.old.orders.tick + 2 ^ 32 < 2 ^ 128 }
-        ensures { (result, self.new) ≡ called table_moves core task call self.old }
+        ensures { (result, self.new) ≡ called stamp_queues core task call self.old }
     {
         match call {
             Call::Yield => self.ask_itself(core),
@@ -411,11 +423,11 @@ impl SlowTable {
     #[tactic(auto, unfolding(bench_model::specs::Steps::performed))]
     fn perform(&mut self, step: &Step) -> Reply
         requires sound { IsSound self.old }
-        requires fits { IsInPlace self.old step.now }
+        requires fits { StepFits self.old step.now }
         requires checked { step_check self.old.settings step.now ≡ Ok tt }
         requires room { self.old.orders.next + length self.old.orders.rows + 1 < 2 ^ 128 }
         requires time { self.old.orders.tick + 2 ^ 32 < 2 ^ 128 }
-        ensures { (result, self.new) ≡ performed table_moves step.now self.old }
+        ensures { (result, self.new) ≡ performed stamp_queues step.now self.old }
     {
         match *step {
             Step::Tick => {
@@ -472,7 +484,7 @@ fn ready_row(stamp: u32) -> TaskRow
 {
     TaskRow {
         stamp: u128::from(stamp),
-        standing: Standing::Ready,
+        standing: TaskState::Ready,
     }
 }
 
@@ -484,7 +496,9 @@ fn first_cores(alloc: Global, cores: u32) -> Result<Vec<CoreLook>, AllocError>
 
 fn first_rows(alloc: Global, cores: u32, users: u32) -> Result<Vec<TaskRow>, AllocError>
     requires { cores + users < 2 ^ 32 }
-    ensures { IfOk result (λ rows. rows.items ≡ map (λ core. ready_row (users + core)) (numbers cores) ++ map ready_row (numbers users)) }
+    ensures { IfOk result
+        (λ rows. rows.items
+        ≡ map (λ core. ready_row (users + core)) (numbers cores) ++ map ready_row (numbers users)) }
 {
     let idle = (0..cores).map(|core| ready_row(users + core));
     idle.chain((0..users).map(ready_row)).collect(alloc)
@@ -624,10 +638,11 @@ fn start(alloc: Global, header: &Header) -> Result<SlowTable, AllocError>
     Ok(table)
 }
 
-/// Replays the steps on the flat table as it is defined, and gives per step its reply and the tasks that run behind it.
+/// Replays the steps on the flat table as it is defined, and gives per step its reply and the tasks
+/// that run after it.
 ///
-/// It searches the whole table at each step, so it serves to test faster kernels. It takes the host's runtime, so
-/// that a crate that is handed none can't replay unnoticed.
+/// It searches the whole table at each step, so it serves to test faster kernels. It takes the
+/// host's runtime, so that a crate that is handed none can't replay unnoticed.
 pub fn replay_slow(
     _rt: &HostRuntime,
     alloc: Global,

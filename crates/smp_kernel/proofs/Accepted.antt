@@ -18,10 +18,10 @@ use Rattle.bench_model.specs.Holds.{is_held_by, depth_of}
 use Rattle.bench_model.specs.Refusals.{give_refusal, refusal}
 use Rattle.bench_model.specs.State.{holder_at}
 use Rattle.bench_model.specs.Steps.{performed, after}
-use Rattle.bench_model.specs.Lists.{View, list_moves}
+use Rattle.bench_model.specs.Lists.{View, list_queues}
 use Rattle.bench_types.proofs.Passes.{both_pass, checked_core, checked_task}
 use Rattle.step_laws.proofs.Holds.{its_hold, accepted}
-use Rattle.smp_kernel.specs.Kernel.{IsSettled, FindsItsPlace}
+use Rattle.smp_kernel.specs.Kernel.{IsSettled, CallFits}
 
 -- a task that may give a mutex holds it itself, if a task does
 pub own_mutex : (holders : List (Option ℕ)) (task mutex : ℕ) → give_refusal holders task (MutexGive mutex) ≡ None → ForSome (holder_at holders mutex) (λ holder. holder ≡ task)
@@ -48,14 +48,14 @@ depth_most view settled = at view.hold refl
     at None free = omega arith
     at (Some hold) is = (settled.held hold is).depth
 
-pub finds_its_place : (step : Step) (view : View) → IsSettled view → step_check view.settings step ≡ Ok tt → refusal list_moves step view ≡ None → FindsItsPlace view step
+pub finds_its_place : (step : Step) (view : View) → IsSettled view → step_check view.settings step ≡ Ok tt → refusal list_queues step view ≡ None → CallFits view step
 finds_its_place Tick view settled passes none = settled.none_due
 finds_its_place (Switch core) view settled passes none = checked_core view.settings core passes
 finds_its_place (steps.Call core task call) view settled passes none =
     let both = both_pass (core_check view.settings core >> task_check view.settings task) (call_check view.settings call) passes in
     let in_range = both_pass (core_check view.settings core) (task_check view.settings task) both.0 in
     let low = checked_core view.settings core in_range.0 in
-    let found = accepted list_moves core task call view none in
+    let found = accepted list_queues core task call view none in
     record {
       core_below = low;
       task_below = (checked_task view.settings task in_range.1).1;
@@ -69,10 +69,10 @@ finds_its_place (Interrupt core note) view settled passes none =
     let both = both_pass (core_check view.settings core) (task_check view.settings note.task) passes in
     (checked_core view.settings core both.0, (checked_task view.settings note.task both.1).1)
 
-pub after_refused : (step : Step) (view : View) (why : Refusal) → refusal list_moves step view ≡ Some why → (Refused why, view) ≡ after list_moves step view
+pub after_refused : (step : Step) (view : View) (why : Refusal) → refusal list_queues step view ≡ Some why → (Refused why, view) ≡ after list_queues step view
 unfolding after
 after_refused step view why is = rw is refl
 
-pub after_accepted : (step : Step) (view : View) → refusal list_moves step view ≡ None → performed list_moves step view ≡ after list_moves step view
+pub after_accepted : (step : Step) (view : View) → refusal list_queues step view ≡ None → performed list_queues step view ≡ after list_queues step view
 unfolding after
 after_accepted step view is = rw is refl

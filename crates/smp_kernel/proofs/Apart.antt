@@ -9,7 +9,7 @@ use Rattle.bench_model.specs.Lists.{outranks, one_tick_less}
 use Rattle.list_orders.proofs.Filters.{has-filter}
 use Rattle.list_orders.proofs.Ranks.{list_any-placed}
 use Rattle.tick_delay.specs.Parts.{DelayView, is_waiting, advanced}
-use Rattle.smp_kernel.specs.Kernel.{IsApart, delayed_task}
+use Rattle.smp_kernel.specs.Kernel.{IsDisjoint, delayed_task}
 
 has-moved : (control : Control) (t task : ℕ) (ready : List ℕ) → has t (placed (outranks control) task (without task ready)) ≡ (eqb task t || (not (eqb t task) && has t ready))
 has-moved control t task ready = list_any-placed (outranks control) (λ m. eqb m t) task (without task ready) ∙ ap (λ b. eqb task t || b) (has-filter (λ m. not (eqb m task)) t ready)
@@ -39,7 +39,7 @@ module _ {E : Type 0} (task_of : E → ℕ) where
   waits-left t task (entry ∷ entries) = grind (arith, nat_tests, waits-left t task entries)
 
   -- entries that go leave the others apart
-  pub apart_left : (task : ℕ) (ready : List ℕ) (entries : List E) → IsApart task_of ready entries → IsApart task_of ready (left task entries)
+  pub apart_left : (task : ℕ) (ready : List ℕ) (entries : List E) → IsDisjoint task_of ready entries → IsDisjoint task_of ready (left task entries)
   apart_left task ready entries apart t found = grind (arith, waits-left t task entries, apart t found)
 
   -- where no entry is the task's, all stay that are not its
@@ -47,7 +47,7 @@ module _ {E : Type 0} (task_of : E → ℕ) where
   left_free task [] free = refl
   left_free task (entry ∷ entries) free = grind (arith, free, left_free task entries (grind (arith, free)))
 
-  pub apart_ready : (control : Control) (task : ℕ) (ready : List ℕ) (entries : List E) → IsApart task_of ready entries → IsApart task_of (placed (outranks control) task (without task ready)) (left task entries)
+  pub apart_ready : (control : Control) (task : ℕ) (ready : List ℕ) (entries : List E) → IsDisjoint task_of ready entries → IsDisjoint task_of (placed (outranks control) task (without task ready)) (left task entries)
   apart_ready control task ready entries apart t found = at (has t ready) refl
     where
       at : (b : Bool) → has t ready ≡ b → waits t (left task entries) ≡ false
@@ -55,7 +55,7 @@ module _ {E : Type 0} (task_of : E → ℕ) where
       at false before = grind (arith, nat_tests, waits-left t task entries, found, before, has-moved control t task ready)
 
   -- a task that is ready no more
-  pub apart_unready : (task : ℕ) (ready : List ℕ) (entries : List E) → IsApart task_of ready entries → IsApart task_of (without task ready) entries
+  pub apart_unready : (task : ℕ) (ready : List ℕ) (entries : List E) → IsDisjoint task_of ready entries → IsDisjoint task_of (without task ready) entries
   apart_unready task ready entries apart t found = at (has t ready) refl
     where
       at : (b : Bool) → has t ready ≡ b → waits t entries ≡ false
@@ -63,7 +63,7 @@ module _ {E : Type 0} (task_of : E → ℕ) where
       at false before = absurd (cc (found, before, has-filter (λ m. not (eqb m task)) t ready, and_false (not (eqb t task))))
 
   -- and waits
-  pub apart_waiting : (front : E → E → Bool) (entry : E) (ready : List ℕ) (entries : List E) → IsApart task_of ready entries → IsApart task_of (without (task_of entry) ready) (placed front entry entries)
+  pub apart_waiting : (front : E → E → Bool) (entry : E) (ready : List ℕ) (entries : List E) → IsDisjoint task_of ready entries → IsDisjoint task_of (without (task_of entry) ready) (placed front entry entries)
   apart_waiting front entry ready entries apart t found = at (has t ready) refl
     where
       at : (b : Bool) → has t ready ≡ b → waits t (placed front entry entries) ≡ false
@@ -71,10 +71,10 @@ module _ {E : Type 0} (task_of : E → ℕ) where
       at false before = absurd (cc (found, before, has-filter (λ m. not (eqb m (task_of entry))) t ready, and_false (not (eqb t (task_of entry)))))
 
   -- the ready lists where a task that is ready goes to the end of its list
-  pub apart_queued : (task : ℕ) (control : Control) (ready : List ℕ) (entries : List E) → IsApart task_of ready entries → IsApart task_of (cond (has task ready) (placed (outranks control) task (without task ready)) ready) entries
+  pub apart_queued : (task : ℕ) (control : Control) (ready : List ℕ) (entries : List E) → IsDisjoint task_of ready entries → IsDisjoint task_of (cond (has task ready) (placed (outranks control) task (without task ready)) ready) entries
   apart_queued task control ready entries apart = at (has task ready) refl
     where
-      at : (b : Bool) → has task ready ≡ b → IsApart task_of (cond b (placed (outranks control) task (without task ready)) ready) entries
+      at : (b : Bool) → has task ready ≡ b → IsDisjoint task_of (cond b (placed (outranks control) task (without task ready)) ready) entries
       at true before t found = moved (has t ready) refl
         where
           moved : (b : Bool) → has t ready ≡ b → waits t entries ≡ false
@@ -86,7 +86,7 @@ waiting-aged : (t : ℕ) (delayed : List Delayed) → is_waiting t (map one_tick
 waiting-aged t [] = refl
 waiting-aged t (entry ∷ delayed) = ap (λ b. eqb entry.task t || b) (waiting-aged t delayed)
 
-pub apart_advanced : (ready : List ℕ) (view : DelayView) → IsApart delayed_task ready view.delayed → IsApart delayed_task ready (advanced view).delayed
+pub apart_advanced : (ready : List ℕ) (view : DelayView) → IsDisjoint delayed_task ready view.delayed → IsDisjoint delayed_task ready (advanced view).delayed
 unfolding advanced
 apart_advanced ready view apart t found = waiting-aged t view.delayed ∙ apart t found
 

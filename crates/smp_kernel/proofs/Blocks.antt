@@ -11,11 +11,12 @@ use Rattle.bench_types.specs.declared.step.Unfinished.TheVariants.{Take}
 use Rattle.list_orders.specs.Search.{placed, without, has}
 use Rattle.bench_model.specs.Control.{task_at, ask}
 use Rattle.bench_model.specs.State.{blocked}
-use Rattle.bench_model.specs.Lists.{list_moves, wakes_first, waits_first, delay}
-use Rattle.bench_model.specs.Cores.{on_cores}
+use Rattle.bench_model.specs.Lists.{list_queues, wakes_first, waits_first, delay}
+use Rattle.bench_model.specs.Cores.{cores_rule}
 use Rattle.bench_model.specs.Mutexes.{is_marked, inherited, waited_at}
 use Rattle.bench_model.specs.MutexParts.{wait_of}
-use Rattle.smp_kernel.specs.Kernel.{IsApart, Parts, kernel_view, IsKernelShape, delayed_task, waiting_task}
+use Rattle.smp_kernel.specs.Kernel.{IsDisjoint, Parts, kernel_view, IsKernelShape, delayed_task, waiting_task}
+use Rattle.smp_kernel.proofs.Sizes.{reshaped}
 use Rattle.smp_kernel.proofs.CoreMoves.{with_cores, inherit_seen, inherit_shape}
 use Rattle.smp_kernel.proofs.Apart.{none_found, apart_unready, apart_waiting}
 
@@ -39,44 +40,28 @@ blocked_parts core task call ticks wait parts = record parts {
   deadlines = slice_set parts.deadlines task (cond (is_some wait) ticks None);
 }
 
-apart_delayed : (task : ℕ) (ticks : Option ℕ) (ready : List ℕ) (delayed : List Delayed) → IsApart delayed_task ready delayed → IsApart delayed_task (without task ready) (delayed_more task ticks delayed)
+apart_delayed : (task : ℕ) (ticks : Option ℕ) (ready : List ℕ) (delayed : List Delayed) → IsDisjoint delayed_task ready delayed → IsDisjoint delayed_task (without task ready) (delayed_more task ticks delayed)
 apart_delayed task None ready delayed apart = apart_unready delayed_task task ready delayed apart
 apart_delayed task (Some left) ready delayed apart = apart_waiting delayed_task wakes_first (record { task = task; left = left }) ready delayed apart
 
-apart_queued : (task : ℕ) (wait : Option MutexWait) (ready : List ℕ) (waiters : List Waiter) → IsApart waiting_task ready waiters → IsApart waiting_task (without task ready) (waiters_more task wait waiters)
+apart_queued : (task : ℕ) (wait : Option MutexWait) (ready : List ℕ) (waiters : List Waiter) → IsDisjoint waiting_task ready waiters → IsDisjoint waiting_task (without task ready) (waiters_more task wait waiters)
 apart_queued task None ready waiters apart = apart_unready waiting_task task ready waiters apart
 apart_queued task (Some wait) ready waiters apart = apart_waiting waiting_task waits_first (record { task = task; wait = wait }) ready waiters apart
 
 module _ (parts : Parts) (shape : IsKernelShape parts) where
-  pub block_seen : (core task : ℕ) (call : Unfinished) (ticks : Option ℕ) (wait : Option MutexWait) → kernel_view (blocked_parts core task call ticks wait parts) ≡ blocked list_moves core task call ticks wait (kernel_view parts)
+  pub block_seen : (core task : ℕ) (call : Unfinished) (ticks : Option ℕ) (wait : Option MutexWait) → kernel_view (blocked_parts core task call ticks wait parts) ≡ blocked list_queues core task call ticks wait (kernel_view parts)
   unfolding blocked delay
   block_seen core task call ticks wait = refl
 
   pub block_shape : (core task : ℕ) (call : Unfinished) (ticks : Option ℕ) (wait : Option MutexWait) → IsKernelShape (blocked_parts core task call ticks wait parts)
-  block_shape core task call ticks wait = record {
-    priorities = shape.priorities;
-    slicing = shape.slicing;
-    few_cores = shape.few_cores;
-    some_priority = shape.some_priority;
-    cores = length-set parts.cores.control.cores core _ ∙ shape.cores;
-    controls = shape.controls;
-    calls = length-set parts.calls task _ ∙ shape.calls;
-    notes = shape.notes;
-    mutexes = shape.mutexes;
-    mutex_priorities = shape.mutex_priorities;
-    holders = shape.holders;
-    delays = shape.delays;
-    deadlines = length-set parts.deadlines task _ ∙ shape.deadlines;
-    undelayed = apart_delayed task ticks _ _ shape.undelayed;
-    unqueued = apart_queued task wait _ _ shape.unqueued;
-  }
+  block_shape core task call ticks wait = reshaped parts _ refl (cc (length-set parts.cores.control.cores core _, length-set parts.calls task _, length-set parts.deadlines task _)) (apart_delayed task ticks _ _ shape.undelayed) (apart_queued task wait _ _ shape.unqueued) shape
 
 -- a kernel whose task begins to wait for a mutex, when the holder has inherited
 abbrev pub waited_parts : ℕ → ℕ → ℕ → ℕ → Option ℕ → Parts → Parts
 waited_parts core task mutex holder ticks parts =
     let priority = (task_at parts.cores.control task).in_use in
     blocked_parts core task (Take mutex (is_marked parts.cores.control task holder)) ticks (Some (record { mutex = mutex; priority = priority }))
-    (with_cores parts (on_cores (inherited list_moves core holder priority) parts.cores))
+    (with_cores parts (cores_rule (inherited list_queues core holder priority) parts.cores))
 
 module _ (parts : Parts) (shape : IsKernelShape parts) (core task mutex holder : ℕ) (ticks : Option ℕ) where
   abbrev priority : ℕ
@@ -89,13 +74,13 @@ module _ (parts : Parts) (shape : IsKernelShape parts) (core task mutex holder :
   wait = Some (record { mutex = mutex; priority = priority })
 
   abbrev raised : Parts
-  raised = with_cores parts (on_cores (inherited list_moves core holder priority) parts.cores)
+  raised = with_cores parts (cores_rule (inherited list_queues core holder priority) parts.cores)
 
-  pub wait_seen : kernel_view (waited_parts core task mutex holder ticks parts) ≡ waited_at list_moves core task mutex holder ticks (kernel_view parts)
+  pub wait_seen : kernel_view (waited_parts core task mutex holder ticks parts) ≡ waited_at list_queues core task mutex holder ticks (kernel_view parts)
   unfolding waited_at
   wait_seen =
       block_seen raised (inherit_shape parts shape core holder priority) core task call ticks wait
-      ∙ ap (blocked list_moves core task call ticks wait) (inherit_seen parts shape core holder priority)
+      ∙ ap (blocked list_queues core task call ticks wait) (inherit_seen parts shape core holder priority)
 
   pub wait_shape : IsKernelShape (waited_parts core task mutex holder ticks parts)
   wait_shape = block_shape raised (inherit_shape parts shape core holder priority) core task call ticks wait

@@ -1,36 +1,36 @@
 -- What the rules do to the cores and ready lists of a kernel, where no ready task waits: they read these alone.
-use Rattle.std.proofs.Common.{◌≡◌, ℕ, Bool, true, false, cond, not, eqb, ltb, ◌&&◌, List, [], ◌∷◌, length, refl, sym, ap, ◌∙◌}
+use Rattle.std.proofs.Common.{◌≡◌, ℕ, Bool, true, false, cond, not, eqb, ltb, ◌&&◌, List, [], ◌∷◌, length, refl, sym, ap, ap₂, ◌∙◌}
 use Rattle.std.specs.Prelude.{unwrap_or, slice_set, Option, Some, None}
 use Rattle.std.specs.Option.{option_map_or}
 use Rattle.std.specs.List.{find}
 use Rattle.std.proofs.lemmas.List.{length-set}
 use Rattle.bench_types.specs.declared.note.Action.{Action}
 use Rattle.list_orders.specs.Search.{placed, without, has}
-use Rattle.bench_model.specs.Control.{Control, task_at, current, may_select, in_mask, run_on, ask, ask_each}
-use Rattle.bench_model.specs.State.{switched}
-use Rattle.bench_model.specs.Seek.{seek, may_move, wake, resettled, switched_and_sought, shares_its_time, sliced}
-use Rattle.bench_model.specs.Sets.{runs_on, ask_its_core}
+use Rattle.bench_model.specs.Control.{Control, task_at, current, may_select, in_mask, run_on, ask, ask_each, runs_on, ask_its_core}
+use Rattle.bench_model.specs.State.{after_select}
+use Rattle.bench_model.specs.Seek.{seek, may_move, wake, after_eviction, after_switch, shares_its_time, sliced}
 use Rattle.bench_model.specs.Notes.{note_at, is_waiting, notified}
 use Rattle.bench_model.specs.Notifying.{notify}
-use Rattle.bench_model.specs.Mutexes.{inherited, lowered}
+use Rattle.bench_model.specs.Mutexes.{inherited, after_disinherit}
 use Rattle.bench_model.specs.Steps.{woken}
-use Rattle.bench_model.specs.Changes.{with_in_use, in_use_set}
-use Rattle.bench_model.specs.Cores.{CoresView, cores_of, alone, on_cores}
-use Rattle.bench_model.specs.Lists.{Lists, View, list_moves, outranks, pick, make_ready, without_waiter, without_delay}
+use Rattle.bench_model.specs.ControlFields.{with_in_use, in_use_set}
+use Rattle.bench_model.specs.Cores.{CoresView, cores_of, bare_view, cores_rule}
+use Rattle.bench_model.specs.Lists.{Lists, View, list_queues, outranks, pick, add_to_ready_list, without_waiter, without_delay}
 use Rattle.order_laws.proofs.SoundSteps.{IsAskedMore}
 use Rattle.rule_laws.proofs.Seeks.{seek_more, each_more}
-use Rattle.smp_kernel.specs.Kernel.{IsApart, Parts, kernel_view, IsKernelShape, delayed_task, waiting_task}
+use Rattle.smp_kernel.specs.Kernel.{IsDisjoint, Parts, kernel_view, IsKernelShape, delayed_task, waiting_task}
+use Rattle.smp_kernel.proofs.Sizes.{reshaped, sizes_of}
 use Rattle.smp_kernel.proofs.Apart.{left_free, apart_ready, apart_queued}
 
 -- no ready task waits
 pub record NoneWaits (lists : Lists) : Type 0 where
-  pub undelayed : IsApart delayed_task lists.ready lists.delayed
-  pub unqueued : IsApart waiting_task lists.ready lists.waiters
+  pub undelayed : IsDisjoint delayed_task lists.ready lists.delayed
+  pub unqueued : IsDisjoint waiting_task lists.ready lists.waiters
 
 abbrev none_waits : (parts : Parts) → IsKernelShape parts → NoneWaits (kernel_view parts).orders
 none_waits parts shape = record { undelayed = shape.undelayed; unqueued = shape.unqueued }
 
-none_waits_alone : (cores : CoresView) → NoneWaits (alone cores).orders
+none_waits_alone : (cores : CoresView) → NoneWaits (bare_view cores).orders
 none_waits_alone cores = record { undelayed = λ task ready. refl; unqueued = λ task ready. refl }
 
 -- a view with other cores and ready lists
@@ -42,8 +42,8 @@ abbrev pub queue_of : ℕ → Control → List ℕ → List ℕ
 queue_of task control ready = cond (has task ready) (placed (outranks control) task (without task ready)) ready
 
 -- nothing else changes then
-requeued : (control : Control) (task : ℕ) (lists : Lists) → NoneWaits lists → cond (has task lists.ready) (make_ready control task lists) lists ≡ record lists { ready = queue_of task control lists.ready }
-unfolding make_ready
+requeued : (control : Control) (task : ℕ) (lists : Lists) → NoneWaits lists → cond (has task lists.ready) (add_to_ready_list control task lists) lists ≡ record lists { ready = queue_of task control lists.ready }
+unfolding add_to_ready_list
 requeued control task lists apart = at (has task lists.ready) refl
   where
     moved : List ℕ
@@ -59,18 +59,18 @@ requeued control task lists apart = at (has task lists.ready) refl
 abbrev selected_by : ℕ → Control → List ℕ → Control
 selected_by core control ready = run_on core (unwrap_or (find (may_select control core) (queue_of (current control core) control ready)) (current control core)) control
 
--- the cores behind the seek for the task that it had
+-- the cores after the seek for the task that it had
 abbrev settled_by : ℕ → ℕ → Control → List ℕ → Control
 settled_by core loser control ready = cond (not (eqb (current control core) loser) && has loser ready) (seek core loser (may_move control loser (current control core) core) control) control
 
-switch_part : (core : ℕ) (view : View) → NoneWaits view.orders → switched list_moves core view ≡ with_part view (selected_by core view.control view.orders.ready) (queue_of (current view.control core) view.control view.orders.ready)
-unfolding switched pick
+switch_part : (core : ℕ) (view : View) → NoneWaits view.orders → after_select list_queues core view ≡ with_part view (selected_by core view.control view.orders.ready) (queue_of (current view.control core) view.control view.orders.ready)
+unfolding after_select pick
 switch_part core view apart =
     let left = current view.control core in
     ap (λ (orders : Lists). record view { control = run_on core (unwrap_or (find (may_select view.control core) orders.ready) left) view.control; orders = orders }) (requeued view.control left view.orders apart)
 
-resettle_part : (core loser : ℕ) (view : View) → resettled list_moves core loser view ≡ with_part view (settled_by core loser view.control view.orders.ready) view.orders.ready
-unfolding resettled
+resettle_part : (core loser : ℕ) (view : View) → after_eviction list_queues core loser view ≡ with_part view (settled_by core loser view.control view.orders.ready) view.orders.ready
+unfolding after_eviction
 resettle_part core loser view = at (not (eqb (current view.control core) loser) && has loser view.orders.ready)
   where
     sought : Control
@@ -80,18 +80,18 @@ resettle_part core loser view = at (not (eqb (current view.control core) loser) 
     at true = refl
     at false = refl
 
--- the cores behind a switch
+-- the cores after a switch
 abbrev turned_by : ℕ → Control → List ℕ → Control
 turned_by core control ready = settled_by core (current control core) (selected_by core control ready) (queue_of (current control core) control ready)
 
-turn_part : (core : ℕ) (view : View) → NoneWaits view.orders → switched_and_sought list_moves core view ≡ with_part view (turned_by core view.control view.orders.ready) (queue_of (current view.control core) view.control view.orders.ready)
-unfolding switched_and_sought
+turn_part : (core : ℕ) (view : View) → NoneWaits view.orders → after_switch list_queues core view ≡ with_part view (turned_by core view.control view.orders.ready) (queue_of (current view.control core) view.control view.orders.ready)
+unfolding after_switch
 turn_part core view apart =
-    ap (resettled list_moves core (current view.control core)) (switch_part core view apart)
+    ap (after_eviction list_queues core (current view.control core)) (switch_part core view apart)
     ∙ resettle_part core (current view.control core) (with_part view (selected_by core view.control view.orders.ready) (queue_of (current view.control core) view.control view.orders.ready))
 
-turned_cores : (core : ℕ) (cores : CoresView) → on_cores (switched_and_sought list_moves core) cores ≡ record cores { control = turned_by core cores.control cores.ready; ready = queue_of (current cores.control core) cores.control cores.ready }
-turned_cores core cores = ap cores_of (turn_part core (alone cores) (none_waits_alone cores))
+turned_cores : (core : ℕ) (cores : CoresView) → cores_rule (after_switch list_queues core) cores ≡ record cores { control = turned_by core cores.control cores.ready; ready = queue_of (current cores.control core) cores.control cores.ready }
+turned_cores core cores = ap cores_of (turn_part core (bare_view cores) (none_waits_alone cores))
 
 -- a rule asks cores, and changes no number of cores and tasks and no setting of them
 record IsKept (before after : CoresView) : Type 0 where
@@ -105,23 +105,8 @@ abbrev pub with_cores : Parts → CoresView → Parts
 with_cores parts cores = record parts { cores = cores }
 
 cores_shape : (parts : Parts) (cores : CoresView) → IsKernelShape parts → IsKept parts.cores cores → NoneWaits (kernel_view (with_cores parts cores)).orders → IsKernelShape (with_cores parts cores)
-cores_shape parts cores shape kept apart = record {
-  priorities = kept.priorities ∙ shape.priorities;
-  slicing = kept.slicing ∙ shape.slicing;
-  few_cores = shape.few_cores;
-  some_priority = shape.some_priority;
-  cores = kept.cores ∙ shape.cores;
-  controls = kept.controls ∙ shape.controls;
-  calls = shape.calls;
-  notes = shape.notes;
-  mutexes = shape.mutexes;
-  mutex_priorities = shape.mutex_priorities;
-  holders = shape.holders;
-  delays = shape.delays;
-  deadlines = shape.deadlines;
-  undelayed = apart.undelayed;
-  unqueued = apart.unqueued;
-}
+cores_shape parts cores shape kept apart =
+    reshaped parts _ refl (cc (kept.priorities, kept.slicing, kept.cores, kept.controls)) apart.undelayed apart.unqueued shape
 
 queued_apart : (parts : Parts) (task : ℕ) (control : Control) → IsKernelShape parts → NoneWaits (record (kernel_view parts).orders { ready = queue_of task control parts.cores.ready })
 queued_apart parts task control shape = record {
@@ -141,10 +126,10 @@ settled_more core loser control ready = at (not (eqb (current control core) lose
 
 module _ (parts : Parts) (shape : IsKernelShape parts) where
   -- a switch of the core part is the switch of the kernel
-  pub turn_seen : (core : ℕ) → kernel_view (with_cores parts (on_cores (switched_and_sought list_moves core) parts.cores)) ≡ switched_and_sought list_moves core (kernel_view parts)
+  pub turn_seen : (core : ℕ) → kernel_view (with_cores parts (cores_rule (after_switch list_queues core) parts.cores)) ≡ after_switch list_queues core (kernel_view parts)
   turn_seen core = ap (λ cores. kernel_view (with_cores parts cores)) (turned_cores core parts.cores) ∙ sym (turn_part core (kernel_view parts) (none_waits parts shape))
 
-  pub turn_shape : (core : ℕ) → IsKernelShape (with_cores parts (on_cores (switched_and_sought list_moves core) parts.cores))
+  pub turn_shape : (core : ℕ) → IsKernelShape (with_cores parts (cores_rule (after_switch list_queues core) parts.cores))
   turn_shape core =
       let control = parts.cores.control in
       let ready = parts.cores.ready in
@@ -178,49 +163,34 @@ woken_parts task parts cores = record parts {
 }
 
 module _ (parts : Parts) (shape : IsKernelShape parts) (acting task : ℕ) where
-  pub wake_seen : kernel_view (woken_parts task parts (on_cores (wake list_moves acting task) parts.cores)) ≡ wake list_moves acting task (kernel_view parts)
-  unfolding wake make_ready
+  pub wake_seen : kernel_view (woken_parts task parts (cores_rule (wake list_queues acting task) parts.cores)) ≡ wake list_queues acting task (kernel_view parts)
+  unfolding wake add_to_ready_list
   wake_seen = refl
 
-  pub wake_shape : IsKernelShape (woken_parts task parts (on_cores (wake list_moves acting task) parts.cores))
-  unfolding wake make_ready
+  pub wake_shape : IsKernelShape (woken_parts task parts (cores_rule (wake list_queues acting task) parts.cores))
+  unfolding wake add_to_ready_list
   wake_shape =
       let control = parts.cores.control in
       let more = seek_more acting task (in_mask control task) control in
-      record {
-        priorities = shape.priorities;
-        slicing = shape.slicing;
-        few_cores = shape.few_cores;
-        some_priority = shape.some_priority;
-        cores = more.cores ∙ shape.cores;
-        controls = ap length more.tasks ∙ shape.controls;
-        calls = shape.calls;
-        notes = shape.notes;
-        mutexes = shape.mutexes;
-        mutex_priorities = shape.mutex_priorities;
-        holders = shape.holders;
-        delays = shape.delays;
-        deadlines = shape.deadlines;
-        undelayed = apart_ready delayed_task control task _ _ shape.undelayed;
-        unqueued = apart_ready waiting_task control task _ _ shape.unqueued;
-      }
+      reshaped parts _ refl (ap₂ (λ a b. record (sizes_of parts) { cores = a; controls = b }) more.cores (ap length more.tasks))
+      (apart_ready delayed_task control task _ _ shape.undelayed) (apart_ready waiting_task control task _ _ shape.unqueued) shape
 
 -- setting a priority in use
-in_use_part : (task priority : ℕ) (view : View) → NoneWaits view.orders → in_use_set list_moves task priority view ≡ with_part view (with_in_use task priority view.control) (queue_of task (with_in_use task priority view.control) view.orders.ready)
+in_use_part : (task priority : ℕ) (view : View) → NoneWaits view.orders → in_use_set list_queues task priority view ≡ with_part view (with_in_use task priority view.control) (queue_of task (with_in_use task priority view.control) view.orders.ready)
 unfolding in_use_set
 in_use_part task priority view apart =
     let later = with_in_use task priority view.control in
     ap (λ orders. record view { control = later; orders = orders }) (requeued later task view.orders apart)
 
-pub in_use_cores : (task priority : ℕ) (cores : CoresView) → on_cores (in_use_set list_moves task priority) cores ≡ record cores { control = with_in_use task priority cores.control; ready = queue_of task (with_in_use task priority cores.control) cores.ready }
-in_use_cores task priority cores = ap cores_of (in_use_part task priority (alone cores) (none_waits_alone cores))
+pub in_use_cores : (task priority : ℕ) (cores : CoresView) → cores_rule (in_use_set list_queues task priority) cores ≡ record cores { control = with_in_use task priority cores.control; ready = queue_of task (with_in_use task priority cores.control) cores.ready }
+in_use_cores task priority cores = ap cores_of (in_use_part task priority (bare_view cores) (none_waits_alone cores))
 
 module _ (parts : Parts) (shape : IsKernelShape parts) where
-  pub in_use_seen : (task priority : ℕ) → kernel_view (with_cores parts (on_cores (in_use_set list_moves task priority) parts.cores)) ≡ in_use_set list_moves task priority (kernel_view parts)
+  pub in_use_seen : (task priority : ℕ) → kernel_view (with_cores parts (cores_rule (in_use_set list_queues task priority) parts.cores)) ≡ in_use_set list_queues task priority (kernel_view parts)
   in_use_seen task priority =
       ap (λ cores. kernel_view (with_cores parts cores)) (in_use_cores task priority parts.cores) ∙ sym (in_use_part task priority (kernel_view parts) (none_waits parts shape))
 
-  pub in_use_shape : (task priority : ℕ) → IsKernelShape (with_cores parts (on_cores (in_use_set list_moves task priority) parts.cores))
+  pub in_use_shape : (task priority : ℕ) → IsKernelShape (with_cores parts (cores_rule (in_use_set list_queues task priority) parts.cores))
   in_use_shape task priority =
       let later = with_in_use task priority parts.cores.control in
       let kept : IsKept parts.cores (record parts.cores { control = later; ready = queue_of task later parts.cores.ready }) = record {
@@ -235,7 +205,7 @@ module _ (parts : Parts) (shape : IsKernelShape parts) where
 abbrev sought_by : ℕ → ℕ → List ℕ → Control → Control
 sought_by acting holder ready control = cond (has holder ready) (seek acting holder (in_mask control holder) control) control
 
--- the cores and ready lists behind a change of a priority in use, where there is one, and behind who is asked then
+-- the cores and ready lists after a change of a priority in use, where there is one, and after who is asked then
 abbrev changed_part : Bool → ℕ → Control → Control → CoresView → CoresView
 changed_part changes task later asked cores = record cores { control = cond changes asked cores.control; ready = cond changes (queue_of task later cores.ready) cores.ready }
 
@@ -249,7 +219,7 @@ lowered_cores acting task priority cores =
     let later = with_in_use task priority cores.control in
     changed_part (not (eqb (task_at cores.control task).in_use priority)) task later (ask_its_core acting task later) cores
 
-inherited_part : (acting holder priority : ℕ) (view : View) → NoneWaits view.orders → inherited list_moves acting holder priority view ≡ with_part view (raised_cores acting holder priority (cores_of view)).control (raised_cores acting holder priority (cores_of view)).ready
+inherited_part : (acting holder priority : ℕ) (view : View) → NoneWaits view.orders → inherited list_queues acting holder priority view ≡ with_part view (raised_cores acting holder priority (cores_of view)).control (raised_cores acting holder priority (cores_of view)).ready
 unfolding inherited
 inherited_part acting holder priority view apart =
     ap (λ later. cond raises (cond (has holder view.orders.ready) (sought later) later) view) (in_use_part holder priority view apart) ∙ at raises (has holder view.orders.ready)
@@ -271,8 +241,8 @@ inherited_part acting holder priority view apart =
     at true false = refl
     at false d = refl
 
-lowered_part : (acting task priority : ℕ) (view : View) → NoneWaits view.orders → lowered list_moves acting task priority view ≡ with_part view (lowered_cores acting task priority (cores_of view)).control (lowered_cores acting task priority (cores_of view)).ready
-unfolding lowered
+lowered_part : (acting task priority : ℕ) (view : View) → NoneWaits view.orders → after_disinherit list_queues acting task priority view ≡ with_part view (lowered_cores acting task priority (cores_of view)).control (lowered_cores acting task priority (cores_of view)).ready
+unfolding after_disinherit
 lowered_part acting task priority view apart =
     ap (λ (later : View). cond stays view (record later { control = ask_its_core acting task later.control })) (in_use_part task priority view apart) ∙ at stays
   where
@@ -289,11 +259,11 @@ lowered_part acting task priority view apart =
     at true = refl
     at false = refl
 
-inherited_cores : (acting holder priority : ℕ) (cores : CoresView) → on_cores (inherited list_moves acting holder priority) cores ≡ raised_cores acting holder priority cores
-inherited_cores acting holder priority cores = ap cores_of (inherited_part acting holder priority (alone cores) (none_waits_alone cores))
+inherited_cores : (acting holder priority : ℕ) (cores : CoresView) → cores_rule (inherited list_queues acting holder priority) cores ≡ raised_cores acting holder priority cores
+inherited_cores acting holder priority cores = ap cores_of (inherited_part acting holder priority (bare_view cores) (none_waits_alone cores))
 
-given_back_cores : (acting task priority : ℕ) (cores : CoresView) → on_cores (lowered list_moves acting task priority) cores ≡ lowered_cores acting task priority cores
-given_back_cores acting task priority cores = ap cores_of (lowered_part acting task priority (alone cores) (none_waits_alone cores))
+given_back_cores : (acting task priority : ℕ) (cores : CoresView) → cores_rule (after_disinherit list_queues acting task priority) cores ≡ lowered_cores acting task priority cores
+given_back_cores acting task priority cores = ap cores_of (lowered_part acting task priority (bare_view cores) (none_waits_alone cores))
 
 -- the core of a task is asked, and no number of cores and tasks changes
 record HasSameSizes (control other : Control) : Type 0 where
@@ -328,40 +298,40 @@ changed_shape parts true task priority asked shape same =
 changed_shape parts false task priority asked shape same = shape
 
 module _ (parts : Parts) (shape : IsKernelShape parts) where
-  pub inherit_seen : (acting holder priority : ℕ) → kernel_view (with_cores parts (on_cores (inherited list_moves acting holder priority) parts.cores)) ≡ inherited list_moves acting holder priority (kernel_view parts)
+  pub inherit_seen : (acting holder priority : ℕ) → kernel_view (with_cores parts (cores_rule (inherited list_queues acting holder priority) parts.cores)) ≡ inherited list_queues acting holder priority (kernel_view parts)
   inherit_seen acting holder priority =
       ap (λ cores. kernel_view (with_cores parts cores)) (inherited_cores acting holder priority parts.cores) ∙ sym (inherited_part acting holder priority (kernel_view parts) (none_waits parts shape))
 
-  pub inherit_shape : (acting holder priority : ℕ) → IsKernelShape (with_cores parts (on_cores (inherited list_moves acting holder priority) parts.cores))
+  pub inherit_shape : (acting holder priority : ℕ) → IsKernelShape (with_cores parts (cores_rule (inherited list_queues acting holder priority) parts.cores))
   inherit_shape acting holder priority =
       rw (inherited_cores acting holder priority parts.cores) (changed_shape parts _ holder priority _ shape (sought_sizes acting holder parts.cores.ready (with_in_use holder priority parts.cores.control)))
 
-  pub lower_seen : (acting task priority : ℕ) → kernel_view (with_cores parts (on_cores (lowered list_moves acting task priority) parts.cores)) ≡ lowered list_moves acting task priority (kernel_view parts)
+  pub lower_seen : (acting task priority : ℕ) → kernel_view (with_cores parts (cores_rule (after_disinherit list_queues acting task priority) parts.cores)) ≡ after_disinherit list_queues acting task priority (kernel_view parts)
   lower_seen acting task priority =
       ap (λ cores. kernel_view (with_cores parts cores)) (given_back_cores acting task priority parts.cores) ∙ sym (lowered_part acting task priority (kernel_view parts) (none_waits parts shape))
 
-  pub lower_shape : (acting task priority : ℕ) → IsKernelShape (with_cores parts (on_cores (lowered list_moves acting task priority) parts.cores))
+  pub lower_shape : (acting task priority : ℕ) → IsKernelShape (with_cores parts (cores_rule (after_disinherit list_queues acting task priority) parts.cores))
   lower_shape acting task priority =
       rw (given_back_cores acting task priority parts.cores) (changed_shape parts _ task priority _ shape (its_core_sizes acting task (with_in_use task priority parts.cores.control)))
 
 -- the end of time slices
-slice_kept : (cores : CoresView) → IsKept cores (on_cores (sliced list_moves) cores)
+slice_kept : (cores : CoresView) → IsKept cores (cores_rule (sliced list_queues) cores)
 unfolding sliced
 slice_kept cores = at cores.slicing
   where
-    more : IsAskedMore cores.control (ask_each 0 (shares_its_time list_moves (alone cores)) cores.control)
-    more = each_more 0 (shares_its_time list_moves (alone cores)) cores.control
+    more : IsAskedMore cores.control (ask_each 0 (shares_its_time list_queues (bare_view cores)) cores.control)
+    more = each_more 0 (shares_its_time list_queues (bare_view cores)) cores.control
 
-    at : (b : Bool) → IsKept cores (cores_of (cond b (record (alone cores) { control = ask_each 0 (shares_its_time list_moves (alone cores)) cores.control }) (alone cores)))
+    at : (b : Bool) → IsKept cores (cores_of (cond b (record (bare_view cores) { control = ask_each 0 (shares_its_time list_queues (bare_view cores)) cores.control }) (bare_view cores)))
     at true = record { priorities = refl; slicing = refl; cores = more.cores; controls = ap length more.tasks }
     at false = record { priorities = refl; slicing = refl; cores = refl; controls = refl }
 
-slice_ready : (cores : CoresView) → (on_cores (sliced list_moves) cores).ready ≡ cores.ready
+slice_ready : (cores : CoresView) → (cores_rule (sliced list_queues) cores).ready ≡ cores.ready
 unfolding sliced
-slice_ready cores = elim cores.slicing as (λ b. (cores_of (cond b (record (alone cores) { control = ask_each 0 (shares_its_time list_moves (alone cores)) cores.control }) (alone cores))).ready ≡ cores.ready) [ true ↦ refl | false ↦ refl ]
+slice_ready cores = elim cores.slicing as (λ b. (cores_of (cond b (record (bare_view cores) { control = ask_each 0 (shares_its_time list_queues (bare_view cores)) cores.control }) (bare_view cores))).ready ≡ cores.ready) [ true ↦ refl | false ↦ refl ]
 
 module _ (parts : Parts) (shape : IsKernelShape parts) where
-  pub slice_seen : kernel_view (with_cores parts (on_cores (sliced list_moves) parts.cores)) ≡ sliced list_moves (kernel_view parts)
+  pub slice_seen : kernel_view (with_cores parts (cores_rule (sliced list_queues) parts.cores)) ≡ sliced list_queues (kernel_view parts)
   unfolding sliced
   slice_seen = at parts.cores.slicing parts.settings.slicing shape.slicing
     where
@@ -369,36 +339,36 @@ module _ (parts : Parts) (shape : IsKernelShape parts) where
       whole = kernel_view parts
 
       alone_cores : View
-      alone_cores = alone parts.cores
+      alone_cores = bare_view parts.cores
 
-      at : (b d : Bool) → b ≡ d → kernel_view (with_cores parts (cores_of (cond b (record alone_cores { control = ask_each 0 (shares_its_time list_moves alone_cores) parts.cores.control }) alone_cores))) ≡ cond d (record whole { control = ask_each 0 (shares_its_time list_moves whole) parts.cores.control }) whole
+      at : (b d : Bool) → b ≡ d → kernel_view (with_cores parts (cores_of (cond b (record alone_cores { control = ask_each 0 (shares_its_time list_queues alone_cores) parts.cores.control }) alone_cores))) ≡ cond d (record whole { control = ask_each 0 (shares_its_time list_queues whole) parts.cores.control }) whole
       at true true is = refl
       at false false is = refl
       at true false is = absurd (cc (is))
       at false true is = absurd (cc (is))
 
-  pub slice_shape : IsKernelShape (with_cores parts (on_cores (sliced list_moves) parts.cores))
+  pub slice_shape : IsKernelShape (with_cores parts (cores_rule (sliced list_queues) parts.cores))
   slice_shape =
-      let sliced_cores = on_cores (sliced list_moves) parts.cores in
+      let sliced_cores = cores_rule (sliced list_queues) parts.cores in
       let apart : NoneWaits (kernel_view (with_cores parts sliced_cores)).orders = rw (slice_ready parts.cores) (none_waits parts shape) in
       cores_shape parts sliced_cores shape (slice_kept parts.cores) apart
 
 -- no rule changes the settings
-pub turned_settings : (core : ℕ) (view : View) → (switched_and_sought list_moves core view).settings ≡ view.settings
-unfolding switched_and_sought switched
-turned_settings core view = ap (λ (v : View). v.settings) (resettle_part core (current view.control core) (switched list_moves core view))
+pub turned_settings : (core : ℕ) (view : View) → (after_switch list_queues core view).settings ≡ view.settings
+unfolding after_switch after_select
+turned_settings core view = ap (λ (v : View). v.settings) (resettle_part core (current view.control core) (after_select list_queues core view))
 
-pub notify_settings : (acting task : ℕ) (action : Action) (view : View) → (notify list_moves acting task action view).settings ≡ view.settings
+pub notify_settings : (acting task : ℕ) (action : Action) (view : View) → (notify list_queues acting task action view).settings ≡ view.settings
 unfolding notify wake
 notify_settings acting task action view =
     let told = record view { notes = slice_set view.notes task (notified action (note_at view.notes task)) } in
-    elim (is_waiting (note_at view.notes task).state) as (λ b. (cond b (wake list_moves acting task told) told).settings ≡ view.settings) [ true ↦ refl | false ↦ refl ]
+    elim (is_waiting (note_at view.notes task).state) as (λ b. (cond b (wake list_queues acting task told) told).settings ≡ view.settings) [ true ↦ refl | false ↦ refl ]
 
-pub woken_settings : (tasks : List ℕ) (view : View) → (woken list_moves tasks view).settings ≡ view.settings
+pub woken_settings : (tasks : List ℕ) (view : View) → (woken list_queues tasks view).settings ≡ view.settings
 unfolding wake
 woken_settings [] view = refl
-woken_settings (task ∷ tasks) view = woken_settings tasks (wake list_moves 0 task view)
+woken_settings (task ∷ tasks) view = woken_settings tasks (wake list_queues 0 task view)
 
-pub sliced_settings : (view : View) → (sliced list_moves view).settings ≡ view.settings
+pub sliced_settings : (view : View) → (sliced list_queues view).settings ≡ view.settings
 unfolding sliced
-sliced_settings view = elim view.settings.slicing as (λ b. (cond b (record view { control = ask_each 0 (shares_its_time list_moves view) view.control }) view).settings ≡ view.settings) [ true ↦ refl | false ↦ refl ]
+sliced_settings view = elim view.settings.slicing as (λ b. (cond b (record view { control = ask_each 0 (shares_its_time list_queues view) view.control }) view).settings ≡ view.settings) [ true ↦ refl | false ↦ refl ]

@@ -9,9 +9,9 @@ use Rattle.bench_types.specs.Step.{settings_of}
 use Rattle.bench_types.proofs.Passes.{checked_header}
 use Rattle.list_orders.specs.Search.{numbers}
 use Rattle.bench_model.specs.Cores.{cores_of}
-use Rattle.bench_model.specs.Lists.{View, list_moves}
+use Rattle.bench_model.specs.Lists.{View, list_queues}
 use Rattle.bench_model.specs.Notes.{no_note}
-use Rattle.bench_model.specs.Seek.{switched_and_sought}
+use Rattle.bench_model.specs.Seek.{after_switch}
 use Rattle.bench_model.specs.Start.{first_look, first_lists, unstarted, started, start_seen}
 use Rattle.list_orders.proofs.Filters.{fold-append}
 use Rattle.order_laws.proofs.FirstBlocks.{first_tasks}
@@ -23,11 +23,11 @@ use Rattle.smp_kernel.proofs.CoreMoves.{turned_settings}
 
 -- one more core selects
 pub in_turn : View → ℕ → View
-in_turn view cores = fold (λ kernel core. switched_and_sought list_moves core kernel) view (numbers cores)
+in_turn view cores = fold (λ kernel core. after_switch list_queues core kernel) view (numbers cores)
 
-pub in_turn_more : (view : View) (core : ℕ) → in_turn view (core + 1) ≡ switched_and_sought list_moves core (in_turn view core)
+pub in_turn_more : (view : View) (core : ℕ) → in_turn view (core + 1) ≡ after_switch list_queues core (in_turn view core)
 unfolding in_turn
-in_turn_more view core = ap (fold (λ kernel core. switched_and_sought list_moves core kernel) view) (numbers_more core) ∙ fold-append (λ kernel core. switched_and_sought list_moves core kernel) view (numbers core) (core ∷ [])
+in_turn_more view core = ap (fold (λ kernel core. after_switch list_queues core kernel) view) (numbers_more core) ∙ fold-append (λ kernel core. after_switch list_queues core kernel) view (numbers core) (core ∷ [])
 
 pub in_turn_none : (view : View) → in_turn view 0 ≡ view
 unfolding in_turn
@@ -37,9 +37,9 @@ pub in_turn_all : (header : Header) → in_turn (unstarted (first_lists header) 
 unfolding in_turn started
 in_turn_all header = refl
 
-in_turn_settings_at : (cores : List ℕ) (view : View) → (fold (λ kernel core. switched_and_sought list_moves core kernel) view cores).settings ≡ view.settings
+in_turn_settings_at : (cores : List ℕ) (view : View) → (fold (λ kernel core. after_switch list_queues core kernel) view cores).settings ≡ view.settings
 in_turn_settings_at [] view = refl
-in_turn_settings_at (core ∷ cores) view = in_turn_settings_at cores (switched_and_sought list_moves core view) ∙ turned_settings core view
+in_turn_settings_at (core ∷ cores) view = in_turn_settings_at cores (after_switch list_queues core view) ∙ turned_settings core view
 
 pub in_turn_settings : (header : Header) (core : ℕ) → (in_turn (unstarted (first_lists header) header) core).settings ≡ settings_of header
 unfolding in_turn unstarted

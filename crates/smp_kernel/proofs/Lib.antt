@@ -1,10 +1,11 @@
+pub mod Accepted
 pub mod Apart
-pub mod CoreMoves
 pub mod Blocks
 pub mod Calls
-pub mod Untils
-pub mod Owing
-pub mod Ticks
-pub mod Accepted
-pub mod Stands
+pub mod CoreMoves
 pub mod Firsts
+pub mod Owing
+pub mod Sizes
+pub mod Stands
+pub mod Ticks
+pub mod Untils

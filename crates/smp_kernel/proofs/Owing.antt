@@ -9,18 +9,19 @@ use Rattle.bench_types.specs.declared.reply.Reply.TheVariants.{Flag}
 use Rattle.bench_model.specs.Control.{task_at}
 use Rattle.bench_model.specs.State.{holder_at}
 use Rattle.bench_model.specs.Seek.{wake}
-use Rattle.bench_model.specs.Cores.{CoresView, on_cores}
-use Rattle.bench_model.specs.Lists.{View, list_moves, first_of, first_waiter}
-use Rattle.bench_model.specs.Mutexes.{held_by, owed_to, lowered, timed_out, disinherited, first_woken, mutex_give}
+use Rattle.bench_model.specs.Cores.{CoresView, cores_rule}
+use Rattle.bench_model.specs.Lists.{View, list_queues, first_of, first_waiter}
+use Rattle.bench_model.specs.Mutexes.{held_by, disinherit_priority, after_disinherit, timed_out, disinherited, first_woken, mutex_give}
 use Rattle.smp_kernel.specs.Kernel.{Parts, kernel_view, IsKernelShape}
+use Rattle.smp_kernel.proofs.Sizes.{reshaped, sizes_of}
 use Rattle.smp_kernel.proofs.CoreMoves.{with_cores, lower_seen, lower_shape}
 
 -- the cores of a holder that may give up what it inherited
 abbrev pub lowered_where : Bool → ℕ → ℕ → ℕ → CoresView → CoresView
-lowered_where gives acting task priority cores = cond gives (on_cores (lowered list_moves acting task priority) cores) cores
+lowered_where gives acting task priority cores = cond gives (cores_rule (after_disinherit list_queues acting task priority) cores) cores
 
 module _ (parts : Parts) (shape : IsKernelShape parts) where
-  pub lower_where_seen : (gives : Bool) (acting task priority : ℕ) → kernel_view (with_cores parts (lowered_where gives acting task priority parts.cores)) ≡ cond gives (lowered list_moves acting task priority (kernel_view parts)) (kernel_view parts)
+  pub lower_where_seen : (gives : Bool) (acting task priority : ℕ) → kernel_view (with_cores parts (lowered_where gives acting task priority parts.cores)) ≡ cond gives (after_disinherit list_queues acting task priority (kernel_view parts)) (kernel_view parts)
   lower_where_seen true acting task priority = lower_seen parts shape acting task priority
   lower_where_seen false acting task priority = refl
 
@@ -29,10 +30,10 @@ module _ (parts : Parts) (shape : IsKernelShape parts) where
   lower_where_shape false acting task priority = shape
 
   -- a wait with a mark ends without the mutex
-  pub timed_out_seen : (core task mutex holder : ℕ) → kernel_view (with_cores parts (lowered_where (not (eqb holder task) && eqb (held_by parts.mutexes.holders holder) 1) core holder (owed_to (first_of mutex parts.mutexes.waiters) (task_at parts.cores.control holder).base) parts.cores)) ≡ timed_out list_moves core task mutex true holder (kernel_view parts)
+  pub timed_out_seen : (core task mutex holder : ℕ) → kernel_view (with_cores parts (lowered_where (not (eqb holder task) && eqb (held_by parts.mutexes.holders holder) 1) core holder (disinherit_priority (first_of mutex parts.mutexes.waiters) (task_at parts.cores.control holder).base) parts.cores)) ≡ timed_out list_queues core task mutex true holder (kernel_view parts)
   unfolding timed_out first_waiter
   timed_out_seen core task mutex holder =
-      lower_where_seen (not (eqb holder task) && eqb (held_by parts.mutexes.holders holder) 1) core holder (owed_to (first_of mutex parts.mutexes.waiters) (task_at parts.cores.control holder).base)
+      lower_where_seen (not (eqb holder task) && eqb (held_by parts.mutexes.holders holder) 1) core holder (disinherit_priority (first_of mutex parts.mutexes.waiters) (task_at parts.cores.control holder).base)
 
 module _ (parts : Parts) (shape : IsKernelShape parts) where
   -- no task holds the mutex
@@ -40,23 +41,7 @@ module _ (parts : Parts) (shape : IsKernelShape parts) where
   freed mutex = record parts { mutexes = record parts.mutexes { holders = slice_set parts.mutexes.holders mutex None } }
 
   freed_shape : (mutex : ℕ) → IsKernelShape (freed mutex)
-  freed_shape mutex = record {
-    priorities = shape.priorities;
-    slicing = shape.slicing;
-    few_cores = shape.few_cores;
-    some_priority = shape.some_priority;
-    cores = shape.cores;
-    controls = shape.controls;
-    calls = shape.calls;
-    notes = shape.notes;
-    mutexes = shape.mutexes;
-    mutex_priorities = shape.mutex_priorities;
-    holders = length-set parts.mutexes.holders mutex None ∙ shape.holders;
-    delays = shape.delays;
-    deadlines = shape.deadlines;
-    undelayed = shape.undelayed;
-    unqueued = shape.unqueued;
-  }
+  freed_shape mutex = reshaped parts _ refl (ap (λ a. record (sizes_of parts) { holders = a }) (length-set parts.mutexes.holders mutex None)) shape.undelayed shape.unqueued shape
 
   abbrev holds_none : ℕ → ℕ → Bool
   holds_none task mutex = eqb (held_by (slice_set parts.mutexes.holders mutex None) task) 0
@@ -64,7 +49,7 @@ module _ (parts : Parts) (shape : IsKernelShape parts) where
   abbrev pub given_parts : ℕ → ℕ → ℕ → Parts
   given_parts core task mutex = with_cores (freed mutex) (lowered_where (holds_none task mutex) core task (task_at parts.cores.control task).base parts.cores)
 
-  pub give_seen : (core task mutex : ℕ) → kernel_view (given_parts core task mutex) ≡ disinherited list_moves core task (record (kernel_view parts) { holders = slice_set parts.mutexes.holders mutex None })
+  pub give_seen : (core task mutex : ℕ) → kernel_view (given_parts core task mutex) ≡ disinherited list_queues core task (record (kernel_view parts) { holders = slice_set parts.mutexes.holders mutex None })
   unfolding disinherited
   give_seen core task mutex = lower_where_seen (freed mutex) (freed_shape mutex) (holds_none task mutex) core task (task_at parts.cores.control task).base
 
@@ -75,29 +60,29 @@ module _ (parts : Parts) (shape : IsKernelShape parts) where
 abbrev told : Reply → View → Reply × View
 told reply view = (reply, view)
 
-woken_first : (core mutex : ℕ) (view : View) (waiter : ℕ) → Some waiter ≡ option_map (λ (waiter : Waiter). waiter.task) (first_of mutex view.orders.waiters) → wake list_moves core waiter view ≡ first_woken list_moves core mutex view
+woken_first : (core mutex : ℕ) (view : View) (waiter : ℕ) → Some waiter ≡ option_map (λ (waiter : Waiter). waiter.task) (first_of mutex view.orders.waiters) → wake list_queues core waiter view ≡ first_woken list_queues core mutex view
 unfolding first_woken first_waiter
 woken_first core mutex view waiter is = at (first_of mutex view.orders.waiters) is
   where
-    at : (first : Option Waiter) → Some waiter ≡ option_map (λ (waiter : Waiter). waiter.task) first → wake list_moves core waiter view ≡ option_map_or (λ (waiter : Waiter). wake list_moves core waiter.task view) first view
+    at : (first : Option Waiter) → Some waiter ≡ option_map (λ (waiter : Waiter). waiter.task) first → wake list_queues core waiter view ≡ option_map_or (λ (waiter : Waiter). wake list_queues core waiter.task view) first view
     at None is = absurd (cc (is))
-    at (Some first) is = let same : waiter ≡ first.task = cc (is) in ap (λ task. wake list_moves core task view) same
+    at (Some first) is = let same : waiter ≡ first.task = cc (is) in ap (λ task. wake list_queues core task view) same
 
-woken_none : (core mutex : ℕ) (view : View) → None ≡ option_map (λ (waiter : Waiter). waiter.task) (first_of mutex view.orders.waiters) → view ≡ first_woken list_moves core mutex view
+woken_none : (core mutex : ℕ) (view : View) → None ≡ option_map (λ (waiter : Waiter). waiter.task) (first_of mutex view.orders.waiters) → view ≡ first_woken list_queues core mutex view
 unfolding first_woken first_waiter
 woken_none core mutex view is = at (first_of mutex view.orders.waiters) is
   where
-    at : (first : Option Waiter) → None ≡ option_map (λ (waiter : Waiter). waiter.task) first → view ≡ option_map_or (λ (waiter : Waiter). wake list_moves core waiter.task view) first view
+    at : (first : Option Waiter) → None ≡ option_map (λ (waiter : Waiter). waiter.task) first → view ≡ option_map_or (λ (waiter : Waiter). wake list_queues core waiter.task view) first view
     at None is = refl
     at (Some first) is = absurd (cc (is))
 
-given : (core task mutex : ℕ) (view : View) (holder : ℕ) → holder_at view.holders mutex ≡ Some holder → told (Flag true) (first_woken list_moves core mutex (disinherited list_moves core task (record view { holders = slice_set view.holders mutex None }))) ≡ mutex_give list_moves core task mutex view
+given : (core task mutex : ℕ) (view : View) (holder : ℕ) → holder_at view.holders mutex ≡ Some holder → told (Flag true) (first_woken list_queues core mutex (disinherited list_queues core task (record view { holders = slice_set view.holders mutex None }))) ≡ mutex_give list_queues core task mutex view
 unfolding mutex_give
 given core task mutex view holder held = rw held refl
 
-module _ (core task mutex : ℕ) (view later : View) (holder : ℕ) (held : holder_at view.holders mutex ≡ Some holder) (gave : later ≡ disinherited list_moves core task (record view { holders = slice_set view.holders mutex None })) where
-  pub gave_to : (waiter : ℕ) → Some waiter ≡ option_map (λ (waiter : Waiter). waiter.task) (first_of mutex later.orders.waiters) → told (Flag true) (wake list_moves core waiter later) ≡ mutex_give list_moves core task mutex view
-  gave_to waiter is = ap (told (Flag true)) (woken_first core mutex later waiter is ∙ ap (first_woken list_moves core mutex) gave) ∙ given core task mutex view holder held
+module _ (core task mutex : ℕ) (view later : View) (holder : ℕ) (held : holder_at view.holders mutex ≡ Some holder) (gave : later ≡ disinherited list_queues core task (record view { holders = slice_set view.holders mutex None })) where
+  pub gave_to : (waiter : ℕ) → Some waiter ≡ option_map (λ (waiter : Waiter). waiter.task) (first_of mutex later.orders.waiters) → told (Flag true) (wake list_queues core waiter later) ≡ mutex_give list_queues core task mutex view
+  gave_to waiter is = ap (told (Flag true)) (woken_first core mutex later waiter is ∙ ap (first_woken list_queues core mutex) gave) ∙ given core task mutex view holder held
 
-  pub gave_to_none : None ≡ option_map (λ (waiter : Waiter). waiter.task) (first_of mutex later.orders.waiters) → told (Flag true) later ≡ mutex_give list_moves core task mutex view
-  gave_to_none is = ap (told (Flag true)) (woken_none core mutex later is ∙ ap (first_woken list_moves core mutex) gave) ∙ given core task mutex view holder held
+  pub gave_to_none : None ≡ option_map (λ (waiter : Waiter). waiter.task) (first_of mutex later.orders.waiters) → told (Flag true) later ≡ mutex_give list_queues core task mutex view
+  gave_to_none is = ap (told (Flag true)) (woken_none core mutex later is ∙ ap (first_woken list_queues core mutex) gave) ∙ given core task mutex view holder held

@@ -16,25 +16,25 @@ use Rattle.bench_types.specs.declared.step.Unfinished.TheVariants.{Made, Take}
 use Rattle.bench_types.specs.declared.kernel_data.Waiter.{Waiter}
 use Rattle.bench_types.specs.declared.step.Call.TheVariants.{Yield, Delay, DelayUntil, Finish, PrioritySet, AffinitySet, PreemptOff, PreemptOn, Notify, NotifyWait, NotifyTake, StateClear, ValueClear, MutexTake, MutexGive, HoldOpen, HoldClose}
 use Rattle.bench_types.specs.Step.{step_check, IsStepOfWords, IsCheckedStep}
-use Rattle.bench_model.specs.declared.row.Standing.{Standing}
-use Rattle.bench_model.specs.declared.row.Standing.TheVariants as standing
+use Rattle.bench_model.specs.declared.row.TaskState.{TaskState}
+use Rattle.bench_model.specs.declared.row.TaskState.TheVariants as standing
 use Rattle.list_orders.specs.Search.{numbers, has}
-use Rattle.bench_model.specs.Control.{core_at, task_at, current, in_mask}
-use Rattle.bench_model.specs.State.{call_at, holder_at, yielded, blocked}
+use Rattle.bench_model.specs.Control.{core_at, task_at, current, in_mask, ask_its_core}
+use Rattle.bench_model.specs.State.{call_at, holder_at, yielded, blocked, after_return}
 use Rattle.bench_model.specs.Holds.{hold_opened, hold_closed}
 use Rattle.bench_model.specs.Refusals.{refusal}
 use Rattle.bench_model.specs.Until.{next_wake, is_ahead, ticks_to}
 use Rattle.bench_model.specs.Seek.{seek, wake}
 use Rattle.bench_model.specs.Notes.{wait_begun, take_begun, of_task}
-use Rattle.bench_model.specs.Notifying.{interrupted, state_forgotten, bits_cleared, completed, awaited, awaited_for}
-use Rattle.bench_model.specs.Mutexes.{held_by, taken, inherited, waited_at, mutex_take, owed, lowered, timed_out, ended, take_finished, finished, disinherited, first_woken, mutex_give}
-use Rattle.bench_model.specs.Changes.{with_base, in_use_set}
-use Rattle.bench_model.specs.Sets.{ask_its_core, capped, in_use_behind, ranked_anew, priority_set, affinity_set, preemption_off, preemption_on}
+use Rattle.bench_model.specs.Notifying.{interrupted, state_forgotten, bits_cleared, completed, awaited, timeout_of}
+use Rattle.bench_model.specs.Mutexes.{held_by, taken, inherited, waited_at, mutex_take, owed, after_disinherit, timed_out, take_finished, disinherited, first_woken, mutex_give}
+use Rattle.bench_model.specs.ControlFields.{with_base, in_use_set}
+use Rattle.bench_model.specs.PriorityAffinity.{capped, in_use_after, yields_after_priority_set, priority_set, affinity_set, preemption_off, preemption_on}
 use Rattle.bench_model.specs.Looks.{task_look, look_in}
-use Rattle.bench_model.specs.Steps.{woken, ticked, delayed_until, called, performed, after}
+use Rattle.bench_model.specs.Steps.{woken, ticked, delayed_until, called, performed, after, after_finish}
 use Rattle.bench_model.specs.Table.{Stamps, Table, row_at, stamp_of, is_ready, wake_in, wakes_at, due}
 use Rattle.bench_model.specs.Lists as seen
-use Rattle.bench_model.specs.Lists.{Lists, View, list_moves, lists_of, image, first_of, due_tasks}
+use Rattle.bench_model.specs.Lists.{Lists, View, list_queues, lists_of, view_of, first_of, due_tasks}
 use Rattle.bench_model.specs.Lists.{seen_of}
 use Rattle.bench_model.specs.Sound.{IsConsistent, IsSound, WakesInTime}
 use Rattle.bench_model.specs.Session.{step_of}
@@ -52,7 +52,7 @@ use Rattle.smp_kernel.proofs.CoreMoves.{turned_settings, notify_settings, woken_
 not_yet : (stamps : Stamps) → WakesInTime stamps → (i : ℕ) → i < length stamps.rows → wakes_at stamps.tick (row_at stamps i).standing ≡ false
 not_yet stamps in_time i low = at (row_at stamps i).standing refl
   where
-    at : (s : Standing) → (row_at stamps i).standing ≡ s → wakes_at stamps.tick s ≡ false
+    at : (s : TaskState) → (row_at stamps i).standing ≡ s → wakes_at stamps.tick s ≡ false
     at standing.Ready ready = refl
     at (standing.Blocked None wait) waits = refl
     at (standing.Blocked (Some wake) wait) waits = grind (arith, nat_tests, (in_time i wake low (ap wake_in waits)).0)
@@ -67,8 +67,8 @@ none_due stamps in_time =
 current_ready_seen : (table : Table) → IsConsistent table → (core : ℕ) → core < length table.control.cores → has (current table.control core) (lists_of table.control table.orders).ready ≡ is_ready (current table.control core) table.orders
 current_ready_seen table kept core place = is_ready_seen table.control table.orders (current table.control core) kept.stamped.given (kept.in_place.is_task core place)
 
-image_settled : (table : Table) → IsSound table → IsSettled (image table)
-image_settled table sound = let kept = sound.consistent in record {
+view_settled : (table : Table) → IsSound table → IsSettled (view_of table)
+view_settled table sound = let kept = sound.consistent in record {
   none_due = due_seen table.control table.orders (λ i wake low waits. omega (arith, (kept.in_time i wake low waits).0)) ∙ none_due table.orders kept.in_time;
   runs_ready = λ core low idle.
       let place : core < length table.control.cores = omega (arith, kept.sized.cores, low) in
@@ -84,7 +84,7 @@ image_settled table sound = let kept = sound.consistent in record {
 }
 
 pub settled_of : (view : View) → StandsForSome view → IsSettled view
-settled_of view stands = subst IsSettled stands.1.shows (image_settled stands.0 stands.1.sound)
+settled_of view stands = subst IsSettled stands.1.shows (view_settled stands.0 stands.1.sound)
 
 checked_of : (view : View) (table : Table) (step : Step) → StandsFor view table → step_check view.settings step ≡ Ok tt → IsStepOfWords step → IsCheckedStep table.settings step
 checked_of view table step stands passes words = record {
@@ -92,40 +92,40 @@ checked_of view table step stands passes words = record {
   words = words;
 }
 
-after_stands : (view : View) (table : Table) (step : Step) → StandsFor view table → step_check view.settings step ≡ Ok tt → IsStepOfWords step → seen_of (step_of step table) ≡ after list_moves step view
+after_stands : (view : View) (table : Table) (step : Step) → StandsFor view table → step_check view.settings step ≡ Ok tt → IsStepOfWords step → seen_of (step_of step table) ≡ after list_queues step view
 after_stands view table step stands passes words =
-    after_seen step table stands.sound (checked_of view table step stands passes words) ∙ ap (after list_moves step) stands.shows
+    after_seen step table stands.sound (checked_of view table step stands passes words) ∙ ap (after list_queues step) stands.shows
 
 abbrev outcome : Reply → View → Reply × View
 outcome reply view = (reply, view)
 
-pub reply_of : (view later : View) (step : Step) (reply : Reply) → step_check view.settings step ≡ Ok tt → IsStepOfWords step → outcome reply later ≡ after list_moves step view → (table : Table) → StandsFor view table → reply ≡ (step_of step table).0
+pub reply_of : (view later : View) (step : Step) (reply : Reply) → step_check view.settings step ≡ Ok tt → IsStepOfWords step → outcome reply later ≡ after list_queues step view → (table : Table) → StandsFor view table → reply ≡ (step_of step table).0
 reply_of view later step reply passes words made table stands =
     ap (λ (r : Reply × View). r.0) (made ∙ sym (after_stands view table step stands passes words))
 
-pub stands_after : (view later : View) (step : Step) (reply : Reply) → step_check view.settings step ≡ Ok tt → IsStepOfWords step → outcome reply later ≡ after list_moves step view → (table : Table) → StandsFor view table → StandsFor later (step_of step table).1
+pub stands_after : (view later : View) (step : Step) (reply : Reply) → step_check view.settings step ≡ Ok tt → IsStepOfWords step → outcome reply later ≡ after list_queues step view → (table : Table) → StandsFor view table → StandsFor later (step_of step table).1
 stands_after view later step reply passes words made table stands = record {
   sound = after_sound step table stands.sound (checked_of view table step stands passes words);
   shows = ap (λ (r : Reply × View). r.1) (after_stands view table step stands passes words ∙ sym made);
 }
 
-priority_settings : (core task priority : ℕ) (view : View) → (priority_set list_moves core task priority view).settings ≡ view.settings
+priority_settings : (core task priority : ℕ) (view : View) → (priority_set list_queues core task priority view).settings ≡ view.settings
 unfolding priority_set in_use_set
 priority_settings core task priority view =
     let block = task_at view.control task in
     let new = capped view.settings.priorities priority in
-    let later = in_use_set list_moves task (in_use_behind block new) (record view { control = with_base task new view.control }) in
-    elim (eqb new block.base) as (λ b. (cond b view (record later { control = ranked_anew core task block.base new (has task view.orders.ready) later.control })).settings ≡ view.settings) [ true ↦ refl | false ↦ refl ]
+    let later = in_use_set list_queues task (in_use_after block new) (record view { control = with_base task new view.control }) in
+    elim (eqb new block.base) as (λ b. (cond b view (record later { control = yields_after_priority_set core task block.base new (has task view.orders.ready) later.control })).settings ≡ view.settings) [ true ↦ refl | false ↦ refl ]
 
 completed_settings : (task : ℕ) (call : Call) (view : View) → (completed task call view).1.settings ≡ view.settings
 completed_settings task call view = ap (λ (v : View). v.settings) (completed_notes task call view).1
 
-inherited_settings : (acting holder priority : ℕ) (view : View) → (inherited list_moves acting holder priority view).settings ≡ view.settings
+inherited_settings : (acting holder priority : ℕ) (view : View) → (inherited list_queues acting holder priority view).settings ≡ view.settings
 unfolding inherited in_use_set
 inherited_settings acting holder priority view = at (ltb (task_at view.control holder).in_use priority) (has holder view.orders.ready)
   where
     later : View
-    later = in_use_set list_moves holder priority view
+    later = in_use_set list_queues holder priority view
 
     sought : View
     sought = record later { control = seek acting holder (in_mask later.control holder) later.control }
@@ -135,34 +135,34 @@ inherited_settings acting holder priority view = at (ltb (task_at view.control h
     at true false = refl
     at false d = refl
 
-lowered_settings : (acting task priority : ℕ) (view : View) → (lowered list_moves acting task priority view).settings ≡ view.settings
-unfolding lowered in_use_set
+lowered_settings : (acting task priority : ℕ) (view : View) → (after_disinherit list_queues acting task priority view).settings ≡ view.settings
+unfolding after_disinherit in_use_set
 lowered_settings acting task priority view =
-    let later = in_use_set list_moves task priority view in
+    let later = in_use_set list_queues task priority view in
     elim (eqb (task_at view.control task).in_use priority) as (λ b. (cond b view (record later { control = ask_its_core acting task later.control })).settings ≡ view.settings) [ true ↦ refl | false ↦ refl ]
 
-waited_settings : (core task mutex holder : ℕ) (ticks : Option ℕ) (view : View) → (waited_at list_moves core task mutex holder ticks view).settings ≡ view.settings
+waited_settings : (core task mutex holder : ℕ) (ticks : Option ℕ) (view : View) → (waited_at list_queues core task mutex holder ticks view).settings ≡ view.settings
 unfolding waited_at blocked
 waited_settings core task mutex holder ticks view = inherited_settings core holder (task_at view.control task).in_use view
 
-taken_settings : (core task mutex ticks : ℕ) (view : View) → (mutex_take list_moves core task mutex ticks view).1.settings ≡ view.settings
+taken_settings : (core task mutex ticks : ℕ) (view : View) → (mutex_take list_queues core task mutex ticks view).1.settings ≡ view.settings
 unfolding mutex_take taken
 taken_settings core task mutex ticks view = at (holder_at view.holders mutex) (eqb ticks 0)
   where
-    at : (holder : Option ℕ) (b : Bool) → (option_map_or (λ holder. cond b (outcome (Flag false) view) (outcome Blocked (waited_at list_moves core task mutex holder (awaited_for ticks) view))) holder (outcome (Flag true) (taken task mutex view))).1.settings ≡ view.settings
+    at : (holder : Option ℕ) (b : Bool) → (option_map_or (λ holder. cond b (outcome (Flag false) view) (outcome Blocked (waited_at list_queues core task mutex holder (timeout_of ticks) view))) holder (outcome (Flag true) (taken task mutex view))).1.settings ≡ view.settings
     at None b = refl
     at (Some holder) true = refl
-    at (Some holder) false = waited_settings core task mutex holder (awaited_for ticks) view
+    at (Some holder) false = waited_settings core task mutex holder (timeout_of ticks) view
 
-timed_out_settings : (core task mutex : ℕ) (mark : Bool) (holder : ℕ) (view : View) → (timed_out list_moves core task mutex mark holder view).settings ≡ view.settings
+timed_out_settings : (core task mutex : ℕ) (mark : Bool) (holder : ℕ) (view : View) → (timed_out list_queues core task mutex mark holder view).settings ≡ view.settings
 unfolding timed_out
 timed_out_settings core task mutex mark holder view = at (mark && not (eqb holder task) && eqb (held_by view.holders holder) 1)
   where
-    at : (b : Bool) → (cond b (lowered list_moves core holder (owed list_moves holder mutex view) view) view).settings ≡ view.settings
-    at true = lowered_settings core holder (owed list_moves holder mutex view) view
+    at : (b : Bool) → (cond b (after_disinherit list_queues core holder (owed list_queues holder mutex view) view) view).settings ≡ view.settings
+    at true = lowered_settings core holder (owed list_queues holder mutex view) view
     at false = refl
 
-take_finished_settings : (core task mutex : ℕ) (mark : Bool) (view : View) → (take_finished list_moves core task mutex mark view).1.settings ≡ view.settings
+take_finished_settings : (core task mutex : ℕ) (mark : Bool) (view : View) → (take_finished list_queues core task mutex mark view).1.settings ≡ view.settings
 unfolding take_finished taken
 take_finished_settings core task mutex mark view = at (holder_at view.holders mutex) (option_map_or (λ ticks. eqb ticks 0) left false)
   where
@@ -170,61 +170,61 @@ take_finished_settings core task mutex mark view = at (holder_at view.holders mu
     left = seen.deadline_left task view.orders
 
     over : View
-    over = ended list_moves task view
+    over = after_return list_queues task view
 
-    at : (holder : Option ℕ) (b : Bool) → (option_map_or (λ holder. cond b (outcome (Flag false) (timed_out list_moves core task mutex mark holder over)) (outcome Blocked (waited_at list_moves core task mutex holder left view))) holder (outcome (Flag true) (taken task mutex over))).1.settings ≡ view.settings
+    at : (holder : Option ℕ) (b : Bool) → (option_map_or (λ holder. cond b (outcome (Flag false) (timed_out list_queues core task mutex mark holder over)) (outcome Blocked (waited_at list_queues core task mutex holder left view))) holder (outcome (Flag true) (taken task mutex over))).1.settings ≡ view.settings
     at None b = refl
     at (Some holder) true = timed_out_settings core task mutex mark holder over
     at (Some holder) false = waited_settings core task mutex holder left view
 
-finished_settings : (core task : ℕ) (call : Unfinished) (view : View) → (finished list_moves core task call view).1.settings ≡ view.settings
-unfolding finished
-finished_settings core task (Made call) view = completed_settings task call (ended list_moves task view)
+finished_settings : (core task : ℕ) (call : Unfinished) (view : View) → (after_finish list_queues core task call view).1.settings ≡ view.settings
+unfolding after_finish
+finished_settings core task (Made call) view = completed_settings task call (after_return list_queues task view)
 finished_settings core task (Take mutex mark) view = take_finished_settings core task mutex mark view
 
-finish_settings : (core task : ℕ) (view : View) → (option_map_or (λ call. finished list_moves core task call view) (call_at view.calls task) (outcome Done view)).1.settings ≡ view.settings
-finish_settings core task view = elim (call_at view.calls task) as (λ call. (option_map_or (λ call. finished list_moves core task call view) call (outcome Done view)).1.settings ≡ view.settings) [ None ↦ refl | Some call ↦ finished_settings core task call view ]
+finish_settings : (core task : ℕ) (view : View) → (option_map_or (λ call. after_finish list_queues core task call view) (call_at view.calls task) (outcome Done view)).1.settings ≡ view.settings
+finish_settings core task view = elim (call_at view.calls task) as (λ call. (option_map_or (λ call. after_finish list_queues core task call view) call (outcome Done view)).1.settings ≡ view.settings) [ None ↦ refl | Some call ↦ finished_settings core task call view ]
 
-disinherited_settings : (core task : ℕ) (view : View) → (disinherited list_moves core task view).settings ≡ view.settings
+disinherited_settings : (core task : ℕ) (view : View) → (disinherited list_queues core task view).settings ≡ view.settings
 unfolding disinherited
 disinherited_settings core task view = at (eqb (held_by view.holders task) 0)
   where
     base : ℕ
     base = (task_at view.control task).base
 
-    at : (b : Bool) → (cond b (lowered list_moves core task base view) view).settings ≡ view.settings
+    at : (b : Bool) → (cond b (after_disinherit list_queues core task base view) view).settings ≡ view.settings
     at true = lowered_settings core task base view
     at false = refl
 
-given_settings : (core task mutex : ℕ) (view : View) → (mutex_give list_moves core task mutex view).1.settings ≡ view.settings
+given_settings : (core task mutex : ℕ) (view : View) → (mutex_give list_queues core task mutex view).1.settings ≡ view.settings
 unfolding mutex_give first_woken wake
 given_settings core task mutex view = at (holder_at view.holders mutex) (seen.first_waiter mutex left.orders)
   where
     left : View
-    left = disinherited list_moves core task (record view { holders = slice_set view.holders mutex None })
+    left = disinherited list_queues core task (record view { holders = slice_set view.holders mutex None })
 
-    at : (holder : Option ℕ) (waiter : Option Waiter) → (option_map_or (λ holder. outcome (Flag true) (option_map_or (λ (waiter : Waiter). wake list_moves core waiter.task left) waiter left)) holder (outcome (Flag false) view)).1.settings ≡ view.settings
+    at : (holder : Option ℕ) (waiter : Option Waiter) → (option_map_or (λ holder. outcome (Flag true) (option_map_or (λ (waiter : Waiter). wake list_queues core waiter.task left) waiter left)) holder (outcome (Flag false) view)).1.settings ≡ view.settings
     at None waiter = refl
     at (Some holder) None = disinherited_settings core task (record view { holders = slice_set view.holders mutex None })
     at (Some holder) (Some waiter) = disinherited_settings core task (record view { holders = slice_set view.holders mutex None })
 
-awaited_settings : (core task : ℕ) (call : Call) (ticks : ℕ) (begun : Bool × List Notification) (view : View) → (awaited list_moves core task call ticks begun view).1.settings ≡ view.settings
+awaited_settings : (core task : ℕ) (call : Call) (ticks : ℕ) (begun : Bool × List Notification) (view : View) → (awaited list_queues core task call ticks begun view).1.settings ≡ view.settings
 unfolding awaited blocked
 awaited_settings core task call ticks begun view =
     let waiting = record view { notes = begun.1 } in
-    elim (begun.0 && ltb 0 ticks) as (λ b. (cond b (outcome Blocked (blocked list_moves core task (Made call) (awaited_for ticks) None waiting)) (completed task call waiting)).1.settings ≡ view.settings) [ true ↦ refl | false ↦ completed_settings task call waiting ]
+    elim (begun.0 && ltb 0 ticks) as (λ b. (cond b (outcome Blocked (blocked list_queues core task (Made call) (timeout_of ticks) None waiting)) (completed task call waiting)).1.settings ≡ view.settings) [ true ↦ refl | false ↦ completed_settings task call waiting ]
 
-until_settings : (core task prev inc : ℕ) (view : View) → (delayed_until list_moves core task prev inc view).1.settings ≡ view.settings
+until_settings : (core task prev inc : ℕ) (view : View) → (delayed_until list_queues core task prev inc view).1.settings ≡ view.settings
 unfolding delayed_until yielded blocked
 until_settings core task prev inc view =
     let wake = next_wake prev inc in
     let call = Made (DelayUntil prev inc) in
-    elim (is_ahead view.orders.tick prev wake) as (λ b. (cond b (outcome (Until true wake) (blocked list_moves core task call (Some (ticks_to view.orders.tick wake)) None view)) (outcome (Until false wake) (yielded list_moves core view))).1.settings ≡ view.settings) [ true ↦ refl | false ↦ refl ]
+    elim (is_ahead view.orders.tick prev wake) as (λ b. (cond b (outcome (Until true wake) (blocked list_queues core task call (Some (ticks_to view.orders.tick wake)) None view)) (outcome (Until false wake) (yielded list_queues core view))).1.settings ≡ view.settings) [ true ↦ refl | false ↦ refl ]
 
-called_settings : (core task : ℕ) (call : Call) (view : View) → (called list_moves core task call view).1.settings ≡ view.settings
+called_settings : (core task : ℕ) (call : Call) (view : View) → (called list_queues core task call view).1.settings ≡ view.settings
 unfolding called yielded blocked affinity_set preemption_off preemption_on state_forgotten bits_cleared hold_opened hold_closed
 called_settings core task Yield view = refl
-called_settings core task (Delay ticks) view = elim (eqb ticks 0) as (λ b. (cond b (outcome Done (yielded list_moves core view)) (outcome Blocked (blocked list_moves core task (Made (Delay ticks)) (Some ticks) None view))).1.settings ≡ view.settings) [ true ↦ refl | false ↦ refl ]
+called_settings core task (Delay ticks) view = elim (eqb ticks 0) as (λ b. (cond b (outcome Done (yielded list_queues core view)) (outcome Blocked (blocked list_queues core task (Made (Delay ticks)) (Some ticks) None view))).1.settings ≡ view.settings) [ true ↦ refl | false ↦ refl ]
 called_settings core task Finish view = finish_settings core task view
 called_settings core task (PrioritySet other priority) view = priority_settings core other priority view
 called_settings core task (AffinitySet other mask) view = refl
@@ -241,21 +241,21 @@ called_settings core task (DelayUntil prev inc) view = until_settings core task 
 called_settings core task HoldOpen view = refl
 called_settings core task HoldClose view = refl
 
-performed_settings : (step : Step) (view : View) → (performed list_moves step view).1.settings ≡ view.settings
+performed_settings : (step : Step) (view : View) → (performed list_queues step view).1.settings ≡ view.settings
 unfolding performed ticked interrupted
 performed_settings Tick view =
     let later = record view { orders = seen.advance view.orders } in
-    sliced_settings (woken list_moves (seen.due later.orders) later) ∙ woken_settings (seen.due later.orders) later
+    sliced_settings (woken list_queues (seen.due later.orders) later) ∙ woken_settings (seen.due later.orders) later
 performed_settings (Switch core) view = turned_settings core view
 performed_settings (steps.Call core task call) view = called_settings core task call view
 performed_settings (Interrupt core note) view = notify_settings core note.task note.action view
 
-after_settings : (step : Step) (view : View) → (after list_moves step view).1.settings ≡ view.settings
+after_settings : (step : Step) (view : View) → (after list_queues step view).1.settings ≡ view.settings
 unfolding after
-after_settings step view = elim (refusal list_moves step view) as (λ why. (option_map_or (λ why. outcome (Refused why) view) why (performed list_moves step view)).1.settings ≡ view.settings) [ None ↦ performed_settings step view | Some why ↦ refl ]
+after_settings step view = elim (refusal list_queues step view) as (λ why. (option_map_or (λ why. outcome (Refused why) view) why (performed list_queues step view)).1.settings ≡ view.settings) [ None ↦ performed_settings step view | Some why ↦ refl ]
 
 -- a step leaves the settings as they are
-pub settings_after : (view later : View) (step : Step) (reply : Reply) → outcome reply later ≡ after list_moves step view → later.settings ≡ view.settings
+pub settings_after : (view later : View) (step : Step) (reply : Reply) → outcome reply later ≡ after list_queues step view → later.settings ≡ view.settings
 settings_after view later step reply made = ap (λ (r : Reply × View). r.1.settings) made ∙ after_settings step view
 
 pub look_of : (view : View) (table : Table) (core : ℕ) → StandsFor view table → core_at view.control core ≡ core_at table.control core

@@ -1,5 +1,5 @@
--- A task that waits until its next wake, or whose wake lies behind.
-use Rattle.std.proofs.Common.{◌≡◌, ℕ, Bool, true, false, cond, Some, None, sym, ap, subst, ◌∙◌}
+-- A task that waits until its next wake, or whose wake has passed.
+use Rattle.std.proofs.Common.{◌≡◌, ℕ, Bool, true, false, cond, Some, None, refl, sym, ap, subst, ◌∙◌}
 use Rattle.std.proofs.lemmas.List.{length-set}
 use Rattle.bench_types.specs.declared.reply.Reply.{Reply}
 use Rattle.bench_types.specs.declared.reply.Reply.TheVariants.{Until}
@@ -7,12 +7,13 @@ use Rattle.bench_types.specs.declared.step.Call.TheVariants.{DelayUntil}
 use Rattle.bench_types.specs.declared.step.Unfinished.{Unfinished}
 use Rattle.bench_types.specs.declared.step.Unfinished.TheVariants.{Made}
 use Rattle.bench_model.specs.Control.{ask}
-use Rattle.bench_model.specs.Lists.{View, list_moves, delay}
+use Rattle.bench_model.specs.Lists.{View, list_queues, delay}
 use Rattle.bench_model.specs.State.{yielded, blocked}
 use Rattle.bench_model.specs.Steps.{delayed_until}
 use Rattle.bench_model.specs.Until.{next_wake, is_ahead, ticks_to}
 use Rattle.tick_delay.specs.Parts.{DelayView, delayed_for, until_delayed}
 use Rattle.smp_kernel.specs.Kernel.{Parts, kernel_view, IsKernelShape}
+use Rattle.smp_kernel.proofs.Sizes.{reshaped, sizes_of}
 use Rattle.smp_kernel.proofs.Blocks.{blocked_parts, block_shape}
 
 -- what the delays answer, and what is left of them
@@ -50,15 +51,15 @@ module _ (parts : Parts) (shape : IsKernelShape parts) (core task prev inc : ℕ
   until_parts delays = record (blocked_parts core task call None None parts) { delays = delays }
 
   -- a kernel whose core asks itself to switch, with these delays
-  abbrev behind_parts : DelayView → Parts
-  behind_parts delays = record parts { cores = record parts.cores { control = ask core core parts.cores.control }; delays = delays }
+  abbrev passed_parts : DelayView → Parts
+  passed_parts delays = record parts { cores = record parts.cores { control = ask core core parts.cores.control }; delays = delays }
 
   module _ (delayed : Bool) (wake : ℕ) (delays : DelayView) (made : outcome delayed wake delays ≡ until_delayed task prev inc parts.delays) where
-    pub until_seen : delayed ≡ true → told (Until delayed wake) (kernel_view (until_parts delays)) ≡ delayed_until list_moves core task prev inc (kernel_view parts)
+    pub until_seen : delayed ≡ true → told (Until delayed wake) (kernel_view (until_parts delays)) ≡ delayed_until list_queues core task prev inc (kernel_view parts)
     unfolding until_delayed delayed_until blocked delay
     until_seen waits = at (is_ahead parts.delays.tick prev wake_at) made
       where
-        at : (b : Bool) → outcome delayed wake delays ≡ cond b waiting going → told (Until delayed wake) (kernel_view (until_parts delays)) ≡ cond b (told (Until true wake_at) (blocked list_moves core task call (Some ticks) None (kernel_view parts))) (told (Until false wake_at) (yielded list_moves core (kernel_view parts)))
+        at : (b : Bool) → outcome delayed wake delays ≡ cond b waiting going → told (Until delayed wake) (kernel_view (until_parts delays)) ≡ cond b (told (Until true wake_at) (blocked list_queues core task call (Some ticks) None (kernel_view parts))) (told (Until false wake_at) (yielded list_queues core (kernel_view parts)))
         at true made = ap (λ (made : Outcome). told (reply_of made) (kernel_view (until_parts made.1))) made
         at false made = absurd (cc (waits, ap (λ (made : Outcome). made.0.0) made))
 
@@ -70,37 +71,21 @@ module _ (parts : Parts) (shape : IsKernelShape parts) (core task prev inc : ℕ
         at true made = subst (λ (made : Outcome). IsKernelShape (until_parts made.1)) (sym made) (block_shape parts shape core task call (Some ticks) None)
         at false made = absurd (cc (waits, ap (λ (made : Outcome). made.0.0) made))
 
-    pub behind_seen : delayed ≡ false → told (Until delayed wake) (kernel_view (behind_parts delays)) ≡ delayed_until list_moves core task prev inc (kernel_view parts)
+    pub passed_seen : delayed ≡ false → told (Until delayed wake) (kernel_view (passed_parts delays)) ≡ delayed_until list_queues core task prev inc (kernel_view parts)
     unfolding until_delayed delayed_until yielded
-    behind_seen goes = at (is_ahead parts.delays.tick prev wake_at) made
+    passed_seen goes = at (is_ahead parts.delays.tick prev wake_at) made
       where
-        at : (b : Bool) → outcome delayed wake delays ≡ cond b waiting going → told (Until delayed wake) (kernel_view (behind_parts delays)) ≡ cond b (told (Until true wake_at) (blocked list_moves core task call (Some ticks) None (kernel_view parts))) (told (Until false wake_at) (yielded list_moves core (kernel_view parts)))
+        at : (b : Bool) → outcome delayed wake delays ≡ cond b waiting going → told (Until delayed wake) (kernel_view (passed_parts delays)) ≡ cond b (told (Until true wake_at) (blocked list_queues core task call (Some ticks) None (kernel_view parts))) (told (Until false wake_at) (yielded list_queues core (kernel_view parts)))
         at true made = absurd (cc (goes, ap (λ (made : Outcome). made.0.0) made))
-        at false made = ap (λ (made : Outcome). told (reply_of made) (kernel_view (behind_parts made.1))) made
+        at false made = ap (λ (made : Outcome). told (reply_of made) (kernel_view (passed_parts made.1))) made
 
-    pub behind_shape : delayed ≡ false → IsKernelShape (behind_parts delays)
+    pub passed_shape : delayed ≡ false → IsKernelShape (passed_parts delays)
     unfolding until_delayed
-    behind_shape goes = at (is_ahead parts.delays.tick prev wake_at) made
+    passed_shape goes = at (is_ahead parts.delays.tick prev wake_at) made
       where
-        asked : IsKernelShape (behind_parts parts.delays)
-        asked = record {
-          priorities = shape.priorities;
-          slicing = shape.slicing;
-          few_cores = shape.few_cores;
-          some_priority = shape.some_priority;
-          cores = length-set parts.cores.control.cores core _ ∙ shape.cores;
-          controls = shape.controls;
-          calls = shape.calls;
-          notes = shape.notes;
-          mutexes = shape.mutexes;
-          mutex_priorities = shape.mutex_priorities;
-          holders = shape.holders;
-          delays = shape.delays;
-          deadlines = shape.deadlines;
-          undelayed = shape.undelayed;
-          unqueued = shape.unqueued;
-        }
+        asked : IsKernelShape (passed_parts parts.delays)
+        asked = reshaped parts _ refl (ap (λ a. record (sizes_of parts) { cores = a }) (length-set parts.cores.control.cores core _)) shape.undelayed shape.unqueued shape
 
-        at : (b : Bool) → outcome delayed wake delays ≡ cond b waiting going → IsKernelShape (behind_parts delays)
+        at : (b : Bool) → outcome delayed wake delays ≡ cond b waiting going → IsKernelShape (passed_parts delays)
         at true made = absurd (cc (goes, ap (λ (made : Outcome). made.0.0) made))
-        at false made = subst (λ (made : Outcome). IsKernelShape (behind_parts made.1)) (sym made) asked
+        at false made = subst (λ (made : Outcome). IsKernelShape (passed_parts made.1)) (sym made) asked

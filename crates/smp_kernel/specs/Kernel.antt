@@ -40,6 +40,21 @@ pub record Parts : Type 0 where
   -- the open hold, if there is one
   pub hold : Option Hold
 
+-- the parts, in the order of the record
+abbrev pub parts_of :
+    Settings → CoresView → List (Option Unfinished) → List Notification → MutexPart → DelayView
+    → List (Option ℕ) → Option Hold → Parts
+parts_of settings cores calls notes mutexes delays deadlines hold = record {
+  settings = settings;
+  cores = cores;
+  calls = calls;
+  notes = notes;
+  mutexes = mutexes;
+  delays = delays;
+  deadlines = deadlines;
+  hold = hold;
+}
+
 -- what a kernel of these parts shows
 abbrev pub kernel_view : Parts → View
 kernel_view parts = record {
@@ -59,8 +74,9 @@ kernel_view parts = record {
 }
 
 -- no entry is that of a ready task
-abbrev pub IsApart : {E : Type 0} → (E → ℕ) → List ℕ → List E → Type 0
-IsApart task_of ready entries = (task : ℕ) → has task ready ≡ true → list_any (λ entry. task_of entry == task) entries ≡ false
+abbrev pub IsDisjoint : {E : Type 0} → (E → ℕ) → List ℕ → List E → Type 0
+IsDisjoint task_of ready entries =
+    (task : ℕ) → has task ready ≡ true → list_any (λ entry. task_of entry == task) entries ≡ false
 
 abbrev pub delayed_task : Delayed → ℕ
 delayed_task entry = entry.task
@@ -83,28 +99,32 @@ pub record IsKernelShape (parts : Parts) : Type 0 where
   pub holders : length parts.mutexes.holders ≡ parts.settings.mutexes
   pub delays : parts.delays.tasks ≡ parts.settings.tasks
   pub deadlines : length parts.deadlines ≡ parts.settings.tasks
-  pub undelayed : IsApart delayed_task parts.cores.ready parts.delays.delayed
-  pub unqueued : IsApart waiting_task parts.cores.ready parts.mutexes.waiters
+  pub undelayed : IsDisjoint delayed_task parts.cores.ready parts.delays.delayed
+  pub unqueued : IsDisjoint waiting_task parts.cores.ready parts.mutexes.waiters
 
 -- each unfinished wait is for a mutex that there is
 abbrev pub HasTheirMutexes : View → Type 0
-HasTheirMutexes view = (task mutex : ℕ) (mark : Bool) → call_at view.calls task ≡ Some (Take mutex mark) → mutex < view.settings.mutexes
+HasTheirMutexes view =
+    (task mutex : ℕ) (mark : Bool) → call_at view.calls task ≡ Some (Take mutex mark)
+    → mutex < view.settings.mutexes
 
 -- an open hold is not open too many times over, and its core runs a ready task
 pub record IsHeldReady (view : View) (hold : Hold) : Type 0 where
   pub depth : hold.depth ≤ max_depth
   pub ready : has (current view.control hold.core) view.orders.ready ≡ true
 
--- between steps no task has waited long enough, a core that is not due or holds the kernel runs a ready task, and unfinished waits
--- are for mutexes that there are
+-- between steps no task has waited long enough, a core that is not due or holds the kernel runs a
+-- ready task, and unfinished waits are for mutexes that there are
 pub record IsSettled (view : View) : Type 0 where
   pub none_due : due_tasks view.orders.delayed ≡ []
-  pub runs_ready : (core : ℕ) → core < view.settings.cores → is_due view.control core ≡ false → has (current view.control core) view.orders.ready ≡ true
+  pub runs_ready :
+      (core : ℕ) → core < view.settings.cores → is_due view.control core ≡ false
+      → has (current view.control core) view.orders.ready ≡ true
   pub held : ForSome view.hold (IsHeldReady view)
   pub mutexes : HasTheirMutexes view
 
--- what a call finds that is not refused: its core, its ready task and what it is for; it gives no mutex that another task holds, and
--- a hold that is not open too many times over
+-- what a call finds that is not refused: its core, its ready task and what it is for; it gives no
+-- mutex that another task holds, and a hold that is not open too many times over
 pub record FindsItsTask (view : View) (core task : ℕ) (call : Call) : Type 0 where
   pub core_below : core < view.settings.cores
   pub task_below : task < view.settings.tasks
@@ -114,13 +134,14 @@ pub record FindsItsTask (view : View) (core task : ℕ) (call : Call) : Type 0 w
   pub depth : depth_of view.hold ≤ max_depth
   pub mutexes : HasTheirMutexes view
 
--- what a step finds that is not refused: no task that is due, its core, for a call its task, and for an interrupt the task that it
--- notifies
-abbrev pub FindsItsPlace : View → Step → Type 0
-FindsItsPlace view step.Tick = due_tasks view.orders.delayed ≡ []
-FindsItsPlace view (step.Switch core) = core < view.settings.cores
-FindsItsPlace view (step.Call core task call) = FindsItsTask view core task call
-FindsItsPlace view (step.Interrupt core note) = (core < view.settings.cores) × (note.task < view.settings.tasks)
+-- what a step finds that is not refused: no task that is due, its core, for a call its task, and
+-- for an interrupt the task that it notifies
+abbrev pub CallFits : View → Step → Type 0
+CallFits view step.Tick = due_tasks view.orders.delayed ≡ []
+CallFits view (step.Switch core) = core < view.settings.cores
+CallFits view (step.Call core task call) = FindsItsTask view core task call
+CallFits view (step.Interrupt core note) =
+    (core < view.settings.cores) × (note.task < view.settings.tasks)
 
 -- there is a sound table that a kernel of which this can be seen stands for
 abbrev pub StandsForSome : View → Type 0

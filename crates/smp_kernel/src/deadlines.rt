@@ -4,7 +4,8 @@ ghost use Rattle.smp_kernel.specs.Deadlines.{one_less};
 use std::alloc::{AllocError, Global};
 use std::marker::Model;
 
-/// Per task the ticks left to the end of its unfinished wait for a mutex; none where it has no such wait, or one without end.
+/// Per task the ticks left to the end of its unfinished wait for a mutex; none where it has no such
+/// wait, or one without end.
 #[derive(Debug, Drop)]
 pub struct Deadlines {
     left: Vec<Option<u32>>,

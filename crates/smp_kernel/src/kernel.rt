@@ -39,7 +39,8 @@ impl From<AllocError> for StartFault {
     }
 }
 
-/// A kernel that was started and made some steps. There is a sound table of the rules that it stands for.
+/// A kernel that was started and made some steps. There is a sound table of the rules that it
+/// stands for.
 #[derive(Debug, Drop)]
 pub struct Kernel {
     scheduler: Scheduler,
@@ -70,8 +71,8 @@ impl Kernel {
         Ok(Kernel { scheduler })
     }
 
-    /// A second kernel, equal to this one: it stands for the same tables. The two share nothing, and a step of one leaves the other
-    /// as it is.
+    /// A second kernel, equal to this one: it stands for the same tables. The two share nothing,
+    /// and a step of one leaves the other as it is.
     pub fn copy(&self, alloc: Global) -> Result<Kernel, AllocError>
         ensures { IfOk result (λ kernel. kernel ≡ self.now) }
     {
@@ -81,22 +82,27 @@ impl Kernel {
 
     /// Whether the two kernels are equal, and so answer every step alike from now on.
     ///
-    /// Compared are the settings (cores, priorities, slicing, mutexes, tasks), the tick count as 32 bits, each core's current task
-    /// and flags, each task's control block, notification and unfinished call, the holder of each mutex, the open hold, and the
-    /// orders: of each ready list, of the delays with the ticks left, and of the waiters of each mutex with their priorities. Of an
-    /// unfinished call that takes a mutex these are the mutex, its mark and the ticks left to its deadline, and not the ticks that
-    /// it named. Not compared are names, the header's arguments, and how a kernel came there. It takes no memory.
+    /// Compared are the settings (cores, priorities, slicing, mutexes, tasks), the tick count as 32
+    /// bits, each core's current task and flags, each task's control block, notification and
+    /// unfinished call, the holder of each mutex, the open hold, and the orders: of each ready
+    /// list, of the delays with the ticks left, and of the waiters of each mutex with their
+    /// priorities. Of an unfinished call that takes a mutex these are the mutex, its mark and the
+    /// ticks left to its deadline, and not the ticks that it named. Not compared are names, the
+    /// header's arguments, and how a kernel came there.
     pub fn same(&self, other: &Kernel) -> bool
-        ensures { (a b : Table) → StandsFor self.now a → StandsFor other.now b → ((result ≡ true) ↔ Same a b) }
+        ensures { (a b : Table) → StandsFor self.now a → StandsFor other.now b
+            → ((result ≡ true) ↔ Same a b) }
     {
         self.scheduler.same(&other.scheduler)
     }
 
-    /// Makes a step, counts it on the meter, refused or not, and gives its reply. It takes no memory.
+    /// Makes a step, counts it on the meter, refused or not, and gives its reply.
     pub fn step(&mut self, meter: &mut Meter, step: &Step) -> Reply
         requires { step_check self.old.settings step.now ≡ Ok tt }
-        ensures reply { (table : Table) → StandsFor self.old table → result ≡ (step_of step.now table).0 }
-        ensures state { (table : Table) → StandsFor self.old table → StandsFor self.new (step_of step.now table).1 }
+        ensures reply { (table : Table) → StandsFor self.old table
+            → result ≡ (step_of step.now table).0 }
+        ensures state { (table : Table) → StandsFor self.old table
+            → StandsFor self.new (step_of step.now table).1 }
         ensures meter { meter.new ≡ min (meter.old + 1) (2 ^ 64 - 1) }
         ensures shape { self.new.settings ≡ self.old.settings }
     {
@@ -116,7 +122,8 @@ impl Kernel {
     /// The current task of the core.
     pub fn running(&self, core: u32) -> u32
         requires { core < self.now.settings.cores }
-        ensures current { (table : Table) → StandsFor self.now table → result ≡ current table.control core }
+        ensures current { (table : Table) → StandsFor self.now table
+            → result ≡ current table.control core }
         ensures task { result < self.now.settings.tasks }
         ensures sound { StandsForSome self.now }
     {
@@ -142,15 +149,18 @@ impl Kernel {
     /// The task that holds the mutex, if there is one (`xSemaphoreGetMutexHolder`).
     pub fn holder(&self, mutex: u32) -> Option<u32>
         requires { mutex < self.now.settings.mutexes }
-        ensures holder { (table : Table) → StandsFor self.now table → result ≡ holder_at table.holders mutex }
+        ensures holder { (table : Table) → StandsFor self.now table
+            → result ≡ holder_at table.holders mutex }
         ensures task { IfSome result (λ holder. holder < self.now.settings.tasks) }
     {
         self.scheduler.holder(mutex)
     }
 
-    /// The open hold of the kernel: its core, and how many times over it was opened (`taskENTER_CRITICAL`) and is to be closed.
+    /// The open hold of the kernel: its core, and how many times over it was opened
+    /// (`taskENTER_CRITICAL`) and is to be closed.
     pub fn hold(&self) -> Option<(u32, u32)>
-        ensures { (table : Table) → StandsFor self.now table → result ≡ option_map (λ hold. (hold.core, hold.depth)) table.hold }
+        ensures { (table : Table) → StandsFor self.now table
+            → result ≡ option_map (λ hold. (hold.core, hold.depth)) table.hold }
     {
         self.scheduler.hold().map(|hold| (hold.core, hold.depth))
     }

@@ -1,4 +1,5 @@
-//! The kernel, step by step: what it starts from, what each step answers and does, and what can be seen of it.
+//! The kernel, step by step: what it starts from, what each step answers and does, and what can be
+//! seen of it.
 #![tactic(auto)]
 
 mod deadlines;

@@ -4,9 +4,10 @@ use std::marker::Model;
 
 /// Counts the steps that kernels make.
 ///
-/// A meter can't be copied, and only the host's runtime gives a new one, which no crate can make for itself. So code that is
-/// handed a meter and no runtime counts each step that it makes on that meter. (A bound of `Runtime` would not say so: that is
-/// a trait, and a type with its methods is enough for it.)
+/// A meter can't be copied, and only the host's runtime gives a new one, which no crate can make
+/// for itself. So code that is handed a meter and no runtime counts each step that it makes on that
+/// meter. (A bound of `Runtime` would not say so: that is a trait, and a type with its methods is
+/// enough for it.)
 #[derive(Debug, Drop)]
 pub struct Meter {
     steps: u64,

@@ -11,12 +11,12 @@ ghost use Rattle.bench_model.specs.Holds.{depth_of};
 ghost use Rattle.bench_model.specs.Refusals.{give_refusal};
 ghost use Rattle.bench_model.specs.Start.{first_lists, unstarted, start_seen};
 ghost use Rattle.bench_model.specs.State.{holder_at, yielded, blocked};
-ghost use Rattle.bench_model.specs.Seek.{wake, switched_and_sought, sliced};
+ghost use Rattle.bench_model.specs.Seek.{wake, after_switch, sliced};
 ghost use Rattle.bench_model.specs.Steps.{ticked, delayed_until, called, performed, after};
-ghost use Rattle.bench_model.specs.Lists.{list_moves, wakes_first, advance, due_tasks};
+ghost use Rattle.bench_model.specs.Lists.{list_queues, wakes_first, advance, due_tasks};
 ghost use Rattle.bench_model.specs.Looks.{look_in};
 ghost use Rattle.tick_delay.specs.Parts.{is_waiting};
-ghost use Rattle.smp_kernel.specs.Kernel.{HasTheirMutexes, IsSettled, FindsItsPlace};
+ghost use Rattle.smp_kernel.specs.Kernel.{HasTheirMutexes, IsSettled, CallFits};
 
 mod equal;
 mod holds;
@@ -35,7 +35,7 @@ use std::marker::Model;
 use std::ops::Range;
 use tick_delay::Delays;
 
-/// A kernel as far as it can be seen: its parts, and the moves of a step.
+/// A kernel as far as it can be seen: its parts, and the queue operations of a step.
 #[derive(Debug, Drop)]
 pub struct Scheduler {
     settings: Settings,
@@ -52,13 +52,17 @@ pub struct Scheduler {
 
 impl Model for Scheduler {
     ghost use Rattle.bench_model.specs.Lists.{View};
-    ghost use Rattle.smp_kernel.specs.Kernel.{kernel_view, IsKernelShape};
+    ghost use Rattle.smp_kernel.specs.Kernel.{kernel_view, parts_of, IsKernelShape};
 
     ghost Value = { View };
 
-    ghost view = { λ kernel. kernel_view (record { settings = kernel.settings; cores = kernel.cores; calls = kernel.calls.items; notes = kernel.notes; mutexes = kernel.mutexes; delays = kernel.delays; deadlines = kernel.deadlines; hold = kernel.hold }) };
+    ghost view = { λ kernel. kernel_view
+        (parts_of kernel.settings kernel.cores kernel.calls.items kernel.notes kernel.mutexes
+        kernel.delays kernel.deadlines kernel.hold) };
 
-    ghost invariant = { λ kernel. IsKernelShape (record { settings = kernel.settings; cores = kernel.cores; calls = kernel.calls.items; notes = kernel.notes; mutexes = kernel.mutexes; delays = kernel.delays; deadlines = kernel.deadlines; hold = kernel.hold }) };
+    ghost invariant = { λ kernel. IsKernelShape
+        (parts_of kernel.settings kernel.cores kernel.calls.items kernel.notes kernel.mutexes
+        kernel.delays kernel.deadlines kernel.hold) };
 }
 
 impl Scheduler {
@@ -165,7 +169,7 @@ impl Scheduler {
     pub fn step(&mut self, step: &Step) -> Reply
         requires checked { step_check self.old.settings step.now ≡ Ok tt }
         requires settled { IsSettled self.old }
-        ensures made { (result, self.new) ≡ after list_moves step.now self.old }
+        ensures made { (result, self.new) ≡ after list_queues step.now self.old }
         ensures words { IsStepOfWords step.now }
     {
         match self.refusal(*step) {
@@ -185,8 +189,8 @@ impl Scheduler {
     // What a step that is not refused answers and does.
     #[tactic(auto, unfolding(bench_model::specs::Steps::performed))]
     fn perform(&mut self, step: &Step) -> Reply
-        requires { FindsItsPlace self.old step.now }
-        ensures { (result, self.new) ≡ performed list_moves step.now self.old }
+        requires { CallFits self.old step.now }
+        ensures { (result, self.new) ≡ performed list_queues step.now self.old }
     {
         match step {
             Step::Tick => {
@@ -205,7 +209,7 @@ impl Scheduler {
     // One tick more. Each task that has waited long enough then is woken, and then time slices end.
     fn tick(&mut self)
         requires { due_tasks self.old.orders.delayed ≡ [] }
-        ensures { self.new ≡ ticked list_moves self.old }
+        ensures { self.new ≡ ticked list_queues self.old }
     {
         self.advance();
         while let Some(task) = self.delays.pop_due() {
@@ -223,19 +227,20 @@ impl Scheduler {
         self.deadlines.age();
     }
 
-    // The task waits no more, goes to the end of its ready list, and the acting core seeks a core for it.
+    // The task waits no more, goes to the end of its ready list, and the acting core seeks a core
+    // for it.
     fn wake(&mut self, acting: u32, task: u32)
         requires { task < self.old.settings.tasks }
-        ensures { self.new ≡ wake list_moves acting task self.old }
+        ensures { self.new ≡ wake list_queues acting task self.old }
     {
-        self.cores.make_ready(acting, task);
+        self.cores.wake(acting, task);
         self.delays.cancel(task);
         self.mutexes.leave(task);
     }
 
     // The end of time slices.
     fn slice(&mut self)
-        ensures { self.new ≡ sliced list_moves self.old }
+        ensures { self.new ≡ sliced list_queues self.old }
     {
         self.cores.slice();
     }
@@ -243,7 +248,7 @@ impl Scheduler {
     // The core runs the task that it selects, and another core is sought for the task that lost it.
     fn switch(&mut self, core: u32)
         requires { core < self.old.settings.cores }
-        ensures { self.new ≡ switched_and_sought list_moves core self.old }
+        ensures { self.new ≡ after_switch list_queues core self.old }
     {
         self.cores.select(core);
     }
@@ -258,7 +263,7 @@ impl Scheduler {
         requires own { give_refusal self.old.holders task call ≡ None }
         requires depth { depth_of self.old.hold ≤ max_depth }
         requires mutexes { HasTheirMutexes self.old }
-        ensures { (result, self.new) ≡ called list_moves core task call self.old }
+        ensures { (result, self.new) ≡ called list_queues core task call self.old }
     {
         match call {
             Call::Yield => self.ask_itself(core),
@@ -290,7 +295,7 @@ impl Scheduler {
         requires core { core < self.old.settings.cores }
         requires task { task < self.old.settings.tasks }
         requires ready { has task self.old.orders.ready ≡ true }
-        ensures { (result, self.new) ≡ called list_moves core task (Delay ticks) self.old }
+        ensures { (result, self.new) ≡ called list_queues core task (Delay ticks) self.old }
     {
         if ticks == 0 {
             self.ask_itself(core);
@@ -300,13 +305,13 @@ impl Scheduler {
         Reply::Blocked
     }
 
-    // The task waits until its next wake, or where that lies behind only asks its core to switch.
+    // The task waits until its next wake, or where that has passed only asks its core to switch.
     #[tactic(auto, unfolding(bench_model::specs::Steps::delayed_until))]
     fn delay_until(&mut self, core: u32, task: u32, prev: u32, inc: u32) -> Reply
         requires core { core < self.old.settings.cores }
         requires task { task < self.old.settings.tasks }
         requires ready { has task self.old.orders.ready ≡ true }
-        ensures { (result, self.new) ≡ delayed_until list_moves core task prev inc self.old }
+        ensures { (result, self.new) ≡ delayed_until list_queues core task prev inc self.old }
     {
         let (delayed, wake) = self.delays.delay_until(task, prev, inc);
         self.cores.ask(core, core);
@@ -323,19 +328,20 @@ impl Scheduler {
     #[tactic(auto, unfolding(bench_model::specs::State::yielded))]
     fn ask_itself(&mut self, core: u32)
         requires { core < self.old.settings.cores }
-        ensures { self.new ≡ yielded list_moves core self.old }
+        ensures { self.new ≡ yielded list_queues core self.old }
     {
         self.cores.ask(core, core);
     }
 
-    // The task waits in its call, for so many ticks or without end, at no mutex, and its core asks itself to switch.
+    // The task waits in its call, for so many ticks or without end, at no mutex, and its core asks
+    // itself to switch.
     #[tactic(auto, unfolding(bench_model::specs::State::blocked, bench_model::specs::Lists::delay))]
     fn block(&mut self, core: u32, task: u32, call: Call, ticks: Option<u32>)
         requires core { core < self.old.settings.cores }
         requires task { task < self.old.settings.tasks }
         requires ready { has task self.old.orders.ready ≡ true }
         requires some { IfSome ticks (λ ticks. 0 < ticks) }
-        ensures { self.new ≡ blocked list_moves core task (Made call) ticks None self.old }
+        ensures { self.new ≡ blocked list_queues core task (Made call) ticks None self.old }
     {
         self.cores.ask(core, core);
         self.cores.unready(task);
@@ -350,7 +356,11 @@ fn delay_for(delays: &mut Delays, task: u32, ticks: Option<u32>)
     requires task { task < delays.old.tasks }
     requires free { is_waiting task delays.old.delayed ≡ false }
     requires some { IfSome ticks (λ ticks. 0 < ticks) }
-    ensures { delays.new ≡ record delays.old { delayed = option_map_or (λ left. placed wakes_first (record { task = task; left = left }) delays.old.delayed) ticks delays.old.delayed } }
+    ensures { delays.new ≡ record delays.old {
+      delayed = option_map_or
+          (λ left. placed wakes_first (record { task = task; left = left })
+          delays.old.delayed) ticks delays.old.delayed;
+    } }
 {
     if let Some(ticks) = ticks {
         delays.delay(task, ticks);

@@ -19,35 +19,35 @@ use Rattle.bench_types.specs.declared.kernel_data.MutexWait.{MutexWait}
 use Rattle.bench_types.specs.declared.kernel_data.Waiter.{Waiter}
 use Rattle.bench_model.specs.Holds.{hold_opened, hold_closed}
 use Rattle.bench_model.specs.Until.{next_wake, is_ahead, ticks_to}
-use Rattle.bench_model.specs.Changes.{with_base, in_use_set}
+use Rattle.bench_model.specs.ControlFields.{with_base, in_use_set}
 use Rattle.bench_model.specs.Control.{task_at, current, ask_each}
 use Rattle.bench_model.specs.Notes.{note_at, is_waiting, notified, wait_begun, take_begun, of_task}
-use Rattle.bench_model.specs.Notifying.{awaited_for, notify, interrupted, state_forgotten, bits_cleared, completed, awaited}
-use Rattle.bench_model.specs.Mutexes.{is_marked, held_by, taken, inherited, waited_at, mutex_take, owed, lowered, timed_out, ended, take_finished, finished, disinherited, first_woken, mutex_give}
+use Rattle.bench_model.specs.Notifying.{timeout_of, notify, interrupted, state_forgotten, bits_cleared, completed, awaited}
+use Rattle.bench_model.specs.Mutexes.{is_marked, held_by, taken, inherited, waited_at, mutex_take, owed, after_disinherit, timed_out, take_finished, disinherited, first_woken, mutex_give}
 use Rattle.bench_model.specs.Refusals.{refusal}
-use Rattle.bench_model.specs.State.{call_at, holder_at, switched, yielded, blocked}
-use Rattle.bench_model.specs.Steps.{woken, ticked, called, performed, after, delayed_until}
-use Rattle.bench_model.specs.Seek.{seek, may_move, wake, resettled, switched_and_sought, shares_its_time, sliced}
-use Rattle.bench_model.specs.Sets.{capped, in_use_behind, priority_set, affinity_set, preemption_off, preemption_on}
-use Rattle.bench_model.specs.Table.{Stamps, Table, table_moves, is_ready, make_ready, delay, advance, due, deadline_left, forget_deadline, first_waiter, tick_count}
+use Rattle.bench_model.specs.State.{call_at, holder_at, after_select, yielded, blocked, after_return}
+use Rattle.bench_model.specs.Steps.{woken, ticked, called, performed, after, delayed_until, after_finish}
+use Rattle.bench_model.specs.Seek.{seek, may_move, wake, after_eviction, after_switch, shares_its_time, sliced}
+use Rattle.bench_model.specs.PriorityAffinity.{capped, in_use_after, priority_set, affinity_set, preemption_off, preemption_on}
+use Rattle.bench_model.specs.Table.{Stamps, Table, stamp_queues, is_ready, add_to_ready_list, delay, advance, due, deadline_left, forget_deadline, first_waiter, tick_count}
 use Rattle.rule_laws.proofs.Awaiting.{completed_notes}
 use Rattle.order_laws.proofs.SoundSteps.{make_ready_tick, readied_tick, advanced_tick}
-use Rattle.rule_laws.proofs.Ticks.{with_orders, behind_wakes, woken_parts}
+use Rattle.rule_laws.proofs.Ticks.{with_orders, after_wakes, woken_parts}
 use Rattle.order_laws.proofs.DueTasks.{length_due, advance_next}
 
-switched_next : (core : ℕ) (table : Table) → (switched table_moves core table).orders.next ≤ suc table.orders.next
-unfolding switched make_ready
+switched_next : (core : ℕ) (table : Table) → (after_select stamp_queues core table).orders.next ≤ suc table.orders.next
+unfolding after_select add_to_ready_list
 switched_next core table = at (is_ready (current table.control core) table.orders)
   where
-    at : (b : Bool) → (cond b (make_ready (current table.control core) table.orders) table.orders).next ≤ suc table.orders.next
+    at : (b : Bool) → (cond b (add_to_ready_list (current table.control core) table.orders) table.orders).next ≤ suc table.orders.next
     at true = omega arith
     at false = omega arith
 
-switched_tick : (core : ℕ) (table : Table) → (switched table_moves core table).orders.tick ≡ table.orders.tick
-unfolding switched
+switched_tick : (core : ℕ) (table : Table) → (after_select stamp_queues core table).orders.tick ≡ table.orders.tick
+unfolding after_select
 switched_tick core table = at (is_ready (current table.control core) table.orders)
   where
-    at : (b : Bool) → (cond b (make_ready (current table.control core) table.orders) table.orders).tick ≡ table.orders.tick
+    at : (b : Bool) → (cond b (add_to_ready_list (current table.control core) table.orders) table.orders).tick ≡ table.orders.tick
     at true = make_ready_tick table.orders (current table.control core)
     at false = refl
 
@@ -55,37 +55,37 @@ switched_tick core table = at (is_ready (current table.control core) table.order
 abbrev pub IsSameBeside : Table → Table → Type 0
 IsSameBeside table next = (next.orders ≡ table.orders) × (next.settings ≡ table.settings) × (next.hold ≡ table.hold)
 
-resettled_beside : (core loser : ℕ) (table : Table) → IsSameBeside table (resettled table_moves core loser table)
-unfolding resettled
+resettled_beside : (core loser : ℕ) (table : Table) → IsSameBeside table (after_eviction stamp_queues core loser table)
+unfolding after_eviction
 resettled_beside core loser table = at (not (eqb (current table.control core) loser) && is_ready loser table.orders)
   where
     at : (b : Bool) → IsSameBeside table (cond b (record table { control = seek core loser (may_move table.control loser (current table.control core) core) table.control }) table)
     at true = (refl, refl, refl)
     at false = (refl, refl, refl)
 
-sliced_beside : (table : Table) → IsSameBeside table (sliced table_moves table)
+sliced_beside : (table : Table) → IsSameBeside table (sliced stamp_queues table)
 unfolding sliced
 sliced_beside table = at table.settings.slicing
   where
-    at : (b : Bool) → IsSameBeside table (cond b (record table { control = ask_each 0 (shares_its_time table_moves table) table.control }) table)
+    at : (b : Bool) → IsSameBeside table (cond b (record table { control = ask_each 0 (shares_its_time stamp_queues table) table.control }) table)
     at true = (refl, refl, refl)
     at false = (refl, refl, refl)
 
-pub turned_next : (core : ℕ) (table : Table) → (switched_and_sought table_moves core table).orders.next ≤ suc table.orders.next
-unfolding switched_and_sought
-turned_next core table = omega (arith, ap (λ (o : Stamps). o.next) (resettled_beside core (current table.control core) (switched table_moves core table)).0, switched_next core table)
+pub turned_next : (core : ℕ) (table : Table) → (after_switch stamp_queues core table).orders.next ≤ suc table.orders.next
+unfolding after_switch
+turned_next core table = omega (arith, ap (λ (o : Stamps). o.next) (resettled_beside core (current table.control core) (after_select stamp_queues core table)).0, switched_next core table)
 
-pub turned_tick : (core : ℕ) (table : Table) → (switched_and_sought table_moves core table).orders.tick ≡ table.orders.tick
-unfolding switched_and_sought
-turned_tick core table = ap (λ (o : Stamps). o.tick) (resettled_beside core (current table.control core) (switched table_moves core table)).0 ∙ switched_tick core table
+pub turned_tick : (core : ℕ) (table : Table) → (after_switch stamp_queues core table).orders.tick ≡ table.orders.tick
+unfolding after_switch
+turned_tick core table = ap (λ (o : Stamps). o.tick) (resettled_beside core (current table.control core) (after_select stamp_queues core table)).0 ∙ switched_tick core table
 
-pub turned_settings : (core : ℕ) (table : Table) → (switched_and_sought table_moves core table).settings ≡ table.settings
-unfolding switched_and_sought switched
-turned_settings core table = (resettled_beside core (current table.control core) (switched table_moves core table)).1
+pub turned_settings : (core : ℕ) (table : Table) → (after_switch stamp_queues core table).settings ≡ table.settings
+unfolding after_switch after_select
+turned_settings core table = (resettled_beside core (current table.control core) (after_select stamp_queues core table)).1
 
-pub turned_hold : (core : ℕ) (table : Table) → (switched_and_sought table_moves core table).hold ≡ table.hold
-unfolding switched_and_sought switched
-turned_hold core table = (resettled_beside core (current table.control core) (switched table_moves core table)).2
+pub turned_hold : (core : ℕ) (table : Table) → (after_switch stamp_queues core table).hold ≡ table.hold
+unfolding after_switch after_select
+turned_hold core table = (resettled_beside core (current table.control core) (after_select stamp_queues core table)).2
 
 -- how far stamps and the tick count go in one step, whose settings stay
 abbrev pub IsNear : Table → Table → Type 0
@@ -98,34 +98,34 @@ IsNearer table next = (next.orders.next ≤ table.orders.next + length table.ord
 beside_near : (table next : Table) → IsSameBeside table next → IsNearer table next
 beside_near table next same = (omega (arith, ap (λ (o : Stamps). o.next) same.0), omega (arith, ap (λ (o : Stamps). o.tick) same.0), same.1, same.2)
 
-woken_next : (tasks : List ℕ) (table : Table) → (woken table_moves tasks table).orders.next ≡ table.orders.next + length tasks
-unfolding wake make_ready
+woken_next : (tasks : List ℕ) (table : Table) → (woken stamp_queues tasks table).orders.next ≡ table.orders.next + length tasks
+unfolding wake add_to_ready_list
 woken_next [] table = omega arith
-woken_next (task ∷ tasks) table = omega (arith, woken_next tasks (wake table_moves 0 task table))
+woken_next (task ∷ tasks) table = omega (arith, woken_next tasks (wake stamp_queues 0 task table))
 
-woken_same_tick : (tasks : List ℕ) (table : Table) → (woken table_moves tasks table).orders.tick ≡ table.orders.tick
+woken_same_tick : (tasks : List ℕ) (table : Table) → (woken stamp_queues tasks table).orders.tick ≡ table.orders.tick
 woken_same_tick tasks table = ap (λ (t : Table). t.orders.tick) (woken_parts tasks table) ∙ readied_tick tasks table.orders
 
-ticked_near : (table : Table) → IsNearer table (ticked table_moves table)
+ticked_near : (table : Table) → IsNearer table (ticked stamp_queues table)
 unfolding ticked
 ticked_near table =
     let later = advance table.orders in
     let woke = with_orders table later in
-    let same = sliced_beside (behind_wakes table) in (
+    let same = sliced_beside (after_wakes table) in (
       omega (arith, ap (λ (o : Stamps). o.next) same.0, woken_next (due later) woke, length_due later, advance_next table.orders),
       omega (arith, ap (λ (o : Stamps). o.tick) same.0, woken_same_tick (due later) woke, advanced_tick table.orders),
       same.1 ∙ ap (λ (t : Table). t.settings) (woken_parts (due later) woke),
       same.2 ∙ ap (λ (t : Table). t.hold) (woken_parts (due later) woke),
     )
 
-switched_near : (core : ℕ) (table : Table) → 0 < length table.orders.rows → IsNearer table (switched_and_sought table_moves core table)
+switched_near : (core : ℕ) (table : Table) → 0 < length table.orders.rows → IsNearer table (after_switch stamp_queues core table)
 switched_near core table some = (omega (arith, turned_next core table), omega (arith, turned_tick core table), turned_settings core table, turned_hold core table)
 
-in_use_near : (task priority : ℕ) (table : Table) → 0 < length table.orders.rows → IsNearer table (in_use_set table_moves task priority table)
-unfolding in_use_set make_ready
+in_use_near : (task priority : ℕ) (table : Table) → 0 < length table.orders.rows → IsNearer table (in_use_set stamp_queues task priority table)
+unfolding in_use_set add_to_ready_list
 in_use_near task priority table some = at (is_ready task table.orders)
   where
-    at : (b : Bool) → IsNearer table (record table { orders = cond b (make_ready task table.orders) table.orders })
+    at : (b : Bool) → IsNearer table (record table { orders = cond b (add_to_ready_list task table.orders) table.orders })
     at true = (omega arith, omega arith, refl, refl)
     at false = (omega arith, omega arith, refl, refl)
 
@@ -137,9 +137,9 @@ abbrev based : ℕ → ℕ → Table → Table
 based task priority table = record table { control = with_base task (capped table.settings.priorities priority) table.control }
 
 abbrev in_use : ℕ → ℕ → Table → ℕ
-in_use task priority table = in_use_behind (task_at table.control task) (capped table.settings.priorities priority)
+in_use task priority table = in_use_after (task_at table.control task) (capped table.settings.priorities priority)
 
-priority_near : (acting task priority : ℕ) (table : Table) → 0 < length table.orders.rows → IsNearer table (priority_set table_moves acting task priority table)
+priority_near : (acting task priority : ℕ) (table : Table) → 0 < length table.orders.rows → IsNearer table (priority_set stamp_queues acting task priority table)
 unfolding priority_set
 priority_near acting task priority table some =
     either_near table table _ (eqb (capped table.settings.priorities priority) (task_at table.control task).base) (omega arith, omega arith, refl, refl)
@@ -167,66 +167,66 @@ either_gives : (a : ℕ) (table one other : Table) (b : Bool) → IsGiving a tab
 either_gives a table one other true here there = here
 either_gives a table one other false here there = there
 
-in_use_gives : (task priority : ℕ) (table : Table) → IsGiving 1 table (in_use_set table_moves task priority table)
-unfolding in_use_set make_ready
+in_use_gives : (task priority : ℕ) (table : Table) → IsGiving 1 table (in_use_set stamp_queues task priority table)
+unfolding in_use_set add_to_ready_list
 in_use_gives task priority table = at (is_ready task table.orders)
   where
-    at : (b : Bool) → IsGiving 1 table (record table { orders = cond b (make_ready task table.orders) table.orders })
+    at : (b : Bool) → IsGiving 1 table (record table { orders = cond b (add_to_ready_list task table.orders) table.orders })
     at true = (omega arith, refl, refl, refl)
     at false = (omega arith, refl, refl, refl)
 
-inherited_gives : (acting holder priority : ℕ) (table : Table) → IsGiving 1 table (inherited table_moves acting holder priority table)
+inherited_gives : (acting holder priority : ℕ) (table : Table) → IsGiving 1 table (inherited stamp_queues acting holder priority table)
 unfolding inherited
 inherited_gives acting holder priority table =
-    let later = in_use_set table_moves holder priority table in
+    let later = in_use_set stamp_queues holder priority table in
     let gives = in_use_gives holder priority table in
     either_gives 1 table _ table (ltb (task_at table.control holder).in_use priority) (either_gives 1 table _ later (is_ready holder table.orders) gives gives) (giving_none 1 table)
 
-blocked_gives : (core task : ℕ) (call : Unfinished) (ticks : Option ℕ) (wait : Option MutexWait) (table : Table) → IsGiving 1 table (blocked table_moves core task call ticks wait table)
+blocked_gives : (core task : ℕ) (call : Unfinished) (ticks : Option ℕ) (wait : Option MutexWait) (table : Table) → IsGiving 1 table (blocked stamp_queues core task call ticks wait table)
 unfolding blocked delay
 blocked_gives core task call ticks wait table = (omega arith, refl, refl, refl)
 
-waited_gives : (core task mutex holder : ℕ) (ticks : Option ℕ) (table : Table) → IsGiving 2 table (waited_at table_moves core task mutex holder ticks table)
+waited_gives : (core task mutex holder : ℕ) (ticks : Option ℕ) (table : Table) → IsGiving 2 table (waited_at stamp_queues core task mutex holder ticks table)
 unfolding waited_at
 waited_gives core task mutex holder ticks table =
     let priority = (task_at table.control task).in_use in
-    let inheriting = inherited table_moves core holder priority table in
-    giving_then 1 1 table inheriting (blocked table_moves core task (Take mutex (is_marked table.control task holder)) ticks (Some (record { mutex = mutex; priority = priority })) inheriting) (inherited_gives core holder priority table)
+    let inheriting = inherited stamp_queues core holder priority table in
+    giving_then 1 1 table inheriting (blocked stamp_queues core task (Take mutex (is_marked table.control task holder)) ticks (Some (record { mutex = mutex; priority = priority })) inheriting) (inherited_gives core holder priority table)
     (blocked_gives core task (Take mutex (is_marked table.control task holder)) ticks (Some (record { mutex = mutex; priority = priority })) inheriting)
 
-lowered_gives : (acting task priority : ℕ) (table : Table) → IsGiving 1 table (lowered table_moves acting task priority table)
-unfolding lowered
+lowered_gives : (acting task priority : ℕ) (table : Table) → IsGiving 1 table (after_disinherit stamp_queues acting task priority table)
+unfolding after_disinherit
 lowered_gives acting task priority table = either_gives 1 table table _ (eqb (task_at table.control task).in_use priority) (giving_none 1 table) (in_use_gives task priority table)
 
-ended_gives : (task : ℕ) (table : Table) → IsGiving 0 table (ended table_moves task table)
+ended_gives : (task : ℕ) (table : Table) → IsGiving 0 table (after_return stamp_queues task table)
 unfolding forget_deadline
 ended_gives task table = giving_none 0 table
 
-timed_out_gives : (acting task mutex : ℕ) (mark : Bool) (holder : ℕ) (table : Table) → IsGiving 1 table (timed_out table_moves acting task mutex mark holder table)
+timed_out_gives : (acting task mutex : ℕ) (mark : Bool) (holder : ℕ) (table : Table) → IsGiving 1 table (timed_out stamp_queues acting task mutex mark holder table)
 unfolding timed_out
 timed_out_gives acting task mutex mark holder table =
-    either_gives 1 table _ table (mark && not (eqb holder task) && eqb (held_by table.holders holder) 1) (lowered_gives acting holder (owed table_moves holder mutex table) table) (giving_none 1 table)
+    either_gives 1 table _ table (mark && not (eqb holder task) && eqb (held_by table.holders holder) 1) (lowered_gives acting holder (owed stamp_queues holder mutex table) table) (giving_none 1 table)
 
 taken_gives : (task mutex : ℕ) (table : Table) → IsGiving 0 table (taken task mutex table)
 unfolding taken
 taken_gives task mutex table = giving_none 0 table
 
-take_near : (core task mutex ticks : ℕ) (table : Table) → IsGiving 2 table (mutex_take table_moves core task mutex ticks table).1
+take_near : (core task mutex ticks : ℕ) (table : Table) → IsGiving 2 table (mutex_take stamp_queues core task mutex ticks table).1
 unfolding mutex_take
 take_near core task mutex ticks table = at (holder_at table.holders mutex)
   where
     waits : ℕ → Table
-    waits holder = waited_at table_moves core task mutex holder (awaited_for ticks) table
+    waits holder = waited_at stamp_queues core task mutex holder (timeout_of ticks) table
 
     some : (holder : ℕ) (b : Bool) → IsGiving 2 table (cond {A = Reply × Table} b (Flag false, table) (reply.Blocked, waits holder)).1
     some holder true = giving_none 2 table
-    some holder false = waited_gives core task mutex holder (awaited_for ticks) table
+    some holder false = waited_gives core task mutex holder (timeout_of ticks) table
 
     at : (holder : Option ℕ) → IsGiving 2 table (option_map_or {U = Reply × Table} (λ holder. cond (eqb ticks 0) (Flag false, table) (reply.Blocked, waits holder)) holder (Flag true, taken task mutex table)).1
     at None = giving_then 0 2 table (taken task mutex table) (taken task mutex table) (taken_gives task mutex table) (giving_none 2 (taken task mutex table))
     at (Some holder) = some holder (eqb ticks 0)
 
-take_finished_near : (core task mutex : ℕ) (mark : Bool) (table : Table) → IsGiving 2 table (take_finished table_moves core task mutex mark table).1
+take_finished_near : (core task mutex : ℕ) (mark : Bool) (table : Table) → IsGiving 2 table (take_finished stamp_queues core task mutex mark table).1
 unfolding take_finished
 take_finished_near core task mutex mark table = at (holder_at table.holders mutex)
   where
@@ -234,13 +234,13 @@ take_finished_near core task mutex mark table = at (holder_at table.holders mute
     left = deadline_left task table.orders
 
     over : Table
-    over = ended table_moves task table
+    over = after_return stamp_queues task table
 
     out : ℕ → Table
-    out holder = timed_out table_moves core task mutex mark holder over
+    out holder = timed_out stamp_queues core task mutex mark holder over
 
     waits : ℕ → Table
-    waits holder = waited_at table_moves core task mutex holder left table
+    waits holder = waited_at stamp_queues core task mutex holder left table
 
     some : (holder : ℕ) (b : Bool) → IsGiving 2 table (cond {A = Reply × Table} b (Flag false, out holder) (reply.Blocked, waits holder)).1
     some holder true =
@@ -254,36 +254,36 @@ take_finished_near core task mutex mark table = at (holder_at table.holders mute
         (omega (arith, gives.0), gives.1, gives.2, gives.3)
     at (Some holder) = some holder (option_map_or (λ ticks. eqb ticks 0) left false)
 
-finished_near : (core task : ℕ) (call : Unfinished) (table : Table) → 0 < length table.orders.rows → IsNearer table (finished table_moves core task call table).1
-unfolding finished
+finished_near : (core task : ℕ) (call : Unfinished) (table : Table) → 0 < length table.orders.rows → IsNearer table (after_finish stamp_queues core task call table).1
+unfolding after_finish
 finished_near core task (Made call) table some =
-    let over = ended table_moves task table in
+    let over = after_return stamp_queues task table in
     let gives = ended_gives task table in
     let same = completed_beside task call over in
     (omega (arith, gives.0, ap (λ (o : Stamps). o.next) same.0), omega (arith, gives.1, ap (λ (o : Stamps). o.tick) same.0), same.1 ∙ gives.2, same.2 ∙ gives.3)
-finished_near core task (Take mutex mark) table some = giving_near table (take_finished table_moves core task mutex mark table).1 some (take_finished_near core task mutex mark table)
+finished_near core task (Take mutex mark) table some = giving_near table (take_finished stamp_queues core task mutex mark table).1 some (take_finished_near core task mutex mark table)
 
-call_finished_near : (core task : ℕ) (table : Table) → 0 < length table.orders.rows → IsNearer table (option_map_or {U = Reply × Table} (λ call. finished table_moves core task call table) (call_at table.calls task) (Done, table)).1
+call_finished_near : (core task : ℕ) (table : Table) → 0 < length table.orders.rows → IsNearer table (option_map_or {U = Reply × Table} (λ call. after_finish stamp_queues core task call table) (call_at table.calls task) (Done, table)).1
 call_finished_near core task table some = at (call_at table.calls task)
   where
-    at : (unfinished : Option Unfinished) → IsNearer table (option_map_or {U = Reply × Table} (λ call. finished table_moves core task call table) unfinished (Done, table)).1
+    at : (unfinished : Option Unfinished) → IsNearer table (option_map_or {U = Reply × Table} (λ call. after_finish stamp_queues core task call table) unfinished (Done, table)).1
     at None = (omega arith, omega arith, refl, refl)
     at (Some call) = finished_near core task call table some
 
-disinherited_gives : (core task : ℕ) (table : Table) → IsGiving 1 table (disinherited table_moves core task table)
+disinherited_gives : (core task : ℕ) (table : Table) → IsGiving 1 table (disinherited stamp_queues core task table)
 unfolding disinherited
 disinherited_gives core task table =
     either_gives 1 table _ table (eqb (held_by table.holders task) 0) (lowered_gives core task (task_at table.control task).base table) (giving_none 1 table)
 
-first_woken_gives : (acting mutex : ℕ) (table : Table) → IsGiving 1 table (first_woken table_moves acting mutex table)
-unfolding first_woken wake make_ready
+first_woken_gives : (acting mutex : ℕ) (table : Table) → IsGiving 1 table (first_woken stamp_queues acting mutex table)
+unfolding first_woken wake add_to_ready_list
 first_woken_gives acting mutex table = at (first_waiter mutex table.orders)
   where
-    at : (first : Option Waiter) → IsGiving 1 table (option_map_or (λ (waiter : Waiter). wake table_moves acting waiter.task table) first table)
+    at : (first : Option Waiter) → IsGiving 1 table (option_map_or (λ (waiter : Waiter). wake stamp_queues acting waiter.task table) first table)
     at None = giving_none 1 table
     at (Some waiter) = (omega arith, refl, refl, refl)
 
-give_near : (core task mutex : ℕ) (table : Table) → IsGiving 2 table (mutex_give table_moves core task mutex table).1
+give_near : (core task mutex : ℕ) (table : Table) → IsGiving 2 table (mutex_give stamp_queues core task mutex table).1
 unfolding mutex_give
 give_near core task mutex table = at (holder_at table.holders mutex)
   where
@@ -291,14 +291,14 @@ give_near core task mutex table = at (holder_at table.holders mutex)
     freed = record table { holders = slice_set table.holders mutex None }
 
     lower : Table
-    lower = disinherited table_moves core task freed
+    lower = disinherited stamp_queues core task freed
 
-    at : (holder : Option ℕ) → IsGiving 2 table (option_map_or {U = Reply × Table} (λ holder. (Flag true, first_woken table_moves core mutex lower)) holder (Flag false, table)).1
+    at : (holder : Option ℕ) → IsGiving 2 table (option_map_or {U = Reply × Table} (λ holder. (Flag true, first_woken stamp_queues core mutex lower)) holder (Flag false, table)).1
     at None = giving_none 2 table
-    at (Some holder) = giving_then 1 1 table lower (first_woken table_moves core mutex lower) (giving_then 0 1 table freed lower (giving_none 0 table) (disinherited_gives core task freed)) (first_woken_gives core mutex lower)
+    at (Some holder) = giving_then 1 1 table lower (first_woken stamp_queues core mutex lower) (giving_then 0 1 table freed lower (giving_none 0 table) (disinherited_gives core task freed)) (first_woken_gives core mutex lower)
 
-notify_near : (acting task : ℕ) (action : Action) (table : Table) → 0 < length table.orders.rows → IsNearer table (notify table_moves acting task action table)
-unfolding notify wake make_ready
+notify_near : (acting task : ℕ) (action : Action) (table : Table) → 0 < length table.orders.rows → IsNearer table (notify stamp_queues acting task action table)
+unfolding notify wake add_to_ready_list
 notify_near acting task action table some = at (is_waiting note.state)
   where
     note : Notification
@@ -307,18 +307,18 @@ notify_near acting task action table some = at (is_waiting note.state)
     told : Table
     told = record table { notes = slice_set table.notes task (notified action note) }
 
-    at : (b : Bool) → IsNearer table (cond b (wake table_moves acting task told) told)
+    at : (b : Bool) → IsNearer table (cond b (wake stamp_queues acting task told) told)
     at true = (omega arith, omega arith, refl, refl)
     at false = (omega arith, omega arith, refl, refl)
 
-awaited_near : (core task : ℕ) (call : Call) (ticks : ℕ) (begun : Bool × List Notification) (table : Table) → 0 < length table.orders.rows → IsNearer table (awaited table_moves core task call ticks begun table).1
+awaited_near : (core task : ℕ) (call : Call) (ticks : ℕ) (begun : Bool × List Notification) (table : Table) → 0 < length table.orders.rows → IsNearer table (awaited stamp_queues core task call ticks begun table).1
 unfolding awaited blocked delay
 awaited_near core task call ticks begun table some = at (begun.0 && ltb 0 ticks)
   where
     waiting : Table
     waiting = record table { notes = begun.1 }
 
-    at : (b : Bool) → IsNearer table (cond {A = Reply × Table} b (reply.Blocked, blocked table_moves core task (Made call) (awaited_for ticks) None waiting) (completed task call waiting)).1
+    at : (b : Bool) → IsNearer table (cond {A = Reply × Table} b (reply.Blocked, blocked stamp_queues core task (Made call) (timeout_of ticks) None waiting) (completed task call waiting)).1
     at true = (omega arith, omega arith, refl, refl)
     at false = beside_near table (completed task call waiting).1 (completed_beside task call waiting)
 
@@ -328,7 +328,7 @@ keeps_hold HoldOpen = false
 keeps_hold HoldClose = false
 keeps_hold call = true
 
-until_near : (core task prev inc : ℕ) (table : Table) → 0 < length table.orders.rows → IsNearer table (delayed_until table_moves core task prev inc table).1
+until_near : (core task prev inc : ℕ) (table : Table) → 0 < length table.orders.rows → IsNearer table (delayed_until stamp_queues core task prev inc table).1
 unfolding delayed_until yielded blocked delay
 until_near core task prev inc table some = at (is_ahead now prev wake)
   where
@@ -338,7 +338,7 @@ until_near core task prev inc table some = at (is_ahead now prev wake)
     wake : ℕ
     wake = next_wake prev inc
 
-    at : (b : Bool) → IsNearer table (cond {A = Reply × Table} b (Until true wake, blocked table_moves core task (Made (DelayUntil prev inc)) (Some (ticks_to now wake)) None table) (Until false wake, yielded table_moves core table)).1
+    at : (b : Bool) → IsNearer table (cond {A = Reply × Table} b (Until true wake, blocked stamp_queues core task (Made (DelayUntil prev inc)) (Some (ticks_to now wake)) None table) (Until false wake, yielded stamp_queues core table)).1
     at true = (omega arith, omega arith, refl, refl)
     at false = (omega arith, omega arith, refl, refl)
 
@@ -346,12 +346,12 @@ until_near core task prev inc table some = at (is_ahead now prev wake)
 abbrev pub IsNearBut : Bool → Table → Table → Type 0
 IsNearBut keeps table next = (next.orders.next ≤ table.orders.next + length table.orders.rows + 1) × (next.orders.tick ≤ table.orders.tick + 1) × (next.settings ≡ table.settings) × (keeps ≡ true → next.hold ≡ table.hold)
 
-pub called_near : (core task : ℕ) (call : Call) (table : Table) → 0 < length table.orders.rows → IsNearBut (keeps_hold call) table (called table_moves core task call table).1
+pub called_near : (core task : ℕ) (call : Call) (table : Table) → 0 < length table.orders.rows → IsNearBut (keeps_hold call) table (called stamp_queues core task call table).1
 unfolding called yielded blocked delay affinity_set preemption_off preemption_on state_forgotten bits_cleared hold_opened hold_closed
 called_near core task Yield table some = (omega arith, omega arith, refl, λ keeps. refl)
 called_near core task (Delay ticks) table some = let near = at (eqb ticks 0) in (near.0, near.1, near.2, λ keeps. near.3)
   where
-    at : (b : Bool) → IsNearer table (cond {A = Reply × Table} b (Done, yielded table_moves core table) (reply.Blocked, blocked table_moves core task (Made (Delay ticks)) (Some ticks) None table)).1
+    at : (b : Bool) → IsNearer table (cond {A = Reply × Table} b (Done, yielded stamp_queues core table) (reply.Blocked, blocked stamp_queues core task (Made (Delay ticks)) (Some ticks) None table)).1
     at true = (omega arith, omega arith, refl, refl)
     at false = (omega arith, omega arith, refl, refl)
 called_near core task (DelayUntil prev inc) table some = let near = until_near core task prev inc table some in (near.0, near.1, near.2, λ keeps. near.3)
@@ -367,8 +367,8 @@ called_near core task (NotifyWait entry exit ticks) table some = let near = awai
 called_near core task (NotifyTake clear ticks) table some = let near = awaited_near core task (NotifyTake clear ticks) ticks (of_task task take_begun table.notes) table some in (near.0, near.1, near.2, λ keeps. near.3)
 called_near core task (StateClear other) table some = (omega arith, omega arith, refl, λ keeps. refl)
 called_near core task (ValueClear other bits) table some = (omega arith, omega arith, refl, λ keeps. refl)
-called_near core task (MutexTake mutex ticks) table some = let near = giving_near table (mutex_take table_moves core task mutex ticks table).1 some (take_near core task mutex ticks table) in (near.0, near.1, near.2, λ keeps. near.3)
-called_near core task (MutexGive mutex) table some = let near = giving_near table (mutex_give table_moves core task mutex table).1 some (give_near core task mutex table) in (near.0, near.1, near.2, λ keeps. near.3)
+called_near core task (MutexTake mutex ticks) table some = let near = giving_near table (mutex_take stamp_queues core task mutex ticks table).1 some (take_near core task mutex ticks table) in (near.0, near.1, near.2, λ keeps. near.3)
+called_near core task (MutexGive mutex) table some = let near = giving_near table (mutex_give stamp_queues core task mutex table).1 some (give_near core task mutex table) in (near.0, near.1, near.2, λ keeps. near.3)
 
 abbrev pub keeps_step : Step → Bool
 keeps_step (steps.Call core task call) = keeps_hold call
@@ -376,17 +376,17 @@ keeps_step Tick = true
 keeps_step (Switch core) = true
 keeps_step (Interrupt core note) = true
 
-pub performed_near : (step : Step) (table : Table) → 0 < length table.orders.rows → IsNearBut (keeps_step step) table (performed table_moves step table).1
+pub performed_near : (step : Step) (table : Table) → 0 < length table.orders.rows → IsNearBut (keeps_step step) table (performed stamp_queues step table).1
 unfolding performed interrupted
 performed_near Tick table some = let near = ticked_near table in (near.0, near.1, near.2, λ keeps. near.3)
 performed_near (Switch core) table some = let near = switched_near core table some in (near.0, near.1, near.2, λ keeps. near.3)
 performed_near (steps.Call core task call) table some = called_near core task call table some
 performed_near (Interrupt core note) table some = let near = notify_near core note.task note.action table some in (near.0, near.1, near.2, λ keeps. near.3)
 
-pub after_near : (step : Step) (table : Table) → 0 < length table.orders.rows → IsNear table (after table_moves step table).1
+pub after_near : (step : Step) (table : Table) → 0 < length table.orders.rows → IsNear table (after stamp_queues step table).1
 unfolding after
-after_near step table some = at (refusal table_moves step table)
+after_near step table some = at (refusal stamp_queues step table)
   where
-    at : (why : Option Refusal) → IsNear table (option_map_or {U = Reply × Table} (λ why. (Refused why, table)) why (performed table_moves step table)).1
+    at : (why : Option Refusal) → IsNear table (option_map_or {U = Reply × Table} (λ why. (Refused why, table)) why (performed stamp_queues step table)).1
     at None = let near = performed_near step table some in (near.0, near.1, near.2)
     at (Some why) = (omega arith, omega arith, refl)

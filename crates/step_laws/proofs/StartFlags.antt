@@ -8,9 +8,9 @@ use Rattle.std.proofs.lemmas.Bool.Decides.{nat_tests}
 use Rattle.bench_types.specs.declared.header.Header.{Header}
 use Rattle.bench_types.specs.declared.kernel_data.CoreLook.{CoreLook}
 use Rattle.bench_model.specs.Control.{Control, current, is_due, is_idle, ask, run_on}
-use Rattle.bench_model.specs.State.{selected, switched}
-use Rattle.bench_model.specs.Table.{Table, table_moves, is_ready}
-use Rattle.bench_model.specs.Seek.{asked_for, is_running, seek, may_move, resettled, switched_and_sought}
+use Rattle.bench_model.specs.State.{selected, after_select}
+use Rattle.bench_model.specs.Table.{Table, stamp_queues, is_ready}
+use Rattle.bench_model.specs.Seek.{core_to_yield, is_running, seek, may_move, after_eviction, after_switch}
 use Rattle.order_laws.specs.AskedCores.{IsAnswer}
 use Rattle.bench_model.specs.Start.{first_control, first_stamps, unstarted, started, start}
 use Rattle.order_laws.proofs.SoundSteps.{look_same, look_other, cores_length}
@@ -19,27 +19,27 @@ use Rattle.step_laws.proofs.Starts.{first_core, first_cores}
 
 pub seek_idle : (control : Control) (acting task : ℕ) (among : ℕ → Bool) → is_idle control task ≡ true → seek acting task among control ≡ control
 unfolding seek
-seek_idle control acting task among idle = at (is_running control task) (asked_for control task among) refl
+seek_idle control acting task among idle = at (is_running control task) (core_to_yield control task among) refl
   where
-    at : (b : Bool) (o : Option ℕ) → asked_for control task among ≡ o → cond b control (option_map_or (λ core. ask acting core control) o control) ≡ control
+    at : (b : Bool) (o : Option ℕ) → core_to_yield control task among ≡ o → cond b control (option_map_or (λ core. ask acting core control) o control) ≡ control
     at true o same = refl
     at false None same = refl
     at false (Some core) same = absurd (grind (arith, nat_tests, (subst (IsAnswer control task among) same (best_core control task among)).0.2, idle))
 
 -- the task that a core selects
 abbrev chosen : ℕ → Table → ℕ
-chosen core table = unwrap_or (selected table_moves core table) (current table.control core)
+chosen core table = unwrap_or (selected stamp_queues core table) (current table.control core)
 
 -- a core that gives up its own idle task seeks none
-idle_leaves : (core : ℕ) (table : Table) → core < length table.control.cores → current table.control core ≡ core → (switched_and_sought table_moves core table).control ≡ run_on core (chosen core table) table.control
-unfolding switched_and_sought resettled switched
+idle_leaves : (core : ℕ) (table : Table) → core < length table.control.cores → current table.control core ≡ core → (after_switch stamp_queues core table).control ≡ run_on core (chosen core table) table.control
+unfolding after_switch after_eviction after_select
 idle_leaves core table below here = at (not (eqb (current later.control core) loser) && is_ready loser later.orders)
   where
     loser : ℕ
     loser = current table.control core
 
     later : Table
-    later = switched table_moves core table
+    later = after_select stamp_queues core table
 
     idle : is_idle later.control loser ≡ true
     idle = grind (arith, nat_tests, here, below, cores_length table.control core (record { current = chosen core table; pend = false; asked = false }))
@@ -65,10 +65,10 @@ turn_fresh core task control below fresh = record {
     look : CoreLook
     look = record { current = task; pend = false; asked = false }
 
-turns_fresh : (n core : ℕ) (table : Table) → core + n ≤ length table.control.cores → IsFresh core table.control → (c : ℕ) → c < length table.control.cores → is_due (fold (λ table core. switched_and_sought table_moves core table) table (range_with_len core n)).control c ≡ false
+turns_fresh : (n core : ℕ) (table : Table) → core + n ≤ length table.control.cores → IsFresh core table.control → (c : ℕ) → c < length table.control.cores → is_due (fold (λ table core. after_switch stamp_queues core table) table (range_with_len core n)).control c ≡ false
 turns_fresh zero core table fits fresh c low = fresh.quiet c low
 turns_fresh (suc n) core table fits fresh c low =
-    let next = switched_and_sought table_moves core table in
+    let next = after_switch stamp_queues core table in
     let goes = idle_leaves core table (omega arith) (fresh.idle core (omega arith) (omega arith)) in
     let same = ap (λ (control : Control). length control.cores) goes ∙ cores_length table.control core (record { current = chosen core table; pend = false; asked = false }) in
     turns_fresh n (core + 1) next (omega (arith, same)) (subst (IsFresh (core + 1)) (sym goes) (turn_fresh core (chosen core table) table.control (omega arith) fresh)) c (omega (arith, same))

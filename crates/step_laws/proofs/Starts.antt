@@ -15,16 +15,16 @@ use Rattle.bench_types.specs.declared.step.Unfinished.{Unfinished}
 use Rattle.bench_types.proofs.Passes.{IsWithinLimits, checked_header}
 use Rattle.bench_types.specs.Step.{settings_of, IsCheckedUnfinished}
 use Rattle.bench_types.specs.Header.{header_check}
-use Rattle.bench_model.specs.declared.row.Standing.{Standing}
-use Rattle.bench_model.specs.declared.row.Standing.TheVariants.{Ready}
+use Rattle.bench_model.specs.declared.row.TaskState.{TaskState}
+use Rattle.bench_model.specs.declared.row.TaskState.TheVariants.{Ready}
 use Rattle.bench_model.specs.declared.row.TaskRow.{TaskRow}
 use Rattle.list_orders.specs.Search.{numbers, by_stamp, ranked}
 use Rattle.bench_model.specs.Control.{core_at, current}
 use Rattle.bench_model.specs.State.{call_at}
-use Rattle.bench_model.specs.Seek.{switched_and_sought}
-use Rattle.bench_model.specs.Table.{Stamps, Table, table_moves, row_at, stamp_of, is_ready, stands_ready, wake_in, wait_in, deadline_at, waiter_of}
-use Rattle.bench_model.specs.Lists.{list_moves, lists_of, delayed_of, outranks, wakes_first, waits_first, image}
-use Rattle.bench_model.specs.Sound.{IsStamped, IsPlaced, WakesInTime, HasWords, HasMutexes, IsConsistent, IsSound}
+use Rattle.bench_model.specs.Seek.{after_switch}
+use Rattle.bench_model.specs.Table.{Stamps, Table, stamp_queues, row_at, stamp_of, is_ready, stands_ready, wake_in, wait_in, deadline_at, waiter_of}
+use Rattle.bench_model.specs.Lists.{list_queues, lists_of, delayed_of, outranks, wakes_first, waits_first, view_of}
+use Rattle.bench_model.specs.Sound.{IsStamped, HasCurrentTasks, WakesInTime, HasWords, HasMutexes, IsConsistent, IsSound}
 use Rattle.bench_model.specs.Start.{first_look, first_control, ready_row, first_stamps, first_lists, unstarted, started, start, start_seen}
 use Rattle.list_orders.proofs.Filters.{All-weaker}
 use Rattle.step_laws.proofs.Nears.{turned_hold}
@@ -142,7 +142,7 @@ module _ (header : Header) where
       ∙ by_stamp_listed (stamp_of first) holder (λ i. stands_ready (row_at first i).standing) (cores + users) (cores + users) (λ i low. ap stands_ready (standing_first i low)) holders first_once
       ∙ holders_all
 
-  none_first : (test : Standing → Bool) → test Ready ≡ false → standing_so test first ≡ []
+  none_first : (test : TaskState → Bool) → test Ready ≡ false → standing_so test first ≡ []
   none_first test fails = by_stamp_none (stamp_of first) (λ i. test (row_at first i).standing) (numbers (length first.rows)) first.next
       (All-weaker (λ i. i < length first.rows) (λ i. test (row_at first i).standing ≡ false) (λ i low. ap test (standing_first i (omega (arith, first_length))) ∙ fails) (numbers (length first.rows)) (numbers_below (length first.rows)))
 
@@ -168,7 +168,7 @@ module _ (header : Header) where
   first_ready : (i : ℕ) → i < cores + users → is_ready i first ≡ true
   first_ready i low = ap stands_ready (standing_first i low)
 
-  first_placed : IsPlaced (first_control header) first
+  first_placed : HasCurrentTasks (first_control header) first
   first_placed = record {
     is_task = λ c low. omega (arith, first_cores, first_length, first_current c (omega (arith, first_cores)));
     on_one_core = λ c d low high same. omega (arith, first_current c (omega (arith, first_cores)), first_current d (omega (arith, first_cores)), same);
@@ -226,20 +226,20 @@ module _ (header : Header) where
   }
 
 -- cores that switch in turn, from a sound table
-in_turn_rest : (core : ℕ) (cores : List ℕ) (table : Table) → AllByRecursion (λ c. c < length table.control.cores) cores → AllByRecursion (λ c. c < length (switched_and_sought table_moves core table).control.cores) cores
-in_turn_rest core cores table all = All-weaker (λ c. c < length table.control.cores) (λ c. c < length (switched_and_sought table_moves core table).control.cores) (λ c h. omega (arith, sought_switch_length core table)) cores all
+in_turn_rest : (core : ℕ) (cores : List ℕ) (table : Table) → AllByRecursion (λ c. c < length table.control.cores) cores → AllByRecursion (λ c. c < length (after_switch stamp_queues core table).control.cores) cores
+in_turn_rest core cores table all = All-weaker (λ c. c < length table.control.cores) (λ c. c < length (after_switch stamp_queues core table).control.cores) (λ c h. omega (arith, sought_switch_length core table)) cores all
 
-in_turn_sound : (cores : List ℕ) (table : Table) → AllByRecursion (λ c. c < length table.control.cores) cores → IsConsistent table → IsConsistent (fold (λ table core. switched_and_sought table_moves core table) table cores)
+in_turn_sound : (cores : List ℕ) (table : Table) → AllByRecursion (λ c. c < length table.control.cores) cores → IsConsistent table → IsConsistent (fold (λ table core. after_switch stamp_queues core table) table cores)
 in_turn_sound [] table all sound = sound
 in_turn_sound (core ∷ cores) table all sound =
-    in_turn_sound cores (switched_and_sought table_moves core table) (in_turn_rest core cores table all.1) (sought_switch_sound table core sound (omega (arith, sound.sized.cores, all.0)))
+    in_turn_sound cores (after_switch stamp_queues core table) (in_turn_rest core cores table all.1) (sought_switch_sound table core sound (omega (arith, sound.sized.cores, all.0)))
 
-in_turn_seen : (cores : List ℕ) (table : Table) → AllByRecursion (λ c. c < length table.control.cores) cores → IsConsistent table → image (fold (λ table core. switched_and_sought table_moves core table) table cores) ≡ fold (λ view core. switched_and_sought list_moves core view) (image table) cores
+in_turn_seen : (cores : List ℕ) (table : Table) → AllByRecursion (λ c. c < length table.control.cores) cores → IsConsistent table → view_of (fold (λ table core. after_switch stamp_queues core table) table cores) ≡ fold (λ view core. after_switch list_queues core view) (view_of table) cores
 in_turn_seen [] table all sound = refl
 in_turn_seen (core ∷ cores) table all sound =
     let low : core < table.settings.cores = omega (arith, sound.sized.cores, all.0) in
-    in_turn_seen cores (switched_and_sought table_moves core table) (in_turn_rest core cores table all.1) (sought_switch_sound table core sound low)
-    ∙ ap (λ view. fold (λ view core. switched_and_sought list_moves core view) view cores) (sought_switch_seen table core sound low)
+    in_turn_seen cores (after_switch stamp_queues core table) (in_turn_rest core cores table all.1) (sought_switch_sound table core sound low)
+    ∙ ap (λ view. fold (λ view core. after_switch list_queues core view) view cores) (sought_switch_seen table core sound low)
 
 pub unstarted_cores : (header : Header) → length (unstarted (first_stamps header) header).control.cores ≡ header.config.cores
 unfolding unstarted
@@ -253,20 +253,20 @@ pub start_consistent : (header : Header) → header_check header ≡ Ok tt → I
 unfolding started
 start_consistent header passes = in_turn_sound (numbers header.config.cores) (unstarted (first_stamps header) header) (first_turns header) (first_sound header (checked_header header passes))
 
-unstarted_seen : (header : Header) → image (unstarted (first_stamps header) header) ≡ unstarted (first_lists header) header
+unstarted_seen : (header : Header) → view_of (unstarted (first_stamps header) header) ≡ unstarted (first_lists header) header
 unfolding unstarted
 unstarted_seen header = same_state (settings_of header) (first_control header) (first_control header) (replicate (header.config.cores + length header.tasks) None) (replicate (header.config.cores + length header.tasks) no_note) (replicate header.config.mutexes None) None _ _ refl (first_seen header)
 
-pub start_seen_lem : (header : Header) → header_check header ≡ Ok tt → image (start header) ≡ start_seen header
+pub start_seen_lem : (header : Header) → header_check header ≡ Ok tt → view_of (start header) ≡ start_seen header
 unfolding started
 start_seen_lem header passes =
     in_turn_seen (numbers header.config.cores) (unstarted (first_stamps header) header) (first_turns header) (first_sound header (checked_header header passes))
-    ∙ ap (λ view. fold (λ view core. switched_and_sought list_moves core view) view (numbers header.config.cores)) (unstarted_seen header)
+    ∙ ap (λ view. fold (λ view core. after_switch list_queues core view) view (numbers header.config.cores)) (unstarted_seen header)
 
 -- and no hold is open
-in_turn_hold : (cores : List ℕ) (table : Table) → (fold (λ table core. switched_and_sought table_moves core table) table cores).hold ≡ table.hold
+in_turn_hold : (cores : List ℕ) (table : Table) → (fold (λ table core. after_switch stamp_queues core table) table cores).hold ≡ table.hold
 in_turn_hold [] table = refl
-in_turn_hold (core ∷ cores) table = in_turn_hold cores (switched_and_sought table_moves core table) ∙ turned_hold core table
+in_turn_hold (core ∷ cores) table = in_turn_hold cores (after_switch stamp_queues core table) ∙ turned_hold core table
 
 unstarted_hold : (header : Header) → (unstarted (first_stamps header) header).hold ≡ None
 unfolding unstarted

@@ -20,29 +20,29 @@ use Rattle.bench_types.specs.Step.{IsCheckedStep, IsCheckedCall, task_check, mas
 use Rattle.bench_types.specs.Limits.{max_depth}
 use Rattle.bench_model.specs.Notes.{wait_begun, take_begun, of_task}
 use Rattle.bench_model.specs.Notifying.{is_passed}
-use Rattle.bench_model.specs.Mutexes.{finished}
 use Rattle.bench_model.specs.Refusals.{call_refusal, give_refusal, opens_hold, closes_hold, would_block, refusal}
 use Rattle.bench_model.specs.State.{call_at, yielded, blocked}
 use Rattle.bench_model.specs.Control.{current, is_due}
 use Rattle.bench_model.specs.Holds.{is_held_by, is_held_elsewhere, depth_of, hold_opened, hold_closed}
-use Rattle.bench_model.specs.Steps.{delayed_until, called, performed, after}
+use Rattle.bench_model.specs.Steps.{delayed_until, called, performed, after, after_finish}
 use Rattle.bench_model.specs.Until.{next_wake, is_ahead, ticks_to}
 use Rattle.step_laws.proofs.Holds.{in_place, checked_call, held_after}
 use Rattle.bench_model.proofs.Untils.{some_ticks_to, few_ticks_to}
-use Rattle.bench_model.specs.Table.{Table, table_moves, tick_count}
-use Rattle.bench_model.specs.Lists.{View, list_moves, lists_of, image}
+use Rattle.bench_model.specs.Table.{Table, stamp_queues, tick_count}
+use Rattle.bench_model.specs.Lists.{View, list_queues, lists_of, view_of}
 use Rattle.bench_model.specs.Lists.{seen_of}
 use Rattle.bench_model.specs.Equal.{Same}
 use Rattle.bench_model.specs.Session.{step_of}
-use Rattle.bench_model.specs.Sound.{IsCaller, IsInPlace, IsConsistent, IsSound}
+use Rattle.bench_model.specs.Sound.{IsCaller, StepFits, IsConsistent, IsSound}
 use Rattle.rule_laws.proofs.Awaiting.{wait_begun_word, take_begun_word, interrupted_seen, interrupted_sound, forgotten_seen, forgotten_sound, bits_seen, bits_sound, awaited_seen, awaited_sound}
 use Rattle.rule_laws.proofs.Mutexes.{take_seen, take_sound, give_seen, give_sound, finished_seen, finished_sound}
 use Rattle.rule_laws.proofs.Notifying.{notify_seen, notify_sound, ruled_sound}
 use Rattle.order_laws.proofs.SeenSteps.{yielded_seen, blocked_seen}
 use Rattle.order_laws.proofs.SoundSteps.{yielded_sound, blocked_sound}
 use Rattle.rule_laws.proofs.Seeks.{sought_switch_seen, sought_switch_sound}
-use Rattle.rule_laws.proofs.Sets.{priority_seen, priority_sound, affinity_seen, affinity_sound, off_seen, off_sound, on_seen, on_sound}
+use Rattle.rule_laws.proofs.PriorityAffinity.{priority_seen, priority_sound, affinity_seen, affinity_sound, off_seen, off_sound, on_seen, on_sound}
 use Rattle.rule_laws.proofs.Ticks.{ticked_seen, ticked_sound}
+use Rattle.order_laws.proofs.Sizes.{resized}
 
 abbrev outcome_from : Reply → View → Reply × View
 outcome_from reply view = (reply, view)
@@ -61,7 +61,7 @@ masked_task settings task mask passes = set_task settings task (both_pass (task_
 caller_below : (core task : ℕ) (table : Table) → IsConsistent table → IsCaller table core task → task < table.settings.tasks
 caller_below core task table sound place = omega (arith, sound.sized.rows, place.2)
 
-until_seen : (core task prev inc : ℕ) (table : Table) → IsConsistent table → IsCaller table core task → seen_of (delayed_until table_moves core task prev inc table) ≡ delayed_until list_moves core task prev inc (image table)
+until_seen : (core task prev inc : ℕ) (table : Table) → IsConsistent table → IsCaller table core task → seen_of (delayed_until stamp_queues core task prev inc table) ≡ delayed_until list_queues core task prev inc (view_of table)
 unfolding delayed_until lists_of
 until_seen core task prev inc table sound place = either (is_ahead now prev wake)
   where
@@ -74,30 +74,30 @@ until_seen core task prev inc table sound place = either (is_ahead now prev wake
     call : Unfinished
     call = Made (DelayUntil prev inc)
 
-    either : (b : Bool) → seen_of (cond b (Until true wake, blocked table_moves core task call (Some (ticks_to now wake)) None table) (Until false wake, yielded table_moves core table)) ≡ cond b (Until true wake, blocked list_moves core task call (Some (ticks_to now wake)) None (image table)) (Until false wake, yielded list_moves core (image table))
+    either : (b : Bool) → seen_of (cond b (Until true wake, blocked stamp_queues core task call (Some (ticks_to now wake)) None table) (Until false wake, yielded stamp_queues core table)) ≡ cond b (Until true wake, blocked list_queues core task call (Some (ticks_to now wake)) None (view_of table)) (Until false wake, yielded list_queues core (view_of table))
     either true = same_outcome (Until true wake) _ _ (blocked_seen core task call (Some (ticks_to now wake)) None table sound.stamped.given place.2 place.3)
     either false = same_outcome (Until false wake) _ _ (yielded_seen core table)
 
-opened_seen : (core : ℕ) (table : Table) → outcome_from Done (image (hold_opened core table)) ≡ (Done, hold_opened core (image table))
+opened_seen : (core : ℕ) (table : Table) → outcome_from Done (view_of (hold_opened core table)) ≡ (Done, hold_opened core (view_of table))
 unfolding hold_opened
 opened_seen core table = refl
 
-closed_seen : (core : ℕ) (table : Table) → outcome_from Done (image (hold_closed core table)) ≡ (Done, hold_closed core (image table))
+closed_seen : (core : ℕ) (table : Table) → outcome_from Done (view_of (hold_closed core table)) ≡ (Done, hold_closed core (view_of table))
 unfolding hold_closed
 closed_seen core table = refl
 
-pub called_seen : (core task : ℕ) (call : Call) (table : Table) → IsConsistent table → IsCheckedCall table.settings call → IsCaller table core task → seen_of (called table_moves core task call table) ≡ called list_moves core task call (image table)
+pub called_seen : (core task : ℕ) (call : Call) (table : Table) → IsConsistent table → IsCheckedCall table.settings call → IsCaller table core task → seen_of (called stamp_queues core task call table) ≡ called list_queues core task call (view_of table)
 unfolding called
 called_seen core task Yield table sound checked place = same_outcome Done _ _ (yielded_seen core table)
 called_seen core task (Delay ticks) table sound checked place = either (eqb ticks 0)
   where
-    either : (b : Bool) → seen_of (cond b (Done, yielded table_moves core table) (Blocked, blocked table_moves core task (Made (Delay ticks)) (Some ticks) None table)) ≡ cond b (Done, yielded list_moves core (image table)) (Blocked, blocked list_moves core task (Made (Delay ticks)) (Some ticks) None (image table))
+    either : (b : Bool) → seen_of (cond b (Done, yielded stamp_queues core table) (Blocked, blocked stamp_queues core task (Made (Delay ticks)) (Some ticks) None table)) ≡ cond b (Done, yielded list_queues core (view_of table)) (Blocked, blocked list_queues core task (Made (Delay ticks)) (Some ticks) None (view_of table))
     either true = same_outcome Done _ _ (yielded_seen core table)
     either false = same_outcome Blocked _ _ (blocked_seen core task (Made (Delay ticks)) (Some ticks) None table sound.stamped.given place.2 place.3)
 called_seen core task (DelayUntil prev inc) table sound checked place = until_seen core task prev inc table sound place
 called_seen core task Finish table sound checked place = from (call_at table.calls task)
   where
-    from : (unfinished : Option Unfinished) → seen_of (option_map_or (λ call. finished table_moves core task call table) unfinished (Done, table)) ≡ option_map_or (λ call. finished list_moves core task call (image table)) unfinished (Done, image table)
+    from : (unfinished : Option Unfinished) → seen_of (option_map_or (λ call. after_finish stamp_queues core task call table) unfinished (Done, table)) ≡ option_map_or (λ call. after_finish list_queues core task call (view_of table)) unfinished (Done, view_of table)
     from None = refl
     from (Some call) = finished_seen table core task call sound place
 called_seen core task (PrioritySet other priority) table sound checked place = same_outcome Done _ _ (priority_seen table core other priority sound (set_task table.settings other checked.passes))
@@ -114,19 +114,19 @@ called_seen core task (MutexGive mutex) table sound checked place = give_seen ta
 called_seen core task HoldOpen table sound checked place = opened_seen core table
 called_seen core task HoldClose table sound checked place = closed_seen core table
 
-pub performed_seen : (step : Step) (table : Table) → IsConsistent table → IsCheckedStep table.settings step → IsInPlace table step → seen_of (performed table_moves step table) ≡ performed list_moves step (image table)
+pub performed_seen : (step : Step) (table : Table) → IsConsistent table → IsCheckedStep table.settings step → StepFits table step → seen_of (performed stamp_queues step table) ≡ performed list_queues step (view_of table)
 unfolding performed
 performed_seen Tick table sound checked place = same_outcome Done _ _ (ticked_seen table sound)
 performed_seen (Switch core) table sound checked place = same_outcome Done _ _ (sought_switch_seen table core sound (omega (arith, sound.sized.cores, place)))
 performed_seen (Interrupt core note) table sound checked place = interrupted_seen table core note sound place.1
 performed_seen (steps.Call core task call) table sound checked place = called_seen core task call table sound (checked_call table.settings core task call checked).0 place
 
-after_from : (step : Step) (table : Table) (why : Option Refusal) → (why ≡ None → seen_of (performed table_moves step table) ≡ performed list_moves step (image table)) → seen_of (option_map_or (λ why. (Refused why, table)) why (performed table_moves step table)) ≡ option_map_or (λ why. (Refused why, image table)) why (performed list_moves step (image table))
+after_from : (step : Step) (table : Table) (why : Option Refusal) → (why ≡ None → seen_of (performed stamp_queues step table) ≡ performed list_queues step (view_of table)) → seen_of (option_map_or (λ why. (Refused why, table)) why (performed stamp_queues step table)) ≡ option_map_or (λ why. (Refused why, view_of table)) why (performed list_queues step (view_of table))
 after_from step table None performs = performs refl
 after_from step table (Some why) performs = refl
 
 -- what a step is refused for can be seen
-would_block_seen : (task : ℕ) (call : Call) (table : Table) → would_block list_moves task call (image table) ≡ would_block table_moves task call table
+would_block_seen : (task : ℕ) (call : Call) (table : Table) → would_block list_queues task call (view_of table) ≡ would_block stamp_queues task call table
 unfolding would_block lists_of
 would_block_seen task Yield table = refl
 would_block_seen task (Delay ticks) table = refl
@@ -146,7 +146,7 @@ would_block_seen task (MutexGive mutex) table = refl
 would_block_seen task HoldOpen table = refl
 would_block_seen task HoldClose table = refl
 
-refusal_seen : (step : Step) (table : Table) → refusal list_moves step (image table) ≡ refusal table_moves step table
+refusal_seen : (step : Step) (table : Table) → refusal list_queues step (view_of table) ≡ refusal stamp_queues step table
 unfolding refusal
 refusal_seen Tick table = refl
 refusal_seen (Switch core) table = refl
@@ -161,33 +161,23 @@ refusal_seen (steps.Call core task call) table =
     ap (λ waits. cond kept_out (Some Held) (cond displaced (Some Displaced) (cond due (Some SwitchDue) (option_or fits (option_or (cond (is_held_by core table.hold) (cond waits (Some HoldBlock) deep) none) (give_refusal table.holders task call))))))
     (would_block_seen task call table)
 
-pub after_seen : (step : Step) (table : Table) → IsSound table → IsCheckedStep table.settings step → seen_of (after table_moves step table) ≡ after list_moves step (image table)
+pub after_seen : (step : Step) (table : Table) → IsSound table → IsCheckedStep table.settings step → seen_of (after stamp_queues step table) ≡ after list_queues step (view_of table)
 unfolding after
 after_seen step table sound checked =
-    after_from step table (refusal table_moves step table) (λ accepted. performed_seen step table sound.consistent checked (in_place step table sound checked.passes accepted))
-    ∙ ap (λ why. option_map_or (λ why. (Refused why, image table)) why (performed list_moves step (image table))) (sym (refusal_seen step table))
+    after_from step table (refusal stamp_queues step table) (λ accepted. performed_seen step table sound.consistent checked (in_place step table sound checked.passes accepted))
+    ∙ ap (λ why. option_map_or (λ why. (Refused why, view_of table)) why (performed list_queues step (view_of table))) (sym (refusal_seen step table))
 
 -- equal tables take every step alike
 pub equal_after : (a b : Table) (step : Step) → IsSound a → IsSound b → Same a b → IsCheckedStep a.settings step → ((step_of step a).0 ≡ (step_of step b).0) × Same (step_of step a).1 (step_of step b).1
 equal_after a b step sound other same checked =
     let settings = ap (λ (view : View). view.settings) same in
-    let both : seen_of (step_of step a) ≡ seen_of (step_of step b) = after_seen step a sound checked ∙ ap (after list_moves step) same ∙ sym (after_seen step b other (subst (λ s. IsCheckedStep s step) settings checked)) in
+    let both : seen_of (step_of step a) ≡ seen_of (step_of step b) = after_seen step a sound checked ∙ ap (after list_queues step) same ∙ sym (after_seen step b other (subst (λ s. IsCheckedStep s step) settings checked)) in
     (ap (λ (r : Reply × View). r.0) both, ap (λ (r : Reply × View). r.1) both)
 
 -- a hold is nothing that a consistent table speaks of
 with_hold : (table : Table) (hold : Option Hold) → IsConsistent table → IsConsistent (record table { hold = hold })
 with_hold table hold sound = record {
-  sized = record {
-    cores = sound.sized.cores;
-    controls = sound.sized.controls;
-    calls = sound.sized.calls;
-    notes = sound.sized.notes;
-    holders = sound.sized.holders;
-    rows = sound.sized.rows;
-    deadlines = sound.sized.deadlines;
-    some_core = sound.sized.some_core;
-    idle_tasks = sound.sized.idle_tasks;
-  };
+  sized = resized table _ refl refl sound.sized;
   stamped = sound.stamped;
   in_place = sound.in_place;
   in_time = sound.in_time;
@@ -197,7 +187,7 @@ with_hold table hold sound = record {
   mutexes = sound.mutexes;
 }
 
-until_sound : (core task prev inc : ℕ) (table : Table) → IsConsistent table → IsCaller table core task → IsCheckedCall table.settings (DelayUntil prev inc) → length table.control.cores ≤ task → IsConsistent (delayed_until table_moves core task prev inc table).1
+until_sound : (core task prev inc : ℕ) (table : Table) → IsConsistent table → IsCaller table core task → IsCheckedCall table.settings (DelayUntil prev inc) → length table.control.cores ≤ task → IsConsistent (delayed_until stamp_queues core task prev inc table).1
 unfolding delayed_until
 until_sound core task prev inc table sound place checked user = either (is_ahead now prev wake) refl
   where
@@ -210,9 +200,9 @@ until_sound core task prev inc table sound place checked user = either (is_ahead
     call : Unfinished
     call = Made (DelayUntil prev inc)
 
-    either : (b : Bool) → is_ahead now prev wake ≡ b → IsConsistent (cond {A = Reply × Table} b (Until true wake, blocked table_moves core task call (Some (ticks_to now wake)) None table) (Until false wake, yielded table_moves core table)).1
+    either : (b : Bool) → is_ahead now prev wake ≡ b → IsConsistent (cond {A = Reply × Table} b (Until true wake, blocked stamp_queues core task call (Some (ticks_to now wake)) None table) (Until false wake, yielded stamp_queues core table)).1
     either true ahead = blocked_sound core task call (Some (ticks_to now wake)) None table sound place checked user (some_ticks_to now prev wake (omega arith) (omega arith) ahead, few_ticks_to now wake) tt (λ none. absurd (cc (none)))
-    either false behind = yielded_sound core table sound place.0
+    either false later = yielded_sound core table sound place.0
 
 opened_sound : (core : ℕ) (table : Table) → IsConsistent table → IsConsistent (hold_opened core table)
 unfolding hold_opened
@@ -222,18 +212,18 @@ closed_sound : (core : ℕ) (table : Table) → IsConsistent table → IsConsist
 unfolding hold_closed
 closed_sound core table sound = with_hold table _ sound
 
-pub called_sound : (core task : ℕ) (call : Call) (table : Table) → IsConsistent table → IsCaller table core task → IsCheckedCall table.settings call → length table.control.cores ≤ task → IsConsistent (called table_moves core task call table).1
+pub called_sound : (core task : ℕ) (call : Call) (table : Table) → IsConsistent table → IsCaller table core task → IsCheckedCall table.settings call → length table.control.cores ≤ task → IsConsistent (called stamp_queues core task call table).1
 unfolding called
 called_sound core task Yield table sound place checked user = yielded_sound core table sound place.0
 called_sound core task (Delay ticks) table sound place checked user = either (eqb ticks 0) refl
   where
-    either : (b : Bool) → eqb ticks 0 ≡ b → IsConsistent (cond {A = Reply × Table} b (Done, yielded table_moves core table) (Blocked, blocked table_moves core task (Made (Delay ticks)) (Some ticks) None table)).1
+    either : (b : Bool) → eqb ticks 0 ≡ b → IsConsistent (cond {A = Reply × Table} b (Done, yielded stamp_queues core table) (Blocked, blocked stamp_queues core task (Made (Delay ticks)) (Some ticks) None table)).1
     either true none = yielded_sound core table sound place.0
     either false some = blocked_sound core task (Made (Delay ticks)) (Some ticks) None table sound place checked user (grind (arith, nat_tests, some), checked.words) tt (λ none. absurd (cc (none)))
 called_sound core task (DelayUntil prev inc) table sound place checked user = until_sound core task prev inc table sound place checked user
 called_sound core task Finish table sound place checked user = from (call_at table.calls task) refl
   where
-    from : (unfinished : Option Unfinished) → call_at table.calls task ≡ unfinished → IsConsistent (option_map_or {U = Reply × Table} (λ call. finished table_moves core task call table) unfinished (Done, table)).1
+    from : (unfinished : Option Unfinished) → call_at table.calls task ≡ unfinished → IsConsistent (option_map_or {U = Reply × Table} (λ call. after_finish stamp_queues core task call table) unfinished (Done, table)).1
     from None none = sound
     from (Some call) some = finished_sound table core task call sound place (sound.calls task call some) user
 called_sound core task (PrioritySet other priority) table sound place checked user = priority_sound table core other priority sound (set_task table.settings other checked.passes)
@@ -256,7 +246,7 @@ called_sound core task (MutexGive mutex) table sound place checked user = give_s
 called_sound core task HoldOpen table sound place checked user = opened_sound core table sound
 called_sound core task HoldClose table sound place checked user = closed_sound core table sound
 
-pub performed_sound : (step : Step) (table : Table) → IsConsistent table → IsCheckedStep table.settings step → IsInPlace table step → IsConsistent (performed table_moves step table).1
+pub performed_sound : (step : Step) (table : Table) → IsConsistent table → IsCheckedStep table.settings step → StepFits table step → IsConsistent (performed stamp_queues step table).1
 unfolding performed
 performed_sound Tick table sound checked place = ticked_sound table sound
 performed_sound (Switch core) table sound checked place = sought_switch_sound table core sound (omega (arith, sound.sized.cores, place))
@@ -265,10 +255,10 @@ performed_sound (steps.Call core task call) table sound checked place =
     let call_checked = checked_call table.settings core task call checked in
     called_sound core task call table sound place call_checked.0 (omega (arith, sound.sized.cores, call_checked.1))
 
-pub after_sound : (step : Step) (table : Table) → IsSound table → IsCheckedStep table.settings step → IsSound (after table_moves step table).1
+pub after_sound : (step : Step) (table : Table) → IsSound table → IsCheckedStep table.settings step → IsSound (after stamp_queues step table).1
 unfolding after
-after_sound step table sound checked = from (refusal table_moves step table) refl
+after_sound step table sound checked = from (refusal stamp_queues step table) refl
   where
-    from : (why : Option Refusal) → refusal table_moves step table ≡ why → IsSound (option_map_or {U = Reply × Table} (λ why. (Refused why, table)) why (performed table_moves step table)).1
+    from : (why : Option Refusal) → refusal stamp_queues step table ≡ why → IsSound (option_map_or {U = Reply × Table} (λ why. (Refused why, table)) why (performed stamp_queues step table)).1
     from None accepted = record { consistent = performed_sound step table sound.consistent checked (in_place step table sound checked.passes accepted); held = held_after step table sound checked accepted }
     from (Some why) refused = sound

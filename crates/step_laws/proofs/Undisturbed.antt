@@ -16,24 +16,24 @@ use Rattle.bench_types.specs.declared.step.Call.{Call}
 use Rattle.bench_types.specs.declared.step.Call.TheVariants.{DelayUntil}
 use Rattle.bench_types.specs.declared.step.Unfinished.{Unfinished}
 use Rattle.bench_types.specs.declared.step.Unfinished.TheVariants.{Made}
-use Rattle.bench_model.specs.Changes.{with_task, with_base, with_in_use, in_use_set}
+use Rattle.bench_model.specs.ControlFields.{with_task, with_base, with_in_use, in_use_set}
 use Rattle.bench_model.specs.Control.{Control, current, task_at, in_mask}
-use Rattle.bench_model.specs.Mutexes.{held_by, taken, inherited, waited_at, mutex_take, lowered, disinherited, first_woken, mutex_give}
+use Rattle.bench_model.specs.Mutexes.{held_by, taken, inherited, waited_at, mutex_take, after_disinherit, disinherited, first_woken, mutex_give}
 use Rattle.bench_model.specs.Notes.{note_at, is_waiting, notified}
-use Rattle.bench_model.specs.Notifying.{awaited_for, notify, completed, awaited, state_forgotten, bits_cleared}
+use Rattle.bench_model.specs.Notifying.{timeout_of, notify, completed, awaited, state_forgotten, bits_cleared}
 use Rattle.bench_model.specs.Seek.{seek, wake, shares_its_time, sliced}
-use Rattle.bench_model.specs.Sets.{capped, in_use_behind, ranked_anew, priority_set, affinity_set, preemption_off, preemption_on}
+use Rattle.bench_model.specs.PriorityAffinity.{capped, in_use_after, yields_after_priority_set, priority_set, affinity_set, preemption_off, preemption_on}
 use Rattle.bench_model.specs.Sound.{IsHeldWell}
 use Rattle.bench_model.specs.State.{call_at, holder_at, yielded, blocked}
 use Rattle.bench_model.specs.Steps.{woken, ticked, delayed_until}
 use Rattle.bench_model.specs.Until.{next_wake, is_ahead, ticks_to}
-use Rattle.bench_model.specs.Table.{Table, table_moves, is_ready, make_ready, tick_count, advance, due, first_waiter}
+use Rattle.bench_model.specs.Table.{Table, stamp_queues, is_ready, add_to_ready_list, tick_count, advance, due, first_waiter}
 use Rattle.rule_laws.proofs.Awaiting.{completed_notes}
 use Rattle.order_laws.proofs.FirstWaiters.{first_waiter_waits}
 use Rattle.list_orders.proofs.Filters.{All-weaker}
 use Rattle.rule_laws.proofs.Seeks.{seek_more, each_more}
 use Rattle.order_laws.proofs.SeenSteps.{due_below}
-use Rattle.rule_laws.proofs.Sets.{its_core_more, ranked_more, masked_more}
+use Rattle.rule_laws.proofs.PriorityAffinity.{its_core_more, ranked_more, masked_more}
 use Rattle.order_laws.proofs.SoundSteps.{IsAskedMore, asked_more, make_ready_keeps, make_ready_length}
 
 pub record IsUndisturbed (table later : Table) : Type 0 where
@@ -80,7 +80,7 @@ unfolding taken
 taken_undisturbed task mutex table = holders_undisturbed table _
 
 -- making a task ready
-readied_undisturbed : (table : Table) (task : ℕ) → task < length table.orders.rows → IsUndisturbed table (record table { orders = make_ready task table.orders })
+readied_undisturbed : (table : Table) (task : ℕ) → task < length table.orders.rows → IsUndisturbed table (record table { orders = add_to_ready_list task table.orders })
 readied_undisturbed table task below = record {
   settings = refl;
   currents = λ c. refl;
@@ -90,118 +90,118 @@ readied_undisturbed table task below = record {
   hold = refl;
 }
 
-pub wake_undisturbed : (acting task : ℕ) (table : Table) → task < length table.orders.rows → IsUndisturbed table (wake table_moves acting task table)
+pub wake_undisturbed : (acting task : ℕ) (table : Table) → task < length table.orders.rows → IsUndisturbed table (wake stamp_queues acting task table)
 unfolding wake
 wake_undisturbed acting task table below =
     let other = seek acting task (in_mask table.control task) table.control in
     undisturbed_then table (record table { control = other }) _ (asked_undisturbed table other (seek_more acting task (in_mask table.control task) table.control))
     (readied_undisturbed (record table { control = other }) task below)
 
-woken_undisturbed : (tasks : List ℕ) (table : Table) → AllByRecursion (λ task. task < length table.orders.rows) tasks → IsUndisturbed table (woken table_moves tasks table)
+woken_undisturbed : (tasks : List ℕ) (table : Table) → AllByRecursion (λ task. task < length table.orders.rows) tasks → IsUndisturbed table (woken stamp_queues tasks table)
 woken_undisturbed [] table all = undisturbed table
 woken_undisturbed (task ∷ tasks) table all =
     let first = wake_undisturbed 0 task table all.0 in
-    let later = wake table_moves 0 task table in
+    let later = wake stamp_queues 0 task table in
     undisturbed_then table later _ first (woken_undisturbed tasks later (All-weaker (λ i. i < length table.orders.rows) (λ i. i < length later.orders.rows) (λ i low. subst (λ n. i < n) (sym first.rows) low) tasks all.1))
 
 advanced_undisturbed : (table : Table) → IsUndisturbed table (record table { orders = advance table.orders })
 unfolding advance
 advanced_undisturbed table = record { settings = refl; currents = λ c. refl; rows = refl; ready = λ i is. is; calls = refl; hold = refl }
 
-sliced_undisturbed : (table : Table) → IsUndisturbed table (sliced table_moves table)
+sliced_undisturbed : (table : Table) → IsUndisturbed table (sliced stamp_queues table)
 unfolding sliced
-sliced_undisturbed table = either_undisturbed table _ table table.settings.slicing (asked_undisturbed table _ (each_more 0 (shares_its_time table_moves table) table.control)) (undisturbed table)
+sliced_undisturbed table = either_undisturbed table _ table table.settings.slicing (asked_undisturbed table _ (each_more 0 (shares_its_time stamp_queues table) table.control)) (undisturbed table)
 
-pub ticked_undisturbed : (table : Table) → IsUndisturbed table (ticked table_moves table)
+pub ticked_undisturbed : (table : Table) → IsUndisturbed table (ticked stamp_queues table)
 unfolding ticked
 ticked_undisturbed table =
     let later = record table { orders = advance table.orders } in
-    let woke = woken table_moves (due later.orders) later in
+    let woke = woken stamp_queues (due later.orders) later in
     undisturbed_then table woke _
     (undisturbed_then table later woke (advanced_undisturbed table) (woken_undisturbed (due later.orders) later (due_below later.orders)))
     (sliced_undisturbed woke)
 
-pub notify_undisturbed : (acting task : ℕ) (action : Action) (table : Table) → task < length table.orders.rows → IsUndisturbed table (notify table_moves acting task action table)
+pub notify_undisturbed : (acting task : ℕ) (action : Action) (table : Table) → task < length table.orders.rows → IsUndisturbed table (notify stamp_queues acting task action table)
 unfolding notify
 notify_undisturbed acting task action table below =
     let note = note_at table.notes task in
     let told = record table { notes = slice_set table.notes task (notified action note) } in
     let first = notes_undisturbed table (slice_set table.notes task (notified action note)) in
-    either_undisturbed table (wake table_moves acting task told) told (is_waiting note.state) (undisturbed_then table told _ first (wake_undisturbed acting task told below)) first
+    either_undisturbed table (wake stamp_queues acting task told) told (is_waiting note.state) (undisturbed_then table told _ first (wake_undisturbed acting task told below)) first
 
 -- calls that set something
-in_use_undisturbed : (task priority : ℕ) (table : Table) → task < length table.orders.rows → IsUndisturbed table (in_use_set table_moves task priority table)
+in_use_undisturbed : (task priority : ℕ) (table : Table) → task < length table.orders.rows → IsUndisturbed table (in_use_set stamp_queues task priority table)
 unfolding in_use_set
 in_use_undisturbed task priority table below =
     let block = record (task_at table.control task) { in_use = priority } in
     let changed = record table { control = with_task task block table.control } in
     at (is_ready task table.orders) (block_undisturbed table task block) (readied_undisturbed changed task below)
   where
-    at : (b : Bool) → IsUndisturbed table (record table { control = with_in_use task priority table.control }) → IsUndisturbed (record table { control = with_in_use task priority table.control }) (record table { control = with_in_use task priority table.control; orders = make_ready task table.orders })
-        → IsUndisturbed table (record table { control = with_in_use task priority table.control; orders = cond b (make_ready task table.orders) table.orders })
+    at : (b : Bool) → IsUndisturbed table (record table { control = with_in_use task priority table.control }) → IsUndisturbed (record table { control = with_in_use task priority table.control }) (record table { control = with_in_use task priority table.control; orders = add_to_ready_list task table.orders })
+        → IsUndisturbed table (record table { control = with_in_use task priority table.control; orders = cond b (add_to_ready_list task table.orders) table.orders })
     at true first second = undisturbed_then table (record table { control = with_in_use task priority table.control }) _ first second
     at false first second = first
 
-pub priority_undisturbed : (acting task priority : ℕ) (table : Table) → task < length table.orders.rows → IsUndisturbed table (priority_set table_moves acting task priority table)
+pub priority_undisturbed : (acting task priority : ℕ) (table : Table) → task < length table.orders.rows → IsUndisturbed table (priority_set stamp_queues acting task priority table)
 unfolding priority_set
 priority_undisturbed acting task priority table below =
     let block = task_at table.control task in
     let new = capped table.settings.priorities priority in
     let based = record table { control = with_base task new table.control } in
-    let later = in_use_set table_moves task (in_use_behind block new) based in
+    let later = in_use_set stamp_queues task (in_use_after block new) based in
     let ready = is_ready task table.orders in
     either_undisturbed table table _ (eqb new block.base) (undisturbed table)
     (undisturbed_then table later _
-    (undisturbed_then table based later (block_undisturbed table task (record block { base = new })) (in_use_undisturbed task (in_use_behind block new) based below))
-    (asked_undisturbed later (ranked_anew acting task block.base new ready later.control) (ranked_more acting task block.base new ready later.control)))
+    (undisturbed_then table based later (block_undisturbed table task (record block { base = new })) (in_use_undisturbed task (in_use_after block new) based below))
+    (asked_undisturbed later (yields_after_priority_set acting task block.base new ready later.control) (ranked_more acting task block.base new ready later.control)))
 
-pub affinity_undisturbed : (acting task mask : ℕ) (table : Table) → IsUndisturbed table (affinity_set table_moves acting task mask table)
+pub affinity_undisturbed : (acting task mask : ℕ) (table : Table) → IsUndisturbed table (affinity_set stamp_queues acting task mask table)
 unfolding affinity_set
 affinity_undisturbed acting task mask table =
     let changed = record table { control = with_task task _ table.control } in
     undisturbed_then table changed _ (block_undisturbed table task _) (asked_undisturbed changed _ (masked_more acting task (is_ready task table.orders) changed.control))
 
-pub off_undisturbed : (task : ℕ) (table : Table) → IsUndisturbed table (preemption_off table_moves task table)
+pub off_undisturbed : (task : ℕ) (table : Table) → IsUndisturbed table (preemption_off stamp_queues task table)
 unfolding preemption_off
 off_undisturbed task table = block_undisturbed table task _
 
-pub on_undisturbed : (acting task : ℕ) (table : Table) → IsUndisturbed table (preemption_on table_moves acting task table)
+pub on_undisturbed : (acting task : ℕ) (table : Table) → IsUndisturbed table (preemption_on stamp_queues acting task table)
 unfolding preemption_on
 on_undisturbed acting task table =
     let changed = record table { control = with_task task (record (task_at table.control task) { preempt = true }) table.control } in
     undisturbed_then table changed _ (block_undisturbed table task _) (asked_undisturbed changed _ (its_core_more acting task changed.control))
 
 -- giving a mutex
-lowered_undisturbed : (acting task priority : ℕ) (table : Table) → task < length table.orders.rows → IsUndisturbed table (lowered table_moves acting task priority table)
-unfolding lowered
+lowered_undisturbed : (acting task priority : ℕ) (table : Table) → task < length table.orders.rows → IsUndisturbed table (after_disinherit stamp_queues acting task priority table)
+unfolding after_disinherit
 lowered_undisturbed acting task priority table below =
-    let later = in_use_set table_moves task priority table in
+    let later = in_use_set stamp_queues task priority table in
     either_undisturbed table table _ (eqb (task_at table.control task).in_use priority) (undisturbed table)
     (undisturbed_then table later _ (in_use_undisturbed task priority table below) (asked_undisturbed later _ (its_core_more acting task later.control)))
 
-pub inherited_undisturbed : (acting holder priority : ℕ) (table : Table) → holder < length table.orders.rows → IsUndisturbed table (inherited table_moves acting holder priority table)
+pub inherited_undisturbed : (acting holder priority : ℕ) (table : Table) → holder < length table.orders.rows → IsUndisturbed table (inherited stamp_queues acting holder priority table)
 unfolding inherited
 inherited_undisturbed acting holder priority table below =
-    let later = in_use_set table_moves holder priority table in
+    let later = in_use_set stamp_queues holder priority table in
     let first = in_use_undisturbed holder priority table below in
     either_undisturbed table _ table (ltb (task_at table.control holder).in_use priority)
     (either_undisturbed table _ later (is_ready holder table.orders) (undisturbed_then table later _ first (asked_undisturbed later _ (seek_more acting holder (in_mask later.control holder) later.control))) first)
     (undisturbed table)
 
-disinherited_undisturbed : (core task : ℕ) (table : Table) → task < length table.orders.rows → IsUndisturbed table (disinherited table_moves core task table)
+disinherited_undisturbed : (core task : ℕ) (table : Table) → task < length table.orders.rows → IsUndisturbed table (disinherited stamp_queues core task table)
 unfolding disinherited
 disinherited_undisturbed core task table below =
     either_undisturbed table _ table (eqb (held_by table.holders task) 0) (lowered_undisturbed core task (task_at table.control task).base table below) (undisturbed table)
 
-first_woken_undisturbed : (acting mutex : ℕ) (table : Table) → IsUndisturbed table (first_woken table_moves acting mutex table)
+first_woken_undisturbed : (acting mutex : ℕ) (table : Table) → IsUndisturbed table (first_woken stamp_queues acting mutex table)
 unfolding first_woken
 first_woken_undisturbed acting mutex table = at (first_waiter mutex table.orders) refl
   where
-    at : (first : Option Waiter) → first_waiter mutex table.orders ≡ first → IsUndisturbed table (option_map_or (λ (waiter : Waiter). wake table_moves acting waiter.task table) first table)
+    at : (first : Option Waiter) → first_waiter mutex table.orders ≡ first → IsUndisturbed table (option_map_or (λ (waiter : Waiter). wake stamp_queues acting waiter.task table) first table)
     at None same = undisturbed table
     at (Some waiter) same = wake_undisturbed acting waiter.task table (first_waiter_waits mutex table.orders waiter same).0
 
-pub give_undisturbed : (core task mutex : ℕ) (table : Table) → task < length table.orders.rows → IsUndisturbed table (mutex_give table_moves core task mutex table).1
+pub give_undisturbed : (core task mutex : ℕ) (table : Table) → task < length table.orders.rows → IsUndisturbed table (mutex_give stamp_queues core task mutex table).1
 unfolding mutex_give
 give_undisturbed core task mutex table below = at (holder_at table.holders mutex)
   where
@@ -209,9 +209,9 @@ give_undisturbed core task mutex table below = at (holder_at table.holders mutex
     freed = record table { holders = slice_set table.holders mutex None }
 
     lower : Table
-    lower = disinherited table_moves core task freed
+    lower = disinherited stamp_queues core task freed
 
-    at : (holder : Option ℕ) → IsUndisturbed table (option_map_or {U = Reply × Table} (λ holder. (Flag true, first_woken table_moves core mutex lower)) holder (Flag false, table)).1
+    at : (holder : Option ℕ) → IsUndisturbed table (option_map_or {U = Reply × Table} (λ holder. (Flag true, first_woken stamp_queues core mutex lower)) holder (Flag false, table)).1
     at None = undisturbed table
     at (Some holder) =
         undisturbed_then table lower _
@@ -219,18 +219,18 @@ give_undisturbed core task mutex table below = at (holder_at table.holders mutex
         (first_woken_undisturbed core mutex lower)
 
 -- calls that end at once
-pub yielded_undisturbed : (core : ℕ) (table : Table) → core < length table.control.cores → IsUndisturbed table (yielded table_moves core table)
+pub yielded_undisturbed : (core : ℕ) (table : Table) → core < length table.control.cores → IsUndisturbed table (yielded stamp_queues core table)
 unfolding yielded
 yielded_undisturbed core table low = asked_undisturbed table _ (asked_more table.control core core low)
 
-pub until_undisturbed : (core task prev inc : ℕ) (table : Table) → core < length table.control.cores → is_ahead (tick_count table.orders) prev (next_wake prev inc) ≡ false → IsUndisturbed table (delayed_until table_moves core task prev inc table).1
+pub until_undisturbed : (core task prev inc : ℕ) (table : Table) → core < length table.control.cores → is_ahead (tick_count table.orders) prev (next_wake prev inc) ≡ false → IsUndisturbed table (delayed_until stamp_queues core task prev inc table).1
 unfolding delayed_until
-until_undisturbed core task prev inc table low behind = at (is_ahead (tick_count table.orders) prev wake) behind
+until_undisturbed core task prev inc table low later = at (is_ahead (tick_count table.orders) prev wake) later
   where
     wake : ℕ
     wake = next_wake prev inc
 
-    at : (b : Bool) → b ≡ false → IsUndisturbed table (cond {A = Reply × Table} b (Until true wake, blocked table_moves core task (Made (DelayUntil prev inc)) (Some (ticks_to (tick_count table.orders) wake)) None table) (Until false wake, yielded table_moves core table)).1
+    at : (b : Bool) → b ≡ false → IsUndisturbed table (cond {A = Reply × Table} b (Until true wake, blocked stamp_queues core task (Made (DelayUntil prev inc)) (Some (ticks_to (tick_count table.orders) wake)) None table) (Until false wake, yielded stamp_queues core table)).1
     at true ahead = absurd (cc (ahead))
     at false ahead = yielded_undisturbed core table low
 
@@ -245,23 +245,23 @@ bits_undisturbed task bits table = notes_undisturbed table _
 completed_undisturbed : (task : ℕ) (call : Call) (table : Table) → IsUndisturbed table (completed task call table).1
 completed_undisturbed task call table = let made = completed_notes task call table in subst (IsUndisturbed table) (sym made.1) (notes_undisturbed table made.0)
 
-pub awaited_undisturbed : (core task : ℕ) (call : Call) (ticks : ℕ) (begun : Bool × List Notification) (table : Table) → (begun.0 && ltb 0 ticks) ≡ false → IsUndisturbed table (awaited table_moves core task call ticks begun table).1
+pub awaited_undisturbed : (core task : ℕ) (call : Call) (ticks : ℕ) (begun : Bool × List Notification) (table : Table) → (begun.0 && ltb 0 ticks) ≡ false → IsUndisturbed table (awaited stamp_queues core task call ticks begun table).1
 unfolding awaited
 awaited_undisturbed core task call ticks begun table goes = at (begun.0 && ltb 0 ticks) goes
   where
     waiting : Table
     waiting = record table { notes = begun.1 }
 
-    at : (b : Bool) → b ≡ false → IsUndisturbed table (cond {A = Reply × Table} b (Blocked, blocked table_moves core task (Made call) (awaited_for ticks) None waiting) (completed task call waiting)).1
+    at : (b : Bool) → b ≡ false → IsUndisturbed table (cond {A = Reply × Table} b (Blocked, blocked stamp_queues core task (Made call) (timeout_of ticks) None waiting) (completed task call waiting)).1
     at true waits = absurd (cc (waits))
     at false ends = undisturbed_then table waiting _ (notes_undisturbed table begun.1) (completed_undisturbed task call waiting)
 
-pub take_undisturbed : (core task mutex ticks : ℕ) (table : Table) → (is_some (holder_at table.holders mutex) && ltb 0 ticks) ≡ false → IsUndisturbed table (mutex_take table_moves core task mutex ticks table).1
+pub take_undisturbed : (core task mutex ticks : ℕ) (table : Table) → (is_some (holder_at table.holders mutex) && ltb 0 ticks) ≡ false → IsUndisturbed table (mutex_take stamp_queues core task mutex ticks table).1
 unfolding mutex_take
 take_undisturbed core task mutex ticks table goes = at (holder_at table.holders mutex) goes
   where
     waits : ℕ → Table
-    waits holder = waited_at table_moves core task mutex holder (awaited_for ticks) table
+    waits holder = waited_at stamp_queues core task mutex holder (timeout_of ticks) table
 
     held : (holder : ℕ) (b : Bool) → eqb ticks 0 ≡ b → ltb 0 ticks ≡ false → IsUndisturbed table (cond {A = Reply × Table} b (Flag false, table) (Blocked, waits holder)).1
     held holder true none no_ticks = undisturbed table

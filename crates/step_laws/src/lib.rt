@@ -1,9 +1,9 @@
-//! The laws of whole steps: a start and every step are the same over stamps and over lists, and keep a table sound. Each function does nothing: its contract
-//! is the laws, one a clause.
+//! The laws of whole steps: a start and every step are the same over stamps and over lists, and
+//! keep a table sound. Each function does nothing: its contract is the laws, one a clause.
 #![tactic(auto)]
 
 ghost use Rattle.step_laws.specs.HoldLaws.{BlocksWhereItWould, HolderKeepsItsCore};
-ghost use Rattle.step_laws.specs.Laws.{StartIsSound, StartAsksNone, StepKeepsSound, SwitchFindsTask, StartIsSeen, StepIsSeen, EqualStaysEqual, ReadyIsSeen, LookIsSeen, ReadyAtEndIsSeen, PickIsSeen, SwitchIsSeen, DelayIsSeen, TickIsSeen, WokenIsSeen, BlockIsSeen, BlockKeepsConsistent, CoresAreApart};
+ghost use Rattle.step_laws.specs.Laws.{StartIsSound, StartAsksNone, StepKeepsSound, SwitchFindsTask, StartSimulates, StepSimulates, EqualStaysEqual, ReadySimulates, LookSimulates, ReadyAtEndSimulates, PickSimulates, SwitchSimulates, DelaySimulates, TickSimulates, WokenSimulates, BlockSimulates, BlockKeepsConsistent, CoresAreApart};
 
 /// The start of a checked header.
 pub fn laws_of_starts()
@@ -12,7 +12,7 @@ pub fn laws_of_starts()
     // The start sets no flag: no core is sought for the idle task that a core gives up.
     ensures start_asks_none { StartAsksNone }
     // What can be seen of a start is the start over lists.
-    ensures start_is_seen { StartIsSeen }
+    ensures start_simulates { StartSimulates }
 {}
 
 /// A step of a session.
@@ -24,34 +24,35 @@ pub fn laws_of_steps()
     ensures switch_finds_task { SwitchFindsTask }
     // The reply of a step is the same over stamps and over lists, and what can be seen afterwards
     // is the step over lists.
-    ensures step_is_seen { StepIsSeen }
+    ensures step_simulates { StepSimulates }
     // Equal tables reply equally to every checked step, and stay equal.
     ensures equal_stays_equal { EqualStaysEqual }
 {}
 
-/// The words of the contracts above: each change of the orders of tasks is the same over stamps and over lists.
+/// The words of the contracts above: each change of the orders of tasks is the same over stamps and
+/// over lists.
 pub fn laws_of_orders()
     // A task is among the ready tasks that are seen where its row is ready.
-    ensures ready_is_seen { ReadyIsSeen }
+    ensures ready_simulates { ReadySimulates }
     // What the lists of a table show of a task, its ticks left among it, is what its row and its
     // wake say: none for a wait without end.
-    ensures look_is_seen { LookIsSeen }
+    ensures look_simulates { LookSimulates }
     // A new stamp is the end of the task's ready list.
-    ensures ready_at_end_is_seen { ReadyAtEndIsSeen }
+    ensures ready_at_end_simulates { ReadyAtEndSimulates }
     // The first task of the ready lists that a core may select is the best of all.
-    ensures pick_is_seen { PickIsSeen }
+    ensures pick_simulates { PickSimulates }
     // A switch over lists is the switch of the table.
-    ensures switch_is_seen { SwitchIsSeen }
-    // A wake so many ticks ahead is an entry with so many ticks left, behind those of as many or
+    ensures switch_simulates { SwitchSimulates }
+    // A wake so many ticks ahead is an entry with so many ticks left, after those of as many or
     // fewer; a wait without end is none.
-    ensures delay_is_seen { DelayIsSeen }
+    ensures delay_simulates { DelaySimulates }
     // A tick leaves one tick less to each wake, and those with none left are the tasks whose wake
     // is now.
-    ensures tick_is_seen { TickIsSeen }
+    ensures tick_simulates { TickSimulates }
     // Tasks that are woken in turn, each with the seek of a core for it, are so over lists.
-    ensures woken_is_seen { WokenIsSeen }
+    ensures woken_simulates { WokenSimulates }
     // A call that blocks its task, for some ticks or without end, does so over lists.
-    ensures block_is_seen { BlockIsSeen }
+    ensures block_simulates { BlockSimulates }
     // A sound table is sound when a call blocked its user task.
     ensures block_keeps_consistent { BlockKeepsConsistent }
     // Asking a core changes no order of tasks.

@@ -1,4 +1,5 @@
-//! Bench documents and edits as texts, and what reading them gives: worked out by hand from the format's description.
+//! Bench documents and edits as texts, and what reading them gives: worked out by hand from the
+//! format's description.
 
 use crate::outcomes::{Base, Document, Table, check_tables};
 use std::test::Fail;
@@ -36,8 +37,8 @@ const TABLES: &[Table] = &[
     },
 ];
 
-// A part of the document, what stands in its place after the arrow, and the outcome after the bar: each member is
-// missing, ill-typed or joined by an unknown one.
+// A part of the document, what stands in its place after the arrow, and the outcome after the bar:
+// each member is missing, ill-typed or joined by an unknown one.
 const SHAPES: &str = r#"
 "cores":2 => "cores":"2" | H2 session.cores
 "format":1 => "format":2 | H2 session.format
@@ -111,7 +112,8 @@ const JUDGED: &str = r#"
 "by":"B"}] => "by":"C"}] | F3 session.steps[4]
 "#;
 
-// Two changes, and the outcome: the first fault in the order of checking, wherever it stands in the text.
+// Two changes, and the outcome: the first fault in the order of checking, wherever it stands in the
+// text.
 const PAIRS: &str = r#"
 "cores":2 => "cores":9 & {"edit":"remove","at":2} => {"edit":"remove"} | H2 edits[2].at
 "cores":2 => "cores":9 & {"edit":"remove","at":2} => {"edit":"change","task":"C","priority":9,"mask":0} | F1

@@ -1,5 +1,5 @@
-//! Calls that delay until a tick count, and calls that open and close a hold, as texts. What reading gives was worked out by
-//! hand from the format's description.
+//! Calls that delay until a tick count, and calls that open and close a hold, as texts. What
+//! reading gives was worked out by hand from the format's description.
 
 use crate::outcomes::{Base, Document, Table, check_tables};
 use crate::values::{Edited, Orders};
@@ -30,8 +30,8 @@ const TABLES: &[Table] = &[
     },
 ];
 
-// Steps, and what reading the session of them gives: each member is missing, ill-typed, out of its order or joined by an
-// unknown one.
+// Steps, and what reading the session of them gives: each member is missing, ill-typed, out of its
+// order or joined by an unknown one.
 const SHAPES: &str = r#"
 {"do":"delay_until","core":0,"by":"A","prev":5,"inc":3} | read
 {"inc":1,"prev":4294967295,"by":"B","core":1,"do":"delay_until"} | read
@@ -100,7 +100,8 @@ const SHAPES: &str = r#"
 {"do":"hold_close","core":9,"by":"X","depth":0} | H2 steps[0]
 "#;
 
-// The same, where the shape is right: the core is judged first, then the caller, then the ticks between two wakes.
+// The same, where the shape is right: the core is judged first, then the caller, then the ticks
+// between two wakes.
 const JUDGED: &str = r#"
 {"do":"delay_until","core":2,"by":"X","prev":5,"inc":0} | F2 steps[0]
 {"do":"delay_until","core":1,"by":"X","prev":5,"inc":0} | F3 steps[0]

@@ -1,4 +1,5 @@
-//! Calls that take and give mutexes, as texts. What reading gives was worked out by hand from the format's description.
+//! Calls that take and give mutexes, as texts. What reading gives was worked out by hand from the
+//! format's description.
 
 use crate::outcomes::{Base, Document, Table, check_tables};
 use crate::values::{Edited, Orders};
@@ -34,8 +35,8 @@ const TABLES: &[Table] = &[
     },
 ];
 
-// Steps, and what reading the session of them gives, which has two mutexes: each member is missing, ill-typed, out of its
-// order or joined by an unknown one.
+// Steps, and what reading the session of them gives, which has two mutexes: each member is missing,
+// ill-typed, out of its order or joined by an unknown one.
 const SHAPES: &str = r#"
 {"do":"mutex_take","core":0,"by":"A","mutex":1,"ticks":5} | read
 {"do":"mutex_take","core":1,"by":"B","mutex":0,"ticks":4294967295} | read

@@ -1,5 +1,5 @@
-//! Notifications as texts. What reading gives was worked out by hand from the format's description, and by a program of
-//! its own.
+//! Notifications as texts. What reading gives was worked out by hand from the format's description,
+//! and by a program of its own.
 
 use crate::outcomes::{Base, Document, Table, check_tables};
 use crate::values::{Edited, Orders};

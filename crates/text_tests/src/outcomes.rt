@@ -11,7 +11,8 @@ use std::alloc::{AllocError, Global};
 use std::process::Abort;
 use std::test::Fail;
 
-/// Rows, each with a text, and after a bar the outcome of reading it: `read`, or the code of the fault and its path.
+/// Rows, each with a text, and after a bar the outcome of reading it: `read`, or the code of the
+/// fault and its path.
 pub struct Table {
     pub document: Document,
     pub base: Base,
@@ -130,7 +131,8 @@ fn told<T: Drop>(alloc: Global, read: Result<T, TextFault>) -> Result<String, Al
 
 /// The session that the text is.
 pub fn session_of(alloc: Global, text: &str) -> Result<(Header, Vec<Step>), Fail>
-    ensures { IfOk result (λ session. IsSession (record { header = session.0; steps = session.1.items })) }
+    ensures { IfOk result
+        (λ session. IsSession (record { header = session.0; steps = session.1.items })) }
 {
     match read_session(alloc, text.as_bytes()) {
         Ok(session) => Ok(session),

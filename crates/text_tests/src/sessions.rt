@@ -1,4 +1,5 @@
-//! Sessions as texts, and what reading them gives: worked out from the format's description and by a program of its own.
+//! Sessions as texts, and what reading them gives: worked out from the format's description and by
+//! a program of its own.
 
 use crate::outcomes::{Base, Document, Table, check_tables};
 use std::test::Fail;
@@ -41,8 +42,8 @@ const TABLES: &[Table] = &[
     },
 ];
 
-// A part of the session, what stands in its place after the arrow, and the outcome after the bar: each member of each
-// object is missing, ill-typed or joined by an unknown one.
+// A part of the session, what stands in its place after the arrow, and the outcome after the bar:
+// each member of each object is missing, ill-typed or joined by an unknown one.
 const SHAPES: &str = r#"
 "format":1, =>  | H2 format
 "format":1, => "format":null, | H2 format
@@ -199,7 +200,8 @@ const JUDGED: &str = r#"
 "steps":[{"do":"tick"},{"do":"switch","core":1},{"do":"yield","core":0,"by":"A"},{"do":"delay","core":0,"by":"A","ticks":7},{"do":"finish","core":1,"by":"B"}] => "steps":[] | read
 "#;
 
-// The same, with a member twice, of which the last counts, and with members and words spelled by escapes.
+// The same, with a member twice, of which the last counts, and with members and words spelled by
+// escapes.
 const TWICE: &str = r#"
 "cores":2 => "cores":"x","cores":2 | read
 "cores":2 => "cores":2,"cores":"x" | H2 cores
@@ -214,7 +216,8 @@ const TWICE: &str = r#"
 "by":"B" => "by":"X","by":"B" | read
 "#;
 
-// Two changes, and the outcome: the first fault in the order of checking, wherever it stands in the text.
+// Two changes, and the outcome: the first fault in the order of checking, wherever it stands in the
+// text.
 const PAIRS: &str = r#"
 "format":1 => "format":2 & "cores":2 => "cores":null | H2 format
 "format":1 => "format":2 & {"do":"tick"} => 7 | H2 format

@@ -1,5 +1,5 @@
-//! Calls that set a task's priority, affinity and preemption, as texts. What reading gives was worked out by hand from
-//! the format's description, and by a program of its own.
+//! Calls that set a task's priority, affinity and preemption, as texts. What reading gives was
+//! worked out by hand from the format's description, and by a program of its own.
 
 use crate::outcomes::{Base, Document, Table, check_tables};
 use crate::values::{Edited, Orders};
@@ -30,7 +30,8 @@ const TABLES: &[Table] = &[
     },
 ];
 
-// Steps, and what reading the session of them gives: each member is missing, ill-typed or joined by an unknown one.
+// Steps, and what reading the session of them gives: each member is missing, ill-typed or joined by
+// an unknown one.
 const SHAPES: &str = r#"
 {"do":"priority_set","core":0,"by":"A","to":"B","priority":4} | read
 {"do":"affinity_set","core":0,"by":"A","to":"B","mask":2} | read

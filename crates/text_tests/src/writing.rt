@@ -9,7 +9,8 @@ use std::alloc::{AllocError, Global};
 use std::process::Abort;
 use std::test::Fail;
 
-/// Texts of sessions, and what is written for them: worked out by hand from the format's description.
+/// Texts of sessions, and what is written for them: worked out by hand from the format's
+/// description.
 const WRITTEN: &[(&str, &str)] = &[
     (
         "{\"cores\":2,\"format\":1,\"mutexes\":0,\"priorities\":5,\"slicing\":false,\"steps\":[{\"do\":\"tick\"},{\"core\":1,\"do\":\"switch\"}],\"tasks\":[{\"mask\":3,\"name\":\"A\",\"priority\":2},{\"mask\":3,\"name\":\"B\",\"priority\":1},{\"mask\":3,\"name\":\"C\",\"priority\":1}],\"tick\":0}",
@@ -72,8 +73,8 @@ const STEPS: &str = r#"
 {"by":"B","core":1,"do":"hold_close"} | {"by":"B","core":1,"do":"hold_close"}
 "#;
 
-// A session whose tasks' names have, one after another, every byte that a name may have, spelled by escapes; each task makes a
-// call. And what is written for it.
+// A session whose tasks' names have, one after another, every byte that a name may have, spelled by
+// escapes; each task makes a call. And what is written for it.
 const ALL_BYTES: (&str, &str) = (
     "{\"format\":1,\"cores\":2,\"priorities\":5,\"slicing\":false,\"tick\":0,\"mutexes\":0,\"tasks\":[{\"name\":\"\\u0021\\u0022\\u0023\\u0024\\u0025\\u0026\\u0027\\u0028\\u0029\\u002a\\u002b\\u002c\\u002d\\u002e\\u002f\",\"priority\":1,\"mask\":3},{\"name\":\"\\u0030\\u0031\\u0032\\u0033\\u0034\\u0035\\u0036\\u0037\\u0038\\u0039\\u003a\\u003b\\u003c\\u003d\\u003e\",\"priority\":1,\"mask\":3},{\"name\":\"\\u003f\\u0040\\u0041\\u0042\\u0043\\u0044\\u0045\\u0046\\u0047\\u0048\\u0049\\u004a\\u004b\\u004c\\u004d\",\"priority\":1,\"mask\":3},{\"name\":\"\\u004e\\u004f\\u0050\\u0051\\u0052\\u0053\\u0054\\u0055\\u0056\\u0057\\u0058\\u0059\\u005a\\u005b\\u005c\",\"priority\":1,\"mask\":3},{\"name\":\"\\u005d\\u005e\\u005f\\u0060\\u0061\\u0062\\u0063\\u0064\\u0065\\u0066\\u0067\\u0068\\u0069\\u006a\\u006b\",\"priority\":1,\"mask\":3},{\"name\":\"\\u006c\\u006d\\u006e\\u006f\\u0070\\u0071\\u0072\\u0073\\u0074\\u0075\\u0076\\u0077\\u0078\\u0079\\u007a\",\"priority\":1,\"mask\":3},{\"name\":\"\\u007b\\u007c\\u007d\\u007e\",\"priority\":1,\"mask\":3}],\"steps\":[{\"do\":\"yield\",\"core\":1,\"by\":\"\\u0021\\u0022\\u0023\\u0024\\u0025\\u0026\\u0027\\u0028\\u0029\\u002a\\u002b\\u002c\\u002d\\u002e\\u002f\"},{\"do\":\"yield\",\"core\":1,\"by\":\"\\u0030\\u0031\\u0032\\u0033\\u0034\\u0035\\u0036\\u0037\\u0038\\u0039\\u003a\\u003b\\u003c\\u003d\\u003e\"},{\"do\":\"yield\",\"core\":1,\"by\":\"\\u003f\\u0040\\u0041\\u0042\\u0043\\u0044\\u0045\\u0046\\u0047\\u0048\\u0049\\u004a\\u004b\\u004c\\u004d\"},{\"do\":\"yield\",\"core\":1,\"by\":\"\\u004e\\u004f\\u0050\\u0051\\u0052\\u0053\\u0054\\u0055\\u0056\\u0057\\u0058\\u0059\\u005a\\u005b\\u005c\"},{\"do\":\"yield\",\"core\":1,\"by\":\"\\u005d\\u005e\\u005f\\u0060\\u0061\\u0062\\u0063\\u0064\\u0065\\u0066\\u0067\\u0068\\u0069\\u006a\\u006b\"},{\"do\":\"yield\",\"core\":1,\"by\":\"\\u006c\\u006d\\u006e\\u006f\\u0070\\u0071\\u0072\\u0073\\u0074\\u0075\\u0076\\u0077\\u0078\\u0079\\u007a\"},{\"do\":\"yield\",\"core\":1,\"by\":\"\\u007b\\u007c\\u007d\\u007e\"}]}",
     "{\"cores\":2,\"format\":1,\"mutexes\":0,\"priorities\":5,\"slicing\":false,\"steps\":[{\"by\":\"!\\\"#$%&'()*+,-./\",\"core\":1,\"do\":\"yield\"},{\"by\":\"0123456789:;<=>\",\"core\":1,\"do\":\"yield\"},{\"by\":\"?@ABCDEFGHIJKLM\",\"core\":1,\"do\":\"yield\"},{\"by\":\"NOPQRSTUVWXYZ[\\\\\",\"core\":1,\"do\":\"yield\"},{\"by\":\"]^_`abcdefghijk\",\"core\":1,\"do\":\"yield\"},{\"by\":\"lmnopqrstuvwxyz\",\"core\":1,\"do\":\"yield\"},{\"by\":\"{|}~\",\"core\":1,\"do\":\"yield\"}],\"tasks\":[{\"mask\":3,\"name\":\"!\\\"#$%&'()*+,-./\",\"priority\":1},{\"mask\":3,\"name\":\"0123456789:;<=>\",\"priority\":1},{\"mask\":3,\"name\":\"?@ABCDEFGHIJKLM\",\"priority\":1},{\"mask\":3,\"name\":\"NOPQRSTUVWXYZ[\\\\\",\"priority\":1},{\"mask\":3,\"name\":\"]^_`abcdefghijk\",\"priority\":1},{\"mask\":3,\"name\":\"lmnopqrstuvwxyz\",\"priority\":1},{\"mask\":3,\"name\":\"{|}~\",\"priority\":1}],\"tick\":0}",

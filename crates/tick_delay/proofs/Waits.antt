@@ -98,9 +98,9 @@ pub room_left : (n task : ℕ) (waiting : List Delayed) → IsListing n (map tas
 room_left n task waiting listing low free = omega (arith, length-map waiting task_of, listing_room n task (map task_of waiting) listing low (not_among task waiting free))
 
 -- where the first has some ticks left, so have all
-none_due_behind : (entry : Delayed) (waiting : List Delayed) → ranked wakes_first (entry ∷ waiting) ≡ entry ∷ waiting → eqb entry.left 0 ≡ false → due_tasks (entry ∷ waiting) ≡ []
+none_due_after : (entry : Delayed) (waiting : List Delayed) → ranked wakes_first (entry ∷ waiting) ≡ entry ∷ waiting → eqb entry.left 0 ≡ false → due_tasks (entry ∷ waiting) ≡ []
 unfolding due_tasks
-none_due_behind entry waiting order left =
+none_due_after entry waiting order left =
     let later = first_in_order wakes_first wakes_first-IsRank entry waiting order in
     ap (map task_of) (filter_none elapsed (entry ∷ waiting) (left, All-weaker (λ y. wakes_first entry y ≡ true) (λ y. elapsed y ≡ false) (λ y h. grind (arith, nat_tests, h, left)) waiting later))
 
@@ -127,7 +127,7 @@ due_first (other ∷ waiting) entry once first ends =
 
 pub due_none : (waiting : List Delayed) (entry : Delayed) → ranked wakes_first waiting ≡ waiting → first_of waiting ≡ Some entry → entry.left ≢ 0 → due_tasks waiting ≡ []
 due_none [] entry order first left = absurd (cc (first))
-due_none (other ∷ waiting) entry order first left = none_due_behind other waiting order (grind (arith, nat_tests, left, same_Some other entry first))
+due_none (other ∷ waiting) entry order first left = none_due_after other waiting order (grind (arith, nat_tests, left, same_Some other entry first))
 
 pub due_empty : (waiting : List Delayed) → first_of waiting ≡ None → due_tasks waiting ≡ []
 unfolding due_tasks

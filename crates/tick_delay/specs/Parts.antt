@@ -10,7 +10,8 @@ pub record DelayView : Type 0 where
   pub tasks : ℕ
   -- the tick count
   pub tick : ℕ
-  -- the blocked tasks with ticks left: the fewest first, those of one number in the order in which they began to wait
+  -- the blocked tasks with ticks left: the fewest first, those of one number in the order in which
+  -- they began to wait
   pub delayed : List Delayed
 
 -- no task waits
@@ -25,11 +26,12 @@ is_waiting task delayed = list_any (λ entry. entry.task == task) delayed
 abbrev pub delayed_for : ℕ → ℕ → DelayView → DelayView
 delayed_for task ticks view = record view { delayed = with_delay task ticks view.delayed }
 
--- Whether the task is delayed, and its wake, so many ticks behind the last one: where that lies ahead, the task waits for it
--- (FreeRTOS Reference Manual, xTaskDelayUntil).
+-- Whether the task is delayed, and its wake, so many ticks after the last one: where that lies
+-- ahead, the task waits for it (FreeRTOS Reference Manual, xTaskDelayUntil).
 unfoldable pub until_delayed : ℕ → ℕ → ℕ → DelayView → (Bool × ℕ) × DelayView
 until_delayed task prev inc view = let wake = next_wake prev inc in
-    if is_ahead view.tick prev wake then ((true, wake), delayed_for task (ticks_to view.tick wake) view) else ((false, wake), view)
+    if is_ahead view.tick prev wake
+    then ((true, wake), delayed_for task (ticks_to view.tick wake) view) else ((false, wake), view)
 
 -- one tick later
 unfoldable pub advanced : DelayView → DelayView

@@ -18,7 +18,8 @@ pub struct Delays {
     tasks: u32,
     /// In ticks.
     tick: u32,
-    /// The fewer ticks are left to a task, the earlier it stands here; of tasks with one number, the longer it has been waiting.
+    /// The fewer ticks are left to a task, the earlier it stands here; of tasks with one number,
+    /// the longer it has been waiting.
     waiting: Vec<Delayed>,
 }
 
@@ -29,9 +30,11 @@ impl Model for Delays {
 
     ghost Value = { DelayView };
 
-    ghost view = { λ part. record { tasks = part.tasks; tick = part.tick; delayed = part.waiting.items } };
+    ghost view = { λ part.
+        record { tasks = part.tasks; tick = part.tick; delayed = part.waiting.items } };
 
-    ghost invariant = { λ part. IsDelayShape part.tasks part.waiting.items (vec_capacity part.waiting) };
+    ghost invariant = { λ part. IsDelayShape part.tasks part.waiting.items
+        (vec_capacity part.waiting) };
 }
 
 impl Delays {
@@ -82,7 +85,7 @@ impl Delays {
         left_of(&self.waiting, task)
     }
 
-    /// The task waits for so many ticks, behind those that wait as long or shorter.
+    /// The task waits for so many ticks, after those that wait as long or shorter.
     pub fn delay(&mut self, task: u32, ticks: u32)
         requires task { task < self.old.tasks }
         requires free { is_waiting task self.old.delayed ≡ false }
@@ -92,8 +95,9 @@ impl Delays {
         place(&mut self.waiting, Delayed { task, left: ticks });
     }
 
-    /// The task waits until its wake, which is `inc` ticks behind the last one, where that lies ahead of the tick count. Answers
-    /// whether it does, and the wake, a tick count. Where it doesn't, nothing changes.
+    /// The task waits until its wake, which is `inc` ticks after the last one, where that lies
+    /// ahead of the tick count. Answers whether it does, and the wake, a tick count. Where it
+    /// doesn't, nothing changes.
     #[tactic(auto, unfolding(crate::specs::Parts::until_delayed))]
     pub fn delay_until(&mut self, task: u32, prev: u32, inc: u32) -> (bool, u32)
         requires task { task < self.old.tasks }
@@ -125,10 +129,13 @@ impl Delays {
         age(self.waiting.as_mut_slice());
     }
 
-    /// The first of the tasks that have waited long enough, which waits no more; none where there is none.
+    /// The first of the tasks that have waited long enough, which waits no more; none where there
+    /// is none.
     pub fn pop_due(&mut self) -> Option<u32>
-        ensures first { MatchOption result (due_tasks self.old.delayed ≡ []) (λ task. due_tasks self.old.delayed ≡ task ∷ due_tasks self.new.delayed) }
-        ensures entry { MatchOption result (self.new ≡ self.old) (λ task. self.new ≡ record self.old { delayed = without_delay task self.old.delayed }) }
+        ensures first { MatchOption result (due_tasks self.old.delayed ≡ [])
+            (λ task. due_tasks self.old.delayed ≡ task ∷ due_tasks self.new.delayed) }
+        ensures entry { MatchOption result (self.new ≡ self.old)
+            (λ task. self.new ≡ record self.old { delayed = without_delay task self.old.delayed }) }
         ensures task { IfSome result (λ task. task < self.old.tasks) }
     {
         let task = self.first_due()?;
@@ -137,7 +144,9 @@ impl Delays {
     }
 
     fn first_due(&self) -> Option<u32>
-        ensures first { MatchOption result (due_tasks self.now.delayed ≡ []) (λ task. due_tasks self.now.delayed ≡ task ∷ due_tasks (without_delay task self.now.delayed)) }
+        ensures first { MatchOption result (due_tasks self.now.delayed ≡ [])
+            (λ task. due_tasks self.now.delayed
+            ≡ task ∷ due_tasks (without_delay task self.now.delayed)) }
         ensures task { IfSome result (λ task. task < self.now.tasks) }
     {
         match self.waiting.first() {
@@ -153,7 +162,7 @@ impl Delays {
     }
 }
 
-// The entry goes behind those with as many ticks left or fewer.
+// The entry goes after those with as many ticks left or fewer.
 fn place(waiting: &mut Vec<Delayed>, entry: Delayed)
     requires order { ranked wakes_first waiting.old.items ≡ waiting.old.items }
     requires room { length waiting.old.items < vec_capacity waiting.old }

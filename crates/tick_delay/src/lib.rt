@@ -1,4 +1,5 @@
-//! Delays: the tick count, and the tasks that wait for some ticks, each a number of ticks or until a tick count.
+//! Delays: the tick count, and the tasks that wait for some ticks, each a number of ticks or until
+//! a tick count.
 #![tactic(auto)]
 
 mod delays;

@@ -9,12 +9,12 @@ use Rattle.bench_types.specs.declared.step.Step.TheVariants.{Tick, Switch, Call}
 use Rattle.bench_types.specs.declared.step.Call.TheVariants.{Finish, MutexTake, MutexGive}
 use Rattle.bench_model.specs.Control.{task_at}
 use Rattle.worked_examples.specs.Examples.{task, session_of}
-use Rattle.bench_model.specs.Lists.{image}
+use Rattle.bench_model.specs.Lists.{view_of}
 use Rattle.bench_model.specs.Looks.{ticks_left}
 use Rattle.bench_model.specs.Mutexes.{held_by}
 use Rattle.worked_examples.specs.NoteExamples.{replies}
-use Rattle.bench_model.specs.Session.{behind}
-use Rattle.worked_examples.specs.SetExamples.{flags_behind}
+use Rattle.bench_model.specs.Session.{state_after}
+use Rattle.worked_examples.specs.SetExamples.{flags_after}
 use Rattle.bench_model.specs.Start.{start}
 
 abbrev pub with_two_mutexes : Header → Header
@@ -26,7 +26,7 @@ low_and_high = with_two_mutexes (session_of (task (codes "L") 1 ∷ task (codes 
 
 -- the priority in use of task 2
 abbrev pub low_in_use : List Step → ℕ
-low_in_use steps = (task_at (behind (start low_and_high) steps).control 2).in_use
+low_in_use steps = (task_at (state_after (start low_and_high) steps).control 2).in_use
 
 -- task 2 holds mutex 0, for which task 3 waits for 5 ticks
 abbrev pub contended : List Step
@@ -34,7 +34,9 @@ contended = Call 1 2 (MutexTake 0 0) ∷ Call 0 3 (MutexTake 0 5) ∷ []
 
 -- it is given, and taken again before task 3 finishes its wait
 abbrev pub stolen : List Step
-stolen = contended ++ Tick ∷ Call 1 2 (MutexGive 0) ∷ Switch 1 ∷ Call 1 2 (MutexTake 0 0) ∷ Switch 0 ∷ Call 0 3 Finish ∷ []
+stolen =
+    contended ++ Tick ∷ Call 1 2 (MutexGive 0) ∷ Switch 1 ∷ Call 1 2 (MutexTake 0 0) ∷ Switch 0
+    ∷ Call 0 3 Finish ∷ []
 
 -- task 2 holds both mutexes, and task 3 waits for mutex 0
 abbrev pub both_held : List Step
@@ -42,28 +44,46 @@ both_held = Call 1 2 (MutexTake 0 0) ∷ Call 1 2 (MutexTake 1 0) ∷ Call 0 3 (
 
 -- task 3 waits for one tick, and ends its wait without the mutex
 abbrev pub given_up : List Step
-given_up = Call 1 2 (MutexTake 0 0) ∷ Call 0 3 (MutexTake 0 1) ∷ Tick ∷ Switch 0 ∷ Call 0 3 Finish ∷ []
+given_up =
+    Call 1 2 (MutexTake 0 0) ∷ Call 0 3 (MutexTake 0 1) ∷ Tick ∷ Switch 0 ∷ Call 0 3 Finish ∷ []
 
-abbrev pub waiters_behind : List Step → List Waiter
-waiters_behind steps = (image (behind (start low_and_high) steps)).orders.waiters
+abbrev pub waiters_after : List Step → List Waiter
+waiters_after steps = (view_of (state_after (start low_and_high) steps)).orders.waiters
 
 pub record WorkedMutexes : Type 0 where
-  pub stolen_again : replies low_and_high stolen ≡ Flag true ∷ Blocked ∷ Done ∷ Flag true ∷ Done ∷ Flag true ∷ Done ∷ Blocked ∷ []
+  pub stolen_again :
+      replies low_and_high stolen
+      ≡ Flag true ∷ Blocked ∷ Done ∷ Flag true ∷ Done ∷ Flag true ∷ Done ∷ Blocked ∷ []
   pub inherits : low_in_use contended ≡ 3
   pub disinherits : low_in_use (take 4 stolen) ≡ 1
   pub inherits_again : low_in_use stolen ≡ 3
-  pub same_deadline : ticks_left 3 (behind (start low_and_high) stolen).orders ≡ Some 4
-  pub waits : waiters_behind contended ≡ record { task = 3; wait = record { mutex = 0; priority = 3 } } ∷ []
-  pub waits_no_more : waiters_behind (take 4 stolen) ≡ []
+  pub same_deadline : ticks_left 3 (state_after (start low_and_high) stolen).orders ≡ Some 4
+  pub waits :
+      waiters_after contended ≡ record { task = 3; wait = record { mutex = 0; priority = 3 } } ∷ []
+  pub waits_no_more : waiters_after (take 4 stolen) ≡ []
   pub keeps_what_it_inherited : low_in_use (both_held ++ Call 1 2 (MutexGive 0) ∷ []) ≡ 3
-  pub asks_nobody : flags_behind low_and_high (both_held ++ Call 1 2 (MutexGive 0) ∷ []) ≡ (true, false) ∷ (false, false) ∷ []
-  pub holds_one : held_by (behind (start low_and_high) (both_held ++ Call 1 2 (MutexGive 0) ∷ [])).holders 2 ≡ 1
-  pub gives_the_last : low_in_use (both_held ++ Call 1 2 (MutexGive 0) ∷ Call 1 2 (MutexGive 1) ∷ []) ≡ 1
-  pub asks_itself : flags_behind low_and_high (both_held ++ Call 1 2 (MutexGive 0) ∷ Call 1 2 (MutexGive 1) ∷ []) ≡ (true, false) ∷ (true, false) ∷ []
-  pub ends_without : replies low_and_high given_up ≡ Flag true ∷ Blocked ∷ Done ∷ Done ∷ Flag false ∷ []
+  pub asks_nobody :
+      flags_after low_and_high (both_held ++ Call 1 2 (MutexGive 0) ∷ [])
+      ≡ (true, false) ∷ (false, false) ∷ []
+  pub holds_one :
+      held_by (state_after (start low_and_high) (both_held ++ Call 1 2 (MutexGive 0) ∷ [])).holders
+      2 ≡ 1
+  pub gives_the_last :
+      low_in_use (both_held ++ Call 1 2 (MutexGive 0) ∷ Call 1 2 (MutexGive 1) ∷ []) ≡ 1
+  pub asks_itself :
+      flags_after low_and_high (both_held ++ Call 1 2 (MutexGive 0) ∷ Call 1 2 (MutexGive 1) ∷ [])
+      ≡ (true, false) ∷ (true, false) ∷ []
+  pub ends_without :
+      replies low_and_high given_up ≡ Flag true ∷ Blocked ∷ Done ∷ Done ∷ Flag false ∷ []
   pub lowered_at_the_end : low_in_use given_up ≡ 1
-  pub asked_at_the_end : flags_behind low_and_high given_up ≡ (false, false) ∷ (false, true) ∷ []
-  pub not_its_own : replies low_and_high (given_up ++ Call 0 3 (MutexGive 0) ∷ []) ≡ Flag true ∷ Blocked ∷ Done ∷ Done ∷ Flag false ∷ Refused NotHolder ∷ []
+  pub asked_at_the_end : flags_after low_and_high given_up ≡ (false, false) ∷ (false, true) ∷ []
+  pub not_its_own :
+      replies low_and_high (given_up ++ Call 0 3 (MutexGive 0) ∷ [])
+      ≡ Flag true ∷ Blocked ∷ Done ∷ Done ∷ Flag false ∷ Refused NotHolder ∷ []
   pub free_is_not_given : replies low_and_high (Call 0 3 (MutexGive 1) ∷ []) ≡ Flag false ∷ []
-  pub held_for_0_ticks : replies low_and_high (Call 1 2 (MutexTake 0 0) ∷ Call 0 3 (MutexTake 0 0) ∷ []) ≡ Flag true ∷ Flag false ∷ []
-  pub waits_for_its_own : replies low_and_high (Call 0 3 (MutexTake 0 0) ∷ Call 0 3 (MutexTake 0 (2 ^ 32 - 1)) ∷ []) ≡ Flag true ∷ Blocked ∷ []
+  pub held_for_0_ticks :
+      replies low_and_high (Call 1 2 (MutexTake 0 0) ∷ Call 0 3 (MutexTake 0 0) ∷ [])
+      ≡ Flag true ∷ Flag false ∷ []
+  pub waits_for_its_own :
+      replies low_and_high (Call 0 3 (MutexTake 0 0) ∷ Call 0 3 (MutexTake 0 (2 ^ 32 - 1)) ∷ [])
+      ≡ Flag true ∷ Blocked ∷ []

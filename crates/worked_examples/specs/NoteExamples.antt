@@ -1,4 +1,5 @@
--- Worked notifications: what each action, wait and take makes of a value and a state, and who is woken.
+-- Worked notifications: what each action, wait and take makes of a value and a state, and who is
+-- woken.
 use Rattle.std.specs.Prelude.{◌≡◌, ℕ, ◌-◌, ◌^◌, List, [], ◌∷◌, ◌++◌, map, Bool, true, false, Option, Some, None, slice_set}
 use Rattle.bench_types.specs.declared.note.Action.TheVariants.{Nothing, SetBits, Increment, Set, SetNew}
 use Rattle.bench_types.specs.declared.note.NoteState.TheVariants.{NotWaiting, Waiting, Received}
@@ -12,15 +13,15 @@ use Rattle.bench_types.specs.declared.step.Step.{Step}
 use Rattle.bench_types.specs.declared.step.Step.TheVariants.{Tick, Switch, Call, Interrupt}
 use Rattle.bench_types.specs.declared.step.Call.TheVariants.{Delay, Notify, NotifyWait, NotifyTake, StateClear, ValueClear, Finish}
 use Rattle.worked_examples.specs.Examples.{timed, three_tasks}
-use Rattle.bench_model.specs.Lists.{image}
+use Rattle.bench_model.specs.Lists.{view_of}
 use Rattle.bench_model.specs.Looks.{ticks_left}
 use Rattle.bench_model.specs.Notes.{no_note, note_at, passes, notified, wait_begun, wait_ended, take_begun, take_ended, state_cleared, value_cleared}
 use Rattle.bench_model.specs.Notifying.{notify}
-use Rattle.bench_model.specs.Seek.{switched_and_sought}
+use Rattle.bench_model.specs.Seek.{after_switch}
 use Rattle.worked_examples.specs.SeekExamples.{flags, delayed_once}
-use Rattle.bench_model.specs.Session.{behind, trace}
+use Rattle.bench_model.specs.Session.{state_after, trace}
 use Rattle.bench_model.specs.Start.{start}
-use Rattle.bench_model.specs.Table.{Table, table_moves, is_ready, delay}
+use Rattle.bench_model.specs.Table.{Table, stamp_queues, is_ready, delay}
 
 abbrev pub resting : ℕ → Notification
 resting value = record { value = value; state = NotWaiting }
@@ -69,26 +70,40 @@ pub record WorkedClears : Type 0 where
 -- task 2 waits for a notification, for so many ticks or without end, and core 0 runs another
 abbrev pub awaiting : Option ℕ → Table
 awaiting ticks = let table = start three_tasks in
-    switched_and_sought table_moves 0 (record table { orders = delay 2 ticks None table.orders; notes = slice_set table.notes 2 (waiting 0) })
+    after_switch stamp_queues 0
+    (record table
+    { orders = delay 2 ticks None table.orders; notes = slice_set table.notes 2 (waiting 0) })
 
 -- the notification of task 2, whether it is ready, and the flags of the cores
 abbrev pub shows : Table → Notification × Bool × List (Bool × Bool)
 shows table = (note_at table.notes 2, is_ready 2 table.orders, flags table.control)
 
--- the ticks of task 3 have run out, and its call that waited for a notification has not completed yet
+-- the ticks of task 3 have run out, and its call that waited for a notification has not completed
+-- yet
 abbrev pub late : Table → Table
 late table = record table { notes = slice_set table.notes 3 (waiting 0) }
 
 -- who is woken by a notification, and who is not
 pub record WorkedNotifies : Type 0 where
   pub waits : shows (awaiting None) ≡ (waiting 0, false, (false, false) ∷ (false, false) ∷ [])
-  pub woken : shows (notify table_moves 0 2 Increment (awaiting None)) ≡ (received 1, true, (false, false) ∷ (false, true) ∷ [])
-  pub woken_by_core_1 : shows (notify table_moves 1 2 Nothing (awaiting None)) ≡ (received 0, true, (false, false) ∷ (true, false) ∷ [])
-  pub woken_before_its_ticks : (image (notify table_moves 0 2 Increment (awaiting (Some 5)))).orders.delayed ≡ []
-  pub other_notified : shows (notify table_moves 0 3 Increment (awaiting None)) ≡ shows (awaiting None)
-  pub delay_waits_on : shows (notify table_moves 0 2 (Set 5) (delayed_once three_tasks)) ≡ (received 5, false, (false, false) ∷ (false, false) ∷ [])
-  pub ticks_have_run_out : (image (notify table_moves 0 3 Increment (late (start three_tasks)))).orders.ready ≡ 2 ∷ 4 ∷ 3 ∷ 0 ∷ 1 ∷ []
-  pub ready_keeps_its_place : (notify table_moves 0 3 Increment (start three_tasks)).orders ≡ (start three_tasks).orders
+  pub woken :
+      shows (notify stamp_queues 0 2 Increment (awaiting None))
+      ≡ (received 1, true, (false, false) ∷ (false, true) ∷ [])
+  pub woken_by_core_1 :
+      shows (notify stamp_queues 1 2 Nothing (awaiting None))
+      ≡ (received 0, true, (false, false) ∷ (true, false) ∷ [])
+  pub woken_before_its_ticks :
+      (view_of (notify stamp_queues 0 2 Increment (awaiting (Some 5)))).orders.delayed ≡ []
+  pub other_notified :
+      shows (notify stamp_queues 0 3 Increment (awaiting None)) ≡ shows (awaiting None)
+  pub delay_waits_on :
+      shows (notify stamp_queues 0 2 (Set 5) (delayed_once three_tasks))
+      ≡ (received 5, false, (false, false) ∷ (false, false) ∷ [])
+  pub ticks_have_run_out :
+      (view_of (notify stamp_queues 0 3 Increment (late (start three_tasks)))).orders.ready
+      ≡ 2 ∷ 4 ∷ 3 ∷ 0 ∷ 1 ∷ []
+  pub ready_keeps_its_place :
+      (notify stamp_queues 0 3 Increment (start three_tasks)).orders ≡ (start three_tasks).orders
 
 abbrev pub replies : Header → List Step → List Reply
 replies header steps = map (λ outcome. outcome.0) (trace (start header) steps)
@@ -98,21 +113,50 @@ told task action = record { task = task; action = action }
 
 -- task 2 waits for one tick, and is notified after that
 abbrev pub late_wait : List Step
-late_wait = Call 0 2 (NotifyWait 0 (2 ^ 32 - 1) 1) ∷ Tick ∷ Interrupt 1 (told 2 Increment) ∷ Switch 0 ∷ Call 0 2 Finish ∷ []
+late_wait =
+    Call 0 2 (NotifyWait 0 (2 ^ 32 - 1) 1) ∷ Tick ∷ Interrupt 1 (told 2 Increment) ∷ Switch 0
+    ∷ Call 0 2 Finish ∷ []
 
 -- task 2 takes without end, and core 0 runs task 4
 abbrev pub endless_take : List Step
 endless_take = Call 0 2 (NotifyTake true (2 ^ 32 - 1)) ∷ Switch 0 ∷ Tick ∷ []
 
--- Task 2 (priority 2) runs on core 0 and task 3 (priority 1) on core 1; task 4 (priority 1) is ready.
+-- Task 2 (priority 2) runs on core 0 and task 3 (priority 1) on core 1; task 4 (priority 1) is
+-- ready.
 pub record WorkedCalls : Type 0 where
-  pub takes_at_once : replies three_tasks (Call 0 2 (NotifyTake false 0) ∷ Interrupt 1 (told 2 (Set 2)) ∷ Interrupt 1 (told 2 (SetNew 9)) ∷ Call 0 2 (NotifyTake false 0) ∷ Call 0 2 (NotifyTake false 0) ∷ Call 0 2 (StateClear 2) ∷ []) ≡ Value 0 ∷ Isr true false ∷ Isr false false ∷ Value 2 ∷ Value 1 ∷ Flag false ∷ []
-  pub waits : replies (timed three_tasks) late_wait ≡ Blocked ∷ Done ∷ Isr true false ∷ Done ∷ Waited true 1 ∷ []
-  pub exit_bits_cleared : note_at (behind (start (timed three_tasks)) late_wait).notes 2 ≡ resting 0
-  pub none_came : replies three_tasks (Call 0 2 (NotifyWait 0 0 1) ∷ Tick ∷ Switch 0 ∷ Call 0 2 Finish ∷ []) ≡ Blocked ∷ Done ∷ Done ∷ Waited false 0 ∷ []
-  pub entry_bits_cleared : replies three_tasks (Call 1 3 (Notify (told 2 (Set 7))) ∷ Call 1 3 (StateClear 2) ∷ Call 0 2 (NotifyWait 5 0 0) ∷ Call 1 3 (ValueClear 2 6) ∷ Call 1 3 (ValueClear 2 0) ∷ []) ≡ Flag true ∷ Flag true ∷ Waited false 2 ∷ Value 2 ∷ Value 0 ∷ []
-  pub without_end : ticks_left 2 (behind (start three_tasks) (Call 0 2 (NotifyWait 0 0 (2 ^ 32 - 1)) ∷ [])).orders ≡ None
-  pub delay_has_an_end : ticks_left 2 (behind (start three_tasks) (Call 0 2 (Delay (2 ^ 32 - 1)) ∷ [])).orders ≡ Some (2 ^ 32 - 1)
-  pub woken_by_a_call : replies three_tasks (endless_take ++ Call 1 3 (Notify (told 2 (SetBits 5))) ∷ Switch 1 ∷ Call 1 2 Finish ∷ Call 1 2 (NotifyTake false 0) ∷ []) ≡ Blocked ∷ Done ∷ Done ∷ Flag true ∷ Done ∷ Value 5 ∷ Value 0 ∷ []
-  pub own_core_is_to_switch : replies three_tasks (endless_take ++ Interrupt 1 (told 2 Increment) ∷ []) ≡ Blocked ∷ Done ∷ Done ∷ Isr true true ∷ []
-  pub other_core_is_to_switch : replies three_tasks (endless_take ++ Interrupt 0 (told 2 Increment) ∷ []) ≡ Blocked ∷ Done ∷ Done ∷ Isr true false ∷ []
+  pub takes_at_once :
+      replies three_tasks
+      (Call 0 2 (NotifyTake false 0) ∷ Interrupt 1 (told 2 (Set 2))
+      ∷ Interrupt 1 (told 2 (SetNew 9)) ∷ Call 0 2 (NotifyTake false 0)
+      ∷ Call 0 2 (NotifyTake false 0) ∷ Call 0 2 (StateClear 2) ∷ [])
+      ≡ Value 0 ∷ Isr true false ∷ Isr false false ∷ Value 2 ∷ Value 1 ∷ Flag false ∷ []
+  pub waits :
+      replies (timed three_tasks) late_wait
+      ≡ Blocked ∷ Done ∷ Isr true false ∷ Done ∷ Waited true 1 ∷ []
+  pub exit_bits_cleared :
+      note_at (state_after (start (timed three_tasks)) late_wait).notes 2 ≡ resting 0
+  pub none_came :
+      replies three_tasks (Call 0 2 (NotifyWait 0 0 1) ∷ Tick ∷ Switch 0 ∷ Call 0 2 Finish ∷ [])
+      ≡ Blocked ∷ Done ∷ Done ∷ Waited false 0 ∷ []
+  pub entry_bits_cleared :
+      replies three_tasks
+      (Call 1 3 (Notify (told 2 (Set 7))) ∷ Call 1 3 (StateClear 2) ∷ Call 0 2 (NotifyWait 5 0 0)
+      ∷ Call 1 3 (ValueClear 2 6) ∷ Call 1 3 (ValueClear 2 0) ∷ [])
+      ≡ Flag true ∷ Flag true ∷ Waited false 2 ∷ Value 2 ∷ Value 0 ∷ []
+  pub without_end :
+      ticks_left 2
+      (state_after (start three_tasks) (Call 0 2 (NotifyWait 0 0 (2 ^ 32 - 1)) ∷ [])).orders ≡ None
+  pub delay_has_an_end :
+      ticks_left 2 (state_after (start three_tasks) (Call 0 2 (Delay (2 ^ 32 - 1)) ∷ [])).orders
+      ≡ Some (2 ^ 32 - 1)
+  pub woken_by_a_call :
+      replies three_tasks
+      (endless_take ++ Call 1 3 (Notify (told 2 (SetBits 5))) ∷ Switch 1 ∷ Call 1 2 Finish
+      ∷ Call 1 2 (NotifyTake false 0) ∷ [])
+      ≡ Blocked ∷ Done ∷ Done ∷ Flag true ∷ Done ∷ Value 5 ∷ Value 0 ∷ []
+  pub own_core_is_to_switch :
+      replies three_tasks (endless_take ++ Interrupt 1 (told 2 Increment) ∷ [])
+      ≡ Blocked ∷ Done ∷ Done ∷ Isr true true ∷ []
+  pub other_core_is_to_switch :
+      replies three_tasks (endless_take ++ Interrupt 0 (told 2 Increment) ∷ [])
+      ≡ Blocked ∷ Done ∷ Done ∷ Isr true false ∷ []

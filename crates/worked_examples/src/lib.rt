@@ -1,5 +1,5 @@
-//! The definitions give the values that were worked out by hand. Each function does nothing: its contract
-//! is the laws, one a clause.
+//! The definitions give the values that were worked out by hand. Each function does nothing: its
+//! contract is the laws, one a clause.
 #![tactic(auto)]
 
 ghost use Rattle.worked_examples.specs.ChangeExamples.{WorkedChanges};
@@ -47,9 +47,9 @@ pub fn examples_of_seeking()
 
 /// Priorities, core affinity masks and preemption that a call sets.
 pub fn examples_of_priority_and_affinity()
-    // Who is asked and sought a core behind new priorities, as it was worked out by hand.
+    // Who is asked and sought a core after new priorities, as it was worked out by hand.
     ensures worked_priorities { WorkedPriorities }
-    // Who is asked and sought a core behind new masks, as it was worked out by hand.
+    // Who is asked and sought a core after new masks, as it was worked out by hand.
     ensures worked_masks { WorkedMasks }
     // What turning preemption off and on does, as it was worked out by hand.
     ensures worked_preemption { WorkedPreemption }
@@ -57,7 +57,7 @@ pub fn examples_of_priority_and_affinity()
 
 /// Changes of a control block.
 pub fn examples_of_control_blocks()
-    // The ready lists behind settings of a priority in use, as they were worked out by hand.
+    // The ready lists after settings of a priority in use, as they were worked out by hand.
     ensures { WorkedChanges }
 {}
 

@@ -29,7 +29,7 @@ pub(crate) fn push_reply(text: &mut String, reply: Reply) -> Result<(), AllocErr
     }
 }
 
-/// The name of the task behind a blank.
+/// The name of the task after a blank.
 pub(crate) fn push_task(text: &mut String, header: &Header, task: u32) -> Result<(), AllocError> {
     text.push_str(" ")?;
     header.push_name(text, task)

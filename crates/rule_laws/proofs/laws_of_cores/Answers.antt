@@ -1,4 +1,4 @@
-use Rattle.rule_laws.proofs.Changes.{change_apart, change_sound, in_use_seen, in_use_sound}
+use Rattle.rule_laws.proofs.ControlFields.{change_apart, change_sound, in_use_seen, in_use_sound}
 use Rattle.rule_laws.proofs.CoresAlone.{ask_on, seek_on, wake_on, wait_on, switch_on, slices_on, in_use_on}
 use Rattle.rule_laws.proofs.laws_of_cores.Goals as goal
 
@@ -8,8 +8,8 @@ returns-clause-change_is_apart c = change_apart
 pub returns-clause-change_keeps_consistent : goal.returns-clause-change_keeps_consistent
 returns-clause-change_keeps_consistent c = change_sound
 
-pub returns-clause-in_use_is_seen : goal.returns-clause-in_use_is_seen
-returns-clause-in_use_is_seen c = in_use_seen
+pub returns-clause-in_use_simulates : goal.returns-clause-in_use_simulates
+returns-clause-in_use_simulates c = in_use_seen
 
 pub returns-clause-in_use_keeps_consistent : goal.returns-clause-in_use_keeps_consistent
 returns-clause-in_use_keeps_consistent c = in_use_sound

@@ -5,41 +5,41 @@ use Rattle.std.proofs.Common.{arith}
 use Rattle.rule_laws.proofs.CoresAlone.{inherited_on, lowered_on}
 use Rattle.rule_laws.proofs.laws_of_mutexes.Goals as goal
 
-pub returns-clause-first_waiter_is_seen : goal.returns-clause-first_waiter_is_seen
-returns-clause-first_waiter_is_seen c = λ control mutex stamps. first_waiter_seen mutex stamps control
+pub returns-clause-first_waiter_simulates : goal.returns-clause-first_waiter_simulates
+returns-clause-first_waiter_simulates c = λ control mutex stamps. first_waiter_seen mutex stamps control
 
-pub returns-clause-deadline_is_seen : goal.returns-clause-deadline_is_seen
-returns-clause-deadline_is_seen c = λ control task stamps. deadline_left_seen control stamps task
+pub returns-clause-deadline_simulates : goal.returns-clause-deadline_simulates
+returns-clause-deadline_simulates c = λ control task stamps. deadline_left_seen control stamps task
 
-pub returns-clause-forgetting_is_seen : goal.returns-clause-forgetting_is_seen
-returns-clause-forgetting_is_seen c = λ control task stamps. forget_deadline_seen control stamps task
+pub returns-clause-forgetting_simulates : goal.returns-clause-forgetting_simulates
+returns-clause-forgetting_simulates c = λ control task stamps. forget_deadline_seen control stamps task
 
-pub returns-clause-inherit_is_seen : goal.returns-clause-inherit_is_seen
-returns-clause-inherit_is_seen c = inherited_seen
+pub returns-clause-inherit_simulates : goal.returns-clause-inherit_simulates
+returns-clause-inherit_simulates c = inherited_seen
 
 pub returns-clause-inherit_keeps_consistent : goal.returns-clause-inherit_keeps_consistent
 returns-clause-inherit_keeps_consistent c = inherited_sound
 
-pub returns-clause-take_is_seen : goal.returns-clause-take_is_seen
-returns-clause-take_is_seen c = take_seen
+pub returns-clause-take_simulates : goal.returns-clause-take_simulates
+returns-clause-take_simulates c = take_seen
 
 pub returns-clause-take_keeps_consistent : goal.returns-clause-take_keeps_consistent
 returns-clause-take_keeps_consistent c = λ table core task mutex ticks sound place user. take_sound table core task mutex ticks sound place (omega (arith, sound.sized.cores, user))
 
-pub returns-clause-finish_is_seen : goal.returns-clause-finish_is_seen
-returns-clause-finish_is_seen c = finished_seen
+pub returns-clause-finish_simulates : goal.returns-clause-finish_simulates
+returns-clause-finish_simulates c = finished_seen
 
 pub returns-clause-finish_keeps_consistent : goal.returns-clause-finish_keeps_consistent
 returns-clause-finish_keeps_consistent c = λ table core task call sound place checked user. finished_sound table core task call sound place checked (omega (arith, sound.sized.cores, user))
 
-pub returns-clause-give_is_seen : goal.returns-clause-give_is_seen
-returns-clause-give_is_seen c = give_seen
+pub returns-clause-give_simulates : goal.returns-clause-give_simulates
+returns-clause-give_simulates c = give_seen
 
 pub returns-clause-give_keeps_consistent : goal.returns-clause-give_keeps_consistent
 returns-clause-give_keeps_consistent c = give_sound
 
-pub returns-clause-lower_is_seen : goal.returns-clause-lower_is_seen
-returns-clause-lower_is_seen c = lowered_seen
+pub returns-clause-lower_simulates : goal.returns-clause-lower_simulates
+returns-clause-lower_simulates c = lowered_seen
 
 pub returns-clause-lower_keeps_consistent : goal.returns-clause-lower_keeps_consistent
 returns-clause-lower_keeps_consistent c = lowered_sound

@@ -1,14 +1,14 @@
 use Rattle.rule_laws.proofs.Notifying.{notify_seen, notify_sound, notes_apart, notes_sound}
 use Rattle.rule_laws.proofs.laws_of_notifications.Goals as goal
 
-pub returns-clause-notify_is_seen : goal.returns-clause-notify_is_seen
-returns-clause-notify_is_seen c = notify_seen
+pub returns-clause-notify_simulates : goal.returns-clause-notify_simulates
+returns-clause-notify_simulates c = notify_seen
 
 pub returns-clause-notify_keeps_consistent : goal.returns-clause-notify_keeps_consistent
 returns-clause-notify_keeps_consistent c = notify_sound
 
-pub returns-clause-notes_are_apart : goal.returns-clause-notes_are_apart
-returns-clause-notes_are_apart c = notes_apart
+pub returns-clause-notes_keep_orders : goal.returns-clause-notes_keep_orders
+returns-clause-notes_keep_orders c = notes_apart
 
 pub returns-clause-notes_keep_consistent : goal.returns-clause-notes_keep_consistent
 returns-clause-notes_keep_consistent c = notes_sound

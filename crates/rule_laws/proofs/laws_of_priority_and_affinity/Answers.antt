@@ -1,38 +1,38 @@
-use Rattle.rule_laws.proofs.Sets.{runs_on_some, its_core_seen, ranked_seen, masked_seen, priority_seen, affinity_seen, off_seen, on_seen, its_core_sound, ranked_sound, masked_sound, priority_sound, affinity_sound, off_sound, on_sound}
+use Rattle.rule_laws.proofs.PriorityAffinity.{runs_on_some, its_core_seen, ranked_seen, masked_seen, priority_seen, affinity_seen, off_seen, on_seen, its_core_sound, ranked_sound, masked_sound, priority_sound, affinity_sound, off_sound, on_sound}
 use Rattle.rule_laws.proofs.laws_of_priority_and_affinity.Goals as goal
 
 pub returns-clause-runs_on_some_core : goal.returns-clause-runs_on_some_core
 returns-clause-runs_on_some_core c = runs_on_some
 
-pub returns-clause-ask_its_core_is_seen : goal.returns-clause-ask_its_core_is_seen
-returns-clause-ask_its_core_is_seen c = its_core_seen
+pub returns-clause-ask_its_core_simulates : goal.returns-clause-ask_its_core_simulates
+returns-clause-ask_its_core_simulates c = its_core_seen
 
-pub returns-clause-ranked_anew_is_seen : goal.returns-clause-ranked_anew_is_seen
-returns-clause-ranked_anew_is_seen c = ranked_seen
+pub returns-clause-yields_after_priority_set_simulates : goal.returns-clause-yields_after_priority_set_simulates
+returns-clause-yields_after_priority_set_simulates c = ranked_seen
 
-pub returns-clause-masked_anew_is_seen : goal.returns-clause-masked_anew_is_seen
-returns-clause-masked_anew_is_seen c = masked_seen
+pub returns-clause-yields_after_affinity_set_simulates : goal.returns-clause-yields_after_affinity_set_simulates
+returns-clause-yields_after_affinity_set_simulates c = masked_seen
 
-pub returns-clause-priority_set_is_seen : goal.returns-clause-priority_set_is_seen
-returns-clause-priority_set_is_seen c = priority_seen
+pub returns-clause-priority_set_simulates : goal.returns-clause-priority_set_simulates
+returns-clause-priority_set_simulates c = priority_seen
 
-pub returns-clause-affinity_set_is_seen : goal.returns-clause-affinity_set_is_seen
-returns-clause-affinity_set_is_seen c = affinity_seen
+pub returns-clause-affinity_set_simulates : goal.returns-clause-affinity_set_simulates
+returns-clause-affinity_set_simulates c = affinity_seen
 
-pub returns-clause-preemption_off_is_seen : goal.returns-clause-preemption_off_is_seen
-returns-clause-preemption_off_is_seen c = off_seen
+pub returns-clause-preemption_off_simulates : goal.returns-clause-preemption_off_simulates
+returns-clause-preemption_off_simulates c = off_seen
 
-pub returns-clause-preemption_on_is_seen : goal.returns-clause-preemption_on_is_seen
-returns-clause-preemption_on_is_seen c = on_seen
+pub returns-clause-preemption_on_simulates : goal.returns-clause-preemption_on_simulates
+returns-clause-preemption_on_simulates c = on_seen
 
 pub returns-clause-ask_its_core_keeps_consistent : goal.returns-clause-ask_its_core_keeps_consistent
 returns-clause-ask_its_core_keeps_consistent c = its_core_sound
 
-pub returns-clause-ranked_anew_keeps_consistent : goal.returns-clause-ranked_anew_keeps_consistent
-returns-clause-ranked_anew_keeps_consistent c = ranked_sound
+pub returns-clause-yields_after_priority_set_keeps_consistent : goal.returns-clause-yields_after_priority_set_keeps_consistent
+returns-clause-yields_after_priority_set_keeps_consistent c = ranked_sound
 
-pub returns-clause-masked_anew_keeps_consistent : goal.returns-clause-masked_anew_keeps_consistent
-returns-clause-masked_anew_keeps_consistent c = masked_sound
+pub returns-clause-yields_after_affinity_set_keeps_consistent : goal.returns-clause-yields_after_affinity_set_keeps_consistent
+returns-clause-yields_after_affinity_set_keeps_consistent c = masked_sound
 
 pub returns-clause-priority_set_keeps_consistent : goal.returns-clause-priority_set_keeps_consistent
 returns-clause-priority_set_keeps_consistent c = priority_sound

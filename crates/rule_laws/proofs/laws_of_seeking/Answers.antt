@@ -5,17 +5,17 @@ use Rattle.rule_laws.proofs.laws_of_seeking.Goals as goal
 pub returns-clause-best_core_is_asked : goal.returns-clause-best_core_is_asked
 returns-clause-best_core_is_asked c = best_core
 
-pub returns-clause-seek_is_seen : goal.returns-clause-seek_is_seen
-returns-clause-seek_is_seen c = seek_seen
+pub returns-clause-seek_simulates : goal.returns-clause-seek_simulates
+returns-clause-seek_simulates c = seek_seen
 
-pub returns-clause-wake_is_seen : goal.returns-clause-wake_is_seen
-returns-clause-wake_is_seen c = λ table acting task stamped. wake_seen table acting task stamped.given
+pub returns-clause-wake_simulates : goal.returns-clause-wake_simulates
+returns-clause-wake_simulates c = λ table acting task stamped. wake_seen table acting task stamped.given
 
-pub returns-clause-sought_switch_is_seen : goal.returns-clause-sought_switch_is_seen
-returns-clause-sought_switch_is_seen c = sought_switch_seen
+pub returns-clause-sought_switch_simulates : goal.returns-clause-sought_switch_simulates
+returns-clause-sought_switch_simulates c = sought_switch_seen
 
-pub returns-clause-slices_are_seen : goal.returns-clause-slices_are_seen
-returns-clause-slices_are_seen c = sliced_seen
+pub returns-clause-slices_simulate : goal.returns-clause-slices_simulate
+returns-clause-slices_simulate c = sliced_seen
 
 pub returns-clause-ask_keeps_consistent : goal.returns-clause-ask_keeps_consistent
 returns-clause-ask_keeps_consistent c = ask_sound

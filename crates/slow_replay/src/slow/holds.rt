@@ -4,7 +4,7 @@ ghost use Rattle.bench_types.specs.Step.{call_check, step_check};
 ghost use Rattle.bench_model.specs.Control.{is_due};
 ghost use Rattle.bench_model.specs.Holds.{is_held_by, is_held_elsewhere, depth_of, hold_opened, hold_closed};
 ghost use Rattle.bench_model.specs.Refusals.{call_refusal, give_refusal, would_block, hold_refusal, own_refusal, refusal};
-ghost use Rattle.bench_model.specs.Table.{table_moves, tick_count};
+ghost use Rattle.bench_model.specs.Table.{stamp_queues, tick_count};
 
 use super::{SlowTable, notes};
 use bench_model::until::{is_ahead, next_wake};
@@ -73,7 +73,7 @@ impl SlowTable {
     fn would_block(&self, task: u32, call: Call) -> bool
         requires task { task < length self.now.orders.rows }
         requires checked { call_check self.now.settings call ≡ Ok tt }
-        ensures { result ≡ would_block table_moves task call self.now }
+        ensures { result ≡ would_block stamp_queues task call self.now }
     {
         match call {
             Call::Delay(ticks) => 0 < ticks,
@@ -92,7 +92,7 @@ impl SlowTable {
     fn hold_refusal(&self, core: u32, task: u32, call: Call) -> Option<Refusal>
         requires task { task < length self.now.orders.rows }
         requires checked { call_check self.now.settings call ≡ Ok tt }
-        ensures { result ≡ hold_refusal table_moves core task call self.now }
+        ensures { result ≡ hold_refusal stamp_queues core task call self.now }
     {
         if !self.is_held_by(core) {
             return matches!(call, Call::HoldClose).then_some(Refusal::NoHold);
@@ -121,7 +121,7 @@ impl SlowTable {
         requires core { core < length self.now.control.cores }
         requires task { task < length self.now.orders.rows }
         requires checked { call_check self.now.settings call ≡ Ok tt }
-        ensures { result ≡ own_refusal table_moves core task call self.now }
+        ensures { result ≡ own_refusal stamp_queues core task call self.now }
     {
         if !self.runs_on(core, task) {
             return Some(Refusal::Displaced);
@@ -138,7 +138,7 @@ impl SlowTable {
     #[tactic(auto, unfolding(bench_model::specs::Refusals::refusal))]
     pub(super) fn refusal(&self, step: &Step) -> Option<Refusal>
         requires { step_check self.now.settings step.now ≡ Ok tt }
-        ensures { result ≡ refusal table_moves step.now self.now }
+        ensures { result ≡ refusal stamp_queues step.now self.now }
     {
         match *step {
             Step::Tick | Step::Interrupt { .. } => None,

@@ -1,15 +1,15 @@
 //! Mutexes with priority inheritance, each rule as it is defined.
 ghost use Rattle.std.specs.Prelude.{◌≡◌, ◌<◌, ◌≤◌, ◌+◌, ◌^◌, length, IfSome, option_map, slice_set};
 ghost use Rattle.bench_types.specs.declared.step.Call.TheVariants.{Finish};
-ghost use Rattle.bench_model.specs.Mutexes.{held_by, is_marked, inherited, waited_at, mutex_take, owed, lowered, timed_out, ended, take_finished, disinherited, first_woken, mutex_give};
+ghost use Rattle.bench_model.specs.Mutexes.{held_by, is_marked, inherited, waited_at, mutex_take, owed, after_disinherit, timed_out, take_finished, disinherited, first_woken, mutex_give};
 ghost use Rattle.list_orders.specs.Search.{is_best};
 ghost use Rattle.bench_model.specs.Sound.{IsConsistent};
-ghost use Rattle.bench_model.specs.State.{holder_at};
+ghost use Rattle.bench_model.specs.State.{holder_at, after_return};
 ghost use Rattle.bench_model.specs.Steps.{called};
-ghost use Rattle.bench_model.specs.Table.{table_moves, row_at, tasks_of, wait_in, waits_at, waiter_of, waits_before, first_waiter, deadline_at, deadline_left};
+ghost use Rattle.bench_model.specs.Table.{stamp_queues, row_at, tasks_of, wait_in, waits_at, waiter_of, waits_before, first_waiter, deadline_at, deadline_left};
 
 use super::{SlowTable, notes};
-use bench_model::Standing;
+use bench_model::TaskState;
 use bench_types::{MutexWait, Reply, Unfinished, Waiter};
 
 impl SlowTable {
@@ -54,7 +54,7 @@ impl SlowTable {
     fn inherit(&mut self, acting: u32, holder: u32, priority: u32)
         requires holder { holder < length self.old.orders.rows }
         requires room { self.old.orders.next + 1 < 2 ^ 128 }
-        ensures inherited { self.new ≡ inherited table_moves acting holder priority self.old }
+        ensures inherited { self.new ≡ inherited stamp_queues acting holder priority self.old }
         ensures rows { length self.new.orders.rows ≡ length self.old.orders.rows }
         ensures stamps { self.new.orders.next ≤ self.old.orders.next + 1 }
         ensures tick { self.new.orders.tick ≡ self.old.orders.tick }
@@ -77,7 +77,7 @@ impl SlowTable {
         requires holder { holder < length self.old.orders.rows }
         requires room { self.old.orders.next + 2 < 2 ^ 128 }
         requires time { self.old.orders.tick + 2 ^ 32 < 2 ^ 128 }
-        ensures { self.new ≡ waited_at table_moves core task mutex holder ticks self.old }
+        ensures { self.new ≡ waited_at stamp_queues core task mutex holder ticks self.old }
     {
         let priority = self.tasks[task as usize].in_use;
         let mark = self.is_marked(task, holder);
@@ -93,7 +93,7 @@ impl SlowTable {
         requires mutex { mutex < self.old.settings.mutexes }
         requires room { self.old.orders.next + 2 < 2 ^ 128 }
         requires time { self.old.orders.tick + 2 ^ 32 < 2 ^ 128 }
-        ensures { (result, self.new) ≡ mutex_take table_moves core task mutex ticks self.old }
+        ensures { (result, self.new) ≡ mutex_take stamp_queues core task mutex ticks self.old }
     {
         let Some(holder) = self.holder(mutex) else {
             self.set_holder(mutex, Some(task));
@@ -102,7 +102,7 @@ impl SlowTable {
         if ticks == 0 {
             return Reply::Flag(false);
         }
-        self.wait_at(core, task, mutex, holder, notes::awaited_for(ticks));
+        self.wait_at(core, task, mutex, holder, notes::timeout_of(ticks));
         Reply::Blocked
     }
 
@@ -111,8 +111,8 @@ impl SlowTable {
         ensures { result ≡ wait_in (row_at self.now.orders task).standing }
     {
         match self.rows[task as usize].standing {
-            Standing::Ready => None,
-            Standing::Blocked { wait, .. } => wait,
+            TaskState::Ready => None,
+            TaskState::Blocked { wait, .. } => wait,
         }
     }
 
@@ -153,7 +153,9 @@ impl SlowTable {
     // Whether the task waits for the mutex and none that does goes before it.
     fn is_first_waiter(&self, mutex: u32, task: u32) -> bool
         requires { task < length self.now.orders.rows }
-        ensures { result ≡ is_best (λ i. waits_at mutex (row_at self.now.orders i).standing) (waits_before self.now.orders) (tasks_of self.now.orders) task }
+        ensures { result
+            ≡ is_best (λ i. waits_at mutex (row_at self.now.orders i).standing)
+            (waits_before self.now.orders) (tasks_of self.now.orders) task }
     {
         self.waits_at(mutex, task)
             && self.task_numbers().all(|other| !self.waits_at(mutex, other)
@@ -161,7 +163,8 @@ impl SlowTable {
     }
 
     fn first_waiting(&self, mutex: u32) -> Option<u32>
-        ensures first { option_map (waiter_of self.now.orders) result ≡ first_waiter mutex self.now.orders }
+        ensures first { option_map (waiter_of self.now.orders) result
+            ≡ first_waiter mutex self.now.orders }
         ensures task { IfSome result (λ task. task < length self.now.orders.rows) }
     {
         self.task_numbers()
@@ -170,7 +173,7 @@ impl SlowTable {
 
     fn owed(&self, task: u32, mutex: u32) -> u32
         requires { task < length self.now.orders.rows }
-        ensures { result ≡ owed table_moves task mutex self.now }
+        ensures { result ≡ owed stamp_queues task mutex self.now }
     {
         let base = self.tasks[task as usize].base;
         match self.first_waiting(mutex) {
@@ -179,11 +182,11 @@ impl SlowTable {
         }
     }
 
-    #[tactic(auto, unfolding(bench_model::specs::Mutexes::lowered))]
+    #[tactic(auto, unfolding(bench_model::specs::Mutexes::after_disinherit))]
     fn lower(&mut self, acting: u32, task: u32, priority: u32)
         requires task { task < length self.old.orders.rows }
         requires room { self.old.orders.next + 1 < 2 ^ 128 }
-        ensures lowered { self.new ≡ lowered table_moves acting task priority self.old }
+        ensures given_up { self.new ≡ after_disinherit stamp_queues acting task priority self.old }
         ensures rows { length self.new.orders.rows ≡ length self.old.orders.rows }
         ensures stamps { self.new.orders.next ≤ self.old.orders.next + 1 }
     {
@@ -198,7 +201,7 @@ impl SlowTable {
     fn time_out(&mut self, acting: u32, task: u32, mutex: u32, mark: bool, holder: u32)
         requires holder { holder < length self.old.orders.rows }
         requires room { self.old.orders.next + 1 < 2 ^ 128 }
-        ensures { self.new ≡ timed_out table_moves acting task mutex mark holder self.old }
+        ensures { self.new ≡ timed_out stamp_queues acting task mutex mark holder self.old }
     {
         if mark && holder != task && self.held(holder) == 1 {
             let priority = self.owed(holder, mutex);
@@ -209,7 +212,7 @@ impl SlowTable {
     #[tactic(auto, unfolding(bench_model::specs::Table::forget_deadline))]
     fn end_call(&mut self, task: u32)
         requires { task < length self.old.orders.rows }
-        ensures ended { self.new ≡ ended table_moves task self.old }
+        ensures ended { self.new ≡ after_return stamp_queues task self.old }
         ensures rows { length self.new.orders.rows ≡ length self.old.orders.rows }
         ensures stamps { self.new.orders.next ≡ self.old.orders.next }
     {
@@ -221,7 +224,8 @@ impl SlowTable {
     #[tactic(auto, unfolding(bench_model::specs::Table::deadline_left))]
     fn deadline_left(&self, task: u32) -> Option<u32>
         requires task { task < length self.now.orders.rows }
-        requires near { IfSome (deadline_at self.now.orders task) (λ deadline. deadline < self.now.orders.tick + 2 ^ 32) }
+        requires near { IfSome (deadline_at self.now.orders task)
+            (λ deadline. deadline < self.now.orders.tick + 2 ^ 32) }
         ensures { result ≡ deadline_left task self.now.orders }
     {
         match self.deadlines[task as usize] {
@@ -235,10 +239,11 @@ impl SlowTable {
         requires core { core < length self.old.control.cores }
         requires task { task < length self.old.orders.rows }
         requires mutex { mutex < self.old.settings.mutexes }
-        requires near { IfSome (deadline_at self.old.orders task) (λ deadline. deadline < self.old.orders.tick + 2 ^ 32) }
+        requires near { IfSome (deadline_at self.old.orders task)
+            (λ deadline. deadline < self.old.orders.tick + 2 ^ 32) }
         requires room { self.old.orders.next + 2 < 2 ^ 128 }
         requires time { self.old.orders.tick + 2 ^ 32 < 2 ^ 128 }
-        ensures { (result, self.new) ≡ take_finished table_moves core task mutex mark self.old }
+        ensures { (result, self.new) ≡ take_finished stamp_queues core task mutex mark self.old }
     {
         let left = self.deadline_left(task);
         let Some(holder) = self.holder(mutex) else {
@@ -255,14 +260,14 @@ impl SlowTable {
         Reply::Blocked
     }
 
-    #[tactic(auto, unfolding(bench_model::specs::Steps::called, bench_model::specs::Mutexes::finished))]
+    #[tactic(auto, unfolding(bench_model::specs::Steps::called, bench_model::specs::Steps::after_finish))]
     pub(super) fn finish(&mut self, core: u32, task: u32) -> Reply
         requires sound { IsConsistent self.old }
         requires core { core < length self.old.control.cores }
         requires task { task < length self.old.orders.rows }
         requires room { self.old.orders.next + 2 < 2 ^ 128 }
         requires time { self.old.orders.tick + 2 ^ 32 < 2 ^ 128 }
-        ensures { (result, self.new) ≡ called table_moves core task Finish self.old }
+        ensures { (result, self.new) ≡ called stamp_queues core task Finish self.old }
     {
         match self.calls[task as usize] {
             None => Reply::Done,
@@ -278,7 +283,7 @@ impl SlowTable {
     fn disinherit(&mut self, core: u32, task: u32)
         requires task { task < length self.old.orders.rows }
         requires room { self.old.orders.next + 1 < 2 ^ 128 }
-        ensures disinherited { self.new ≡ disinherited table_moves core task self.old }
+        ensures disinherited { self.new ≡ disinherited stamp_queues core task self.old }
         ensures rows { length self.new.orders.rows ≡ length self.old.orders.rows }
         ensures stamps { self.new.orders.next ≤ self.old.orders.next + 1 }
     {
@@ -291,7 +296,7 @@ impl SlowTable {
     #[tactic(auto, unfolding(bench_model::specs::Mutexes::first_woken))]
     fn wake_first(&mut self, acting: u32, mutex: u32)
         requires room { self.old.orders.next + 1 < 2 ^ 128 }
-        ensures { self.new ≡ first_woken table_moves acting mutex self.old }
+        ensures { self.new ≡ first_woken stamp_queues acting mutex self.old }
     {
         if let Some(task) = self.first_waiting(mutex) {
             self.wake(acting, task);
@@ -303,7 +308,7 @@ impl SlowTable {
         requires task { task < length self.old.orders.rows }
         requires mutex { mutex < self.old.settings.mutexes }
         requires room { self.old.orders.next + 2 < 2 ^ 128 }
-        ensures { (result, self.new) ≡ mutex_give table_moves core task mutex self.old }
+        ensures { (result, self.new) ≡ mutex_give stamp_queues core task mutex self.old }
     {
         if self.holder(mutex).is_none() {
             return Reply::Flag(false);

@@ -2,8 +2,8 @@
 ghost use Rattle.std.specs.Prelude.{◌≡◌, ◌<◌, ◌+◌, ◌^◌, length, slice_set};
 ghost use Rattle.bench_model.specs.Control.{core_at};
 ghost use Rattle.bench_model.specs.Notes.{note_at, is_received, is_waiting, without_bits, passes, acted, notified, wait_begun, wait_ended, take_begun, take_ended, state_cleared, value_cleared};
-ghost use Rattle.bench_model.specs.Notifying.{awaited_for, is_passed, state_forgotten, bits_cleared, completed, notify, interrupted, awaited};
-ghost use Rattle.bench_model.specs.Table.{table_moves};
+ghost use Rattle.bench_model.specs.Notifying.{timeout_of, is_passed, state_forgotten, bits_cleared, completed, notify, interrupted, awaited};
+ghost use Rattle.bench_model.specs.Table.{stamp_queues};
 
 use super::SlowTable;
 use bench_model::notes::{is_received, is_waiting, notified, passes, without_bits};
@@ -24,13 +24,13 @@ impl SlowTable {
         self.notes[task as usize] = note;
     }
 
-    // Answers whether the notification passed.
+    // Returns whether the notification passed.
     #[tactic(auto, unfolding(bench_model::specs::Notifying::notify))]
     pub(super) fn notify(&mut self, acting: u32, note: Note) -> bool
         requires task { note.task < length self.old.orders.rows }
         requires room { self.old.orders.next + 1 < 2 ^ 128 }
         ensures passed { result ≡ is_passed note self.old }
-        ensures told { self.new ≡ notify table_moves acting note.task note.action self.old }
+        ensures told { self.new ≡ notify stamp_queues acting note.task note.action self.old }
         ensures settings { self.new.settings ≡ self.old.settings }
     {
         let before = self.note(note.task);
@@ -53,7 +53,7 @@ impl SlowTable {
         requires core { core < self.old.settings.cores }
         requires task { note.task < length self.old.orders.rows }
         requires room { self.old.orders.next + 1 < 2 ^ 128 }
-        ensures { (result, self.new) ≡ interrupted table_moves core note self.old }
+        ensures { (result, self.new) ≡ interrupted stamp_queues core note self.old }
     {
         let pass = self.notify(core, note);
         Reply::Isr {
@@ -117,20 +117,22 @@ impl SlowTable {
         requires task { task < length self.old.orders.rows }
         requires room { self.old.orders.next + 1 < 2 ^ 128 }
         requires time { self.old.orders.tick + 2 ^ 32 < 2 ^ 128 }
-        ensures { (result, self.new) ≡ awaited table_moves core task call ticks (begun.0, slice_set self.old.notes task begun.1) self.old }
+        ensures { (result, self.new)
+            ≡ awaited stamp_queues core task call ticks
+            (begun.0, slice_set self.old.notes task begun.1) self.old }
     {
         let (waits, note) = begun;
         self.set_note(task, note);
         if waits && 0 < ticks {
-            self.block(core, task, Unfinished::Made(call), awaited_for(ticks), None);
+            self.block(core, task, Unfinished::Made(call), timeout_of(ticks), None);
             return Reply::Blocked;
         }
         self.complete(task, call)
     }
 }
 
-pub(super) fn awaited_for(ticks: u32) -> Option<u32>
-    ensures { result ≡ awaited_for ticks }
+pub(super) fn timeout_of(ticks: u32) -> Option<u32>
+    ensures { result ≡ timeout_of ticks }
 {
     (ticks != u32::MAX).then_some(ticks)
 }

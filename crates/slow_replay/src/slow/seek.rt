@@ -1,10 +1,11 @@
-//! Seeking a core and ending time slices, each as it is defined: over all cores and all tasks at once.
+//! Seeking a core and ending time slices, each as it is defined: over all cores and all tasks at
+//! once.
 ghost use Rattle.std.specs.Prelude.{◌≡◌, ℕ, ◌<◌, not, ◌&&◌, length, filter, nat_lt, Some, IfSome, ◌==◌};
 ghost use Rattle.bench_model.specs.Control.{in_mask, is_due, core_at, current, task_at, with_core, ask, asked_where};
 ghost use Rattle.list_orders.specs.Search.{is_best, numbers};
-ghost use Rattle.bench_model.specs.Seek.{effective, is_running, gives_way, is_asked_before, asked_for, seek, resettled, ready_in, shares_its_time, sliced};
+ghost use Rattle.bench_model.specs.Seek.{effective, is_running, is_preemptible_by, yields_first, core_to_yield, seek, after_eviction, ready_in, shares_its_time, sliced};
 ghost use Rattle.slow_replay.specs.SlowSeek.{may_go};
-ghost use Rattle.bench_model.specs.Table.{table_moves, is_ready};
+ghost use Rattle.bench_model.specs.Table.{stamp_queues, is_ready};
 
 use super::SlowTable;
 
@@ -32,7 +33,8 @@ impl SlowTable {
     // Whether the core has the task and no other core asked it to switch.
     pub(super) fn keeps_running(&self, core: u32, task: u32) -> bool
         requires { core < length self.now.control.cores }
-        ensures { result ≡ (current self.now.control core == task && not (core_at self.now.control core).asked) }
+        ensures { result
+            ≡ (current self.now.control core == task && not (core_at self.now.control core).asked) }
     {
         self.runs_on(core, task) && !self.cores[core as usize].asked
     }
@@ -51,10 +53,10 @@ impl SlowTable {
         self.tasks[task as usize].preempt
     }
 
-    fn gives_way(&self, task: u32, core: u32) -> bool
+    fn is_preemptible_by(&self, task: u32, core: u32) -> bool
         requires core { core < length self.now.control.cores }
         requires task { task < length self.now.orders.rows }
-        ensures { result ≡ gives_way self.now.control task core }
+        ensures { result ≡ is_preemptible_by self.now.control task core }
     {
         let runs = self.current(core);
         !self.is_due(core)
@@ -62,10 +64,10 @@ impl SlowTable {
             && self.effective(runs) < self.effective(task)
     }
 
-    fn is_asked_before(&self, one: u32, other: u32) -> bool
+    fn yields_first(&self, one: u32, other: u32) -> bool
         requires one { one < length self.now.control.cores }
         requires other { other < length self.now.control.cores }
-        ensures { result ≡ is_asked_before self.now.control one other }
+        ensures { result ≡ yields_first self.now.control one other }
     {
         let a = self.effective(self.current(one));
         let b = self.effective(self.current(other));
@@ -92,9 +94,11 @@ impl SlowTable {
         requires core { core < length self.now.control.cores }
         requires task { task < length self.now.orders.rows }
         requires lost { IfSome lost (λ lost. lost < length self.now.control.cores) }
-        ensures { result ≡ (may_go self.now.control task lost core && gives_way self.now.control task core) }
+        ensures { result
+            ≡ (may_go self.now.control task lost core
+            && is_preemptible_by self.now.control task core) }
     {
-        self.may_go(task, lost, core) && self.gives_way(task, core)
+        self.may_go(task, lost, core) && self.is_preemptible_by(task, core)
     }
 
     // Whether the core gives way and none that does is asked before it.
@@ -102,17 +106,21 @@ impl SlowTable {
         requires core { core < length self.now.control.cores }
         requires task { task < length self.now.orders.rows }
         requires lost { IfSome lost (λ lost. lost < length self.now.control.cores) }
-        ensures { result ≡ is_best (λ c. may_go self.now.control task lost c && gives_way self.now.control task c) (is_asked_before self.now.control) (numbers (length self.now.control.cores)) core }
+        ensures { result
+            ≡ is_best
+            (λ c. may_go self.now.control task lost c && is_preemptible_by self.now.control task c)
+            (yields_first self.now.control) (numbers (length self.now.control.cores)) core }
     {
         self.is_candidate(task, lost, core)
             && self.core_numbers().all(|other| !self.is_candidate(task, lost, other)
-                || self.is_asked_before(core, other))
+                || self.yields_first(core, other))
     }
 
-    fn asked_for(&self, task: u32, lost: Option<u32>) -> Option<u32>
+    fn core_to_yield(&self, task: u32, lost: Option<u32>) -> Option<u32>
         requires task { task < length self.now.orders.rows }
         requires lost { IfSome lost (λ lost. lost < length self.now.control.cores) }
-        ensures asked { result ≡ asked_for self.now.control task (may_go self.now.control task lost) }
+        ensures asked { result
+            ≡ core_to_yield self.now.control task (may_go self.now.control task lost) }
         ensures core { IfSome result (λ core. core < length self.now.control.cores) }
     {
         self.core_numbers()
@@ -136,22 +144,24 @@ impl SlowTable {
     pub(super) fn seek(&mut self, acting: u32, task: u32, lost: Option<u32>)
         requires task { task < length self.old.orders.rows }
         requires lost { IfSome lost (λ lost. lost < length self.old.control.cores) }
-        ensures sought { self.new ≡ record self.old { control = seek acting task (may_go self.old.control task lost) self.old.control } }
+        ensures sought { self.new ≡ record self.old {
+          control = seek acting task (may_go self.old.control task lost) self.old.control;
+        } }
         ensures cores { length self.new.control.cores ≡ length self.old.control.cores }
     {
         if self.is_running(task) {
             return;
         }
-        if let Some(core) = self.asked_for(task, lost) {
+        if let Some(core) = self.core_to_yield(task, lost) {
             self.ask(acting, core);
         }
     }
 
-    #[tactic(auto, unfolding(bench_model::specs::Seek::resettled))]
+    #[tactic(auto, unfolding(bench_model::specs::Seek::after_eviction))]
     pub(super) fn resettle(&mut self, core: u32, loser: u32)
         requires core { core < length self.old.control.cores }
         requires loser { loser < length self.old.orders.rows }
-        ensures { self.new ≡ resettled table_moves core loser self.old }
+        ensures { self.new ≡ after_eviction stamp_queues core loser self.old }
     {
         if !self.runs_on(core, loser) && self.is_ready(loser) {
             self.seek(core, loser, Some(core));
@@ -160,14 +170,16 @@ impl SlowTable {
 
     fn stands_in(&self, priority: u32, task: u32) -> bool
         requires { task < length self.now.orders.rows }
-        ensures { result ≡ (is_ready task self.now.orders && (task_at self.now.control task).in_use == priority) }
+        ensures { result
+            ≡ (is_ready task self.now.orders
+            && (task_at self.now.control task).in_use == priority) }
     {
         self.is_ready(task) && self.tasks[task as usize].in_use == priority
     }
 
     // How many tasks stand in the ready list of a priority.
     fn ready_in(&self, priority: u32) -> u32
-        ensures { result ≡ length (ready_in table_moves priority self.now) }
+        ensures { result ≡ length (ready_in stamp_queues priority self.now) }
     {
         let mut ready = 0;
         for task in 0..self.settings.tasks {
@@ -180,7 +192,7 @@ impl SlowTable {
 
     fn shares_its_time(&self, core: u32) -> bool
         requires { core < length self.now.control.cores }
-        ensures { result ≡ shares_its_time table_moves self.now core }
+        ensures { result ≡ shares_its_time stamp_queues self.now core }
     {
         let runs = self.current(core);
         !self.is_due(core)
@@ -191,7 +203,11 @@ impl SlowTable {
 
     fn end_slice(&mut self, core: u32)
         requires { core < length self.old.control.cores }
-        ensures { self.new ≡ record self.old { control = with_core core (asked_where 0 (shares_its_time table_moves self.old) self.old.control core) self.old.control } }
+        ensures { self.new ≡ record self.old {
+          control = with_core core
+              (asked_where 0 (shares_its_time stamp_queues self.old) self.old.control core)
+              self.old.control;
+        } }
     {
         if self.shares_its_time(core) {
             self.ask(0, core);
@@ -199,7 +215,7 @@ impl SlowTable {
     }
 
     pub(super) fn slice(&mut self)
-        ensures { self.new ≡ sliced table_moves self.old }
+        ensures { self.new ≡ sliced stamp_queues self.old }
     {
         if !self.settings.slicing {
             return;

@@ -1,8 +1,9 @@
 //! The calls that set a task's priority, core affinity mask and preemption, each as it is defined.
 ghost use Rattle.std.specs.Prelude.{◌≡◌, ◌<◌, ◌≤◌, ◌+◌, ◌^◌, length, IfSome};
-ghost use Rattle.bench_model.specs.Changes.{with_base, with_affinity, with_preemption, in_use_set};
-ghost use Rattle.bench_model.specs.Sets.{runs_on, ask_its_core, capped, in_use_behind, ranked_anew, masked_anew, priority_set, affinity_set, preemption_off, preemption_on};
-ghost use Rattle.bench_model.specs.Table.{table_moves, is_ready};
+ghost use Rattle.bench_model.specs.ControlFields.{with_base, with_affinity, with_preemption, in_use_set};
+ghost use Rattle.bench_model.specs.Control.{runs_on, ask_its_core};
+ghost use Rattle.bench_model.specs.PriorityAffinity.{capped, in_use_after, yields_after_priority_set, yields_after_affinity_set, priority_set, affinity_set, preemption_off, preemption_on};
+ghost use Rattle.bench_model.specs.Table.{stamp_queues, is_ready};
 
 use super::SlowTable;
 use bench_types::{TaskControl, cores_of_mask};
@@ -16,9 +17,10 @@ impl SlowTable {
             .find(|core| self.keeps_running(*core, task))
     }
 
-    #[tactic(auto, unfolding(bench_model::specs::Sets::ask_its_core))]
+    #[tactic(auto, unfolding(bench_model::specs::Control::ask_its_core))]
     pub(super) fn ask_its_core(&mut self, acting: u32, task: u32)
-        ensures { self.new ≡ record self.old { control = ask_its_core acting task self.old.control } }
+        ensures { self.new
+            ≡ record self.old { control = ask_its_core acting task self.old.control } }
     {
         if let Some(core) = self.its_core(task) {
             self.ask(acting, core);
@@ -38,14 +40,16 @@ impl SlowTable {
 
     fn set_base(&mut self, task: u32, priority: u32)
         requires { task < length self.old.orders.rows }
-        ensures { self.new ≡ record self.old { control = with_base task priority self.old.control } }
+        ensures { self.new
+            ≡ record self.old { control = with_base task priority self.old.control } }
     {
         self.tasks[task as usize].base = priority;
     }
 
     fn set_mask(&mut self, task: u32, mask: u32)
         requires { task < length self.old.orders.rows }
-        ensures { self.new ≡ record self.old { control = with_affinity task mask self.old.control } }
+        ensures { self.new
+            ≡ record self.old { control = with_affinity task mask self.old.control } }
     {
         let cores = self.settings.cores;
         self.tasks[task as usize].mask = cores_of_mask(cores, mask);
@@ -53,16 +57,17 @@ impl SlowTable {
 
     fn set_preemption(&mut self, task: u32, preempt: bool)
         requires { task < length self.old.orders.rows }
-        ensures { self.new ≡ record self.old { control = with_preemption task preempt self.old.control } }
+        ensures { self.new
+            ≡ record self.old { control = with_preemption task preempt self.old.control } }
     {
         self.tasks[task as usize].preempt = preempt;
     }
 
-    #[tactic(auto, unfolding(bench_model::specs::Changes::in_use_set))]
+    #[tactic(auto, unfolding(bench_model::specs::ControlFields::in_use_set))]
     pub(super) fn set_in_use(&mut self, task: u32, priority: u32)
         requires task { task < length self.old.orders.rows }
         requires room { self.old.orders.next + 1 < 2 ^ 128 }
-        ensures set { self.new ≡ in_use_set table_moves task priority self.old }
+        ensures set { self.new ≡ in_use_set stamp_queues task priority self.old }
         ensures rows { length self.new.orders.rows ≡ length self.old.orders.rows }
         ensures stamps { self.new.orders.next ≤ self.old.orders.next + 1 }
         ensures tick { self.new.orders.tick ≡ self.old.orders.tick }
@@ -70,14 +75,16 @@ impl SlowTable {
     {
         self.tasks[task as usize].in_use = priority;
         if self.is_ready(task) {
-            self.make_ready(task);
+            self.add_to_ready_list(task);
         }
     }
 
-    #[tactic(auto, unfolding(bench_model::specs::Sets::ranked_anew))]
-    fn rank_anew(&mut self, acting: u32, task: u32, old: u32, new: u32, ready: bool)
+    #[tactic(auto, unfolding(bench_model::specs::PriorityAffinity::yields_after_priority_set))]
+    fn yield_after_priority_set(&mut self, acting: u32, task: u32, old: u32, new: u32, ready: bool)
         requires { task < length self.old.orders.rows }
-        ensures { self.new ≡ record self.old { control = ranked_anew acting task old new ready self.old.control } }
+        ensures { self.new ≡ record self.old {
+          control = yields_after_priority_set acting task old new ready self.old.control;
+        } }
     {
         if old < new && ready {
             self.seek(acting, task, None);
@@ -86,11 +93,11 @@ impl SlowTable {
         }
     }
 
-    #[tactic(auto, unfolding(bench_model::specs::Sets::priority_set))]
+    #[tactic(auto, unfolding(bench_model::specs::PriorityAffinity::priority_set))]
     pub(super) fn set_priority(&mut self, acting: u32, task: u32, priority: u32)
         requires task { task < length self.old.orders.rows }
         requires room { self.old.orders.next + 1 < 2 ^ 128 }
-        ensures { self.new ≡ priority_set table_moves acting task priority self.old }
+        ensures { self.new ≡ priority_set stamp_queues acting task priority self.old }
     {
         let block = self.tasks[task as usize];
         let new = self.capped(priority);
@@ -99,15 +106,18 @@ impl SlowTable {
         }
         let ready = self.is_ready(task);
         self.set_base(task, new);
-        self.set_in_use(task, in_use_behind(block, new));
-        self.rank_anew(acting, task, block.base, new, ready);
+        self.set_in_use(task, in_use_after(block, new));
+        self.yield_after_priority_set(acting, task, block.base, new, ready);
     }
 
     // The core that has the task keeps it where the mask allows it.
-    #[tactic(auto, unfolding(bench_model::specs::Sets::masked_anew))]
-    fn mask_anew(&mut self, acting: u32, task: u32)
+    #[tactic(auto, unfolding(bench_model::specs::PriorityAffinity::yields_after_affinity_set))]
+    fn yield_after_affinity_set(&mut self, acting: u32, task: u32)
         requires { task < length self.old.orders.rows }
-        ensures { self.new ≡ record self.old { control = masked_anew acting task (is_ready task self.old.orders) self.old.control } }
+        ensures { self.new ≡ record self.old {
+          control = yields_after_affinity_set acting task
+              (is_ready task self.old.orders) self.old.control;
+        } }
     {
         if let Some(core) = self.its_core(task) {
             if !self.in_mask(task, core) {
@@ -118,35 +128,35 @@ impl SlowTable {
         }
     }
 
-    #[tactic(auto, unfolding(bench_model::specs::Sets::affinity_set))]
+    #[tactic(auto, unfolding(bench_model::specs::PriorityAffinity::affinity_set))]
     pub(super) fn set_affinity(&mut self, acting: u32, task: u32, mask: u32)
         requires { task < length self.old.orders.rows }
-        ensures { self.new ≡ affinity_set table_moves acting task mask self.old }
+        ensures { self.new ≡ affinity_set stamp_queues acting task mask self.old }
     {
         self.set_mask(task, mask);
-        self.mask_anew(acting, task);
+        self.yield_after_affinity_set(acting, task);
     }
 
-    #[tactic(auto, unfolding(bench_model::specs::Sets::preemption_off))]
+    #[tactic(auto, unfolding(bench_model::specs::PriorityAffinity::preemption_off))]
     pub(super) fn preempt_off(&mut self, task: u32)
         requires { task < length self.old.orders.rows }
-        ensures { self.new ≡ preemption_off table_moves task self.old }
+        ensures { self.new ≡ preemption_off stamp_queues task self.old }
     {
         self.set_preemption(task, false);
     }
 
-    #[tactic(auto, unfolding(bench_model::specs::Sets::preemption_on))]
+    #[tactic(auto, unfolding(bench_model::specs::PriorityAffinity::preemption_on))]
     pub(super) fn preempt_on(&mut self, acting: u32, task: u32)
         requires { task < length self.old.orders.rows }
-        ensures { self.new ≡ preemption_on table_moves acting task self.old }
+        ensures { self.new ≡ preemption_on stamp_queues acting task self.old }
     {
         self.set_preemption(task, true);
         self.ask_its_core(acting, task);
     }
 }
 
-fn in_use_behind(block: TaskControl, priority: u32) -> u32
-    ensures { result ≡ in_use_behind block priority }
+fn in_use_after(block: TaskControl, priority: u32) -> u32
+    ensures { result ≡ in_use_after block priority }
 {
     if block.in_use == block.base || block.in_use < priority {
         priority

@@ -33,7 +33,8 @@ impl Scheduler {
                     && (self.notes.same(&other.notes) && self.has_same_orders(other))))
     }
 
-    // Whether the cores, the control blocks and the orders of tasks are equal, and the holders of mutexes.
+    // Whether the cores, the control blocks and the orders of tasks are equal, and the holders of
+    // mutexes.
     fn has_same_orders(&self, other: &Self) -> bool
         requires { self.now.settings ≡ other.now.settings }
         ensures { IsTrue result ↔ HasSameOrders self.now other.now }

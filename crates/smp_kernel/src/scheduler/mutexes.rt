@@ -4,13 +4,14 @@ ghost use Rattle.std.specs.Option.{option_map_or, ForSome};
 ghost use Rattle.bench_types.specs.declared.kernel_data.Waiter.{Waiter};
 ghost use Rattle.bench_types.specs.declared.reply.Reply.TheVariants.{Done};
 ghost use Rattle.list_orders.specs.Search.{has};
-ghost use Rattle.bench_model.specs.State.{call_at, holder_at};
-ghost use Rattle.bench_model.specs.Lists.{list_moves, first_of};
-ghost use Rattle.bench_model.specs.Mutexes.{waited_at, mutex_take, timed_out, ended, take_finished, finished, disinherited, mutex_give};
+ghost use Rattle.bench_model.specs.State.{call_at, holder_at, after_return};
+ghost use Rattle.bench_model.specs.Lists.{list_queues, first_of};
+ghost use Rattle.bench_model.specs.Steps.{after_finish};
+ghost use Rattle.bench_model.specs.Mutexes.{waited_at, mutex_take, timed_out, take_finished, disinherited, mutex_give};
 ghost use Rattle.smp_kernel.specs.Kernel.{HasTheirMutexes};
 ghost use Rattle.mutex_inherit.specs.Parts.{holder_of};
 
-use super::notes::awaited_for;
+use super::notes::timeout_of;
 use super::{Scheduler, delay_for};
 use bench_types::{Reply, Unfinished};
 
@@ -22,7 +23,7 @@ impl Scheduler {
         requires task { task < self.old.settings.tasks }
         requires ready { has task self.old.orders.ready ≡ true }
         requires mutex { mutex < self.old.settings.mutexes }
-        ensures { (result, self.new) ≡ mutex_take list_moves core task mutex ticks self.old }
+        ensures { (result, self.new) ≡ mutex_take list_queues core task mutex ticks self.old }
     {
         if self.mutexes.try_take(task, mutex) {
             return Reply::Flag(true);
@@ -30,12 +31,12 @@ impl Scheduler {
         if ticks == 0 {
             return Reply::Flag(false);
         }
-        self.wait_at(core, task, mutex, awaited_for(ticks));
+        self.wait_at(core, task, mutex, timeout_of(ticks));
         Reply::Blocked
     }
 
-    // The task waits for a mutex that a task holds, for so many ticks or without end. The holder inherits its priority in
-    // use first, and then its core asks itself to switch.
+    // The task waits for a mutex that a task holds, for so many ticks or without end. The holder
+    // inherits its priority in use first, and then its core asks itself to switch.
     #[tactic(auto, unfolding(bench_model::specs::Mutexes::waited_at))]
     fn wait_at(&mut self, core: u32, task: u32, mutex: u32, ticks: Option<u32>)
         requires core { core < self.old.settings.cores }
@@ -44,7 +45,9 @@ impl Scheduler {
         requires mutex { mutex < self.old.settings.mutexes }
         requires held { IsSome (holder_at self.old.holders mutex) }
         requires some { IfSome ticks (λ ticks. 0 < ticks) }
-        ensures { self.new ≡ waited_at list_moves core task mutex (holder_of self.old.holders mutex) ticks self.old }
+        ensures { self.new
+            ≡ waited_at list_queues core task mutex
+            (holder_of self.old.holders mutex) ticks self.old }
     {
         let mark = self.mutexes.wait_on(&mut self.cores, core, task, mutex);
         self.cores.ask(core, core);
@@ -54,14 +57,17 @@ impl Scheduler {
         self.deadlines.set(task, ticks);
     }
 
-    // The unfinished call of the task returns, or the task waits again for the mutex that its call takes.
-    #[tactic(auto, unfolding(bench_model::specs::Mutexes::finished))]
+    // The unfinished call of the task returns, or the task waits again for the mutex that its call
+    // takes.
+    #[tactic(auto, unfolding(bench_model::specs::Steps::after_finish))]
     pub(super) fn finish(&mut self, core: u32, task: u32) -> Reply
         requires core { core < self.old.settings.cores }
         requires task { task < self.old.settings.tasks }
         requires ready { has task self.old.orders.ready ≡ true }
         requires mutexes { HasTheirMutexes self.old }
-        ensures { (result, self.new) ≡ option_map_or (λ call. finished list_moves core task call self.old) (call_at self.old.calls task) (Done, self.old) }
+        ensures { (result, self.new)
+            ≡ option_map_or (λ call. after_finish list_queues core task call self.old)
+            (call_at self.old.calls task) (Done, self.old) }
     {
         let Some(call) = self.calls[task as usize] else {
             return Reply::Done;
@@ -79,20 +85,21 @@ impl Scheduler {
     #[tactic(auto, unfolding(bench_model::specs::Lists::forget_deadline))]
     fn end_call(&mut self, task: u32)
         requires { task < self.old.settings.tasks }
-        ensures { self.new ≡ ended list_moves task self.old }
+        ensures { self.new ≡ after_return list_queues task self.old }
     {
         self.calls[task as usize] = None;
         self.deadlines.set(task, None);
     }
 
-    // A wait for a mutex ends with a free mutex, or without one where its deadline is reached; else the task waits again.
+    // A wait for a mutex ends with a free mutex, or without one where its deadline is reached; else
+    // the task waits again.
     #[tactic(auto, unfolding(bench_model::specs::Mutexes::take_finished, bench_model::specs::Mutexes::taken))]
     fn finish_take(&mut self, core: u32, task: u32, mutex: u32, mark: bool) -> Reply
         requires core { core < self.old.settings.cores }
         requires task { task < self.old.settings.tasks }
         requires ready { has task self.old.orders.ready ≡ true }
         requires mutex { mutex < self.old.settings.mutexes }
-        ensures { (result, self.new) ≡ take_finished list_moves core task mutex mark self.old }
+        ensures { (result, self.new) ≡ take_finished list_queues core task mutex mark self.old }
     {
         if self.mutexes.try_take(task, mutex) {
             self.end_call(task);
@@ -113,7 +120,9 @@ impl Scheduler {
     fn time_out(&mut self, core: u32, task: u32, mutex: u32, mark: bool)
         requires mutex { mutex < self.old.settings.mutexes }
         requires held { IsSome (holder_at self.old.holders mutex) }
-        ensures { self.new ≡ timed_out list_moves core task mutex mark (holder_of self.old.holders mutex) self.old }
+        ensures { self.new
+            ≡ timed_out list_queues core task mutex mark
+            (holder_of self.old.holders mutex) self.old }
     {
         if mark {
             self.mutexes
@@ -127,7 +136,7 @@ impl Scheduler {
         requires task { task < self.old.settings.tasks }
         requires mutex { mutex < self.old.settings.mutexes }
         requires own { ForSome (holder_at self.old.holders mutex) (λ holder. holder ≡ task) }
-        ensures { (result, self.new) ≡ mutex_give list_moves core task mutex self.old }
+        ensures { (result, self.new) ≡ mutex_give list_queues core task mutex self.old }
     {
         if self.mutexes.holder(mutex).is_none() {
             return Reply::Flag(false);
@@ -138,13 +147,18 @@ impl Scheduler {
         Reply::Flag(true)
     }
 
-    // The task holds the mutex no more, nor what it inherited where it holds no other. Answers who waited first for it.
+    // The task holds the mutex no more, nor what it inherited where it holds no other. Returns who
+    // waited first for it.
     fn give_up(&mut self, core: u32, task: u32, mutex: u32) -> Option<u32>
         requires task { task < self.old.settings.tasks }
         requires mutex { mutex < self.old.settings.mutexes }
         requires held { holder_at self.old.holders mutex ≡ Some task }
-        ensures given { self.new ≡ disinherited list_moves core task (record self.old { holders = slice_set self.old.holders mutex None }) }
-        ensures first { result ≡ option_map (λ (waiter : Waiter). waiter.task) (first_of mutex self.new.orders.waiters) }
+        ensures given { self.new
+            ≡ disinherited list_queues core task
+            (record self.old { holders = slice_set self.old.holders mutex None }) }
+        ensures first { result
+            ≡ option_map (λ (waiter : Waiter). waiter.task)
+            (first_of mutex self.new.orders.waiters) }
         ensures waiter { IfSome result (λ waiter. waiter < self.new.settings.tasks) }
     {
         self.mutexes.give(&mut self.cores, core, task, mutex)

@@ -2,19 +2,20 @@
 ghost use Rattle.std.specs.Prelude.{◌≡◌, ◌<◌, true};
 ghost use Rattle.list_orders.specs.Search.{has};
 ghost use Rattle.bench_model.specs.Notes.{of_task, wait_begun, take_begun};
-ghost use Rattle.bench_model.specs.Notifying.{notify, is_passed, interrupted, state_forgotten, bits_cleared, completed, awaited, awaited_for};
-ghost use Rattle.bench_model.specs.Lists.{list_moves};
+ghost use Rattle.bench_model.specs.Notifying.{notify, is_passed, interrupted, state_forgotten, bits_cleared, completed, awaited, timeout_of};
+ghost use Rattle.bench_model.specs.Lists.{list_queues};
 
 use super::Scheduler;
 use bench_types::{Call, Note, Reply};
 
 impl Scheduler {
-    // Notifies a task, by the acting core; one that waits for it is woken. Answers whether the notification passed.
+    // Notifies a task, by the acting core; one that waits for it is woken. Returns whether the
+    // notification passed.
     #[tactic(auto, unfolding(bench_model::specs::Notifying::notify, bench_model::specs::Seek::wake))]
     pub(super) fn notify(&mut self, acting: u32, note: Note) -> bool
         requires { note.task < self.old.settings.tasks }
         ensures passed { result ≡ is_passed note self.old }
-        ensures notified { self.new ≡ notify list_moves acting note.task note.action self.old }
+        ensures notified { self.new ≡ notify list_queues acting note.task note.action self.old }
         ensures settings { self.new.settings ≡ self.old.settings }
     {
         let (passes, waits) = self.notes.notify(note.task, note.action);
@@ -29,14 +30,14 @@ impl Scheduler {
     pub(super) fn interrupt(&mut self, core: u32, note: Note) -> Reply
         requires core { core < self.old.settings.cores }
         requires task { note.task < self.old.settings.tasks }
-        ensures { (result, self.new) ≡ interrupted list_moves core note self.old }
+        ensures { (result, self.new) ≡ interrupted list_queues core note self.old }
     {
         let pass = self.notify(core, note);
         let pend = self.core_look(core).pend;
         Reply::Isr { pass, pend }
     }
 
-    // Forgets that a notification has come to the task. Answers whether one had.
+    // Forgets that a notification has come to the task. Returns whether one had.
     #[tactic(auto, unfolding(bench_model::specs::Notifying::state_forgotten))]
     pub(super) fn clear_state(&mut self, task: u32) -> Reply
         requires { task < self.old.settings.tasks }
@@ -45,7 +46,7 @@ impl Scheduler {
         Reply::Flag(self.notes.clear_state(task))
     }
 
-    // Clears the bits of the task's value. Answers the value before.
+    // Clears the bits of the task's value. Returns the value before.
     #[tactic(auto, unfolding(bench_model::specs::Notifying::bits_cleared))]
     pub(super) fn clear_value(&mut self, task: u32, bits: u32) -> Reply
         requires { task < self.old.settings.tasks }
@@ -70,17 +71,19 @@ impl Scheduler {
         }
     }
 
-    // The task waits for a notification, or for a value that is not 0, in a call that has begun: where that found nothing to
-    // complete with and there are some ticks to wait, the task is blocked, else the call completes at once.
+    // The task waits for a notification, or for a value that is not 0, in a call that has begun:
+    // where that found nothing to complete with and there are some ticks to wait, the task is
+    // blocked, else the call completes at once.
     #[tactic(auto, unfolding(bench_model::specs::Notifying::awaited))]
     fn await_note(&mut self, core: u32, task: u32, call: Call, ticks: u32, begun: bool) -> Reply
         requires core { core < self.old.settings.cores }
         requires task { task < self.old.settings.tasks }
         requires ready { has task self.old.orders.ready ≡ true }
-        ensures { (result, self.new) ≡ awaited list_moves core task call ticks (begun, self.old.notes) self.old }
+        ensures { (result, self.new)
+            ≡ awaited list_queues core task call ticks (begun, self.old.notes) self.old }
     {
         if begun && ticks > 0 {
-            self.block(core, task, call, awaited_for(ticks));
+            self.block(core, task, call, timeout_of(ticks));
             return Reply::Blocked;
         }
         self.complete(task, call)
@@ -91,7 +94,9 @@ impl Scheduler {
         requires core { core < self.old.settings.cores }
         requires task { task < self.old.settings.tasks }
         requires ready { has task self.old.orders.ready ≡ true }
-        ensures { (result, self.new) ≡ awaited list_moves core task call ticks (of_task task (wait_begun entry) self.old.notes) self.old }
+        ensures { (result, self.new)
+            ≡ awaited list_queues core task call ticks
+            (of_task task (wait_begun entry) self.old.notes) self.old }
     {
         let begun = self.notes.begin_wait(task, entry);
         self.await_note(core, task, call, ticks, begun)
@@ -102,16 +107,19 @@ impl Scheduler {
         requires core { core < self.old.settings.cores }
         requires task { task < self.old.settings.tasks }
         requires ready { has task self.old.orders.ready ≡ true }
-        ensures { (result, self.new) ≡ awaited list_moves core task call ticks (of_task task take_begun self.old.notes) self.old }
+        ensures { (result, self.new)
+            ≡ awaited list_queues core task call ticks
+            (of_task task take_begun self.old.notes) self.old }
     {
         let begun = self.notes.begin_take(task);
         self.await_note(core, task, call, ticks, begun)
     }
 }
 
-// A notification or a mutex is awaited for so many ticks; the greatest number is without end (FreeRTOS Reference Manual, portMAX_DELAY).
-pub(super) fn awaited_for(ticks: u32) -> Option<u32>
-    ensures { result ≡ awaited_for ticks }
+// A notification or a mutex is awaited for so many ticks; the greatest number is without end
+// (FreeRTOS Reference Manual, portMAX_DELAY).
+pub(super) fn timeout_of(ticks: u32) -> Option<u32>
+    ensures { result ≡ timeout_of ticks }
 {
     (ticks != u32::MAX).then_some(ticks)
 }

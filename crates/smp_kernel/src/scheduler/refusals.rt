@@ -3,7 +3,7 @@ ghost use Rattle.std.specs.Prelude.{◌≡◌, ◌<◌, Ok};
 ghost use Rattle.bench_types.specs.Step.{call_check, step_check, IsStepOfWords};
 ghost use Rattle.bench_types.specs.declared.step.Step.TheVariants.{Switch};
 ghost use Rattle.bench_model.specs.Control.{is_due};
-ghost use Rattle.bench_model.specs.Lists.{list_moves};
+ghost use Rattle.bench_model.specs.Lists.{list_queues};
 ghost use Rattle.bench_model.specs.Refusals.{call_refusal, give_refusal, would_block, hold_refusal, own_refusal, refusal};
 
 use super::Scheduler;
@@ -12,11 +12,12 @@ use bench_model::until::{is_ahead, next_wake};
 use bench_types::{Call, MAX_DEPTH, Refusal, Step, Unfinished};
 
 impl Scheduler {
-    // The first reason that applies. A core that holds the kernel keeps out switches and the calls of others.
+    // The first reason that applies. A core that holds the kernel keeps out switches and the calls
+    // of others.
     #[tactic(auto, unfolding(bench_model::specs::Refusals::refusal))]
     pub(super) fn refusal(&self, step: Step) -> Option<Refusal>
         requires { step_check self.now.settings step ≡ Ok tt }
-        ensures reason { result ≡ refusal list_moves step self.now }
+        ensures reason { result ≡ refusal list_queues step self.now }
         ensures words { IsStepOfWords step }
     {
         match step {
@@ -30,7 +31,7 @@ impl Scheduler {
     #[tactic(auto, unfolding(bench_model::specs::Refusals::refusal))]
     fn switch_refusal(&self, core: u32) -> Option<Refusal>
         requires { core < self.now.settings.cores }
-        ensures { result ≡ refusal list_moves (Switch core) self.now }
+        ensures { result ≡ refusal list_queues (Switch core) self.now }
     {
         if self.is_held() {
             Some(Refusal::Held)
@@ -46,7 +47,7 @@ impl Scheduler {
         requires core { core < self.now.settings.cores }
         requires task { task < self.now.settings.tasks }
         requires checked { call_check self.now.settings call ≡ Ok tt }
-        ensures { result ≡ own_refusal list_moves core task call self.now }
+        ensures { result ≡ own_refusal list_queues core task call self.now }
     {
         if self.cores.running(core) != task {
             Some(Refusal::Displaced)
@@ -68,13 +69,13 @@ impl Scheduler {
         look.pend || look.asked
     }
 
-    // A core that holds the kernel lets no task wait and holds it at most `MAX_DEPTH` times over, and
-    // one that doesn't can't free it.
+    // A core that holds the kernel lets no task wait and holds it at most `MAX_DEPTH` times over,
+    // and one that doesn't can't free it.
     #[tactic(auto, unfolding(bench_model::specs::Refusals::would_block))]
     fn hold_refusal(&self, core: u32, task: u32, call: Call) -> Option<Refusal>
         requires task { task < self.now.settings.tasks }
         requires checked { call_check self.now.settings call ≡ Ok tt }
-        ensures { result ≡ hold_refusal list_moves core task call self.now }
+        ensures { result ≡ hold_refusal list_queues core task call self.now }
     {
         let is_held = self.is_held_by(core);
         match call {
@@ -90,7 +91,7 @@ impl Scheduler {
     fn would_block(&self, task: u32, call: Call) -> bool
         requires task { task < self.now.settings.tasks }
         requires checked { call_check self.now.settings call ≡ Ok tt }
-        ensures { result ≡ would_block list_moves task call self.now }
+        ensures { result ≡ would_block list_queues task call self.now }
     {
         match call {
             Call::Delay(ticks) => ticks > 0,

@@ -1,11 +1,11 @@
 //! The calls that set a task's priority, core affinity mask and preemption.
 ghost use Rattle.std.specs.Prelude.{◌≡◌, ◌<◌, ◌==◌, ◌&&◌, true, not, IfSome};
 ghost use Rattle.list_orders.specs.Search.{has};
-ghost use Rattle.bench_model.specs.Control.{core_at, task_at, current, in_mask};
-ghost use Rattle.bench_model.specs.Lists.{list_moves};
+ghost use Rattle.bench_model.specs.Control.{core_at, task_at, current, in_mask, runs_on, ask_its_core};
+ghost use Rattle.bench_model.specs.Lists.{list_queues};
 ghost use Rattle.bench_model.specs.Seek.{seek};
-ghost use Rattle.bench_model.specs.Changes.{with_base, with_affinity, with_preemption, in_use_set};
-ghost use Rattle.bench_model.specs.Sets.{runs_on, ask_its_core, capped, in_use_behind, ranked_anew, masked_anew, priority_set, affinity_set, preemption_off, preemption_on};
+ghost use Rattle.bench_model.specs.ControlFields.{with_base, with_affinity, with_preemption, in_use_set};
+ghost use Rattle.bench_model.specs.PriorityAffinity.{capped, in_use_after, yields_after_priority_set, yields_after_affinity_set, priority_set, affinity_set, preemption_off, preemption_on};
 
 use super::Scheduler;
 
@@ -13,7 +13,8 @@ impl Scheduler {
     // Whether the core has the task and no other core asked it to switch.
     fn keeps_running(&self, core: u32, task: u32) -> bool
         requires { core < self.now.settings.cores }
-        ensures { result ≡ (current self.now.control core == task && not (core_at self.now.control core).asked) }
+        ensures { result
+            ≡ (current self.now.control core == task && not (core_at self.now.control core).asked) }
     {
         self.cores.running(core) == task && !self.cores.flags(core).asked
     }
@@ -26,9 +27,10 @@ impl Scheduler {
             .find(|core| self.keeps_running(*core, task))
     }
 
-    #[tactic(auto, unfolding(bench_model::specs::Sets::ask_its_core))]
+    #[tactic(auto, unfolding(bench_model::specs::Control::ask_its_core))]
     fn ask_its_core(&mut self, acting: u32, task: u32)
-        ensures { self.new ≡ record self.old { control = ask_its_core acting task self.old.control } }
+        ensures { self.new
+            ≡ record self.old { control = ask_its_core acting task self.old.control } }
     {
         if let Some(core) = self.its_core(task) {
             self.cores.ask(acting, core);
@@ -47,16 +49,18 @@ impl Scheduler {
     fn seek(&mut self, acting: u32, task: u32)
         requires task { task < self.old.settings.tasks }
         requires ready { has task self.old.orders.ready ≡ true }
-        ensures { self.new ≡ record self.old { control = seek acting task (in_mask self.old.control task) self.old.control } }
+        ensures { self.new ≡ record self.old {
+          control = seek acting task (in_mask self.old.control task) self.old.control;
+        } }
     {
         self.cores.yield_for(acting, task, self.cores.mask(task));
     }
 
-    // The priority in use behind a new base priority.
-    fn in_use_behind(&self, task: u32, priority: u32) -> u32
+    // The priority in use after a new base priority.
+    fn in_use_after(&self, task: u32, priority: u32) -> u32
         requires task { task < self.now.settings.tasks }
         requires priority { priority < self.now.settings.priorities }
-        ensures in_use { result ≡ in_use_behind (task_at self.now.control task) priority }
+        ensures in_use { result ≡ in_use_after (task_at self.now.control task) priority }
         ensures below { result < self.now.settings.priorities }
     {
         let in_use = self.cores.in_use(task);
@@ -83,7 +87,8 @@ impl Scheduler {
     fn set_base(&mut self, task: u32, priority: u32)
         requires task { task < self.old.settings.tasks }
         requires priority { priority < self.old.settings.priorities }
-        ensures { self.new ≡ record self.old { control = with_base task priority self.old.control } }
+        ensures { self.new
+            ≡ record self.old { control = with_base task priority self.old.control } }
     {
         self.cores.set_base(task, priority);
     }
@@ -91,18 +96,21 @@ impl Scheduler {
     fn set_in_use(&mut self, task: u32, priority: u32)
         requires task { task < self.old.settings.tasks }
         requires priority { priority < self.old.settings.priorities }
-        ensures set { self.new ≡ in_use_set list_moves task priority self.old }
+        ensures set { self.new ≡ in_use_set list_queues task priority self.old }
         ensures ready { has task self.new.orders.ready ≡ has task self.old.orders.ready }
         ensures settings { self.new.settings ≡ self.old.settings }
     {
         self.cores.set_in_use(task, priority);
     }
 
-    // Behind a new base priority: who is asked for the task, or to give it up.
-    #[tactic(auto, unfolding(bench_model::specs::Sets::ranked_anew))]
-    fn rank_anew(&mut self, acting: u32, task: u32, old: u32, new: u32)
+    // After a new base priority: who is asked for the task, or to give it up.
+    #[tactic(auto, unfolding(bench_model::specs::PriorityAffinity::yields_after_priority_set))]
+    fn yield_after_priority_set(&mut self, acting: u32, task: u32, old: u32, new: u32)
         requires { task < self.old.settings.tasks }
-        ensures { self.new ≡ record self.old { control = ranked_anew acting task old new (has task self.old.orders.ready) self.old.control } }
+        ensures { self.new ≡ record self.old {
+          control = yields_after_priority_set acting task old new
+              (has task self.old.orders.ready) self.old.control;
+        } }
     {
         if old < new && self.cores.ready(task) {
             self.seek(acting, task);
@@ -111,27 +119,31 @@ impl Scheduler {
         }
     }
 
-    #[tactic(auto, unfolding(bench_model::specs::Sets::priority_set))]
+    #[tactic(auto, unfolding(bench_model::specs::PriorityAffinity::priority_set))]
     pub(super) fn set_priority(&mut self, acting: u32, task: u32, priority: u32)
         requires { task < self.old.settings.tasks }
-        ensures { self.new ≡ priority_set list_moves acting task priority self.old }
+        ensures { self.new ≡ priority_set list_queues acting task priority self.old }
     {
         let old = self.cores.base(task);
         let new = self.capped(priority);
         if new == old {
             return;
         }
-        let in_use = self.in_use_behind(task, new);
+        let in_use = self.in_use_after(task, new);
         self.set_base(task, new);
         self.set_in_use(task, in_use);
-        self.rank_anew(acting, task, old, new);
+        self.yield_after_priority_set(acting, task, old, new);
     }
 
-    // Behind a new mask: the core that has the task is asked where the mask lacks it, or one is sought.
-    #[tactic(auto, unfolding(bench_model::specs::Sets::masked_anew))]
-    fn mask_anew(&mut self, acting: u32, task: u32)
+    // After a new mask: the core that has the task is asked where the mask lacks it, or one is
+    // sought.
+    #[tactic(auto, unfolding(bench_model::specs::PriorityAffinity::yields_after_affinity_set))]
+    fn yield_after_affinity_set(&mut self, acting: u32, task: u32)
         requires { task < self.old.settings.tasks }
-        ensures { self.new ≡ record self.old { control = masked_anew acting task (has task self.old.orders.ready) self.old.control } }
+        ensures { self.new ≡ record self.old {
+          control = yields_after_affinity_set acting task
+              (has task self.old.orders.ready) self.old.control;
+        } }
     {
         match self.its_core(task) {
             Some(core) if !self.is_in_mask(task, core) => self.cores.ask(acting, core),
@@ -142,39 +154,41 @@ impl Scheduler {
 
     fn set_mask(&mut self, task: u32, mask: u32)
         requires { task < self.old.settings.tasks }
-        ensures { self.new ≡ record self.old { control = with_affinity task mask self.old.control } }
+        ensures { self.new
+            ≡ record self.old { control = with_affinity task mask self.old.control } }
     {
         self.cores.set_mask(task, mask);
     }
 
-    #[tactic(auto, unfolding(bench_model::specs::Sets::affinity_set))]
+    #[tactic(auto, unfolding(bench_model::specs::PriorityAffinity::affinity_set))]
     pub(super) fn set_affinity(&mut self, acting: u32, task: u32, mask: u32)
         requires { task < self.old.settings.tasks }
-        ensures { self.new ≡ affinity_set list_moves acting task mask self.old }
+        ensures { self.new ≡ affinity_set list_queues acting task mask self.old }
     {
         self.set_mask(task, mask);
-        self.mask_anew(acting, task);
+        self.yield_after_affinity_set(acting, task);
     }
 
     fn set_preemption(&mut self, task: u32, on: bool)
         requires { task < self.old.settings.tasks }
-        ensures { self.new ≡ record self.old { control = with_preemption task on self.old.control } }
+        ensures { self.new
+            ≡ record self.old { control = with_preemption task on self.old.control } }
     {
         self.cores.set_preempt(task, on);
     }
 
-    #[tactic(auto, unfolding(bench_model::specs::Sets::preemption_off))]
+    #[tactic(auto, unfolding(bench_model::specs::PriorityAffinity::preemption_off))]
     pub(super) fn preempt_off(&mut self, task: u32)
         requires { task < self.old.settings.tasks }
-        ensures { self.new ≡ preemption_off list_moves task self.old }
+        ensures { self.new ≡ preemption_off list_queues task self.old }
     {
         self.set_preemption(task, false);
     }
 
-    #[tactic(auto, unfolding(bench_model::specs::Sets::preemption_on))]
+    #[tactic(auto, unfolding(bench_model::specs::PriorityAffinity::preemption_on))]
     pub(super) fn preempt_on(&mut self, acting: u32, task: u32)
         requires { task < self.old.settings.tasks }
-        ensures { self.new ≡ preemption_on list_moves acting task self.old }
+        ensures { self.new ≡ preemption_on list_queues acting task self.old }
     {
         self.set_preemption(task, true);
         self.ask_its_core(acting, task);

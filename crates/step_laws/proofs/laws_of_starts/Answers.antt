@@ -8,5 +8,5 @@ returns-clause-start_is_sound c = start_sound
 pub returns-clause-start_asks_none : goal.returns-clause-start_asks_none
 returns-clause-start_asks_none c = start_flags
 
-pub returns-clause-start_is_seen : goal.returns-clause-start_is_seen
-returns-clause-start_is_seen c = start_seen_lem
+pub returns-clause-start_simulates : goal.returns-clause-start_simulates
+returns-clause-start_simulates c = start_seen_lem

@@ -8,8 +8,8 @@ returns-clause-step_keeps_sound c = λ table step. after_sound step table
 pub returns-clause-switch_finds_task : goal.returns-clause-switch_finds_task
 returns-clause-switch_finds_task c = switch_selects
 
-pub returns-clause-step_is_seen : goal.returns-clause-step_is_seen
-returns-clause-step_is_seen c = λ table step. after_seen step table
+pub returns-clause-step_simulates : goal.returns-clause-step_simulates
+returns-clause-step_simulates c = λ table step. after_seen step table
 
 pub returns-clause-equal_stays_equal : goal.returns-clause-equal_stays_equal
 returns-clause-equal_stays_equal c = equal_after

@@ -1,5 +1,5 @@
 use Rattle.std.proofs.Common.{refl}
-use Rattle.bench_model.specs.Changes.{in_use_set}
+use Rattle.bench_model.specs.ControlFields.{in_use_set}
 use Rattle.worked_examples.proofs.Examples.{computed}
 use Rattle.worked_examples.proofs.examples_of_control_blocks.Goals as goal
 

@@ -1,13 +1,13 @@
 use Rattle.std.proofs.Common.{◌≡◌, take}
 use Rattle.bench_model.specs.Table.{Table}
 use Rattle.bench_model.specs.Equal.{StandsFor}
-use Rattle.bench_model.specs.Session.{behind}
-use Rattle.session_store.specs.Counting.{counted}
+use Rattle.bench_model.specs.Session.{state_after}
+use Rattle.session_store.specs.Counting.{meter_after}
 use Rattle.session_store.proofs.replay.advance.Given as goal
 
 abbrev pub invariant-loop-step : goal.invariant-loop-step
 invariant-loop-step l = record {
-  state : (table : Table) → StandsFor l.fn.kernel table → StandsFor l.kernel (behind table (take l.step-index l.steps));
+  state : (table : Table) → StandsFor l.fn.kernel table → StandsFor l.kernel (state_after table (take l.step-index l.steps));
   shape : l.kernel.settings ≡ l.fn.kernel.settings;
-  meter : l.meter ≡ counted l.step-index l.fn.meter;
+  meter : l.meter ≡ meter_after l.step-index l.fn.meter;
 }

@@ -2,8 +2,8 @@ use Rattle.std.proofs.Common.{◌≡◌, ℕ, ◌+◌, ◌-◌, ◌^◌, min, re
 use Rattle.arrayvec.specs.ArrayVec.{ArrayVec}
 use Rattle.bench_types.specs.declared.reply.Reply.{Reply}
 use Rattle.bench_types.specs.declared.step.Step.TheVariants.{Tick}
-use Rattle.session_store.specs.Counting.{counted}
-use Rattle.bench_model.specs.Session.{step_of, behind}
+use Rattle.session_store.specs.Counting.{meter_after}
+use Rattle.bench_model.specs.Session.{step_of, state_after}
 use Rattle.session_store.proofs.Counts.{counted_more, counts_some}
 use Rattle.session_store.proofs.Replays.{IsReplayed, replayed_starts, replayed_goes, replayed_ends}
 use Rattle.session_store.proofs.replay.outcomes_of.Goals as goal
@@ -14,7 +14,7 @@ returns-in_err-outcomes-clause-some c = counts_some c.from_residual.result 0 (le
 pub row_of-requires-clause-stands : goal.row_of-requires-clause-stands
 row_of-requires-clause-stands c =
     let stands = c.requires.stands in
-    let before = behind stands.0 (take c.loop-step.step-index c.args.steps.now) in
+    let before = state_after stands.0 (take c.loop-step.step-index c.args.steps.now) in
     ((step_of (get_or c.args.steps.now c.loop-step.step-index Tick) before).1, c.step-reply.ensures.state before (c.loop-step.invariant.so_far stands.0 stands.1).stands)
 
 pub loop-step-init : goal.loop-step-init
@@ -42,4 +42,4 @@ returns-clause-outcomes c = λ table stands. replayed_ends table c.args.steps.no
 pub returns-clause-meter : goal.returns-clause-meter
 returns-clause-meter c =
     let all : c.loop-step.step-index ≡ length c.args.steps.now = omega arith in
-    c.loop-step.invariant.meter ∙ ap (λ steps. counted steps c.args.meter.now) all
+    c.loop-step.invariant.meter ∙ ap (λ steps. meter_after steps c.args.meter.now) all

@@ -1,7 +1,7 @@
 use Rattle.std.proofs.Common.{◌≡◌}
 use Rattle.bench_model.specs.Table.{Table}
 use Rattle.bench_model.specs.Equal.{StandsFor}
-use Rattle.session_store.specs.Counting.{counted}
+use Rattle.session_store.specs.Counting.{meter_after}
 use Rattle.session_store.proofs.Replays.{IsReplayed}
 use Rattle.session_store.proofs.replay.outcomes_of.Given as goal
 
@@ -9,5 +9,5 @@ abbrev pub invariant-loop-step : goal.invariant-loop-step
 invariant-loop-step l = record {
   so_far : (table : Table) → StandsFor l.fn.kernel table → IsReplayed table l.steps l.step-index l.kernel l.outcomes.items;
   shape : l.kernel.settings ≡ l.fn.kernel.settings;
-  meter : l.meter ≡ counted l.step-index l.fn.meter;
+  meter : l.meter ≡ meter_after l.step-index l.fn.meter;
 }

@@ -3,9 +3,9 @@ use Rattle.std.specs.List.{list_any}
 use Rattle.std.proofs.lemmas.List.Elements.{recursion_from_All}
 use Rattle.list_orders.specs.Search.{has}
 use Rattle.bench_model.specs.Control.{task_at}
-use Rattle.bench_model.specs.Lists.{list_moves}
+use Rattle.bench_model.specs.Lists.{list_queues}
 use Rattle.bench_model.specs.Seek.{ready_in}
-use Rattle.bench_model.specs.Cores.{CoresView, alone}
+use Rattle.bench_model.specs.Cores.{CoresView, bare_view}
 use Rattle.ready_core.specs.Fields.{control_from, seen_of, shares_list}
 use Rattle.ready_core.proofs.Queues.{ready-has}
 use Rattle.ready_core.proofs.Slices.{shares_by_queue}
@@ -24,5 +24,5 @@ returns-then-ready c =
     ∙ ap (λ blocks. list_any (shares_list blocks task) c.deref-then-ready.result.now) c.deref.ensures.value
     ∙ ap (list_any (shares_list tasks task)) c.deref-then-ready.ensures.value
     ∙ sym (shares_by_queue view queue task (λ t. ready-has control t queue) (recursion_from_All (λ t. t < length tasks) queue c.self.invariant.ready.below) low ready)
-    ∙ ap (λ b. b && ltb 1 (length (ready_in list_moves (task_at view.control task).in_use (alone view)))) (sym ready)
-    ∙ ap (λ (v : CoresView). has task v.ready && ltb 1 (length (ready_in list_moves (task_at v.control task).in_use (alone v)))) c.self.view_is
+    ∙ ap (λ b. b && ltb 1 (length (ready_in list_queues (task_at view.control task).in_use (bare_view view)))) (sym ready)
+    ∙ ap (λ (v : CoresView). has task v.ready && ltb 1 (length (ready_in list_queues (task_at v.control task).in_use (bare_view v)))) c.self.view_is

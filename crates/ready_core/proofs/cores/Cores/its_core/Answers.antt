@@ -2,8 +2,7 @@ use Rattle.std.proofs.Common.{not, eqb, ◌&&◌, length, rules, tests, arith, �
 use Rattle.std.proofs.lemmas.Iterator.Adapters.{option_map_id}
 use Rattle.std.proofs.lemmas.Iterator.{YieldsList-from_range}
 use Rattle.std.proofs.lemmas.Iterator.Search.{find_from_yields_List}
-use Rattle.bench_model.specs.Control.{core_at, current}
-use Rattle.bench_model.specs.Sets.{runs_on}
+use Rattle.bench_model.specs.Control.{core_at, current, runs_on}
 use Rattle.ready_core.proofs.cores.Cores.its_core.Goals as goal
 
 pub returns-clause-core : goal.returns-clause-core

@@ -3,7 +3,7 @@ use Rattle.std.specs.Prelude.{unwrap_or, OnErr}
 use Rattle.bench_model.specs.Edits.{accepted, edited}
 use Rattle.session_store.specs.declared.outcome.Outcome.{Outcome}
 use Rattle.session_store.specs.declared.fault.StoreFault.{StoreFault}
-use Rattle.session_store.specs.Counting.{counted, CountsUpTo}
+use Rattle.session_store.specs.Counting.{meter_after, CountsUpTo}
 use Rattle.session_store.specs.Outcomes.{answer, replayed_for, whole_replay}
 use Rattle.session_store.specs.StoreView.{StoreView}
 use Rattle.session_store.proofs.EditLists.{IsMade, made_ok, made_err, made_some}
@@ -18,7 +18,7 @@ returns-in-Ok c =
     let current : c.unwrap_or-store.result.now ≡ unwrap_or c.args.last.now c.args.self.now = lent_or c.as_ref.result c.args.self c.unwrap_or-store.result c.args.last.now c.unwrap_or-store.ensures c.as_ref.ensures.value in
     let steps = λ (view : StoreView). length view.session.steps in
     let whole = c.whole-outcome.ensures ∙ ap whole_replay (c.len.ensures.steps ∙ ap steps c.in-Ok.ensures.session) in
-    let meter = c.in-Ok.ensures.meter ∙ ap (λ (o : Outcome). counted o.replayed c.args.meter.now) (sym whole) in
+    let meter = c.in-Ok.ensures.meter ∙ ap (λ (o : Outcome). meter_after o.replayed c.args.meter.now) (sym whole) in
     let made = made_ok c.unwrap_or-store.result.now c.in-Ok.next c.args.edit c.whole-outcome.result c.args.meter.now c.edited.new.meter c.in-Ok.ensures.taken whole c.in-Ok.ensures.session meter in
     let same = subst (λ (old : StoreView). IsMade old c.args.edit (Ok c.whole-outcome.result) c.in-Ok.next c.args.meter.now c.edited.new.meter) current made in
     record { answer = same.given; session = same.stored; meter = same.meter; some = tt }

@@ -3,10 +3,10 @@ use Rattle.std.specs.Prelude.{All}
 use Rattle.std.proofs.lemmas.List.Elements.{All-take}
 use Rattle.bench_types.specs.Step.{settings_of, step_check}
 use Rattle.bench_model.specs.Equal.{StandsFor}
-use Rattle.bench_model.specs.Session.{behind, state_at}
+use Rattle.bench_model.specs.Session.{state_after, state_at}
 use Rattle.bench_model.specs.Start.{start}
 use Rattle.session_store.specs.StoreView.{StoreView}
-use Rattle.session_store.proofs.Places.{state_behind}
+use Rattle.session_store.proofs.Places.{state_at_place}
 use Rattle.session_store.proofs.store.Store.state.Goals as goal
 
 pub advance-requires : goal.advance-requires
@@ -21,6 +21,6 @@ returns-clause-stands c =
     let header = c.self.inside.header in
     let kept = c.self.inside.segment.steps.items in
     subst (λ table. StandsFor c.advance.new.kernel table)
-    (ap (λ steps. behind (start header) (take c.args.place steps)) c.as_slice-steps.ensures.value ∙ state_behind header kept c.args.place
+    (ap (λ steps. state_after (start header) (take c.args.place steps)) c.as_slice-steps.ensures.value ∙ state_at_place header kept c.args.place
     ∙ ap (λ (view : StoreView). state_at view.session.header view.session.steps c.args.place) c.self.view_is)
     (c.advance.ensures.state (start header) c.in_ok-kernel.ensures.stands)

@@ -1,6 +1,6 @@
 use Rattle.std.proofs.Common.{None, ap, ◌∙◌}
 use Rattle.std.specs.Prelude.{slice_set}
-use Rattle.bench_model.specs.Lists.{View, list_moves}
+use Rattle.bench_model.specs.Lists.{View, list_queues}
 use Rattle.bench_model.specs.Mutexes.{disinherited}
 use Rattle.smp_kernel.proofs.Owing.{give_seen, give_shape}
 use Rattle.smp_kernel.proofs.scheduler.Scheduler.give_up.Goals as goal
@@ -12,4 +12,4 @@ pub returns-clause-given : goal.returns-clause-given
 returns-clause-given c =
     rw (c.give.ensures.holders, c.give.ensures.cores)
     (give_seen _ c.self.invariant c.args.core c.args.task c.args.mutex
-    ∙ ap (λ (view : View). disinherited list_moves c.args.core c.args.task (record view { holders = slice_set view.holders c.args.mutex None })) c.self.view_is)
+    ∙ ap (λ (view : View). disinherited list_queues c.args.core c.args.task (record view { holders = slice_set view.holders c.args.mutex None })) c.self.view_is)

@@ -1,6 +1,6 @@
 use Rattle.std.proofs.Common.{◌≡◌, ◌∙◌, ap, sym, arith}
-use Rattle.bench_model.specs.Seek.{switched_and_sought}
-use Rattle.bench_model.specs.Lists.{View, list_moves}
+use Rattle.bench_model.specs.Seek.{after_switch}
+use Rattle.bench_model.specs.Lists.{View, list_queues}
 use Rattle.bench_model.specs.Start.{first_lists, unstarted}
 use Rattle.smp_kernel.proofs.Firsts.{in_turn, in_turn_none, in_turn_more, in_turn_all, in_turn_settings}
 use Rattle.smp_kernel.proofs.scheduler.Scheduler.start.Goals as goal
@@ -14,7 +14,7 @@ switch-requires c =
 
 pub loop-core-preserved : goal.loop-core-preserved
 loop-core-preserved c =
-    c.switch.ensures ∙ ap (switched_and_sought list_moves c.loop-core.core) c.loop-core.invariant ∙ sym (in_turn_more (unstarted (first_lists c.args.header.now) c.args.header.now) c.loop-core.core)
+    c.switch.ensures ∙ ap (after_switch list_queues c.loop-core.core) c.loop-core.invariant ∙ sym (in_turn_more (unstarted (first_lists c.args.header.now) c.args.header.now) c.loop-core.core)
 
 pub returns : goal.returns
 returns c =

@@ -1,6 +1,6 @@
 use Rattle.std.proofs.Common.{ap, ◌∙◌}
-use Rattle.bench_model.specs.Lists.{list_moves}
-use Rattle.bench_model.specs.Seek.{switched_and_sought}
+use Rattle.bench_model.specs.Lists.{list_queues}
+use Rattle.bench_model.specs.Seek.{after_switch}
 use Rattle.smp_kernel.proofs.CoreMoves.{turn_seen, turn_shape}
 use Rattle.smp_kernel.proofs.scheduler.Scheduler.switch.Goals as goal
 
@@ -8,4 +8,4 @@ pub invariant_of-self : goal.invariant_of-self
 invariant_of-self c = rw c.select.ensures (turn_shape _ c.self.invariant c.args.core)
 
 pub returns : goal.returns
-returns c = rw c.select.ensures (turn_seen _ c.self.invariant c.args.core ∙ ap (switched_and_sought list_moves c.args.core) c.self.view_is)
+returns c = rw c.select.ensures (turn_seen _ c.self.invariant c.args.core ∙ ap (after_switch list_queues c.args.core) c.self.view_is)

@@ -1,5 +1,5 @@
 use Rattle.std.proofs.Common.{true, ap, ◌∙◌}
-use Rattle.bench_model.specs.Lists.{View, list_moves}
+use Rattle.bench_model.specs.Lists.{View, list_queues}
 use Rattle.bench_model.specs.Mutexes.{timed_out}
 use Rattle.mutex_inherit.specs.Parts.{holder_of}
 use Rattle.smp_kernel.proofs.Owing.{lower_where_shape, timed_out_seen}
@@ -12,4 +12,4 @@ pub returns-then-mark : goal.returns-then-mark
 returns-then-mark c =
     rw (c.after_timeout.ensures, c.if-mark.true)
     (timed_out_seen _ c.self.invariant c.args.core c.args.task c.args.mutex (holder_of c.self.inside.mutexes.holders c.args.mutex)
-    ∙ ap (λ (view : View). timed_out list_moves c.args.core c.args.task c.args.mutex true (holder_of view.holders c.args.mutex) view) c.self.view_is)
+    ∙ ap (λ (view : View). timed_out list_queues c.args.core c.args.task c.args.mutex true (holder_of view.holders c.args.mutex) view) c.self.view_is)

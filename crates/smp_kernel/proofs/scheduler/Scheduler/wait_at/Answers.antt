@@ -1,7 +1,7 @@
 use Rattle.std.proofs.Common.{length, ap, ◌∙◌, arith}
 use Rattle.list_orders.specs.Search.{has}
 use Rattle.bench_model.specs.Cores.{CoresView}
-use Rattle.bench_model.specs.Lists.{View, list_moves}
+use Rattle.bench_model.specs.Lists.{View, list_queues}
 use Rattle.bench_model.specs.Mutexes.{waited_at}
 use Rattle.mutex_inherit.specs.Parts.{holder_of}
 use Rattle.smp_kernel.proofs.Blocks.{not_waiting, raised_cores, raised_tasks, wait_seen, wait_shape}
@@ -32,4 +32,4 @@ returns c =
     let holder = holder_of c.self.inside.mutexes.holders c.args.mutex in
     rw (c.set.ensures, c.delay_for.ensures, c.unready.ensures, c.ask.ensures, c.wait_on-mark.ensures.cores, c.wait_on-mark.ensures.waiters, c.wait_on-mark.ensures.mark)
     (wait_seen _ c.self.invariant c.args.core c.args.task c.args.mutex holder c.args.ticks
-    ∙ ap (λ (view : View). waited_at list_moves c.args.core c.args.task c.args.mutex (holder_of view.holders c.args.mutex) c.args.ticks view) c.self.view_is)
+    ∙ ap (λ (view : View). waited_at list_queues c.args.core c.args.task c.args.mutex (holder_of view.holders c.args.mutex) c.args.ticks view) c.self.view_is)

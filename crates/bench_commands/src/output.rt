@@ -11,7 +11,9 @@ use std::alloc::{AllocError, Global};
 // The line of the step at the place, none past the last.
 fn push_line(text: &mut String, store: &Store, place: u32) -> Result<(), AllocError>
     requires { place < max_steps }
-    ensures { OnOk result (string_bytes text.new ≡ string_bytes text.old ++ line_at store.now.session.header store.now.session.steps place) }
+    ensures { OnOk result
+        (string_bytes text.new
+        ≡ string_bytes text.old ++ line_at store.now.session.header store.now.session.steps place) }
 {
     let Some(reply) = store.reply(place) else {
         return Ok(());
@@ -24,7 +26,8 @@ fn push_line(text: &mut String, store: &Store, place: u32) -> Result<(), AllocEr
 
 // The tasks that run at the start.
 fn push_start(text: &mut String, store: &Store) -> Result<(), AllocError>
-    ensures { OnOk result (string_bytes text.new ≡ string_bytes text.old ++ first_line store.now.session.header) }
+    ensures { OnOk result
+        (string_bytes text.new ≡ string_bytes text.old ++ first_line store.now.session.header) }
 {
     match store.row(0) {
         Some(row) => push_start_line(text, store.header(), row.as_slice()),
@@ -33,7 +36,9 @@ fn push_start(text: &mut String, store: &Store) -> Result<(), AllocError>
 }
 
 fn push_replay(text: &mut String, store: &Store) -> Result<(), AllocError>
-    ensures { OnOk result (string_bytes text.new ≡ string_bytes text.old ++ replay_text store.now.session.header store.now.session.steps) }
+    ensures { OnOk result
+        (string_bytes text.new
+        ≡ string_bytes text.old ++ replay_text store.now.session.header store.now.session.steps) }
 {
     push_start(text, store)?;
     for place in 0..store.len() {
@@ -42,7 +47,8 @@ fn push_replay(text: &mut String, store: &Store) -> Result<(), AllocError>
     Ok(())
 }
 
-/// Makes the edits, and gives a line for each, then those of a replay of the session that they leave.
+/// Makes the edits, and gives a line for each, then those of a replay of the session that they
+/// leave.
 pub(crate) fn edited_replay(
     alloc: Global,
     meter: &mut Meter,

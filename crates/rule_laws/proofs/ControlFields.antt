@@ -6,16 +6,17 @@ use Rattle.std.proofs.lemmas.List.{length-set}
 use Rattle.bench_types.specs.declared.kernel_data.TaskControl.{TaskControl}
 use Rattle.list_orders.specs.Search.{placed, ranked, without, has}
 use Rattle.bench_model.specs.Control.{Control, task_at}
-use Rattle.bench_model.specs.Changes.{with_task, with_in_use, in_use_set}
-use Rattle.bench_model.specs.Table.{Stamps, Table, table_moves, stands_ready, is_ready, make_ready}
+use Rattle.bench_model.specs.ControlFields.{with_task, with_in_use, in_use_set}
+use Rattle.bench_model.specs.Table.{Stamps, Table, stamp_queues, stands_ready, is_ready, add_to_ready_list}
 use Rattle.bench_model.specs.Lists as seen
-use Rattle.bench_model.specs.Lists.{Lists, list_moves, lists_of, outranks, image}
+use Rattle.bench_model.specs.Lists.{Lists, list_queues, lists_of, outranks, view_of}
 use Rattle.bench_model.specs.Sound.{IsControlBlock, IsConsistent}
 use Rattle.order_laws.proofs.Entries.{without_absent}
 use Rattle.order_laws.proofs.Restamps.{standing_so}
 use Rattle.order_laws.proofs.SeenMoves.{is_ready_seen, make_ready_seen}
 use Rattle.order_laws.proofs.SeenSteps.{same_state}
 use Rattle.order_laws.proofs.SoundSteps.{ready_sound}
+use Rattle.order_laws.proofs.Sizes.{lengths_of, resized}
 
 -- what is seen of stamps where some items stay in front of others
 lists_by : (ℕ → ℕ → Bool) → Stamps → Lists
@@ -31,17 +32,7 @@ change_apart control stamps task block kept =
 
 pub change_sound : (table : Table) (task : ℕ) (block : TaskControl) → IsConsistent table → IsControlBlock table.settings block → IsConsistent (record table { control = with_task task block table.control })
 change_sound table task block sound low = record {
-  sized = record {
-    cores = sound.sized.cores;
-    controls = length-set table.control.tasks task block ∙ sound.sized.controls;
-    calls = sound.sized.calls;
-    holders = sound.sized.holders;
-    rows = sound.sized.rows;
-    deadlines = sound.sized.deadlines;
-    some_core = sound.sized.some_core;
-    idle_tasks = sound.sized.idle_tasks;
-    notes = sound.sized.notes;
-  };
+  sized = resized table _ refl (ap (λ a. record (lengths_of table) { controls = a }) (length-set table.control.tasks task block)) sound.sized;
   stamped = sound.stamped;
   in_place = record {
     is_task = sound.in_place.is_task;
@@ -60,9 +51,9 @@ change_sound table task block sound low = record {
 }
 
 -- of the changed task the old place is read no more
-moved_last : (control changed : Control) (task : ℕ) (stamps : Stamps) → without task (ranked (outranks changed) (standing_so stands_ready stamps)) ≡ without task (ranked (outranks control) (standing_so stands_ready stamps)) → seen.make_ready changed task (lists_of changed stamps) ≡ seen.make_ready changed task (lists_of control stamps)
-unfolding lists_of seen.make_ready
-moved_last control changed task stamps same = ap (λ others. record (seen.make_ready changed task (lists_of control stamps)) { ready = placed (outranks changed) task others }) same
+moved_last : (control changed : Control) (task : ℕ) (stamps : Stamps) → without task (ranked (outranks changed) (standing_so stands_ready stamps)) ≡ without task (ranked (outranks control) (standing_so stands_ready stamps)) → seen.add_to_ready_list changed task (lists_of changed stamps) ≡ seen.add_to_ready_list changed task (lists_of control stamps)
+unfolding lists_of seen.add_to_ready_list
+moved_last control changed task stamps same = ap (λ others. record (seen.add_to_ready_list changed task (lists_of control stamps)) { ready = placed (outranks changed) task others }) same
 
 has_ready : (control : Control) (task : ℕ) (stamps : Stamps) → has task (lists_of control stamps).ready ≡ has task (ranked (outranks control) (standing_so stands_ready stamps))
 unfolding lists_of
@@ -86,7 +77,7 @@ blocked_apart table task priority sound low blocked =
     same : ranked (outranks changed) queue ≡ ranked (outranks table.control) queue
     same = sym (absent changed) ∙ others_stay table.control task _ queue ∙ absent table.control
 
-pub in_use_seen : (table : Table) (task priority : ℕ) → IsConsistent table → task < table.settings.tasks → image (in_use_set table_moves task priority table) ≡ in_use_set list_moves task priority (image table)
+pub in_use_seen : (table : Table) (task priority : ℕ) → IsConsistent table → task < table.settings.tasks → view_of (in_use_set stamp_queues task priority table) ≡ in_use_set list_queues task priority (view_of table)
 unfolding in_use_set
 in_use_seen table task priority sound low = at (is_ready task table.orders) refl (has task (lists_of table.control table.orders).ready) (is_ready_seen table.control table.orders task sound.stamped.given below)
   where
@@ -96,13 +87,13 @@ in_use_seen table task priority sound low = at (is_ready task table.orders) refl
     below : task < length table.orders.rows
     below = omega (arith, sound.sized.rows)
 
-    at : (b : Bool) → is_ready task table.orders ≡ b → (d : Bool) → d ≡ is_ready task table.orders → image (record table { control = changed; orders = cond b (make_ready task table.orders) table.orders }) ≡ record (image table) { control = changed; orders = cond d (seen.make_ready changed task (lists_of table.control table.orders)) (lists_of table.control table.orders) }
+    at : (b : Bool) → is_ready task table.orders ≡ b → (d : Bool) → d ≡ is_ready task table.orders → view_of (record table { control = changed; orders = cond b (add_to_ready_list task table.orders) table.orders }) ≡ record (view_of table) { control = changed; orders = cond d (seen.add_to_ready_list changed task (lists_of table.control table.orders)) (lists_of table.control table.orders) }
     at true is true same = same_state table.settings changed changed table.calls table.notes table.holders table.hold _ _ refl (make_ready_seen changed table.orders task sound.stamped.given below ∙ moved_last table.control changed task table.orders (others_stay table.control task _ (standing_so stands_ready table.orders)))
     at false is false same = same_state table.settings changed changed table.calls table.notes table.holders table.hold _ _ refl (blocked_apart table task priority sound low is)
     at true is false same = absurd (cc (is, same))
     at false is true same = absurd (cc (is, same))
 
-pub in_use_sound : (table : Table) (task priority : ℕ) → IsConsistent table → task < table.settings.tasks → priority < table.settings.priorities → IsConsistent (in_use_set table_moves task priority table)
+pub in_use_sound : (table : Table) (task priority : ℕ) → IsConsistent table → task < table.settings.tasks → priority < table.settings.priorities → IsConsistent (in_use_set stamp_queues task priority table)
 unfolding in_use_set
 in_use_sound table task priority sound low below = at (is_ready task table.orders)
   where
@@ -112,6 +103,6 @@ in_use_sound table task priority sound low below = at (is_ready task table.order
     still : IsConsistent changed
     still = let block = sound.blocks task low in change_sound table task _ sound (record { in_use = below; base = block.base; mask = block.mask })
 
-    at : (b : Bool) → IsConsistent (record changed { orders = cond b (make_ready task changed.orders) changed.orders })
+    at : (b : Bool) → IsConsistent (record changed { orders = cond b (add_to_ready_list task changed.orders) changed.orders })
     at true = ready_sound changed task still low
     at false = still

@@ -3,7 +3,7 @@ use Rattle.std.specs.Prelude.{OnOk}
 use Rattle.session_store.specs.StoreView.{row_items}
 use Rattle.bench_commands.specs.Lines.{start_line}
 use Rattle.bench_commands.proofs.Replays.{start_shown, start_not_none}
-use Rattle.bench_commands.proofs.replay.push_start.Goals as goal
+use Rattle.bench_commands.proofs.output.push_start.Goals as goal
 
 pub returns-in-Some : goal.returns-in-Some
 returns-in-Some c =

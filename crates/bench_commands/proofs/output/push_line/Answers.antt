@@ -4,7 +4,7 @@ use Rattle.std.proofs.lemmas.List.{append-nil}
 use Rattle.session_store.specs.StoreView.{row_items}
 use Rattle.bench_commands.specs.Lines.{step_line}
 use Rattle.bench_commands.proofs.Replays.{line_of}
-use Rattle.bench_commands.proofs.replay.push_line.Goals as goal
+use Rattle.bench_commands.proofs.output.push_line.Goals as goal
 
 pub returns-in_default-row : goal.returns-in_default-row
 returns-in_default-row c =

@@ -2,7 +2,7 @@ use Rattle.std.proofs.Common.{◌≡◌, ℕ, ◌+◌, length, ap, subst, sym, a
 use Rattle.std.specs.declared.ops.Range.{Range}
 use Rattle.bench_model.specs.Cores.{has_core}
 use Rattle.ready_core.proofs.Asks.{IsBestBelow, best_more, best_is_asked}
-use Rattle.ready_core.proofs.cores.Cores.asked_for.Goals as goal
+use Rattle.ready_core.proofs.cores.Cores.core_to_yield.Goals as goal
 
 pub loop-core-preserved : goal.loop-core-preserved
 loop-core-preserved c =

@@ -1,7 +1,7 @@
 use Rattle.std.proofs.Common.{◌++◌, string_bytes, ap, ◌∙◌, arith}
 use Rattle.bench_commands.specs.Answer.{line_at}
 use Rattle.bench_commands.proofs.Replays.{lines_start, lines_next, lines_end}
-use Rattle.bench_commands.proofs.replay.push_replay.Goals as goal
+use Rattle.bench_commands.proofs.output.push_replay.Goals as goal
 
 pub loop-place-init : goal.loop-place-init
 loop-place-init c = c.in_ok-push_start.ensures ∙ lines_start (string_bytes c.args.text.now) c.args.store.now.session.header c.args.store.now.session.steps

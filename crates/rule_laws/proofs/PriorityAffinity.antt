@@ -9,17 +9,17 @@ use Rattle.std.proofs.Math.Nat.{mod-lt}
 use Rattle.bench_types.specs.declared.kernel_data.TaskControl.{TaskControl}
 use Rattle.bench_types.specs.Header.{cores_of_mask}
 use Rattle.list_orders.specs.Search.{numbers}
-use Rattle.bench_model.specs.Control.{Control, core_at, task_at, current, in_mask, ask}
-use Rattle.bench_model.specs.Table.{Stamps, Table, table_moves, is_ready}
+use Rattle.bench_model.specs.Control.{Control, core_at, task_at, current, in_mask, ask, runs_on, ask_its_core}
+use Rattle.bench_model.specs.Table.{Stamps, Table, stamp_queues, is_ready}
 use Rattle.bench_model.specs.Lists as seen
-use Rattle.bench_model.specs.Lists.{View, list_moves, lists_of, image}
+use Rattle.bench_model.specs.Lists.{View, list_queues, lists_of, view_of}
 use Rattle.bench_model.specs.Seek.{is_running, seek}
-use Rattle.bench_model.specs.Changes.{with_task, with_base, with_affinity, with_preemption, in_use_set}
-use Rattle.bench_model.specs.Sets.{runs_on, ask_its_core, capped, in_use_behind, ranked_anew, masked_anew, priority_set, affinity_set, preemption_off, preemption_on}
+use Rattle.bench_model.specs.ControlFields.{with_task, with_base, with_affinity, with_preemption, in_use_set}
+use Rattle.bench_model.specs.PriorityAffinity.{capped, in_use_after, yields_after_priority_set, yields_after_affinity_set, priority_set, affinity_set, preemption_off, preemption_on}
 use Rattle.rule_laws.specs.SetLaws.{on_control}
 use Rattle.bench_model.specs.Sound.{IsControlBlock, IsConsistent}
 use Rattle.list_orders.proofs.Bests.{found}
-use Rattle.rule_laws.proofs.Changes.{change_apart, change_sound, in_use_seen, in_use_sound}
+use Rattle.rule_laws.proofs.ControlFields.{change_apart, change_sound, in_use_seen, in_use_sound}
 use Rattle.list_orders.proofs.Filters.{All-has}
 use Rattle.rule_laws.proofs.Seeks.{seek_more}
 use Rattle.order_laws.proofs.SeenMoves.{is_ready_seen}
@@ -64,16 +64,16 @@ its_core_more acting task control = at (runs_on control task) refl
     at None same = none_more control
     at (Some core) same = asked_more control acting core (runs_below control task core same)
 
-pub ranked_more : (acting task old new : ℕ) (ready : Bool) (control : Control) → IsAskedMore control (ranked_anew acting task old new ready control)
-unfolding ranked_anew
+pub ranked_more : (acting task old new : ℕ) (ready : Bool) (control : Control) → IsAskedMore control (yields_after_priority_set acting task old new ready control)
+unfolding yields_after_priority_set
 ranked_more acting task old new ready control =
     let asked = ask_its_core acting task control in
     let lowered = ltb new old && (task_at control task).preempt in
     either_more control (seek acting task (in_mask control task) control) (cond lowered asked control) (ltb old new && ready) (seek_more acting task (in_mask control task) control)
     (either_more control asked control lowered (its_core_more acting task control) (none_more control))
 
-pub masked_more : (acting task : ℕ) (ready : Bool) (control : Control) → IsAskedMore control (masked_anew acting task ready control)
-unfolding masked_anew
+pub masked_more : (acting task : ℕ) (ready : Bool) (control : Control) → IsAskedMore control (yields_after_affinity_set acting task ready control)
+unfolding yields_after_affinity_set
 masked_more acting task ready control = at (runs_on control task) refl
   where
     sought : Control
@@ -88,29 +88,29 @@ more_apart : (control other : Control) (stamps : Stamps) → IsAskedMore control
 more_apart control other stamps more =
     ap (λ (tasks : List TaskControl). lists_of (record { cores = other.cores; tasks = tasks }) stamps) more.tasks ∙ lists_of_cores control other.cores stamps
 
-more_seen : (table : Table) (other : Control) → IsAskedMore table.control other → image (with_control table other) ≡ record (image table) { control = other }
+more_seen : (table : Table) (other : Control) → IsAskedMore table.control other → view_of (with_control table other) ≡ record (view_of table) { control = other }
 more_seen table other more = same_state table.settings other other table.calls table.notes table.holders table.hold _ _ refl (more_apart table.control other table.orders more)
 
-pub its_core_seen : (table : Table) (acting task : ℕ) → image (on_control (ask_its_core acting task) table) ≡ on_control (ask_its_core acting task) (image table)
+pub its_core_seen : (table : Table) (acting task : ℕ) → view_of (on_control (ask_its_core acting task) table) ≡ on_control (ask_its_core acting task) (view_of table)
 its_core_seen table acting task = more_seen table (ask_its_core acting task table.control) (its_core_more acting task table.control)
 
-pub ranked_seen : (table : Table) (acting task old new : ℕ) (ready : Bool) → image (on_control (ranked_anew acting task old new ready) table) ≡ on_control (ranked_anew acting task old new ready) (image table)
-ranked_seen table acting task old new ready = more_seen table (ranked_anew acting task old new ready table.control) (ranked_more acting task old new ready table.control)
+pub ranked_seen : (table : Table) (acting task old new : ℕ) (ready : Bool) → view_of (on_control (yields_after_priority_set acting task old new ready) table) ≡ on_control (yields_after_priority_set acting task old new ready) (view_of table)
+ranked_seen table acting task old new ready = more_seen table (yields_after_priority_set acting task old new ready table.control) (ranked_more acting task old new ready table.control)
 
-pub masked_seen : (table : Table) (acting task : ℕ) (ready : Bool) → image (on_control (masked_anew acting task ready) table) ≡ on_control (masked_anew acting task ready) (image table)
-masked_seen table acting task ready = more_seen table (masked_anew acting task ready table.control) (masked_more acting task ready table.control)
+pub masked_seen : (table : Table) (acting task : ℕ) (ready : Bool) → view_of (on_control (yields_after_affinity_set acting task ready) table) ≡ on_control (yields_after_affinity_set acting task ready) (view_of table)
+masked_seen table acting task ready = more_seen table (yields_after_affinity_set acting task ready table.control) (masked_more acting task ready table.control)
 
 pub its_core_sound : (table : Table) (acting task : ℕ) → IsConsistent table → IsConsistent (on_control (ask_its_core acting task) table)
 its_core_sound table acting task sound = more_sound table (ask_its_core acting task table.control) (its_core_more acting task table.control) sound
 
-pub ranked_sound : (table : Table) (acting task old new : ℕ) (ready : Bool) → IsConsistent table → IsConsistent (on_control (ranked_anew acting task old new ready) table)
-ranked_sound table acting task old new ready sound = more_sound table (ranked_anew acting task old new ready table.control) (ranked_more acting task old new ready table.control) sound
+pub ranked_sound : (table : Table) (acting task old new : ℕ) (ready : Bool) → IsConsistent table → IsConsistent (on_control (yields_after_priority_set acting task old new ready) table)
+ranked_sound table acting task old new ready sound = more_sound table (yields_after_priority_set acting task old new ready table.control) (ranked_more acting task old new ready table.control) sound
 
-pub masked_sound : (table : Table) (acting task : ℕ) (ready : Bool) → IsConsistent table → IsConsistent (on_control (masked_anew acting task ready) table)
-masked_sound table acting task ready sound = more_sound table (masked_anew acting task ready table.control) (masked_more acting task ready table.control) sound
+pub masked_sound : (table : Table) (acting task : ℕ) (ready : Bool) → IsConsistent table → IsConsistent (on_control (yields_after_affinity_set acting task ready) table)
+masked_sound table acting task ready sound = more_sound table (yields_after_affinity_set acting task ready table.control) (masked_more acting task ready table.control) sound
 
 -- a control block that keeps its priority in use
-change_seen : (table : Table) (task : ℕ) (block : TaskControl) → block.in_use ≡ (task_at table.control task).in_use → image (with_control table (with_task task block table.control)) ≡ record (image table) { control = with_task task block table.control }
+change_seen : (table : Table) (task : ℕ) (block : TaskControl) → block.in_use ≡ (task_at table.control task).in_use → view_of (with_control table (with_task task block table.control)) ≡ record (view_of table) { control = with_task task block table.control }
 change_seen table task block kept = same_state table.settings _ _ table.calls table.notes table.holders table.hold _ _ refl (change_apart table.control table.orders task block kept)
 
 -- a control block with another preemption flag, and one with a mask that was cut
@@ -126,21 +126,21 @@ masked table task mask sound low =
       mask = subst (λ cores. mask % 2 ^ length table.control.cores < 2 ^ cores) sound.sized.cores (mod-lt mask (pow_pos (length table.control.cores)));
     }
 
-pub off_seen : (table : Table) (task : ℕ) → image (preemption_off table_moves task table) ≡ preemption_off list_moves task (image table)
+pub off_seen : (table : Table) (task : ℕ) → view_of (preemption_off stamp_queues task table) ≡ preemption_off list_queues task (view_of table)
 unfolding preemption_off
 off_seen table task = change_seen table task (record (task_at table.control task) { preempt = false }) refl
 
-pub off_sound : (table : Table) (task : ℕ) → IsConsistent table → task < table.settings.tasks → IsConsistent (preemption_off table_moves task table)
+pub off_sound : (table : Table) (task : ℕ) → IsConsistent table → task < table.settings.tasks → IsConsistent (preemption_off stamp_queues task table)
 unfolding preemption_off
 off_sound table task sound low = change_sound table task (record (task_at table.control task) { preempt = false }) sound (flagged table task sound low false)
 
-pub on_seen : (table : Table) (acting task : ℕ) → image (preemption_on table_moves acting task table) ≡ preemption_on list_moves acting task (image table)
+pub on_seen : (table : Table) (acting task : ℕ) → view_of (preemption_on stamp_queues acting task table) ≡ preemption_on list_queues acting task (view_of table)
 unfolding preemption_on
 on_seen table acting task =
     its_core_seen (with_control table (with_preemption task true table.control)) acting task
     ∙ ap (on_control (ask_its_core acting task)) (change_seen table task (record (task_at table.control task) { preempt = true }) refl)
 
-pub on_sound : (table : Table) (acting task : ℕ) → IsConsistent table → task < table.settings.tasks → IsConsistent (preemption_on table_moves acting task table)
+pub on_sound : (table : Table) (acting task : ℕ) → IsConsistent table → task < table.settings.tasks → IsConsistent (preemption_on stamp_queues acting task table)
 unfolding preemption_on
 on_sound table acting task sound low =
     its_core_sound (with_control table (with_preemption task true table.control)) acting task (change_sound table task (record (task_at table.control task) { preempt = true }) sound (flagged table task sound low true))
@@ -148,15 +148,15 @@ on_sound table acting task sound low =
 pub ready_seen : (table : Table) (task : ℕ) → IsConsistent table → task < table.settings.tasks → is_ready task table.orders ≡ seen.is_ready task (lists_of table.control table.orders)
 ready_seen table task sound low = sym (is_ready_seen table.control table.orders task sound.stamped.given (omega (arith, sound.sized.rows)))
 
-pub affinity_seen : (table : Table) (acting task mask : ℕ) → IsConsistent table → task < table.settings.tasks → image (affinity_set table_moves acting task mask table) ≡ affinity_set list_moves acting task mask (image table)
+pub affinity_seen : (table : Table) (acting task mask : ℕ) → IsConsistent table → task < table.settings.tasks → view_of (affinity_set stamp_queues acting task mask table) ≡ affinity_set list_queues acting task mask (view_of table)
 unfolding affinity_set
 affinity_seen table acting task mask sound low =
     let changed = with_affinity task mask table.control in
     masked_seen (with_control table changed) acting task (is_ready task table.orders)
-    ∙ ap (on_control (masked_anew acting task (is_ready task table.orders))) (change_seen table task _ refl)
-    ∙ ap (λ ready. record (image table) { control = masked_anew acting task ready changed }) (ready_seen table task sound low)
+    ∙ ap (on_control (yields_after_affinity_set acting task (is_ready task table.orders))) (change_seen table task _ refl)
+    ∙ ap (λ ready. record (view_of table) { control = yields_after_affinity_set acting task ready changed }) (ready_seen table task sound low)
 
-pub affinity_sound : (table : Table) (acting task mask : ℕ) → IsConsistent table → task < table.settings.tasks → IsConsistent (affinity_set table_moves acting task mask table)
+pub affinity_sound : (table : Table) (acting task mask : ℕ) → IsConsistent table → task < table.settings.tasks → IsConsistent (affinity_set stamp_queues acting task mask table)
 unfolding affinity_set
 affinity_sound table acting task mask sound low =
     masked_sound (with_control table (with_affinity task mask table.control)) acting task (is_ready task table.orders) (change_sound table task _ sound (masked table task mask sound low))
@@ -172,7 +172,7 @@ capped_below priorities priority some = at (ltb priority priorities) refl
     at true below = grind (arith, nat_tests, below)
     at false above = omega arith
 
-pub either_seen : (b : Bool) (x y : Table) (v w : View) → image x ≡ v → image y ≡ w → image (cond b x y) ≡ cond b v w
+pub either_seen : (b : Bool) (x y : Table) (v w : View) → view_of x ≡ v → view_of y ≡ w → view_of (cond b x y) ≡ cond b v w
 either_seen true x y v w here there = here
 either_seen false x y v w here there = there
 
@@ -192,7 +192,7 @@ module _ (table : Table) (task priority : ℕ) (sound : IsConsistent table) (low
   based = with_control table (with_base task new table.control)
 
   abbrev based_view : View
-  based_view = record (image table) { control = with_base task new table.control }
+  based_view = record (view_of table) { control = with_base task new table.control }
 
   new_below : new < table.settings.priorities
   new_below = capped_below table.settings.priorities priority (omega (arith, (sound.blocks task low).in_use))
@@ -200,26 +200,26 @@ module _ (table : Table) (task priority : ℕ) (sound : IsConsistent table) (low
   based_sound : IsConsistent based
   based_sound = change_sound table task (record block { base = new }) sound (record { in_use = (sound.blocks task low).in_use; base = new_below; mask = (sound.blocks task low).mask })
 
-  later_seen : image (in_use_set table_moves task (in_use_behind block new) based) ≡ in_use_set list_moves task (in_use_behind block new) based_view
+  later_seen : view_of (in_use_set stamp_queues task (in_use_after block new) based) ≡ in_use_set list_queues task (in_use_after block new) based_view
   later_seen =
-      in_use_seen based task (in_use_behind block new) based_sound low
-      ∙ ap (in_use_set list_moves task (in_use_behind block new)) (change_seen table task (record block { base = new }) refl)
+      in_use_seen based task (in_use_after block new) based_sound low
+      ∙ ap (in_use_set list_queues task (in_use_after block new)) (change_seen table task (record block { base = new }) refl)
 
-  later_sound : IsConsistent (in_use_set table_moves task (in_use_behind block new) based)
-  later_sound = in_use_sound based task (in_use_behind block new) based_sound low (either_below new block.in_use table.settings.priorities (eqb block.in_use block.base || ltb block.in_use new) new_below (sound.blocks task low).in_use)
+  later_sound : IsConsistent (in_use_set stamp_queues task (in_use_after block new) based)
+  later_sound = in_use_sound based task (in_use_after block new) based_sound low (either_below new block.in_use table.settings.priorities (eqb block.in_use block.base || ltb block.in_use new) new_below (sound.blocks task low).in_use)
 
-pub priority_seen : (table : Table) (acting task priority : ℕ) → IsConsistent table → task < table.settings.tasks → image (priority_set table_moves acting task priority table) ≡ priority_set list_moves acting task priority (image table)
+pub priority_seen : (table : Table) (acting task priority : ℕ) → IsConsistent table → task < table.settings.tasks → view_of (priority_set stamp_queues acting task priority table) ≡ priority_set list_queues acting task priority (view_of table)
 unfolding priority_set
 priority_seen table acting task priority sound low =
-    let rule = ranked_anew acting task (block table task priority sound low).base (new table task priority sound low) in
-    let later = in_use_set table_moves task (in_use_behind (task_at table.control task) (capped table.settings.priorities priority)) (based table task priority sound low) in
-    let later_view = in_use_set list_moves task (in_use_behind (task_at table.control task) (capped table.settings.priorities priority)) (based_view table task priority sound low) in
-    either_seen (eqb (capped table.settings.priorities priority) (task_at table.control task).base) table _ (image table) _ refl
+    let rule = yields_after_priority_set acting task (block table task priority sound low).base (new table task priority sound low) in
+    let later = in_use_set stamp_queues task (in_use_after (task_at table.control task) (capped table.settings.priorities priority)) (based table task priority sound low) in
+    let later_view = in_use_set list_queues task (in_use_after (task_at table.control task) (capped table.settings.priorities priority)) (based_view table task priority sound low) in
+    either_seen (eqb (capped table.settings.priorities priority) (task_at table.control task).base) table _ (view_of table) _ refl
     (ranked_seen later acting task (task_at table.control task).base (capped table.settings.priorities priority) (is_ready task table.orders)
     ∙ ap (on_control (rule (is_ready task table.orders))) (later_seen table task priority sound low)
     ∙ ap (λ ready. on_control (rule ready) later_view) (ready_seen table task sound low))
 
-pub priority_sound : (table : Table) (acting task priority : ℕ) → IsConsistent table → task < table.settings.tasks → IsConsistent (priority_set table_moves acting task priority table)
+pub priority_sound : (table : Table) (acting task priority : ℕ) → IsConsistent table → task < table.settings.tasks → IsConsistent (priority_set stamp_queues acting task priority table)
 unfolding priority_set
 priority_sound table acting task priority sound low =
     either_sound (eqb (capped table.settings.priorities priority) (task_at table.control task).base) table _ sound

@@ -1,10 +1,10 @@
 ghost use Rattle.std.specs.Prelude.{◌≡◌, true};
-ghost use Rattle.bench_commands.specs.Device.{counted};
+ghost use Rattle.bench_commands.specs.Device.{failures_after};
 ghost use Rattle.bench_commands.specs.Run.{Ran, has_span, reads_well, writes_well};
 
 use crate::answer::{Answer, answer_to};
 use crate::device::{CountedRead, CountedWrite};
-use crate::input::{Stop, read_input};
+use crate::input::{InputFault, read_input};
 use crate::writing::write_text;
 use smp_kernel::Meter;
 use std::alloc::Global;
@@ -13,8 +13,8 @@ use thiserror::Error;
 /// What the program is asked to do with its input.
 #[derive(Clone, Copy, Debug, PartialEq, Eq)]
 pub enum Mode {
-    /// Replay a session or a bench document, and print the tasks that run after each step. A checkpoint is to be kept
-    /// every `span` steps, 1 to [`MAX_SPAN`](bench_types::MAX_SPAN).
+    /// Replay a session or a bench document, and print the tasks that run after each step. A
+    /// checkpoint is to be kept every `span` steps, 1 to [`MAX_SPAN`](bench_types::MAX_SPAN).
     Replay { span: u32 },
 }
 
@@ -42,7 +42,8 @@ pub enum Status {
     Fault(RunFault),
 }
 
-/// Reads the input to its end, or one byte past the most that is a bench document, then writes its whole output.
+/// Reads the input to its end, or one byte past the most that is a bench document, then writes its
+/// whole output.
 pub fn run<R: CountedRead, W: CountedWrite>(
     rt: &HostRuntime,
     alloc: Global,
@@ -51,15 +52,18 @@ pub fn run<R: CountedRead, W: CountedWrite>(
     mode: &Mode,
 ) -> Status
     requires { has_span mode.now ≡ true }
-    ensures bytes { Ran result (R.Read.remaining reader.old) (R.Read.remaining reader.new) (W.Write.contents writer.old) (W.Write.contents writer.new) }
-    ensures reads { R.CountedRead.failures reader.new ≡ counted (reads_well result) (R.CountedRead.failures reader.old) }
-    ensures writes { W.CountedWrite.failures writer.new ≡ counted (writes_well result) (W.CountedWrite.failures writer.old) }
+    ensures bytes { Ran result (R.Read.remaining reader.old) (R.Read.remaining reader.new)
+        (W.Write.contents writer.old) (W.Write.contents writer.new) }
+    ensures reads { R.CountedRead.failures reader.new
+        ≡ failures_after (reads_well result) (R.CountedRead.failures reader.old) }
+    ensures writes { W.CountedWrite.failures writer.new
+        ≡ failures_after (writes_well result) (W.CountedWrite.failures writer.old) }
 {
     let Mode::Replay { span } = *mode;
     let input = match read_input(alloc, reader) {
         Ok(input) => input,
-        Err(Stop::Memory) => return Status::Fault(RunFault::Memory),
-        Err(Stop::Read) => return Status::Fault(RunFault::Read),
+        Err(InputFault::Memory) => return Status::Fault(RunFault::Memory),
+        Err(InputFault::Read) => return Status::Fault(RunFault::Read),
     };
     let mut meter = Meter::new(rt);
     let Ok(answer) = answer_to(alloc, &mut meter, &input, span) else {

@@ -1,0 +1,6 @@
+use Rattle.std.proofs.Common.{◌≡◌, string_bytes}
+use Rattle.bench_commands.proofs.Replays.{lines_after}
+use Rattle.bench_commands.proofs.output.push_replay.Given as goal
+
+abbrev pub invariant-loop-place : goal.invariant-loop-place
+invariant-loop-place l = string_bytes l.text ≡ lines_after (string_bytes l.fn.text) l.store.session.header l.store.session.steps l.place

@@ -1,0 +1,58 @@
+-- How large the parts of a kernel are: what a rule does to them says whether the kernel keeps its
+-- shape.
+use Rattle.std.proofs.Common.{◌≡◌, ℕ, ◌<◌, ◌≤◌, Bool, length, sym, ap, subst, ◌∙◌}
+use Rattle.bench_types.specs.Limits.{max_cores}
+use Rattle.bench_types.specs.declared.kernel_data.Settings.{Settings}
+use Rattle.smp_kernel.specs.Kernel.{IsDisjoint, Parts, IsKernelShape, delayed_task, waiting_task}
+
+pub record Sizes : Type 0 where
+  pub priorities : ℕ
+  pub slicing : Bool
+  pub cores : ℕ
+  pub controls : ℕ
+  pub calls : ℕ
+  pub notes : ℕ
+  pub mutexes : ℕ
+  pub mutex_priorities : ℕ
+  pub holders : ℕ
+  pub delays : ℕ
+  pub deadlines : ℕ
+
+abbrev pub sizes_of : Parts → Sizes
+sizes_of parts = record {
+  priorities = parts.cores.priorities;
+  slicing = parts.cores.slicing;
+  cores = length parts.cores.control.cores;
+  controls = length parts.cores.control.tasks;
+  calls = length parts.calls;
+  notes = length parts.notes;
+  mutexes = parts.mutexes.tasks;
+  mutex_priorities = parts.mutexes.priorities;
+  holders = length parts.mutexes.holders;
+  delays = parts.delays.tasks;
+  deadlines = length parts.deadlines;
+}
+
+-- a kernel has its shape where its parts are as large as those of one that has, with the same
+-- settings, and no ready task waits
+pub reshaped : (parts later : Parts) → later.settings ≡ parts.settings → sizes_of later ≡ sizes_of parts
+    → IsDisjoint delayed_task later.cores.ready later.delays.delayed
+    → IsDisjoint waiting_task later.cores.ready later.mutexes.waiters
+    → IsKernelShape parts → IsKernelShape later
+reshaped parts later same sizes undelayed unqueued shape = record {
+  priorities = ap (λ (s : Sizes). s.priorities) sizes ∙ shape.priorities ∙ ap (λ (s : Settings). s.priorities) (sym same);
+  slicing = ap (λ (s : Sizes). s.slicing) sizes ∙ shape.slicing ∙ ap (λ (s : Settings). s.slicing) (sym same);
+  few_cores = subst (λ (s : Settings). s.cores ≤ max_cores) (sym same) shape.few_cores;
+  some_priority = subst (λ (s : Settings). 0 < s.priorities) (sym same) shape.some_priority;
+  cores = ap (λ (s : Sizes). s.cores) sizes ∙ shape.cores ∙ ap (λ (s : Settings). s.cores) (sym same);
+  controls = ap (λ (s : Sizes). s.controls) sizes ∙ shape.controls ∙ ap (λ (s : Settings). s.tasks) (sym same);
+  calls = ap (λ (s : Sizes). s.calls) sizes ∙ shape.calls ∙ ap (λ (s : Settings). s.tasks) (sym same);
+  notes = ap (λ (s : Sizes). s.notes) sizes ∙ shape.notes ∙ ap (λ (s : Settings). s.tasks) (sym same);
+  mutexes = ap (λ (s : Sizes). s.mutexes) sizes ∙ shape.mutexes ∙ ap (λ (s : Settings). s.tasks) (sym same);
+  mutex_priorities = ap (λ (s : Sizes). s.mutex_priorities) sizes ∙ shape.mutex_priorities ∙ ap (λ (s : Settings). s.priorities) (sym same);
+  holders = ap (λ (s : Sizes). s.holders) sizes ∙ shape.holders ∙ ap (λ (s : Settings). s.mutexes) (sym same);
+  delays = ap (λ (s : Sizes). s.delays) sizes ∙ shape.delays ∙ ap (λ (s : Settings). s.tasks) (sym same);
+  deadlines = ap (λ (s : Sizes). s.deadlines) sizes ∙ shape.deadlines ∙ ap (λ (s : Settings). s.tasks) (sym same);
+  undelayed = undelayed;
+  unqueued = unqueued;
+}

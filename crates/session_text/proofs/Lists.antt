@@ -1,22 +1,12 @@
 -- Lists at references, and the members of an object, as the definitions see them.
 use Rattle.std.proofs.Common.{◌≡◌, ℕ, Bool, not, ◌||◌, ◌&&◌, List, [], ◌∷◌, map, bytes_eq, ap, refl}
-use Rattle.std.specs.Prelude.{String, string_bytes}
-use Rattle.std.specs.declared.alloc.Global.{Global}
 use Rattle.std.specs.List.{list_any, list_all, prefix_len, position}
 use Rattle.std.proofs.lemmas.List.{length-map}
-use Rattle.serde_json.specs.View.{members_view}
-use Rattle.serde_json.specs.declared.value.Value.{Value}
-use Rattle.session_text.specs.Member.{are_known}
 
 -- a test of what is seen
 pub list_any_map : {A B : Type 0} (test : B → Bool) (see : A → B) (xs : List A) → list_any test (map see xs) ≡ list_any (λ x. test (see x)) xs
 list_any_map test see [] = refl
 list_any_map test see (x ∷ xs) = ap (λ rest. test (see x) || rest) (list_any_map test see xs)
-
--- the keys of an object are known where its members are
-pub are_known_keys : (names : List (List ℕ)) (entries : List (String Global × Value)) → are_known names (members_view entries) ≡ list_all (λ key. list_any (bytes_eq (string_bytes key)) names) (map (λ entry. entry.0) entries)
-are_known_keys names [] = refl
-are_known_keys names (entry ∷ entries) = ap (λ rest. list_any (bytes_eq (string_bytes entry.0)) names && rest) (are_known_keys names entries)
 
 prefix_len_map : {A B : Type 0} (test : B → Bool) (see : A → B) (xs : List A) → prefix_len test (map see xs) ≡ prefix_len (λ x. test (see x)) xs
 prefix_len_map test see [] = refl

@@ -1,9 +1,9 @@
 -- Objects and their members: each reading takes the place of the object, the name of the member and
 -- the value there.
-use Rattle.std.specs.Prelude.{ℕ, ◌^◌, ◌&&◌, List, Bool, true, bytes_eq, nat_lt, Option, Some, None, option_and_then, Result, Ok, Err, if◌then◌else◌, ⊤}
-use Rattle.std.specs.List.{list_any}
-use Rattle.serde_json.specs.Data.{Data, Items, Members, no_members, member}
+use Rattle.std.specs.Prelude.{ℕ, ◌^◌, List, Bool, nat_lt, Option, Some, None, option_and_then, Result, Ok, Err, if◌then◌else◌, ⊤}
+use Rattle.serde_json.specs.Data.{Data, Items, Members}
 use Rattle.serde_json.specs.Find.{get, as_object, as_array, as_str, as_bool, as_number, as_u64}
+use Rattle.json_data.specs.Reading.{are_known}
 use Rattle.session_text.specs.declared.fault.TextFault.{TextFault}
 use Rattle.session_text.specs.Outcome.{◌>>=◌, found, bad_shape}
 use Rattle.session_text.specs.Path.{member_path}
@@ -42,11 +42,6 @@ unfoldable pub array_at : List ℕ → List ℕ → Data → Result Items TextFa
 array_at at name d = do
   value ← member_at at name d
   found (as_array value) (member_path at name)
-
--- every member has one of the names
-abbrev pub are_known : List (List ℕ) → Members → Bool
-are_known names no_members = true
-are_known names (member name d rest) = list_any (bytes_eq name) names && are_known names rest
 
 -- no members beside the known ones, or H2 at the object
 abbrev pub only_at : List ℕ → List (List ℕ) → Members → Result ⊤ TextFault

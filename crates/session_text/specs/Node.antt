@@ -1,7 +1,7 @@
 -- A value of a document: where it stands, and what is there.
 use Rattle.std.specs.Prelude.{ℕ, List}
 use Rattle.serde_json.specs.Data.{Data}
-use Rattle.serde_json.specs.View.{view}
+use Rattle.json_data.specs.View.{view}
 use Rattle.session_text.specs.declared.node.Node.{Node}
 use Rattle.session_text.specs.Path.{path_of}
 

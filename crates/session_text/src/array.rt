@@ -1,5 +1,5 @@
 ghost use Rattle.std.specs.Prelude.{◌≡◌};
-ghost use Rattle.serde_json.specs.View.{items_view};
+ghost use Rattle.json_data.specs.View.{items_view};
 ghost use Rattle.session_text.specs.Array.{each_at, list_at};
 ghost use Rattle.session_text.specs.Node.{data_of, place_of};
 ghost use Rattle.session_text.specs.Outcome.{Gives};
@@ -8,7 +8,7 @@ ghost use Rattle.session_text.specs.Path.{path_of};
 use crate::fault::ReadFault;
 use crate::node::Node;
 use crate::path::Place;
-use serde_json::Value;
+use json_data::Items;
 use std::alloc::Global;
 
 /// What reads one item of an array.
@@ -33,21 +33,21 @@ fn each<'v, R: ReadItem<'v>>(
     alloc: Global,
     reader: &R,
     place: &Place<'_>,
-    values: &'v Vec<Value>,
+    items: &mut Items<'_, 'v>,
 ) -> Result<Vec<R::Item>, ReadFault>
-    ensures { Gives (λ items. items.items) result
-        (each_at (R.reading reader.now) (path_of place.now) 0 (items_view values.now.items)) }
+    ensures { Gives (λ read. read.items) result
+        (each_at (R.reading reader.now) (path_of place.now) 0 (items_view items.old)) }
 {
-    let mut items = Vec::with_capacity(alloc, values.len())?;
-    for (index, value) in values.iter().enumerate() {
-        let place = &Place::Item(place, index);
-        items.push(reader.read(&Node {
+    let mut read = Vec::new(alloc);
+    while let Some(value) = items.next() {
+        let place = &Place::Item(place, read.len());
+        read.push(reader.read(&Node {
             alloc,
             place,
-            value,
+            value: &value,
         })?)?;
     }
-    Ok(items)
+    Ok(read)
 }
 
 /// Reads the items of the array that is this member of the object.
@@ -60,6 +60,11 @@ pub(crate) fn list_at<'v, R: ReadItem<'v>>(
     ensures { Gives (λ items. items.items) result
         (list_at (R.reading reader.now) (place_of node.now) name.now (data_of node.now)) }
 {
-    let values = node.array(name)?;
-    each(node.alloc, reader, &Place::Member(node.place, name), values)
+    let mut items = node.array(name)?;
+    each(
+        node.alloc,
+        reader,
+        &Place::Member(node.place, name),
+        &mut items,
+    )
 }

@@ -1,6 +1,6 @@
 ghost use Rattle.std.specs.Prelude.{All, IfOk, OnOk};
 ghost use Rattle.std.specs.Result.{ForOk};
-ghost use Rattle.serde_json.specs.View.{view};
+ghost use Rattle.json_data.specs.View.{view};
 ghost use Rattle.bench_types.specs.Edit.{IsCheckedEdit};
 ghost use Rattle.bench_types.specs.Header.{IsCheckedHeader};
 ghost use Rattle.session_text.specs.Bench.{bench_accepted, bench_at, bench_text, edited_at, edits_accepted, shapes_at, unedited_at, IsCheckedBench};
@@ -17,7 +17,7 @@ use crate::node::Node;
 use crate::path::Place;
 use crate::session::{document, known_names, session_accepted, session_at};
 use bench_types::{Edit, Fault, Header, Items, Step};
-use serde_json::Value;
+use json_data::{Item, Scratch};
 use std::alloc::Global;
 
 /// A session, and edits of it that are to be made in their order.
@@ -46,11 +46,12 @@ fn bench_text(alloc: Global, text: &[u8]) -> Result<Bench, ReadFault>
     ensures reading { Gives (λ bench. bench) result (bench_text text.now) }
     ensures checked { IfOk result IsCheckedBench }
 {
-    let value = document(alloc, text)?;
+    let mut scratch = Scratch::new(alloc);
+    let document = document(alloc, text, &mut scratch)?;
     bench_at(&Node {
         alloc,
         place: &Place::Top,
-        value: &value,
+        value: &document.root(),
     })
 }
 
@@ -60,7 +61,7 @@ fn bench_at(node: &Node<'_, '_>) -> Result<Bench, ReadFault>
     ensures checked { IfOk result IsCheckedBench }
 {
     match node.value.get("session") {
-        Some(session) => edited_at(node, session),
+        Some(session) => edited_at(node, &session),
         None => unedited_at(node),
     }
 }
@@ -83,7 +84,7 @@ fn unedited_at(node: &Node<'_, '_>) -> Result<Bench, ReadFault>
 
 /// The session, which was found as the member `session`, and its edits.
 #[tactic(auto, unfolding(crate::specs::Bench::edited_at))]
-fn edited_at(node: &Node<'_, '_>, session: &Value) -> Result<Bench, ReadFault>
+fn edited_at(node: &Node<'_, '_>, session: &Item<'_, '_>) -> Result<Bench, ReadFault>
     ensures reading { Gives (λ bench. bench) result
         (edited_at (place_of node.now) (data_of node.now) (view session.now)) }
     ensures checked { IfOk result IsCheckedBench }
@@ -96,7 +97,7 @@ fn edited_at(node: &Node<'_, '_>, session: &Value) -> Result<Bench, ReadFault>
 #[tactic(auto, unfolding(crate::specs::Bench::shapes_at))]
 fn shapes_at(
     node: &Node<'_, '_>,
-    session: &Value,
+    session: &Item<'_, '_>,
 ) -> Result<(Result<Header, Fault>, Vec<Step>, Vec<Edit>), ReadFault>
     ensures reading { Gives (λ read. (read.0, read.1.items, read.2.items)) result
         (shapes_at (place_of node.now) (data_of node.now) (view session.now)) }
@@ -111,7 +112,7 @@ fn shapes_at(
     let names = known_names(node.alloc, &header)?;
     let edits = list_at(&EditReader { names: &names }, node, "edits")?;
     drop(names);
-    node.only(&["session", "edits"], members)?;
+    node.only(&["session", "edits"], &members)?;
     Ok((header, steps, edits))
 }
 

@@ -15,6 +15,7 @@ use crate::path::Place;
 use crate::session::document;
 use crate::step::StepReader;
 use bench_types::{Edit, Header, Step};
+use json_data::Scratch;
 use std::alloc::Global;
 
 /// Reads an edit of a session with this header from a JSON text.
@@ -36,12 +37,13 @@ fn edit_text(alloc: Global, text: &[u8], header: &Header) -> Result<Edit, ReadFa
     ensures reading { Gives (λ edit. edit) result (edit_text header.now text.now) }
     ensures checked { IfOk result (IsCheckedEdit header.now) }
 {
-    let value = document(alloc, text)?;
+    let mut scratch = Scratch::new(alloc);
+    let document = document(alloc, text, &mut scratch)?;
     let names = Names::of(alloc, header)?;
     let edit = EditReader { names: &names }.read(&Node {
         alloc,
         place: &Place::Top,
-        value: &value,
+        value: &document.root(),
     })?;
     item_accepted(alloc, header, &Place::Top, &edit)?;
     Ok(edit)
@@ -98,7 +100,7 @@ fn new_step_at(names: &Names<'_>, node: &Node<'_, '_>) -> Result<Step, ReadFault
     StepReader { names }.read(&Node {
         alloc: node.alloc,
         place: &Place::Member(node.place, "step"),
-        value: step,
+        value: &step,
     })
 }
 
@@ -149,7 +151,7 @@ impl<'v> ReadItem<'v> for EditReader<'_, '_> {
         let members = node.object()?;
         let kind = edit_kind_at(node)?;
         let edit = edit_of_kind_at(self.names, kind, node)?;
-        node.only(kind.members(), members)?;
+        node.only(kind.members(), &members)?;
         Ok(edit)
     }
 }

@@ -68,7 +68,7 @@ impl<'v> ReadItem<'v> for TaskReader {
         let name = node.text("name")?;
         let priority = node.number("priority")?;
         let mask = node.number("mask")?;
-        node.only(&["name", "priority", "mask"], members)?;
+        node.only(&["name", "priority", "mask"], &members)?;
         Ok(TaskShape {
             name,
             priority,

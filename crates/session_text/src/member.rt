@@ -1,17 +1,17 @@
-ghost use Rattle.std.specs.Prelude.{◌≡◌, bytes_eq, map};
-ghost use Rattle.std.specs.List.{list_any};
-ghost use Rattle.serde_json.specs.View.{view, items_view, members_view};
-ghost use Rattle.session_text.specs.Member.{are_known, array_at, as_u32, flag_at, member_at, number_at, object_at, only_at, text_at};
+ghost use Rattle.std.specs.Prelude.{◌≡◌, map};
+ghost use Rattle.json_data.specs.ObjectView.{members_view};
+ghost use Rattle.json_data.specs.View.{items_view, view};
+ghost use Rattle.session_text.specs.Member.{array_at, as_u32, flag_at, member_at, number_at, object_at, only_at, text_at};
 ghost use Rattle.session_text.specs.Node.{data_of, place_of};
 ghost use Rattle.session_text.specs.Outcome.{Gives};
 
 use crate::fault::ReadFault;
 use crate::node::Node;
-use serde_json::{Map, Value};
+use json_data::{Item, Items, Object};
 
-impl<'v> Node<'_, 'v> {
-    pub(crate) fn object(&self) -> Result<&'v Map<String, Value>, ReadFault>
-        ensures { Gives (λ members. members_view members.now.entries) result
+impl<'p, 'v> Node<'p, 'v> {
+    pub(crate) fn object(&self) -> Result<Object<'p, 'p, 'v>, ReadFault>
+        ensures { Gives members_view result
             (object_at (place_of self.now) (data_of self.now)) }
     {
         match self.value.as_object() {
@@ -20,8 +20,8 @@ impl<'v> Node<'_, 'v> {
         }
     }
 
-    pub(crate) fn member(&self, name: &str) -> Result<&'v Value, ReadFault>
-        ensures { Gives (λ member. view member.now) result
+    pub(crate) fn member(&self, name: &str) -> Result<Item<'p, 'v>, ReadFault>
+        ensures { Gives view result
             (member_at (place_of self.now) name.now (data_of self.now)) }
     {
         self.found(name, self.value.get(name))
@@ -32,7 +32,7 @@ impl<'v> Node<'_, 'v> {
         ensures { Gives (λ number. number) result
             (number_at (place_of self.now) name.now (data_of self.now)) }
     {
-        self.found(name, as_u32(self.member(name)?))
+        self.found(name, as_u32(&self.member(name)?))
     }
 
     #[tactic(auto, unfolding(crate::specs::Member::text_at))]
@@ -52,20 +52,20 @@ impl<'v> Node<'_, 'v> {
     }
 
     #[tactic(auto, unfolding(crate::specs::Member::array_at))]
-    pub(crate) fn array(&self, name: &str) -> Result<&'v Vec<Value>, ReadFault>
-        ensures { Gives (λ items. items_view items.now.items) result
+    pub(crate) fn array(&self, name: &str) -> Result<Items<'p, 'v>, ReadFault>
+        ensures { Gives items_view result
             (array_at (place_of self.now) name.now (data_of self.now)) }
     {
         self.found(name, self.member(name)?.as_array())
     }
 
     /// H2 here, where the object has a member that is none of the names.
-    pub(crate) fn only(&self, names: &[&str], members: &Map<String, Value>) -> Result<(), ReadFault>
+    pub(crate) fn only(&self, names: &[&str], members: &Object<'_, '_, '_>) -> Result<(), ReadFault>
         ensures { Gives (λ done. done) result
             (only_at (place_of self.now) (map (λ name. name.now) names.now)
-            (members_view members.now.entries)) }
+            (members_view members.now)) }
     {
-        if are_known(names, members) {
+        if members.has_only(names) {
             Ok(())
         } else {
             Err(self.bad_shape())
@@ -73,32 +73,8 @@ impl<'v> Node<'_, 'v> {
     }
 }
 
-fn as_u32(value: &Value) -> Option<u32>
+fn as_u32(value: &Item<'_, '_>) -> Option<u32>
     ensures { result ≡ as_u32 (view value.now) }
 {
     u32::try_from(value.as_u64()?).ok()
-}
-
-#[tactic(auto, using(crate::proofs::Lists::are_known_keys))]
-fn are_known(names: &[&str], members: &Map<String, Value>) -> bool
-    ensures { result
-        ≡ are_known (map (λ name. name.now) names.now) (members_view members.now.entries) }
-{
-    for name in members.keys() {
-        if !is_known(names, name.as_str()) {
-            return false;
-        }
-    }
-    true
-}
-
-fn is_known(names: &[&str], name: &str) -> bool
-    ensures { result ≡ list_any (bytes_eq name.now) (map (λ known. known.now) names.now) }
-{
-    for known in names {
-        if name == *known {
-            return true;
-        }
-    }
-    false
 }

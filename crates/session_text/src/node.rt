@@ -4,7 +4,7 @@ ghost use Rattle.session_text.specs.Path.{member_path};
 
 use crate::fault::{ReadFault, Why};
 use crate::path::Place;
-use serde_json::Value;
+use json_data::Item;
 use std::alloc::Global;
 
 /// A value of a document with its place, and the allocator for what is read of it.
@@ -12,7 +12,7 @@ use std::alloc::Global;
 pub(crate) struct Node<'p, 'v> {
     pub(crate) alloc: Global,
     pub(crate) place: &'p Place<'p>,
-    pub(crate) value: &'v Value,
+    pub(crate) value: &'p Item<'p, 'v>,
 }
 
 impl<'v> Node<'_, 'v> {

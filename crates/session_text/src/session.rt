@@ -1,5 +1,5 @@
 ghost use Rattle.std.specs.Prelude.{◌≡◌, IfOk, Ok, codes};
-ghost use Rattle.serde_json.specs.View.{view};
+ghost use Rattle.json_data.specs.View.{document_view};
 ghost use Rattle.std.specs.Result.{ForOk};
 ghost use Rattle.bench_types.specs.Header.{header_check, IsCheckedHeader};
 ghost use Rattle.bench_types.specs.Session.{IsSession};
@@ -20,7 +20,7 @@ use crate::node::Node;
 use crate::path::{Path, Place};
 use crate::step::StepReader;
 use bench_types::{Fault, Header, Step};
-use serde_json::{Category, Value};
+use json_data::{Document, Refused, Scratch};
 use std::alloc::{AllocError, Global};
 
 /// Reads a session from a JSON text.
@@ -40,28 +40,31 @@ fn session(alloc: Global, text: &[u8]) -> Result<(Header, Vec<Step>), ReadFault>
     ensures checked { IfOk result
         (λ read. IsSession (record { header = read.0; steps = read.1.items })) }
 {
-    let value = document(alloc, text)?;
+    let mut scratch = Scratch::new(alloc);
+    let document = document(alloc, text, &mut scratch)?;
     let (header, steps) = session_at(&Node {
         alloc,
         place: &Place::Top,
-        value: &value,
+        value: &document.root(),
     })?;
     session_accepted(alloc, &Place::Top, header, steps)
 }
 
 /// The value that the bytes spell, or H1.
-pub(crate) fn document(alloc: Global, text: &[u8]) -> Result<Value, ReadFault>
-    ensures { Gives view result (document text.now) }
+pub(crate) fn document<'a>(
+    alloc: Global,
+    text: &'a [u8],
+    scratch: &'a mut Scratch,
+) -> Result<Document<'a>, ReadFault>
+    ensures { Gives document_view result (document text.now) }
 {
-    match Value::from_slice(alloc, text) {
-        Ok(value) => Ok(value),
-        Err(error) => match error.classify() {
-            Category::Memory => Err(ReadFault::Memory),
-            _ => Err(ReadFault::Fault(TextFault {
-                why: Why::NotJson,
-                path: Path::empty(),
-            })),
-        },
+    match Document::parse(alloc, text, scratch) {
+        Ok(document) => Ok(document),
+        Err(Refused::NoMemory) => Err(ReadFault::Memory),
+        Err(Refused::NotJson) => Err(ReadFault::Fault(TextFault {
+            why: Why::NotJson,
+            path: Path::empty(),
+        })),
     }
 }
 
@@ -124,7 +127,7 @@ pub(crate) fn session_at(
             "tasks",
             "steps",
         ],
-        members,
+        &members,
     )?;
     Ok((header, steps))
 }

@@ -110,7 +110,7 @@ impl<'v> ReadItem<'v> for StepReader<'_, '_> {
         let members = node.object()?;
         let kind = kind_at(node)?;
         let step = step_of_kind_at(self.names, kind, node)?;
-        node.only(known_members(&step), members)?;
+        node.only(known_members(&step), &members)?;
         Ok(step)
     }
 }

@@ -9,6 +9,8 @@ mod benches;
 #[cfg(test)]
 mod codes;
 #[cfg(test)]
+mod documents;
+#[cfg(test)]
 mod edits;
 #[cfg(test)]
 mod headers;

@@ -1,0 +1,6 @@
+pub mod Arrays
+pub mod Documents
+pub mod Members
+pub mod Objects
+pub mod Places
+pub mod Ranges

@@ -1,0 +1,98 @@
+-- The members of an object: what serde_json has at a name is what `json` finds there last, and both
+-- have the same names.
+use Rattle.std.proofs.Common.{◌≡◌, ℕ, ◌≤◌, max, List, Bool, true, false, cond, ◌&&◌, Option, Some, None, is_some, option_map, option_and_then, refl, sym, ap, ◌∙◌, subst, arith, bytes_eq, Ordering, Less, Equal, Greater}
+use Rattle.std.specs.List.{list_any}
+use Rattle.std.specs.Ordering.{is_eq, nat_cmp, match_ordering}
+use Rattle.std.specs.Cmp.Lexicographic.{slice_cmp}
+use Rattle.std.proofs.lemmas.Map.Text.{is_eq-slice_cmp}
+use Rattle.std.proofs.lemmas.Slice.Eq.{bytes_eq-Decides}
+use Rattle.json.specs.Json as json
+use Rattle.json.specs.Find as json_find
+use Rattle.json.specs.Tree.{depth, members_depth}
+use Rattle.json.proofs.Found.{Some_inj}
+use Rattle.serde_json.specs.Data.{Data, Members, no_members, member, put}
+use Rattle.serde_json.specs.Find.{get_member}
+use Rattle.serde_json.specs.Read.{of_json, of_members}
+use Rattle.serde_json.proofs.Views.{get_member-put, get_member-put_other}
+use Rattle.json_data.specs.Reading.{are_known, keys_known}
+
+pub then_some : {A B : Type 0} (f : A → Option B) (o : Option A) (y : B) → option_and_then f o ≡ Some y → (x : A) × (o ≡ Some x) × (f x ≡ Some y)
+then_some f (Some x) y is = (x, refl, is)
+then_some f None y is = absurd (cc is)
+
+pub mapped_some : {A B : Type 0} (f : A → B) (o : Option A) (y : B) → option_map f o ≡ Some y → (x : A) × (o ≡ Some x) × (y ≡ f x)
+mapped_some f (Some x) y is = (x, refl, sym (Some_inj (f x) y is))
+mapped_some f None y is = absurd (cc is)
+
+-- ---- what is found at a name
+
+abbrev pub found_in : Option json.Json → Option Data → Option Data
+found_in None earlier = earlier
+found_in (Some j) earlier = of_json j
+
+turn : (name k : List ℕ) (j : json.Json) (d : Data) (o : Option json.Json) (found : Members) → of_json j ≡ Some d
+    → found_in o (get_member name (put k d found)) ≡ found_in (json_find.later_or o (cond (bytes_eq k name) (Some j) None)) (get_member name found)
+turn name k j d (Some i) found is = refl
+turn name k j d None found is = by (bytes_eq k name) refl
+  where
+    by : (b : Bool) → bytes_eq k name ≡ b → get_member name (put k d found) ≡ found_in (cond b (Some j) None) (get_member name found)
+    by true same = subst (λ n. get_member n (put k d found) ≡ of_json j) ((bytes_eq-Decides k name).0 same) (get_member-put k d found ∙ sym is)
+    by false same = get_member-put_other name k d found (λ e. cc (same, (bytes_eq-Decides k name).1 (sym e)))
+
+pub get_read : (name : List ℕ) (ms : json.Members) (found all : Members) → of_members ms found ≡ Some all → get_member name all ≡ found_in (json_find.get_member name ms) (get_member name found)
+get_read name json.no_members found all is = ap (get_member name) (sym (Some_inj found all is))
+get_read name (json.member k j ms) found all is =
+    let first = then_some (λ d. of_members ms (put k d found)) (of_json j) all is in
+    get_read name ms (put k first.0 found) all first.2 ∙ turn name k j first.0 (json_find.get_member name ms) found first.1
+
+-- what is found is read, and nests no deeper
+pub part_read : (name : List ℕ) (ms : json.Members) (found all : Members) (i : json.Json) → of_members ms found ≡ Some all → json_find.get_member name ms ≡ Some i → (is_some (of_json i) ≡ true) × (depth i ≤ members_depth ms)
+part_read name json.no_members found all i is there = absurd (cc there)
+part_read name (json.member k j ms) found all i is there =
+    let first = then_some (λ d. of_members ms (put k d found)) (of_json j) all is in
+    from (json_find.get_member name ms) first.0 first.1 there (λ e. part_read name ms (put k first.0 found) all i first.2 e) refl
+  where
+    from : (o : Option json.Json) (d : Data) → of_json j ≡ Some d → json_find.later_or o (cond (bytes_eq k name) (Some j) None) ≡ Some i → (o ≡ Some i → (is_some (of_json i) ≡ true) × (depth i ≤ members_depth ms)) → json_find.get_member name ms ≡ o
+        → (is_some (of_json i) ≡ true) × (depth i ≤ max (depth j) (members_depth ms))
+    from (Some x) d is that more e = let later = more that in (later.0, omega (arith, later.1))
+    from None d is that more e = here (bytes_eq k name) d is that
+      where
+        here : (b : Bool) (d : Data) → of_json j ≡ Some d → cond b (Some j) None ≡ Some i → (is_some (of_json i) ≡ true) × (depth i ≤ max (depth j) (members_depth ms))
+        here false d is that = absurd (cc that)
+        here true d is that =
+            let same : j ≡ i = Some_inj j i that in
+            (subst (λ (x : json.Json). is_some (of_json x) ≡ true) same (ap is_some is), subst (λ (x : json.Json). depth x ≤ max (depth j) (members_depth ms)) same (omega arith))
+
+-- ---- the names
+
+put_known : (names : List (List ℕ)) (k : List ℕ) (d : Data) (ms : Members) → are_known names (put k d ms) ≡ (list_any (bytes_eq k) names && are_known names ms)
+put_known names k d no_members = refl
+put_known names k d (member l e ms) = by (slice_cmp nat_cmp k l) refl (put_known names k d ms)
+  where
+    by : (o : Ordering) → slice_cmp nat_cmp k l ≡ o → are_known names (put k d ms) ≡ (list_any (bytes_eq k) names && are_known names ms)
+        → are_known names (match_ordering o (member k d (member l e ms)) (member l d ms) (member l e (put k d ms))) ≡ (list_any (bytes_eq k) names && (list_any (bytes_eq l) names && are_known names ms))
+    by Less is more = refl
+    by Equal is more =
+        let same : k ≡ l = (bytes_eq-Decides k l).0 (sym (is_eq-slice_cmp k l) ∙ ap is_eq is) in
+        ap (λ b. b && are_known names ms) (twice (list_any (bytes_eq l) names)) ∙ reassoc (list_any (bytes_eq l) names) (list_any (bytes_eq l) names) (are_known names ms)
+        ∙ ap (λ (n : List ℕ). list_any (bytes_eq n) names && (list_any (bytes_eq l) names && are_known names ms)) (sym same)
+      where
+        twice : (b : Bool) → b ≡ (b && b)
+        twice b = grind arith
+
+        reassoc : (a b c : Bool) → ((a && b) && c) ≡ (a && (b && c))
+        reassoc a b c = grind arith
+    by Greater is more = ap (λ b. list_any (bytes_eq l) names && b) more ∙ swap (list_any (bytes_eq l) names) (list_any (bytes_eq k) names) (are_known names ms)
+      where
+        swap : (a b c : Bool) → (a && (b && c)) ≡ (b && (a && c))
+        swap a b c = grind arith
+
+pub names_read : (names : List (List ℕ)) (ms : json.Members) (found all : Members) → of_members ms found ≡ Some all → are_known names all ≡ (keys_known names ms && are_known names found)
+names_read names json.no_members found all is = ap (are_known names) (sym (Some_inj found all is))
+names_read names (json.member k j ms) found all is =
+    let first = then_some (λ d. of_members ms (put k d found)) (of_json j) all is in
+    names_read names ms (put k first.0 found) all first.2 ∙ ap (λ b. keys_known names ms && b) (put_known names k first.0 found)
+    ∙ swap (keys_known names ms) (list_any (bytes_eq k) names) (are_known names found)
+  where
+    swap : (a b c : Bool) → (a && (b && c)) ≡ ((b && a) && c)
+    swap a b c = grind arith

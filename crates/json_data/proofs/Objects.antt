@@ -1,0 +1,63 @@
+-- The members of an object as a tape has them.
+use Rattle.std.proofs.Common.{◌≡◌, ℕ, List, Bool, true, ◌&&◌, Option, Some, None, is_some, sym, ap, ◌∙◌, arith, bytes_eq}
+use Rattle.std.specs.List.{list_any}
+use Rattle.std.specs.Prelude.{MatchOption}
+use Rattle.json.specs.Token.{Token}
+use Rattle.json.specs.Json as json
+use Rattle.json.specs.Find.{BeginsWith, InMembers, NextMember}
+use Rattle.json.specs.Find as json_find
+use Rattle.json.proofs.Found.{Some_inj}
+use Rattle.serde_json.specs.Data.{Data, Members, null, boolean, number, string, array, object, no_members}
+use Rattle.serde_json.specs.Find.{as_object}
+use Rattle.serde_json.specs.Read.{of_json, of_items, of_members, number_of, max_depth}
+use Rattle.json_data.specs.Reading.{data_at, data_of, are_known, keys_known}
+use Rattle.json_data.proofs.Members.{mapped_some, names_read}
+use Rattle.json_data.proofs.Places.{begun}
+
+abbrev pub Opens : List Token → Option (List Token) → Type 0
+Opens ts r = (j : json.Json) → BeginsWith ts j → MatchOption r (json_find.as_object j ≡ None) (λ rest. (ms : json.Members) × (j ≡ json.object ms) × InMembers rest ms)
+
+none : (j : json.Json) (d : Data) → of_json j ≡ Some d → json_find.as_object j ≡ None → None ≡ as_object d
+none json.null d is never = ap as_object (Some_inj null d is)
+none (json.boolean b) d is never = ap as_object (Some_inj (boolean b) d is)
+none (json.number s) d is never = let m = mapped_some number (number_of s) d is in ap as_object (sym m.2)
+none (json.string s) d is never = ap as_object (Some_inj (string s) d is)
+none (json.array js) d is never = let m = mapped_some array (of_items js) d is in ap as_object (sym m.2)
+none (json.object ms) d is never = absurd (cc never)
+
+pub no_object : (ts : List Token) → is_some (data_at ts) ≡ true → Opens ts None → None ≡ as_object (data_of ts)
+no_object ts valid finds = let b = begun ts valid in none b.value b.read b.reads (finds b.value (max_depth, b.rest, b.is)) ∙ ap as_object (sym b.shows)
+
+-- what stands in an object
+pub record Object (ts rest : List Token) : Type 0 where
+  pub found : json.Members
+  pub members : Members
+  pub inside : InMembers rest found
+  pub reads : of_members found no_members ≡ Some members
+  pub shows : as_object (data_of ts) ≡ Some members
+
+pub an_object : (ts rest : List Token) → is_some (data_at ts) ≡ true → Opens ts (Some rest) → Object ts rest
+an_object ts rest valid finds =
+    let b = begun ts valid in
+    let found = finds b.value (max_depth, b.rest, b.is) in
+    let m = mapped_some object (of_members found.0 no_members) b.read (ap of_json (sym found.1) ∙ b.reads) in
+    record { found = found.0; members = m.0; inside = found.2; reads = m.1; shows = ap as_object (b.shows ∙ m.2) }
+
+-- an object's names are known where its keys are
+pub known_names : (names : List (List ℕ)) (ts rest : List Token) (b : Bool) (members : Members) → is_some (data_at ts) ≡ true → Opens ts (Some rest)
+    → ((all : json.Members) → InMembers rest all → b ≡ keys_known names all) → as_object (data_of ts) ≡ Some members → b ≡ are_known names members
+known_names names ts rest b members valid finds keys is =
+    let o = an_object ts rest valid finds in
+    let same : o.members ≡ members = Some_inj o.members members (sym o.shows ∙ is) in
+    keys o.found o.inside ∙ all (keys_known names o.found) ∙ sym (names_read names o.found no_members o.members o.reads) ∙ ap (are_known names) same
+  where
+    all : (k : Bool) → k ≡ (k && true)
+    all k = grind arith
+
+-- one key, and those after it
+pub keys_turn : (names : List (List ℕ)) (old new at : List Token) (k : List ℕ) (ms : json.Members) → NextMember old (Some (k, at)) new → InMembers old ms
+    → (rest : json.Members) × InMembers new rest × (keys_known names ms ≡ (list_any (bytes_eq k) names && keys_known names rest))
+keys_turn names old new at k ms next inside = let f = next ms inside in (f.1, f.4, ap (keys_known names) f.2)
+
+pub keys_end : (names : List (List ℕ)) (old new : List Token) (ms : json.Members) → NextMember old None new → InMembers old ms → true ≡ keys_known names ms
+keys_end names old new ms next inside = sym (ap (keys_known names) (next ms inside))

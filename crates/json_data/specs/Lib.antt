@@ -1,0 +1,3 @@
+pub mod ObjectView
+pub mod Reading
+pub mod View

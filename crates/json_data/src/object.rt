@@ -1,0 +1,31 @@
+ghost use Rattle.std.specs.Prelude.{◌≡◌, true, is_some, map, Some};
+ghost use Rattle.serde_json.specs.Find.{as_object};
+ghost use Rattle.json_data.specs.Reading.{are_known};
+ghost use Rattle.json_data.specs.View.{view};
+
+use crate::item::Item;
+
+/// The members of an object. Clauses see what serde_json reads there.
+#[derive(Clone, Copy)]
+pub struct Object<'s, 't, 'a> {
+    item: &'s Item<'t, 'a>,
+    ghost valid: { is_some (as_object (view item.now)) ≡ true },
+}
+
+impl<'s, 't, 'a> Object<'s, 't, 'a> {
+    ghost use Rattle.json_data.specs.ObjectView.{members_view};
+
+    pub(crate) fn new(item: &'s Item<'t, 'a>) -> Object<'s, 't, 'a>
+        requires { is_some (as_object (view item.now)) ≡ true }
+        ensures { Some (members_view result) ≡ as_object (view item.now) }
+    {
+        Object { item }
+    }
+
+    /// Whether each member has one of the names.
+    pub fn has_only(&self, names: &[&str]) -> bool
+        ensures { result ≡ are_known (map (λ name. name.now) names.now) (members_view self.now) }
+    {
+        self.item.has_only(names)
+    }
+}

@@ -1,0 +1,141 @@
+//! Documents: which texts are some, and what is found in them.
+use json_data::{Document, Item, Refused, Scratch};
+use std::alloc::{AllocError, Global};
+use std::process::Abort;
+use std::test::Fail;
+
+// Texts, and whether serde_json reads them.
+const TEXTS: &[(&str, bool)] = &[
+    ("{}", true),
+    (" [1, -2.5e3, true, null, \"\\u00e9\"]\n", true),
+    ("{\"a\":1,\"a\":2}", true),
+    ("1e308", true),
+    ("-1e308", true),
+    ("18446744073709551616", true),
+    ("", false),
+    ("{} {}", false),
+    ("[1,]", false),
+    ("1e400", false),
+    ("[{\"a\":-1e400}]", false),
+    ("\"\\ud800\"", false),
+    ("01", false),
+];
+
+// Numbers, and the whole ones of 64 bits among them.
+const NUMBERS: &[(&str, Option<u64>)] = &[
+    ("0", Some(0)),
+    ("7", Some(7)),
+    ("18446744073709551615", Some(u64::MAX)),
+    ("18446744073709551616", None),
+    ("-0", None),
+    ("-7", None),
+    ("7.0", None),
+    ("7e0", None),
+    ("\"7\"", None),
+];
+
+fn refusal(alloc: Global, text: &[u8]) -> Option<Refused> {
+    let mut scratch = Scratch::new(alloc);
+    Document::parse(alloc, text, &mut scratch).err()
+}
+
+/// So many arrays, each in the one before.
+fn nested(alloc: Global, depth: usize) -> Result<Vec<u8>, AllocError> {
+    let mut text = Vec::new(alloc);
+    text.resize(depth, b'[')?;
+    text.resize(depth.saturating_mul(2), b']')?;
+    Ok(text)
+}
+
+#[test]
+fn reads_what_serde_json_reads(rt: HostRuntime) -> Result<(), Fail> {
+    for (text, reads) in TEXTS {
+        let refused = (!*reads).then_some(Refused::NotJson);
+        assert_eq!(&rt; refusal(rt.alloc(), text.as_bytes()), refused, "{text}");
+    }
+    assert_eq!(&rt;
+        refusal(rt.alloc(), b"\"\xff\"".as_slice()),
+        Some(Refused::NotJson)
+    );
+    Ok(())
+}
+
+#[test]
+fn nests_to_127(rt: HostRuntime) -> Result<(), Fail> {
+    for (depth, refused) in &[
+        (127, None),
+        (128, Some(Refused::NotJson)),
+        (129, Some(Refused::NotJson)),
+    ] {
+        let text = nested(rt.alloc(), *depth)?;
+        assert_eq!(&rt; refusal(rt.alloc(), text.as_slice()), *refused, "{depth}");
+    }
+    Ok(())
+}
+
+#[test]
+fn whole_numbers(rt: HostRuntime) -> Result<(), Fail> {
+    for (text, number) in NUMBERS {
+        let mut scratch = Scratch::new(rt.alloc());
+        let document = Document::parse(rt.alloc(), text.as_bytes(), &mut scratch)?;
+        assert_eq!(&rt; document.root().as_u64(), *number, "{text}");
+    }
+    Ok(())
+}
+
+fn number_at(item: &Item<'_, '_>, name: &str) -> Option<u64> {
+    item.get(name)?.as_u64()
+}
+
+#[test]
+fn finds_members(rt: HostRuntime) -> Result<(), Fail> {
+    let text = b"{\"b\":1,\"a\":{},\"\\u0062\":2,\"c\":\"x\",\"d\":false}";
+    let mut scratch = Scratch::new(rt.alloc());
+    let document = Document::parse(rt.alloc(), text.as_slice(), &mut scratch)?;
+    let root = document.root();
+    assert_eq!(&rt; number_at(&root, "b"), Some(2));
+    assert_eq!(&rt; number_at(&root, "a"), None);
+    assert!(&rt; root.get("e").is_none());
+    check_values(&rt, &root);
+    check_names(&rt, &root);
+    Ok(())
+}
+
+fn check_values(rt: &impl Abort, root: &Item<'_, '_>) {
+    if let Some(c) = root.get("c") {
+        assert_eq!(rt; c.as_str(), Some("x"));
+        assert_eq!(rt; c.as_bool(), None);
+        assert!(rt; c.as_array().is_none());
+    }
+    if let Some(d) = root.get("d") {
+        assert_eq!(rt; d.as_bool(), Some(false));
+        assert_eq!(rt; d.as_str(), None);
+        assert!(rt; d.as_object().is_none());
+    }
+}
+
+fn check_names(rt: &impl Abort, root: &Item<'_, '_>) {
+    match root.as_object() {
+        Some(members) => {
+            assert!(rt; members.has_only(&["a", "b", "c", "d"]));
+            assert!(rt; members.has_only(&["e", "d", "c", "b", "a"]));
+            assert!(rt; !members.has_only(&["a", "b", "d"]));
+        }
+        None => assert!(rt; false),
+    }
+}
+
+#[test]
+fn walks_items(rt: HostRuntime) -> Result<(), Fail> {
+    let text = b"[3,[4,5],6]";
+    let mut scratch = Scratch::new(rt.alloc());
+    let document = Document::parse(rt.alloc(), text.as_slice(), &mut scratch)?;
+    let mut numbers = Vec::new(rt.alloc());
+    if let Some(mut items) = document.root().as_array() {
+        while let Some(item) = items.next() {
+            numbers.push(item.as_u64())?;
+        }
+    }
+    assert_eq!(&rt; numbers.as_slice(), [Some(3), None, Some(6)].as_slice());
+    Ok(())
+}

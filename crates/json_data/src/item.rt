@@ -29,8 +29,8 @@ impl<'t, 'a> Item<'t, 'a> {
         Item { element }
     }
 
-    /// The member of that name, the last one of a name that comes twice; `None` where there is none,
-    /// and where this is no object. All members are walked.
+    /// The member of that name, the last one of a name that comes twice; `None` where there is
+    /// none, and where this is no object. All members are walked.
     pub fn get(&self, name: &str) -> Option<Item<'t, 'a>>
         ensures { option_map view result ≡ get name.now (view self.now) }
     {
@@ -47,8 +47,8 @@ impl<'t, 'a> Item<'t, 'a> {
         self.element.as_str()
     }
 
-    /// The number, where this is a whole one from 0 on, written without point and exponent, that has
-    /// 64 bits.
+    /// The number, where this is a whole one from 0 on, written without point and exponent, that
+    /// has 64 bits.
     pub fn as_u64(&self) -> Option<u64>
         ensures { result ≡ option_and_then as_u64 (as_number (view self.now)) }
     {

@@ -1,7 +1,7 @@
 ghost use Rattle.std.specs.Prelude.{◌≡◌, ◌<◌, ◌^◌, ◌==◌, true, false, map, is_some, length, option_and_then, slice_index};
 ghost use Rattle.fast_float.specs.Text.{minus};
 ghost use Rattle.json.specs.Tape.{node_token};
-ghost use Rattle.serde_json.specs.Read.{float_of, max_depth, number_from, number_of};
+ghost use Rattle.serde_json.specs.Read.{max_depth, number_from, number_of};
 ghost use Rattle.serde_json.specs.Find.{as_u64};
 ghost use Rattle.json_data.specs.Reading.{are_in_range, left_after};
 
@@ -11,8 +11,8 @@ use json::Node;
 /// How deep arrays and objects nest at most, as in serde_json.
 const MAX_DEPTH: usize = 127;
 
-/// Whether serde_json reads what a JSON text holds: arrays and objects nest no deeper than it allows,
-/// and no number is too large for it.
+/// Whether serde_json reads what a JSON text holds: arrays and objects nest no deeper than it
+/// allows, and no number is too large for it.
 pub(crate) fn are_in_range(nodes: &[Node<'_>]) -> bool
     ensures { result ≡ are_in_range max_depth (map node_token nodes.now) }
 {

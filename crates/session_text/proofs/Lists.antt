@@ -1,6 +1,6 @@
--- Lists at references, and the members of an object, as the definitions see them.
-use Rattle.std.proofs.Common.{◌≡◌, ℕ, Bool, not, ◌||◌, ◌&&◌, List, [], ◌∷◌, map, bytes_eq, ap, refl}
-use Rattle.std.specs.List.{list_any, list_all, prefix_len, position}
+-- Lists at references, as the definitions see them.
+use Rattle.std.proofs.Common.{◌≡◌, Bool, not, ◌||◌, List, [], ◌∷◌, map, ap, refl}
+use Rattle.std.specs.List.{list_any, prefix_len, position}
 use Rattle.std.proofs.lemmas.List.{length-map}
 
 -- a test of what is seen

@@ -1,5 +1,5 @@
 //! Documents: which texts are some, and what is found in them.
-use json_data::{Document, Item, Refused, Scratch};
+use json_data::{Document, Item, Items, Refused, Scratch};
 use std::alloc::{AllocError, Global};
 use std::process::Abort;
 use std::test::Fail;
@@ -125,17 +125,26 @@ fn check_names(rt: &impl Abort, root: &Item<'_, '_>) {
     }
 }
 
+fn next_number(items: &mut Items<'_, '_>) -> Option<Option<u64>> {
+    match items.next() {
+        Some(item) => Some(item.as_u64()),
+        None => None,
+    }
+}
+
 #[test]
 fn walks_items(rt: HostRuntime) -> Result<(), Fail> {
     let text = b"[3,[4,5],6]";
     let mut scratch = Scratch::new(rt.alloc());
     let document = Document::parse(rt.alloc(), text.as_slice(), &mut scratch)?;
-    let mut numbers = Vec::new(rt.alloc());
-    if let Some(mut items) = document.root().as_array() {
-        while let Some(item) = items.next() {
-            numbers.push(item.as_u64())?;
+    match document.root().as_array() {
+        Some(mut items) => {
+            assert_eq!(&rt; next_number(&mut items), Some(Some(3)));
+            assert_eq!(&rt; next_number(&mut items), Some(None));
+            assert_eq!(&rt; next_number(&mut items), Some(Some(6)));
+            assert_eq!(&rt; next_number(&mut items), None);
         }
+        None => assert!(&rt; false),
     }
-    assert_eq!(&rt; numbers.as_slice(), [Some(3), None, Some(6)].as_slice());
     Ok(())
 }

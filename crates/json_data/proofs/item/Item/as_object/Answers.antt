@@ -1,4 +1,4 @@
-use Rattle.std.proofs.Common.{is_some, sym, ap, ◌∙◌}
+use Rattle.std.proofs.Common.{is_some, ap}
 use Rattle.json_data.proofs.Objects.{an_object, no_object}
 use Rattle.json_data.proofs.item.Item.as_object.Goals as goal
 

@@ -1,9 +1,9 @@
-ghost use Rattle.std.specs.Prelude.{◌≡◌, ℕ, ◌↔◌, ◌<◌, ◌≤◌, ◌==◌, ◌&&◌, nat_lt, if◌then◌else◌, length, true, not, find, unwrap_or, IsTrue, IfOk, IfSome, Ok};
+ghost use Rattle.std.specs.Prelude.{◌≡◌, ℕ, ◌↔◌, ◌<◌, ◌≤◌, ◌==◌, ◌&&◌, nat_lt, if◌then◌else◌, length, map, true, not, find, unwrap_or, IsTrue, IfOk, IfSome, Ok};
 ghost use Rattle.std.specs.Option.{ForSome};
 ghost use Rattle.bench_types.specs.Header.{header_check};
 ghost use Rattle.bench_types.specs.Limits.{max_cores};
-ghost use Rattle.list_orders.specs.Search.{placed, without, has};
-ghost use Rattle.bench_model.specs.Control.{core_at, task_at, current, is_idle, is_elsewhere, may_select, ask, run_on, runs_on, ask_its_core};
+ghost use Rattle.list_orders.specs.Search.{numbers, placed, without, has};
+ghost use Rattle.bench_model.specs.Control.{core_at, task_at, current, is_allowed, is_idle, is_elsewhere, may_select, ask, run_on, runs_on, ask_its_core};
 ghost use Rattle.bench_model.specs.State.{after_select};
 ghost use Rattle.bench_model.specs.Lists.{list_queues, outranks};
 ghost use Rattle.bench_model.specs.Start.{first_lists, unstarted};
@@ -167,6 +167,39 @@ impl Cores {
         ensures { result ≡ has task self.now.ready }
     {
         self.ready.contains(&task)
+    }
+
+    /// Sets the mark of each task to whether it is in a ready list. It takes one pass over the
+    /// ready tasks, and no search for each.
+    pub fn mark_ready(&self, marks: &mut [bool])
+        requires { length marks.old ≡ length self.now.control.tasks }
+        ensures { marks.new ≡ map (λ task. has task self.now.ready) (numbers (length marks.old)) }
+    {
+        marks.fill(false);
+        for task in &self.ready {
+            marks[*task as usize] = true;
+        }
+    }
+
+    /// Whether the effective priority of one task is below that of the other: an idle task stands
+    /// below all others, and else the priorities in use decide.
+    pub fn stands_below(&self, task: u32, other: u32) -> bool
+        requires task { task < length self.now.control.tasks }
+        requires other { other < length self.now.control.tasks }
+        ensures { result
+            ≡ nat_lt (effective self.now.control task) (effective self.now.control other) }
+    {
+        let is_lower = self.is_idle(task) || self.in_use(task) < self.in_use(other);
+        !self.is_idle(other) && is_lower
+    }
+
+    /// Whether the task may run on the core, by its core affinity mask; an idle task may on each.
+    pub fn is_allowed(&self, core: u32, task: u32) -> bool
+        requires core { core < length self.now.control.cores }
+        requires task { task < length self.now.control.tasks }
+        ensures { result ≡ is_allowed self.now.control core task }
+    {
+        self.is_idle(task) || self.has_bit(self.mask(task), core)
     }
 
     /// The core that acts notes a switch for itself; any other core is asked.
@@ -366,17 +399,6 @@ impl Cores {
             .find(|core| self.keeps_running(*core, task))
     }
 
-    // Whether the effective priority of one task is below that of the other.
-    fn stands_below(&self, task: u32, other: u32) -> bool
-        requires task { task < length self.now.control.tasks }
-        requires other { other < length self.now.control.tasks }
-        ensures { result
-            ≡ nat_lt (effective self.now.control task) (effective self.now.control other) }
-    {
-        let is_lower = self.is_idle(task) || self.in_use(task) < self.in_use(other);
-        !self.is_idle(other) && is_lower
-    }
-
     // Whether the core is not due and runs a task that may be given up for this one.
     fn is_preemptible_by(&self, task: u32, core: u32) -> bool
         requires task { task < length self.now.control.tasks }
@@ -450,8 +472,7 @@ impl Cores {
         requires task { task < length self.now.control.tasks }
         ensures { result ≡ may_select self.now.control core task }
     {
-        let is_allowed = self.is_idle(task) || self.has_bit(self.mask(task), core);
-        is_allowed && !self.is_elsewhere(core, task)
+        self.is_allowed(core, task) && !self.is_elsewhere(core, task)
     }
 
     // The best task so far, or one that came to its ready list after it, where the core may select
@@ -468,7 +489,7 @@ impl Cores {
             None => true,
             Some(best) => self.in_use(best) < self.in_use(task),
         };
-        if self.is_selectable(core, task) && is_better {
+        if is_better && self.is_selectable(core, task) {
             Some(task)
         } else {
             best

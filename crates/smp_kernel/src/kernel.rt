@@ -1,13 +1,15 @@
-ghost use Rattle.std.specs.Prelude.{◌≡◌, ◌+◌, ◌-◌, ◌<◌, ◌%◌, ◌^◌, ◌↔◌, true, option_map, IsErr, IfOk, IfSome, Ok, Err, min};
+ghost use Rattle.std.specs.Prelude.{◌≡◌, ◌+◌, ◌-◌, ◌<◌, ◌%◌, ◌^◌, ◌↔◌, length, map, nat_lt, true, option_map, IsErr, IfOk, IfSome, Ok, Err, min};
 ghost use Rattle.bench_types.specs.Header.{header_check};
 ghost use Rattle.bench_types.specs.Step.{settings_of, step_check};
-ghost use Rattle.bench_model.specs.Control.{core_at, current};
+ghost use Rattle.list_orders.specs.Search.{has, numbers};
+ghost use Rattle.bench_model.specs.Control.{core_at, current, is_allowed, task_at};
 ghost use Rattle.bench_model.specs.State.{holder_at};
 ghost use Rattle.bench_model.specs.Table.{Table};
 ghost use Rattle.bench_model.specs.Start.{start};
 ghost use Rattle.bench_model.specs.Looks.{task_look};
 ghost use Rattle.bench_model.specs.Session.{step_of};
 ghost use Rattle.bench_model.specs.Equal.{Same, StandsFor};
+ghost use Rattle.bench_model.specs.Seek.{effective};
 ghost use Rattle.smp_kernel.specs.Kernel.{StandsForSome};
 
 use crate::Meter;
@@ -124,6 +126,7 @@ impl Kernel {
         requires { core < self.now.settings.cores }
         ensures current { (table : Table) → StandsFor self.now table
             → result ≡ current table.control core }
+        ensures seen { result ≡ current self.now.control core }
         ensures task { result < self.now.settings.tasks }
         ensures sound { StandsForSome self.now }
     {
@@ -144,6 +147,45 @@ impl Kernel {
         ensures { (table : Table) → StandsFor self.now table → result ≡ task_look table task }
     {
         self.scheduler.look(task)
+    }
+
+    /// The priority in use of the task: its base priority, or one that it inherited
+    /// (`uxTaskPriorityGet`).
+    pub fn in_use(&self, task: u32) -> u32
+        requires { task < self.now.settings.tasks }
+        ensures { result ≡ (task_at self.now.control task).in_use }
+    {
+        self.scheduler.in_use(task)
+    }
+
+    /// Whether the effective priority of one task is below that of the other: an idle task stands
+    /// below all others, and else the priorities in use decide.
+    pub fn stands_below(&self, task: u32, other: u32) -> bool
+        requires task { task < self.now.settings.tasks }
+        requires other { other < self.now.settings.tasks }
+        ensures { result
+            ≡ nat_lt (effective self.now.control task) (effective self.now.control other) }
+    {
+        self.scheduler.stands_below(task, other)
+    }
+
+    /// Whether the task may run on the core, by its core affinity mask; an idle task may on each.
+    pub fn is_allowed(&self, core: u32, task: u32) -> bool
+        requires core { core < self.now.settings.cores }
+        requires task { task < self.now.settings.tasks }
+        ensures { result ≡ is_allowed self.now.control core task }
+    {
+        self.scheduler.is_allowed(core, task)
+    }
+
+    /// Sets the mark of each task to whether it is in a ready list; `marks` has one for each task.
+    /// It takes one pass over the ready tasks, and no search for each.
+    pub fn mark_ready(&self, marks: &mut [bool])
+        requires { length marks.old ≡ self.now.settings.tasks }
+        ensures { marks.new
+            ≡ map (λ task. has task self.now.orders.ready) (numbers (length marks.old)) }
+    {
+        self.scheduler.mark_ready(marks);
     }
 
     /// The task that holds the mutex, if there is one (`xSemaphoreGetMutexHolder`).

@@ -1,17 +1,17 @@
-ghost use Rattle.std.specs.Prelude.{◌≡◌, ◌<◌, ◌≤◌, length, [], true, false, IfOk, IfSome, Ok, Some, None, replicate};
+ghost use Rattle.std.specs.Prelude.{◌≡◌, ◌<◌, ◌≤◌, length, map, nat_lt, [], true, false, IfOk, IfSome, Ok, Some, None, replicate};
 ghost use Rattle.std.specs.Option.{option_map_or};
 ghost use Rattle.bench_types.specs.Header.{header_check};
 ghost use Rattle.bench_types.specs.Step.{call_check, step_check, IsStepOfWords};
 ghost use Rattle.bench_types.specs.Limits.{max_cores, max_depth};
 ghost use Rattle.bench_types.specs.declared.step.Call.TheVariants.{Delay};
 ghost use Rattle.bench_types.specs.declared.step.Unfinished.TheVariants.{Made};
-ghost use Rattle.list_orders.specs.Search.{placed, has};
-ghost use Rattle.bench_model.specs.Control.{core_at, current};
+ghost use Rattle.list_orders.specs.Search.{numbers, placed, has};
+ghost use Rattle.bench_model.specs.Control.{core_at, current, is_allowed, task_at};
 ghost use Rattle.bench_model.specs.Holds.{depth_of};
 ghost use Rattle.bench_model.specs.Refusals.{give_refusal};
 ghost use Rattle.bench_model.specs.Start.{first_lists, unstarted, start_seen};
 ghost use Rattle.bench_model.specs.State.{holder_at, yielded, blocked};
-ghost use Rattle.bench_model.specs.Seek.{wake, after_switch, sliced};
+ghost use Rattle.bench_model.specs.Seek.{effective, wake, after_switch, sliced};
 ghost use Rattle.bench_model.specs.Steps.{ticked, delayed_until, called, performed, after};
 ghost use Rattle.bench_model.specs.Lists.{list_queues, wakes_first, advance, due_tasks};
 ghost use Rattle.bench_model.specs.Looks.{look_in};
@@ -147,6 +147,42 @@ impl Scheduler {
             value: self.notes.value(task),
             state: self.notes.state(task),
         }
+    }
+
+    /// The priority in use of the task.
+    pub fn in_use(&self, task: u32) -> u32
+        requires { task < self.now.settings.tasks }
+        ensures { result ≡ (task_at self.now.control task).in_use }
+    {
+        self.cores.in_use(task)
+    }
+
+    /// Whether the effective priority of one task is below that of the other.
+    pub fn stands_below(&self, task: u32, other: u32) -> bool
+        requires task { task < self.now.settings.tasks }
+        requires other { other < self.now.settings.tasks }
+        ensures { result
+            ≡ nat_lt (effective self.now.control task) (effective self.now.control other) }
+    {
+        self.cores.stands_below(task, other)
+    }
+
+    /// Whether the task may run on the core.
+    pub fn is_allowed(&self, core: u32, task: u32) -> bool
+        requires core { core < self.now.settings.cores }
+        requires task { task < self.now.settings.tasks }
+        ensures { result ≡ is_allowed self.now.control core task }
+    {
+        self.cores.is_allowed(core, task)
+    }
+
+    /// Sets the mark of each task to whether it is in a ready list.
+    pub fn mark_ready(&self, marks: &mut [bool])
+        requires { length marks.old ≡ self.now.settings.tasks }
+        ensures { marks.new
+            ≡ map (λ task. has task self.now.orders.ready) (numbers (length marks.old)) }
+    {
+        self.cores.mark_ready(marks);
     }
 
     /// The task that holds the mutex, if there is one.

@@ -1,14 +1,19 @@
-ghost use Rattle.std.specs.Prelude.{◌≡◌, ◌<◌, ◌+◌, ◌^◌, length, map, replicate, All, IfOk};
+ghost use Rattle.std.specs.Prelude.{◌≡◌, ◌<◌, ◌+◌, ◌-◌, ◌^◌, Some, length, map, replicate, All, IfOk};
 ghost use Rattle.list_orders.specs.Search.{numbers};
 ghost use Rattle.bench_model.specs.Tallied.{added_tally, no_counts, CountsBelow};
+ghost use Rattle.bench_types.specs.declared.step.Step.TheVariants.{Tick};
+ghost use Rattle.bench_reports.specs.Counting.{event_tally, found_as, found_tally, runs_after, task_of, top_tally, HasEventRoom};
 ghost use Rattle.bench_reports.specs.Sums.{sums_of};
 
+use crate::event::Event;
+use crate::found::Found;
 use bench_types::Tally;
+use smp_kernel::Kernel;
 use std::alloc::{AllocError, Global};
 use std::marker::Model;
 
 /// The numbers of one task: the ticks that it ran on each core, core 0 first, and the others.
-#[derive(Drop)]
+#[derive(Debug, Drop)]
 pub(crate) struct TaskCounts {
     run: Vec<u32>,
     counts: Tally,
@@ -65,6 +70,46 @@ impl TaskCounts {
         self.run.as_slice()
     }
 
+    /// Adds a tick, which found the task so.
+    pub(crate) fn add_tick(&mut self, kernel: &Kernel, task: u32, found: Found)
+        requires run { length self.old.run ≡ kernel.now.settings.cores }
+        requires cores { length kernel.now.control.cores ≡ kernel.now.settings.cores }
+        requires found { found ≡ found_as kernel.now task }
+        requires room { CountsBelow (2 ^ 32 - 1) self.old }
+        ensures { self.new ≡ found_tally kernel.now Tick task self.old }
+    {
+        match found {
+            Found::Running => add_run(&mut self.run, kernel, task),
+            Found::Waiting(inverted) => {
+                self.counts.wait += 1;
+                self.counts.inverted += u32::from(inverted);
+            }
+            Found::Blocked => {}
+        }
+    }
+
+    /// Adds an event of the task.
+    #[tactic(auto, unfolding(crate::specs::Counting::event_tally))]
+    pub(crate) fn add_event(&mut self, event: Event)
+        requires { HasEventRoom self.old }
+        ensures { self.new ≡ event_tally (Some event) (task_of event) self.old }
+    {
+        match event {
+            Event::SwitchedIn(_) => self.counts.switched += 1,
+            Event::Displaced(_) => self.counts.displaced += 1,
+            Event::RanOut(_) => self.counts.timeouts += 1,
+        }
+    }
+
+    /// The priority that the task has in use, where it is the greatest so far.
+    #[tactic(auto, unfolding(crate::specs::Counting::top_tally))]
+    pub(crate) fn raise_top(&mut self, kernel: &Kernel, task: u32)
+        requires { task < kernel.now.settings.tasks }
+        ensures { self.new ≡ top_tally kernel.now.control task self.old }
+    {
+        self.counts.top = self.counts.top.max(kernel.in_use(task));
+    }
+
     /// Adds the numbers of another part of the session; the priority in use is the greater one.
     #[tactic(auto, unfolding(bench_model::specs::Tallied::added_tally))]
     pub(crate) fn add(&mut self, other: &TaskCounts)
@@ -80,6 +125,17 @@ impl TaskCounts {
         counts.displaced += more.displaced;
         counts.timeouts += more.timeouts;
         counts.top = counts.top.max(more.top);
+    }
+}
+
+/// The ticks that each core ran, and one more where the task is its current one.
+fn add_run(run: &mut [u32], kernel: &Kernel, task: u32)
+    requires cores { length run.old ≡ kernel.now.settings.cores }
+    requires room { All (λ ticks. ticks < 2 ^ 32 - 1) run.old }
+    ensures { run.new ≡ runs_after kernel.now.control task run.old }
+{
+    for core in 0..kernel.settings().cores {
+        run[core as usize] += u32::from(kernel.running(core) == task);
     }
 }
 

@@ -3,6 +3,8 @@
 #![tactic(auto)]
 
 mod counts;
+mod event;
+mod found;
 mod lines;
 mod tallies;
 

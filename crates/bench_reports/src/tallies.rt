@@ -1,30 +1,48 @@
-ghost use Rattle.std.specs.Prelude.{◌≡◌, ◌<◌, ◌^◌, length, string_bytes, IfOk};
-ghost use Rattle.bench_model.specs.Tallied.{added, first_tallies, run_at, shape, tally_at, AllCountsBelow};
+ghost use Rattle.std.specs.Prelude.{◌≡◌, ◌+◌, ◌-◌, ◌<◌, ◌^◌, All, Ok, length, map, min, string_bytes, IfOk};
+ghost use Rattle.bench_types.specs.Step.{step_check};
+ghost use Rattle.bench_types.specs.declared.step.Step.TheVariants.{Tick};
+ghost use Rattle.list_orders.specs.Search.{has, numbers};
+ghost use Rattle.bench_model.specs.Equal.{StandsFor};
+ghost use Rattle.bench_model.specs.Lists.{list_queues};
+ghost use Rattle.bench_model.specs.Session.{step_of};
+ghost use Rattle.bench_model.specs.Table.{Table};
+ghost use Rattle.bench_model.specs.Tally.{is_current};
+ghost use Rattle.bench_model.specs.Tallied.{added, first_tallies, run_at, shape, shape_of, tallied, tally_at, AllCountsBelow};
+ghost use Rattle.smp_kernel.specs.Kernel.{StandsForSome};
+ghost use Rattle.bench_reports.specs.Counting.{found, topped, with_event, HasEventRoom};
 ghost use Rattle.bench_reports.specs.Lines.{tally_lines};
 
 use crate::counts::TaskCounts;
+use crate::event::{Event, event_of, left_by};
+use crate::found::{found_as, lowest_current, mark_current};
 use crate::lines::push_tallies;
-use bench_types::{Header, Tally};
-use smp_kernel::Kernel;
+use bench_types::{Header, Reply, Step, Tally};
+use smp_kernel::{Kernel, Meter};
 use std::alloc::{AllocError, Global};
 use std::marker::Model;
 
 /// The numbers of each task, idle tasks too, in number order: for each core the ticks that found
 /// the task on it, and its [`Tally`].
-#[derive(Drop)]
+#[derive(Debug, Drop)]
 pub struct Tallies {
     tasks: Vec<TaskCounts>,
+    /// Room for the marks of the ready tasks.
+    ready: Vec<bool>,
+    /// Room for those of the current tasks.
+    current: Vec<bool>,
 }
 
 impl Model for Tallies {
-    ghost use Rattle.std.specs.Prelude.{List, ◌<◌, ◌^◌, length};
+    ghost use Rattle.std.specs.Prelude.{List, length};
     ghost use Rattle.bench_model.specs.Tally.{TaskTally};
+    ghost use Rattle.bench_reports.specs.Counting.{HasRoomForMarks};
 
     ghost Value = { List TaskTally };
 
     ghost view = { λ tallies. tallies.tasks.items };
 
-    ghost invariant = { λ tallies. length tallies.tasks.items < 2 ^ 32 };
+    ghost invariant = { λ tallies. HasRoomForMarks (length tallies.tasks.items)
+        (length tallies.ready.items) (length tallies.current.items) };
 }
 
 impl Tallies {
@@ -38,7 +56,54 @@ impl Tallies {
         for task in 0..settings.tasks {
             tasks.push(TaskCounts::zeros(alloc, settings.cores, kernel.look(task).in_use)?)?;
         }
-        Ok(Tallies { tasks })
+        Ok(Tallies {
+            ready: no_marks(alloc, tasks.len())?,
+            current: no_marks(alloc, tasks.len())?,
+            tasks,
+        })
+    }
+
+    /// Counts a step, which the kernel `before` answered with this reply, and after which it is
+    /// `after`.
+    pub fn step(&mut self, before: &Kernel, step: &Step, reply: Reply, after: &Kernel)
+        requires shape { shape self.old ≡ shape_of before.now.settings }
+        requires settings { after.now.settings ≡ before.now.settings }
+        requires room { AllCountsBelow (2 ^ 32 - 1) self.old }
+        ensures { self.new ≡ tallied list_queues (record {
+          before = before.now;
+          step = step.now;
+          reply = reply;
+          after = after.now;
+        }) self.old }
+    {
+        let left = left_by(before, step);
+        self.find(before, step);
+        self.leave(event_of(left, step, reply, after), after);
+    }
+
+    /// Makes a step of the kernel and counts it.
+    pub fn make(&mut self, kernel: &mut Kernel, meter: &mut Meter, step: &Step) -> Reply
+        requires checked { step_check kernel.old.settings step.now ≡ Ok tt }
+        requires shape { shape self.old ≡ shape_of kernel.old.settings }
+        requires room { AllCountsBelow (2 ^ 32 - 1) self.old }
+        ensures reply { (table : Table) → StandsFor kernel.old table
+            → result ≡ (step_of step.now table).0 }
+        ensures state { (table : Table) → StandsFor kernel.old table
+            → StandsFor kernel.new (step_of step.now table).1 }
+        ensures meter { meter.new ≡ min (meter.old + 1) (2 ^ 64 - 1) }
+        ensures shape { kernel.new.settings ≡ kernel.old.settings }
+        ensures counted { self.new ≡ tallied list_queues (record {
+          before = kernel.old;
+          step = step.now;
+          reply = result;
+          after = kernel.new;
+        }) self.old }
+    {
+        let left = left_by(kernel, step);
+        self.find(kernel, step);
+        let reply = kernel.step(meter, step);
+        self.leave(event_of(left, step, reply, kernel), kernel);
+        reply
     }
 
     /// Adds the numbers of another part of the session; each task's priority in use is the greater
@@ -59,7 +124,11 @@ impl Tallies {
         for task in &self.tasks {
             tasks.push(task.copy(alloc)?)?;
         }
-        Ok(Tallies { tasks })
+        Ok(Tallies {
+            ready: no_marks(alloc, tasks.len())?,
+            current: no_marks(alloc, tasks.len())?,
+            tasks,
+        })
     }
 
     /// The counts of the task beside the ticks that it ran.
@@ -86,6 +155,90 @@ impl Tallies {
         let mut text = String::new(alloc);
         push_tallies(&mut text, header, &self.tasks)?;
         Ok(text)
+    }
+
+    // Adds what the step finds, which is nothing unless it is a tick.
+    fn find(&mut self, kernel: &Kernel, step: &Step)
+        requires shape { shape self.old ≡ shape_of kernel.now.settings }
+        requires room { AllCountsBelow (2 ^ 32 - 1) self.old }
+        ensures { self.new ≡ found kernel.now step.now self.old }
+    {
+        if let Step::Tick = step {
+            self.find_tick(kernel);
+        }
+    }
+
+    fn find_tick(&mut self, kernel: &Kernel)
+        requires shape { shape self.old ≡ shape_of kernel.now.settings }
+        requires room { AllCountsBelow (2 ^ 32 - 1) self.old }
+        ensures { self.new ≡ found kernel.now Tick self.old }
+    {
+        kernel.mark_ready(&mut self.ready);
+        mark_current(kernel, &mut self.current);
+        add_tick(&mut self.tasks, kernel, &self.ready, &self.current);
+    }
+
+    // Adds the event of a step, and the priorities in use after it.
+    fn leave(&mut self, event: Option<Event>, after: &Kernel)
+        requires tasks { length self.old ≡ after.now.settings.tasks }
+        requires room { All HasEventRoom self.old }
+        ensures left { self.new ≡ topped after.now.control (with_event event self.old) }
+        ensures sound { StandsForSome after.now }
+    {
+        add_event(&mut self.tasks, event);
+        raise_tops(&mut self.tasks, after);
+    }
+}
+
+fn no_marks(alloc: Global, tasks: usize) -> Result<Vec<bool>, AllocError>
+    ensures { IfOk result (λ marks. length marks.items ≡ tasks) }
+{
+    let mut marks = Vec::new(alloc);
+    marks.resize(tasks, false)?;
+    Ok(marks)
+}
+
+// Adds a tick, by the marks of the ready and the current tasks.
+#[tactic(auto, unfolding(crate::specs::Counting::found))]
+fn add_tick(tasks: &mut [TaskCounts], kernel: &Kernel, ready: &[bool], current: &[bool])
+    requires shape { shape tasks.old ≡ shape_of kernel.now.settings }
+    requires room { AllCountsBelow (2 ^ 32 - 1) tasks.old }
+    requires ready { ready.now
+        ≡ map (λ task. has task kernel.now.orders.ready) (numbers (length tasks.old)) }
+    requires current { current.now
+        ≡ map (is_current kernel.now.control) (numbers (length tasks.old)) }
+    ensures { tasks.new ≡ found kernel.now Tick tasks.old }
+{
+    let lowest = lowest_current(kernel);
+    for task in 0..kernel.settings().tasks {
+        let place = task as usize;
+        let found = found_as(kernel, lowest, task, ready[place], current[place]);
+        tasks[place].add_tick(kernel, task, found);
+    }
+}
+
+// Adds an event to the tally of its task, if there is one.
+fn add_event(tasks: &mut [TaskCounts], event: Option<Event>)
+    requires { All HasEventRoom tasks.old }
+    ensures { tasks.new ≡ with_event event tasks.old }
+{
+    if let Some(event) = event {
+        let place = event.task() as usize;
+        if place < tasks.len() {
+            tasks[place].add_event(event);
+        }
+    }
+}
+
+// Each task's priority in use, where it is the greatest so far.
+#[tactic(auto, unfolding(crate::specs::Counting::topped))]
+fn raise_tops(tasks: &mut [TaskCounts], kernel: &Kernel)
+    requires { length tasks.old ≡ kernel.now.settings.tasks }
+    ensures topped { tasks.new ≡ topped kernel.now.control tasks.old }
+    ensures sound { StandsForSome kernel.now }
+{
+    for task in 0..kernel.settings().tasks {
+        tasks[task as usize].raise_top(kernel, task);
     }
 }
 

@@ -1,0 +1,21 @@
+use Rattle.std.proofs.Common.{All, List, length, ap, sym, subst, ◌∙◌}
+use Rattle.bench_types.specs.declared.kernel_data.Settings.{Settings}
+use Rattle.bench_model.specs.Tally.{TaskTally}
+use Rattle.bench_reports.specs.Counting.{HasEventRoom}
+use Rattle.bench_reports.proofs.Parts.{counted_whole, length_found, room_after_found}
+use Rattle.bench_reports.proofs.TickLoop.{shape_length}
+use Rattle.bench_reports.proofs.tallies.Tallies.make.Goals as goal
+
+pub leave-requires-clause-tasks : goal.leave-requires-clause-tasks
+leave-requires-clause-tasks c =
+    let before = c.args.kernel.now in
+    let old = c.args.self.now in
+    ap (λ (ts : List TaskTally). length ts) c.find.ensures ∙ length_found before c.args.step.now old ∙ shape_length old before.settings c.requires.shape ∙ ap (λ (s : Settings). s.tasks) (sym c.step-reply.ensures.shape)
+
+pub leave-requires-clause-room : goal.leave-requires-clause-room
+leave-requires-clause-room c = subst (λ ts. All HasEventRoom ts) (sym c.find.ensures) (room_after_found c.args.kernel.now c.args.step.now c.args.self.now c.requires.room)
+
+pub returns-clause-counted : goal.returns-clause-counted
+returns-clause-counted c =
+    counted_whole c.args.kernel.now c.step-reply.new.self c.args.step.now c.step-reply.result c.args.self.now c.find.new.self c.leave.new.self c.left_by-left.result c.event_of.result
+    c.left_by-left.ensures.sound c.leave.ensures.sound c.step-reply.ensures.shape c.left_by-left.ensures.left c.find.ensures c.event_of.ensures c.leave.ensures.left

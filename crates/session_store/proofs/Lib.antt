@@ -4,3 +4,4 @@ mod Openings
 mod Places
 mod Replays
 mod Views
+pub mod Tallied

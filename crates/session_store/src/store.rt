@@ -5,6 +5,7 @@ ghost use Rattle.bench_types.specs.Limits.{max_steps};
 ghost use Rattle.bench_types.specs.declared.edit.EditFault.{EditFault as Why};
 ghost use Rattle.bench_model.specs.Edits.{accepted, edited, after_edit, after_edits};
 ghost use Rattle.bench_types.specs.Session.{IsSession};
+ghost use Rattle.bench_model.specs.Tally.{tallies};
 ghost use Rattle.bench_model.specs.Equal.{StandsFor};
 ghost use Rattle.bench_model.specs.Session.{state_at, reply_at, running_at};
 ghost use Rattle.session_store.specs.declared.fault.Refused.{Refused as Refusal};
@@ -18,6 +19,7 @@ use crate::edited::{edited_header, edited_steps};
 use crate::fault::Refused;
 use crate::replay::{advance, copy_row, replayed, row_of, started};
 use crate::{OpenFault, OpenRefusal, Outcome, StoreFault};
+use bench_reports::Tallies;
 use bench_types::{Edit, EditFault, Header, Items, Reply, Row, Step};
 use smp_kernel::{Kernel, Meter};
 use std::alloc::{AllocError, Global};
@@ -34,12 +36,14 @@ pub(crate) struct Segment {
     outcomes: Vec<(Reply, Row)>,
 }
 
-/// A session that was replayed, with its replies and the tasks that run at each place.
+/// A session that was replayed, with its replies, the tasks that run at each place, and how each
+/// task fared.
 #[derive(Debug, Drop)]
 pub struct Store {
     header: Header,
     span: u32,
     segment: Segment,
+    tallies: Tallies,
 }
 
 impl Model for Store {
@@ -56,7 +60,7 @@ impl Model for Store {
       checkpoints = store.segment.from ∷ [];
     } };
 
-    ghost invariant = { λ store. IsKept store.header store.span store.segment };
+    ghost invariant = { λ store. IsKept store.header store.span store.segment store.tallies };
 }
 
 impl Store {
@@ -93,7 +97,7 @@ impl Store {
             });
         }
         match replayed(alloc, &header, steps.as_slice(), meter) {
-            Ok((kernel, outcomes)) => Ok(Store {
+            Ok((kernel, outcomes, tallies)) => Ok(Store {
                 header,
                 span,
                 segment: Segment {
@@ -102,6 +106,7 @@ impl Store {
                     steps,
                     outcomes,
                 },
+                tallies,
             }),
             Err(_) => Err(OpenFault {
                 header,
@@ -250,6 +255,14 @@ impl Store {
         Ok(Some(kernel))
     }
 
+    /// How each task fared in the session as it stands after all edits.
+    pub fn tallies(&self, alloc: Global) -> Result<Tallies, AllocError>
+        ensures { IfOk result
+            (λ tallied. tallied ≡ tallies self.now.session.header self.now.session.steps) }
+    {
+        self.tallies.copy(alloc)
+    }
+
     // Becomes the store made last, where one was made.
     fn take_up(&mut self, last: Option<Store>)
         ensures { self.new ≡ unwrap_or last self.old }
@@ -279,7 +292,7 @@ impl Store {
         check_edit(&self.header, kept, &edit)?;
         let header = edited_header(alloc, &self.header, &edit)?;
         let steps = edited_steps(alloc, kept, &edit)?;
-        let (kernel, outcomes) = replayed(alloc, &header, steps.as_slice(), meter)?;
+        let (kernel, outcomes, tallies) = replayed(alloc, &header, steps.as_slice(), meter)?;
         let segment = Segment {
             from: 0,
             kernel,
@@ -290,6 +303,7 @@ impl Store {
             header,
             span: self.span,
             segment,
+            tallies,
         })
     }
 

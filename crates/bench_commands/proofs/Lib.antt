@@ -1,10 +1,9 @@
 pub mod KnownInput
+mod ClapAnswers
 mod CommandLine
-mod CommandWords
 mod KnownOutput
+mod OptionsRead
 mod Replays
 mod Refused
 mod Opened
-mod SpanOption
-mod SpanRead
 mod SpanTexts

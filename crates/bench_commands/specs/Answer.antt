@@ -1,4 +1,4 @@
--- What the program writes for the bytes that it read.
+-- What a run writes for the bytes that it read.
 use Rattle.std.specs.Prelude.{ℕ, List, [], ◌∷◌, ◌++◌, length, flat_map, codes, Bool, true, false, nat_lt, if◌then◌else◌, Result, Ok, Err}
 use Rattle.std.specs.Option.{option_map_or}
 use Rattle.bench_types.specs.Codes.{fault_code}
@@ -12,6 +12,8 @@ use Rattle.bench_model.specs.Start.{start}
 use Rattle.bench_model.specs.Edits.{after_edits}
 use Rattle.bench_types.specs.Session.{Session}
 use Rattle.bench_model.specs.Session.{outcome_at}
+use Rattle.bench_model.specs.Tally.{tallies}
+use Rattle.bench_reports.specs.Lines.{tally_lines}
 use Rattle.session_store.specs.Outcomes.{answers}
 use Rattle.session_text.specs.declared.bench.Bench.{Bench}
 use Rattle.session_text.specs.declared.fault.Why.{Why}
@@ -19,6 +21,8 @@ use Rattle.session_text.specs.declared.fault.Why.TheVariants.{NotJson, BadShape,
 use Rattle.session_text.specs.declared.fault.Why.TheVariants as why
 use Rattle.session_text.specs.declared.fault.TextFault.{TextFault}
 use Rattle.session_text.specs.Bench.{bench_text}
+use Rattle.bench_commands.specs.declared.execution.Mode.{Mode}
+use Rattle.bench_commands.specs.declared.execution.Mode.TheVariants.{Replay}
 use Rattle.bench_commands.specs.Lines.{spaced, edit_lines, start_line, step_line}
 
 -- the line of the step at a place
@@ -59,26 +63,36 @@ pub record Output : Type 0 where
 abbrev pub refused : List ℕ → List ℕ → Output
 refused code path = record { is_refused = true; text = refusal_line code path }
 
+-- a line a task, where they are asked for
+abbrev pub tally_text : Bool → Header → List Step → List ℕ
+tally_text tally header steps = if tally then tally_lines header 0 (tallies header steps) else []
+
 -- the lines of the edits, then those of the session that they leave
-abbrev pub edited_text : Session → List Edit → List ℕ
-edited_text session edits =
+abbrev pub edited_text : Bool → Session → List Edit → List ℕ
+edited_text tally session edits =
     let last = after_edits session edits in
     edit_lines 0 (answers session edits) ++ replay_text last.header last.steps
+    ++ tally_text tally last.header last.steps
 
--- J2 comes after all other refusals
-abbrev pub output_of_bench : Bench → Output
-output_of_bench bench =
+-- what a replay writes for a bench document
+abbrev pub bench_replay : Bool → Bench → List ℕ
+bench_replay tally bench =
+    edited_text tally (record { header = bench.header; steps = bench.steps }) bench.edits
+
+-- by what is written for a bench document; J2 comes after all other refusals
+abbrev pub output_of_bench : (Bench → List ℕ) → Bench → Output
+output_of_bench text bench =
     if nat_lt max_steps (length bench.steps) then refused (codes "J2") []
-    else record {
-      is_refused = false;
-      text = edited_text (record { header = bench.header; steps = bench.steps }) bench.edits;
-    }
+    else record { is_refused = false; text = text bench }
 
-abbrev pub output_of : Result Bench TextFault → Output
-output_of (Ok bench) = output_of_bench bench
-output_of (Err fault) = refused (why_text fault.why) fault.path
+abbrev pub output_of : (Bench → List ℕ) → Result Bench TextFault → Output
+output_of text (Ok bench) = output_of_bench text bench
+output_of text (Err fault) = refused (why_text fault.why) fault.path
 
-unfoldable pub output : List ℕ → Output
-output input =
-    if nat_lt max_input (length input) then refused (codes "H3") []
-    else output_of (bench_text input)
+-- by the mode, the output for an input that is not too long
+abbrev pub output_by : Mode → List ℕ → Output
+output_by (Replay span tally) input = output_of (bench_replay tally) (bench_text input)
+
+unfoldable pub output : Mode → List ℕ → Output
+output mode input =
+    if nat_lt max_input (length input) then refused (codes "H3") [] else output_by mode input

@@ -1,12 +1,12 @@
--- What a command line asks for.
-use Rattle.std.specs.Prelude.{◌≡◌, ◌==◌, ◌&&◌, ◌||◌, ℕ, List, [], ◌∷◌, Bool, true, false, codes, if◌then◌else◌, Option, Some, None, drop, length, nat_eq, option_and_then, pos, slice_get}
-use Rattle.std.specs.List.{starts_with}
+-- What a command line asks for: what clap is told, and what each of its answers means.
+use Rattle.std.specs.Prelude.{◌≡◌, ◌&&◌, ℕ, List, [], ◌∷◌, Bool, true, false, codes, Option, Some, None, IfSome, pos}
 use Rattle.std.specs.Option.{option_map_or}
-use Rattle.std.specs.Str.{bytes_eq, chars}
+use Rattle.std.specs.Str.{bytes_eq}
 use Rattle.std.specs.Str.Parse.{digits_value, without_leading_plus}
-use Rattle.clap.specs.Lexer.{short_of}
-use Rattle.clap.specs.ValueTests.{is_numeral}
-use Rattle.clap.specs.Words.{App, Row, Rule, Text, new_app, new_rule, one_of, with_rule, with_subcommand}
+use Rattle.clap.specs.ValueTests.{accepts, is_numeral}
+use Rattle.clap.specs.Words.{App, Kinds, Row, Rule, Text, fault_of, new_app, new_rule, one_of, subcommand_of, with_rule, with_subcommand}
+use Rattle.clap.specs.declared.builder.action.ArgAction.TheVariants.{SetTrue}
+use Rattle.clap.specs.declared.builder.value_parser.ValueParser.TheVariants as parser
 use Rattle.clap.specs.declared.builder.value_parser.ValueParser.TheVariants.{Signed}
 use Rattle.clap.specs.declared.error.kind.ErrorKind.{ErrorKind}
 use Rattle.clap.specs.declared.error.kind.ErrorKind.TheVariants as kind
@@ -24,86 +24,84 @@ pub data Asked : Type 0 where
   help : Asked
   a_mistake : Asked
 
--- the first letter after the hyphen is `h`
-abbrev pub begins_with_h : List ℕ → Bool
-begins_with_h letters = option_map_or (λ letter. letter == 104) (slice_get (chars letters) 0) false
+-- ---- what clap is told
 
--- `--help`, or `-h`, which may have more letters after it
-abbrev pub asks_help : Text → Bool
-asks_help word = bytes_eq word (codes "--help") || option_map_or begins_with_h (short_of word) false
+-- the option `--span`: a whole number from 1 to max_span, which help has a name for
+abbrev pub span_rule : Rule
+span_rule =
+    record (new_rule (codes "span"))
+    { long = Some (codes "span"); value_names = 1; parser = Some (Signed (pos 1) (pos max_span)) }
 
--- the span that decimal digits write, with or without a plus sign before them; none where a text is
--- no number from 1 to max_span
-unfoldable pub span_of : Text → Option ℕ
-span_of text =
-    let digits = without_leading_plus text in
-    let span = digits_value 10 digits in
-    if is_numeral digits && is_within 1 max_span span then Some span else None
+-- the flag `--tally`
+abbrev pub tally_rule : Rule
+tally_rule =
+    record (new_rule (codes "tally")) { long = Some (codes "tally"); action = Some SetTrue }
+
+-- the command `replay` with its options
+abbrev pub replay_app : App
+replay_app = with_rule (with_rule (new_app (codes "replay")) span_rule) tally_rule
+
+-- the program, which wants a command, and of which `help` is none
+abbrev pub program_app : App
+program_app = record (new_app (codes "smp_bench")) {
+  top = record (new_app (codes "smp_bench")).top {
+    disable_help_subcommand = true;
+    subcommand_required = true;
+  };
+}
+
+-- the program with its commands
+abbrev pub bench_app : App
+bench_app = with_subcommand program_app replay_app.top
+
+-- ---- what its answers mean
 
 -- the span of a replay where none is given
 abbrev pub default_span : ℕ
 default_span = 64
 
--- the words after the `--` that ends the options
-abbrev pub asked_after_dashes : ℕ → List Text → Asked
-asked_after_dashes span [] = a_run (Replay span)
-asked_after_dashes span (word ∷ rest) = a_mistake
+-- the number that decimal digits write, with or without a plus sign before them
+abbrev pub number_of : Text → ℕ
+number_of text = digits_value 10 (without_leading_plus text)
 
--- the words after the options, where the span is known
-abbrev pub asked_with : ℕ → List Text → Asked
-asked_with span [] = a_run (Replay span)
-asked_with span (word ∷ rest) =
-    if asks_help word then help
-    else if bytes_eq word (codes "--") then asked_after_dashes span rest
-    else a_mistake
+-- the span that the options give
+abbrev pub span_in : List Row → ℕ
+span_in options = option_map_or number_of (one_of (codes "span") options) default_span
 
--- the words after the value of `--span`; none where it is no span
-abbrev pub asked_after_value : Option ℕ → List Text → Asked
-asked_after_value None rest = a_mistake
-asked_after_value (Some span) rest = asked_with span rest
+-- whether the flag is there
+abbrev pub tally_in : List Row → Bool
+tally_in options = option_map_or (bytes_eq (codes "true")) (one_of (codes "tally") options) false
 
--- the words after `--span`, of which the first is its value
-abbrev pub asked_after_span : List Text → Asked
-asked_after_span [] = a_mistake
-asked_after_span (value ∷ rest) = asked_after_value (span_of value) rest
+-- the run that a command with these options asks for
+abbrev pub mode_of : List Row → Mode
+mode_of options = Replay (span_in options) (tally_in options)
 
--- `--span=`, and the value after it in the same word
-abbrev pub has_value : Text → Bool
-has_value word = starts_with nat_eq word (codes "--span=")
+-- by the kind of its error: `--help` and `-h` are one too
+abbrev pub asked_by : ErrorKind → Asked
+asked_by kind.DisplayHelp = help
+asked_by _ = a_mistake
 
-abbrev pub value_in : Text → Text
-value_in word = drop (length (codes "--span=")) word
+-- by the kinds of error that clap may answer, or else by the command that it found
+abbrev pub asked_of : Kinds → Option (Text × List Row) → Asked
+asked_of (kind ∷ kinds) met = asked_by kind
+asked_of [] None = a_mistake
+asked_of [] (Some met) = a_run (mode_of met.1)
 
--- the words after `replay`
-abbrev pub asked_of_replay : List Text → Asked
-asked_of_replay [] = asked_with default_span []
-asked_of_replay (word ∷ rest) =
-    if bytes_eq word (codes "--span") then asked_after_span rest
-    else if has_value word then asked_after_value (span_of (value_in word)) rest
-    else asked_with default_span (word ∷ rest)
+-- the words of a command line, the program's name first
+unfoldable pub asked_in_words : List Text → Asked
+asked_in_words words = asked_of (fault_of bench_app words) (subcommand_of bench_app words)
 
--- the words after the program's name
-unfoldable pub asked_after : List Text → Asked
-asked_after [] = a_mistake
-asked_after (word ∷ rest) =
-    if asks_help word then help
-    else if bytes_eq word (codes "replay") then asked_of_replay rest
-    else a_mistake
-
--- the words of a command line, the program's name first; none where one of them is no text
+-- the same; none where one of the words is no text
 abbrev pub asked : Option (List Text) → Asked
-asked (Some words) = asked_after (drop 1 words)
+asked (Some words) = asked_in_words words
 asked None = a_mistake
+
+-- ---- what a request asks for
 
 abbrev pub asked_in : Request → Asked
 asked_in (Run mode) = a_run mode
 asked_in (Help text) = help
 asked_in (Bad text) = a_mistake
-
--- what clap says of words that it gives no matches for
-abbrev pub asked_by : ErrorKind → Asked
-asked_by kind.DisplayHelp = help
-asked_by _ = a_mistake
 
 -- a session may be opened with the span of the run, if one is asked for
 abbrev pub can_run : Request → Bool
@@ -111,27 +109,17 @@ can_run (Run mode) = has_span mode
 can_run (Help text) = true
 can_run (Bad text) = true
 
--- the value of `--span` in what clap found after the command
-abbrev pub value_found : Option (Text × List Row) → Option Text
-value_found = option_and_then (λ met. one_of (codes "span") met.1)
+-- ---- what clap takes as a value
 
--- the value gives this span, or the lack of one does
-abbrev pub GivesSpan : Option Text → ℕ → Type 0
-GivesSpan None span = span ≡ default_span
-GivesSpan (Some value) span = span_of value ≡ Some span
+-- digits that write a span, with or without a plus sign before them
+abbrev pub is_span : Text → Bool
+is_span text = is_numeral (without_leading_plus text) && is_within 1 max_span (number_of text)
 
--- the option `--span` as clap is told it: a whole number, which help has a name for
-abbrev pub span_rule : Rule
-span_rule =
-    record (new_rule (codes "span"))
-    { long = Some (codes "span"); value_names = 1; parser = Some (Signed (pos 1) (pos max_span)) }
+-- the value of a flag: `true` or `false`
+abbrev pub is_flag : Text → Bool
+is_flag text = accepts false parser.Bool text
 
--- the commands as clap is told them
-abbrev pub bench_app : App
-bench_app =
-    with_subcommand (record (new_app (codes "smp_bench")) {
-      top = record (new_app (codes "smp_bench")).top {
-        disable_help_subcommand = true;
-        subcommand_required = true;
-      };
-    }) (with_rule (new_app (codes "replay")) span_rule).top
+-- options whose values clap took
+pub record AreTaken (options : List Row) : Type 0 where
+  pub span : IfSome (one_of (codes "span") options) (λ text. is_span text ≡ true)
+  pub tally : IfSome (one_of (codes "tally") options) (λ text. is_flag text ≡ true)

@@ -8,6 +8,7 @@ use Rattle.std.specs.IoError.{error_kind}
 use Rattle.std.specs.declared.io.Error.{Error}
 use Rattle.std.specs.declared.io.ErrorKind.{ErrorKind}
 use Rattle.std.specs.declared.io.ErrorKind.TheVariants.{InvalidData}
+use Rattle.bench_commands.specs.declared.execution.Mode.{Mode}
 use Rattle.bench_commands.specs.declared.execution.Status.{Status}
 use Rattle.bench_commands.specs.declared.execution.Status.TheVariants.{Fine, Refused, Fault}
 use Rattle.bench_commands.specs.declared.execution.RunFault.{RunFault}
@@ -65,17 +66,17 @@ EndsBad (Ran (Fault Memory)) read_old read_new write_old write_new =
     Untouched read_old read_new write_old write_new
 EndsBad _ read_old read_new write_old write_new = ⊥
 
--- the replay of a run; a bad command line is none
-abbrev pub EndsReplay :
-    Ending → Option (List ℕ) → Option (List ℕ) → Option (List ℕ) → Option (List ℕ) → Type 0
-EndsReplay (Ran status) read_old read_new write_old write_new =
-    RunEnds status read_old read_new write_old write_new
-EndsReplay (BadCommandLine text) read_old read_new write_old write_new = ⊥
+-- a run; a bad command line is none
+abbrev pub EndsRun :
+    Mode → Ending → Option (List ℕ) → Option (List ℕ) → Option (List ℕ) → Option (List ℕ) → Type 0
+EndsRun mode (Ran status) read_old read_new write_old write_new =
+    RunEnds mode status read_old read_new write_old write_new
+EndsRun mode (BadCommandLine text) read_old read_new write_old write_new = ⊥
 
 -- by what was asked, how the program ends, and what was read and written then
 abbrev pub Ends :
     Asked → Ending → Option (List ℕ) → Option (List ℕ) → Option (List ℕ) → Option (List ℕ) → Type 0
-Ends (a_run mode) ending = EndsReplay ending
+Ends (a_run mode) ending = EndsRun mode ending
 Ends help ending = EndsHelp ending
 Ends a_mistake ending = EndsBad ending
 

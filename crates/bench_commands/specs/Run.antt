@@ -13,38 +13,41 @@ use Rattle.bench_commands.specs.Answer.{output}
 
 -- a span of checkpoints that a session may be opened with
 abbrev pub has_span : Mode → Bool
-has_span (Replay span) = is_within 1 max_span span
+has_span (Replay span tally) = is_within 1 max_span span
 
 -- the input was read, and its whole output written
-pub record Wrote (read_old read_new write_old write_new : Option (List ℕ))
+pub record Wrote (mode : Mode) (read_old read_new write_old write_new : Option (List ℕ))
     (is_refused : Bool) : Type 0 where
   pub input : List ℕ
   pub reads : ReadsInput read_old read_new input
-  pub status : (output input).is_refused ≡ is_refused
-  pub writes : Appends write_old write_new (output input).text
+  pub status : (output mode input).is_refused ≡ is_refused
+  pub writes : Appends write_old write_new (output mode input).text
 
 -- the input was read, and some first bytes of its output written
-pub record WrotePart (read_old read_new write_old write_new : Option (List ℕ)) : Type 0 where
+pub record WrotePart (mode : Mode)
+    (read_old read_new write_old write_new : Option (List ℕ)) : Type 0 where
   pub input : List ℕ
   pub reads : ReadsInput read_old read_new input
-  pub writes : AppendsPrefix write_old write_new (output input).text
+  pub writes : AppendsPrefix write_old write_new (output mode input).text
 
 -- no more was read than is ever read, and nothing written
 pub record WroteNothing (read_old read_new write_old write_new : Option (List ℕ)) : Type 0 where
   pub reads : ReadsSome read_old read_new (max_input + 1)
   pub writes : write_new ≡ write_old
 
--- by the status, what was read and written
+-- by the mode and the status, what was read and written
 abbrev pub Ran :
-    Status → Option (List ℕ) → Option (List ℕ) → Option (List ℕ) → Option (List ℕ) → Type 0
-Ran Fine read_old read_new write_old write_new = Wrote read_old read_new write_old write_new false
-Ran Refused read_old read_new write_old write_new = Wrote read_old read_new write_old write_new true
-Ran (Fault Memory) read_old read_new write_old write_new =
+    Mode → Status → Option (List ℕ) → Option (List ℕ) → Option (List ℕ) → Option (List ℕ) → Type 0
+Ran mode Fine read_old read_new write_old write_new =
+    Wrote mode read_old read_new write_old write_new false
+Ran mode Refused read_old read_new write_old write_new =
+    Wrote mode read_old read_new write_old write_new true
+Ran mode (Fault Memory) read_old read_new write_old write_new =
     WroteNothing read_old read_new write_old write_new
-Ran (Fault Read) read_old read_new write_old write_new =
+Ran mode (Fault Read) read_old read_new write_old write_new =
     WroteNothing read_old read_new write_old write_new
-Ran (Fault Write) read_old read_new write_old write_new =
-    WrotePart read_old read_new write_old write_new
+Ran mode (Fault Write) read_old read_new write_old write_new =
+    WrotePart mode read_old read_new write_old write_new
 
 -- whether no read failed
 abbrev pub reads_well : Status → Bool

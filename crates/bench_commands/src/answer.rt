@@ -3,9 +3,11 @@ ghost use Rattle.bench_types.specs.Name.{is_within};
 ghost use Rattle.bench_types.specs.Limits.{max_span};
 ghost use Rattle.session_store.specs.declared.fault.OpenRefusal.TheVariants.{TooLong};
 ghost use Rattle.session_text.specs.declared.fault.Why.TheVariants.{NoMemory};
-ghost use Rattle.session_text.specs.Bench.{IsCheckedBench};
-ghost use Rattle.bench_commands.specs.Answer.{why_text, path_text, refusal_line, refused, edited_text, output, output_of_bench, Output};
+ghost use Rattle.session_text.specs.Bench.{IsCheckedBench, bench_text};
+ghost use Rattle.bench_commands.specs.Answer.{why_text, path_text, refusal_line, refused, edited_text, bench_replay, output, output_of, output_of_bench, Output};
+ghost use Rattle.bench_commands.specs.Run.{has_span};
 
+use crate::execution::Mode;
 use crate::lines::push_spaced;
 use crate::output::edited_replay;
 use bench_types::{Edit, EditFault, MAX_INPUT};
@@ -61,12 +63,13 @@ fn answer_of_store(
     meter: &mut Meter,
     store: &mut Store,
     edits: &[Edit],
+    tally: bool,
 ) -> Result<Answer, AllocError>
     ensures { IfOk result
         (λ answer. answer
-        ≡ record { is_refused = false; text = edited_text store.old.session edits.now }) }
+        ≡ record { is_refused = false; text = edited_text tally store.old.session edits.now }) }
 {
-    let text = edited_replay(alloc, meter, store, edits)?;
+    let text = edited_replay(alloc, meter, store, edits, tally)?;
     Ok(Answer {
         is_refused: false,
         text,
@@ -91,10 +94,11 @@ fn answer_of_bench(
     meter: &mut Meter,
     bench: Bench,
     span: u32,
+    tally: bool,
 ) -> Result<Answer, AllocError>
     requires checked { IsCheckedBench bench }
     requires span { is_within 1 max_span span ≡ true }
-    ensures { IfOk result (λ answer. answer ≡ output_of_bench bench) }
+    ensures { IfOk result (λ answer. answer ≡ output_of_bench (bench_replay tally) bench) }
 {
     let Bench {
         header,
@@ -102,28 +106,45 @@ fn answer_of_bench(
         edits,
     } = bench;
     match Store::open(alloc, header, steps.into_vec(), span, meter) {
-        Ok(mut store) => answer_of_store(alloc, meter, &mut store, edits.as_slice()),
+        Ok(mut store) => answer_of_store(alloc, meter, &mut store, edits.as_slice(), tally),
         Err(fault) => not_opened(alloc, fault.why),
     }
 }
 
-/// The whole output for the input.
+// The output of a replay, but for H3.
+fn replay_of(
+    alloc: Global,
+    meter: &mut Meter,
+    input: &[u8],
+    span: u32,
+    tally: bool,
+) -> Result<Answer, AllocError>
+    requires { is_within 1 max_span span ≡ true }
+    ensures { IfOk result
+        (λ answer. answer ≡ output_of (bench_replay tally) (bench_text input.now)) }
+{
+    match read_bench(alloc, input) {
+        Err(fault) => refused_for(alloc, fault),
+        Ok(bench) => answer_of_bench(alloc, meter, bench, span, tally),
+    }
+}
+
+/// The whole output of a run for the input.
 #[tactic(auto, unfolding(crate::specs::Answer::output))]
 pub(crate) fn answer_to(
     alloc: Global,
     meter: &mut Meter,
     input: &[u8],
-    span: u32,
+    mode: Mode,
 ) -> Result<Answer, AllocError>
-    requires { is_within 1 max_span span ≡ true }
-    ensures { IfOk result (λ answer. answer ≡ output input.now) }
+    requires { has_span mode ≡ true }
+    ensures { IfOk result (λ answer. answer ≡ output mode input.now) }
 {
     if input.len() > MAX_INPUT {
         return refused(alloc, "H3", "");
     }
-    match read_bench(alloc, input) {
-        Err(fault) => refused_for(alloc, fault),
-        Ok(bench) => answer_of_bench(alloc, meter, bench, span),
+    match mode {
+        Mode::Replay { span, tally } => replay_of(alloc, meter, input, span, tally),
     }
 }
 

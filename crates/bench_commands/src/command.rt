@@ -1,12 +1,13 @@
-ghost use Rattle.std.specs.Prelude.{◌≡◌, ℕ, IfOk, IsErr, drop, map, option_map, true};
-ghost use Rattle.clap.specs.Words.{app_of, kind_of, rule_of, subcommand_rows_of};
+ghost use Rattle.std.specs.Prelude.{◌≡◌, IfOk, IfSome, IsErr, map, option_map, true};
+ghost use Rattle.std.specs.Option.{IsSomeAnd};
+ghost use Rattle.clap.specs.Words.{app_of, found_of, kind_of, rows_of, rule_of, subcommand_rows_of};
 ghost use Rattle.clap.specs.declared.error.kind.ErrorKind.TheVariants.{OutOfMemory};
-ghost use Rattle.bench_commands.specs.Command.{GivesSpan, a_mistake, asked, asked_after, asked_by, asked_in, bench_app, can_run, span_rule, value_found};
+ghost use Rattle.bench_commands.specs.Command.{AreTaken, a_mistake, asked, asked_by, asked_in, asked_in_words, bench_app, can_run, mode_of, span_in, span_rule, tally_in, tally_rule};
 
 use crate::execution::Mode;
 use bench_types::MAX_SPAN;
 use clap::error::ErrorKind;
-use clap::{Arg, ArgMatches, Command, Error, value_parser};
+use clap::{Arg, ArgAction, ArgMatches, Command, Error, value_parser};
 use std::alloc::{AllocError, Global};
 use std::convert::AsStr;
 
@@ -34,6 +35,15 @@ fn span_option<'a>(alloc: Global) -> Arg<'a>
         .value_parser(value_parser!(u32).range(1..=i64::from(MAX_SPAN)))
 }
 
+fn tally_flag<'a>(alloc: Global) -> Arg<'a>
+    ensures { rule_of result ≡ tally_rule }
+{
+    Arg::new(alloc, "tally")
+        .long("tally")
+        .help("Prints how each task fared, after the steps")
+        .action(ArgAction::SetTrue)
+}
+
 // The program's commands. Help for one of them is asked for by its `--help`, so `help` is no
 // command.
 fn command<'a>(alloc: Global) -> Result<Command<'a>, AllocError>
@@ -43,7 +53,8 @@ fn command<'a>(alloc: Global) -> Result<Command<'a>, AllocError>
         .about(
             "Replays the session on standard input, and prints the tasks that run after each step",
         )
-        .arg(span_option(alloc))?;
+        .arg(span_option(alloc))?
+        .arg(tally_flag(alloc))?;
     Command::new(alloc, "smp_bench")
         .about("Replays FreeRTOS SMP scheduling sessions")
         .disable_help_subcommand(true)
@@ -75,26 +86,39 @@ fn not_text(alloc: Global) -> Result<Request, AllocError>
     told(alloc, &error)
 }
 
-// The span of the command that was met.
-fn span_in(matches: &ArgMatches) -> u32
-    ensures { (span : ℕ) → GivesSpan (value_found (subcommand_rows_of matches.now)) span
-        → result ≡ span }
+fn span_in(options: &ArgMatches) -> u32
+    requires { AreTaken (rows_of (found_of options.now)) }
+    ensures { result ≡ span_in (rows_of (found_of options.now)) }
 {
-    let Some((_, replay)) = matches.subcommand() else {
-        return DEFAULT_SPAN;
-    };
-    replay.get_one::<u32>("span").unwrap_or(DEFAULT_SPAN)
+    options.get_one::<u32>("span").unwrap_or(DEFAULT_SPAN)
+}
+
+fn tally_in(options: &ArgMatches) -> bool
+    requires { AreTaken (rows_of (found_of options.now)) }
+    ensures { result ≡ tally_in (rows_of (found_of options.now)) }
+{
+    options.get_flag("tally")
+}
+
+// The run that the command asks for which was met.
+fn mode_in(matches: &ArgMatches) -> Mode
+    requires { IsSomeAnd (subcommand_rows_of matches.now) (λ met. AreTaken met.1) }
+    ensures { IfSome (subcommand_rows_of matches.now) (λ met. result ≡ mode_of met.1) }
+{
+    let (_, options) = matches.subcommand().unwrap();
+    Mode::Replay {
+        span: span_in(options),
+        tally: tally_in(options),
+    }
 }
 
 fn request_in<S: AsStr>(alloc: Global, words: &[S]) -> Result<Request, AllocError>
     ensures span { IfOk result (λ request. can_run request ≡ true) }
     ensures asked { IfOk result
-        (λ request. asked_in request ≡ asked_after (drop 1 (map S.text words.now))) }
+        (λ request. asked_in request ≡ asked_in_words (map S.text words.now)) }
 {
     match command(alloc)?.try_get_matches_from(words) {
-        Ok(matches) => Ok(Request::Run(Mode::Replay {
-            span: span_in(&matches),
-        })),
+        Ok(matches) => Ok(Request::Run(mode_in(&matches))),
         Err(error) => told(alloc, &error),
     }
 }

@@ -13,9 +13,10 @@ use thiserror::Error;
 /// What the program is asked to do with its input.
 #[derive(Clone, Copy, Debug, PartialEq, Eq)]
 pub enum Mode {
-    /// Replay a session or a bench document, and print the tasks that run after each step. A
-    /// checkpoint is to be kept every `span` steps, 1 to [`MAX_SPAN`](bench_types::MAX_SPAN).
-    Replay { span: u32 },
+    /// Replay a session or a bench document, and print the tasks that run after each step; with
+    /// `tally` then how each task fared. A checkpoint is to be kept every `span` steps, 1 to
+    /// [`MAX_SPAN`](bench_types::MAX_SPAN).
+    Replay { span: u32, tally: bool },
 }
 
 /// What kept a run from its end.
@@ -52,21 +53,20 @@ pub fn run<R: CountedRead, W: CountedWrite>(
     mode: &Mode,
 ) -> Status
     requires { has_span mode.now ≡ true }
-    ensures bytes { Ran result (R.Read.remaining reader.old) (R.Read.remaining reader.new)
+    ensures bytes { Ran mode.now result (R.Read.remaining reader.old) (R.Read.remaining reader.new)
         (W.Write.contents writer.old) (W.Write.contents writer.new) }
     ensures reads { R.CountedRead.failures reader.new
         ≡ failures_after (reads_well result) (R.CountedRead.failures reader.old) }
     ensures writes { W.CountedWrite.failures writer.new
         ≡ failures_after (writes_well result) (W.CountedWrite.failures writer.old) }
 {
-    let Mode::Replay { span } = *mode;
     let input = match read_input(alloc, reader) {
         Ok(input) => input,
         Err(InputFault::Memory) => return Status::Fault(RunFault::Memory),
         Err(InputFault::Read) => return Status::Fault(RunFault::Read),
     };
     let mut meter = Meter::new(rt);
-    let Ok(answer) = answer_to(alloc, &mut meter, &input, span) else {
+    let Ok(answer) = answer_to(alloc, &mut meter, &input, *mode) else {
         return Status::Fault(RunFault::Memory);
     };
     if write_text(writer, answer.text.as_bytes()).is_err() {

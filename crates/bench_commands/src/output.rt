@@ -1,6 +1,6 @@
 ghost use Rattle.std.specs.Prelude.{◌≡◌, ◌++◌, ◌<◌, IfOk, OnOk, string_bytes};
 ghost use Rattle.bench_types.specs.Limits.{max_steps};
-ghost use Rattle.bench_commands.specs.Answer.{edited_text, first_line, line_at, replay_text};
+ghost use Rattle.bench_commands.specs.Answer.{edited_text, first_line, line_at, replay_text, tally_text};
 
 use crate::lines::{push_edit_lines, push_start_line, push_step_line};
 use bench_types::Edit;
@@ -47,19 +47,41 @@ fn push_replay(text: &mut String, store: &Store) -> Result<(), AllocError>
     Ok(())
 }
 
+// How each task fared, where that is asked for.
+fn push_tallies(
+    alloc: Global,
+    text: &mut String,
+    store: &Store,
+    tally: bool,
+) -> Result<(), AllocError>
+    ensures { OnOk result
+        (string_bytes text.new
+        ≡ string_bytes text.old
+        ++ tally_text tally store.now.session.header store.now.session.steps) }
+{
+    if !tally {
+        return Ok(());
+    }
+    let lines = store.tallies(alloc)?.text(alloc, store.header())?;
+    text.push_str(lines.as_str())
+}
+
 /// Makes the edits, and gives a line for each, then those of a replay of the session that they
-/// leave.
+/// leave, and with `tally` those of its tasks.
 pub(crate) fn edited_replay(
     alloc: Global,
     meter: &mut Meter,
     store: &mut Store,
     edits: &[Edit],
+    tally: bool,
 ) -> Result<String, AllocError>
-    ensures { IfOk result (λ text. string_bytes text ≡ edited_text store.old.session edits.now) }
+    ensures { IfOk result
+        (λ text. string_bytes text ≡ edited_text tally store.old.session edits.now) }
 {
     let answers = store.apply_all(alloc, edits, meter)?;
     let mut text = String::new(alloc);
     push_edit_lines(&mut text, answers.as_slice())?;
     push_replay(&mut text, store)?;
+    push_tallies(alloc, &mut text, store, tally)?;
     Ok(text)
 }

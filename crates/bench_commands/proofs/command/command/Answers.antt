@@ -1,15 +1,19 @@
 use Rattle.std.proofs.Common.{rules, ◌≡◌, ◌∙◌, ap, ap₂, codes, true, false}
 use Rattle.std.proofs.lemmas.Result.{IfOk-weaker}
 use Rattle.clap.specs.Words.{App, Rule, app_of, new_app, with_rule, with_subcommand}
-use Rattle.bench_commands.specs.Command.{span_rule}
-use Rattle.bench_commands.proofs.SpanRead.{simple_is_local}
+use Rattle.bench_commands.specs.Command.{program_app, replay_app, span_rule, tally_rule}
+use Rattle.bench_commands.proofs.OptionsRead.{simple_is_local}
 use Rattle.bench_commands.proofs.command.command.Goals as goal
 
 pub returns : goal.returns
 returns c =
+    let is_simple = λ (r : Rule). r.is_simple in
     let span_is = c.span_option.ensures in
-    let local : c.span_option.result.global ≡ false = simple_is_local c.span_option.result (ap (λ (r : Rule). r.is_simple) span_is) in
+    let tally_is = c.tally_flag.ensures in
+    let span_is_local = simple_is_local c.span_option.result (ap is_simple span_is) in
+    let tally_is_local = simple_is_local c.tally_flag.result (ap is_simple tally_is) in
     let bare : app_of c.about.result ≡ new_app (codes "replay") = search rules in
-    let replay : app_of c.in_ok-replay.replay ≡ with_rule (new_app (codes "replay")) span_rule = c.in_ok-replay.ensures.shape local ∙ ap₂ with_rule bare span_is in
-    let top : app_of c.subcommand_required.result ≡ record (new_app (codes "smp_bench")) { top = record (new_app (codes "smp_bench")).top { disable_help_subcommand = true; subcommand_required = true } } = search rules in
+    let spans : app_of c.in_ok-arg.field-0 ≡ with_rule (new_app (codes "replay")) span_rule = c.in_ok-arg.ensures.shape span_is_local ∙ ap₂ with_rule bare span_is in
+    let replay : app_of c.in_ok-replay.replay ≡ replay_app = c.in_ok-replay.ensures.shape tally_is_local ∙ ap₂ with_rule spans tally_is in
+    let top : app_of c.subcommand_required.result ≡ program_app = search rules in
     IfOk-weaker c.subcommand.result _ _ (λ command added. added.shape (search rules) ∙ ap₂ with_subcommand top (ap (λ (a : App). a.top) replay)) c.subcommand.ensures

@@ -5,8 +5,8 @@ use std::alloc::{AllocError, Global};
 use std::process::Abort;
 use std::test::Fail;
 
-/// Command lines, and what each asks for: a replay with this span, help that begins so, or nothing
-/// that the program does.
+/// Command lines, and what each asks for: a replay with this span, and tallies or not, help that
+/// begins so, or nothing that the program does.
 const COMMAND_LINES: &str = "\
 smp_bench replay => 64
 smp_bench replay -- => 64
@@ -19,12 +19,20 @@ smp_bench replay --span +5 => 5
 smp_bench replay --span 5 -- => 5
 smp_bench replay --span=5 => 5
 smp_bench replay --span=+0005 -- => 5
+smp_bench replay --tally => 64 tally
+smp_bench replay --tally -- => 64 tally
+smp_bench replay --tally --span 7 => 7 tally
+smp_bench replay --span 7 --tally => 7 tally
+smp_bench replay --span=7 --tally -- => 7 tally
+smp_bench replay --tally --span=7 => 7 tally
 smp_bench --help => Replays FreeRTOS
 smp_bench -hx => Replays FreeRTOS
 smp_bench replay -h again => Replays the session
 smp_bench replay --span 5 --help => Replays the session
 smp_bench replay --span=5 -hx => Replays the session
 smp_bench replay --help --span 0 => Replays the session
+smp_bench replay --tally --help => Replays the session
+smp_bench replay --span 5 --tally -h => Replays the session
 smp_bench => a mistake
 smp_bench help => a mistake
 smp_bench -- replay => a mistake
@@ -56,27 +64,41 @@ smp_bench replay --spa 5 => a mistake
 smp_bench replay --span=5=6 => a mistake
 smp_bench replay  --span 5 => a mistake
 smp_bench --span 5 replay => a mistake
+smp_bench replay --tally --tally => a mistake
+smp_bench replay --tally --span 5 --tally => a mistake
+smp_bench replay --span 5 --tally --span 5 => a mistake
+smp_bench replay --tally=true => a mistake
+smp_bench replay --tally= => a mistake
+smp_bench replay --tally true => a mistake
+smp_bench replay --span --tally => a mistake
+smp_bench replay --span 0 --tally => a mistake
+smp_bench replay --tally --span 0 => a mistake
+smp_bench replay --tally again => a mistake
+smp_bench replay -- --tally => a mistake
+smp_bench replay -t => a mistake
+smp_bench replay --tall => a mistake
+smp_bench --tally replay => a mistake
 ";
 
 /// What a command line asks for, how the program ends, and how what it writes begins.
 #[derive(Clone, Copy)]
 struct Wanted<'a> {
-    span: Option<u32>,
+    run: Option<(u32, bool)>,
     code: u8,
     output: &'a str,
     message: &'a str,
 }
 
-/// The span of a run, if one is asked for.
-fn span_of(request: &Request) -> Option<u32> {
+/// The span of a run and whether it tallies, if one is asked for.
+fn run_of(request: &Request) -> Option<(u32, bool)> {
     match request {
-        Request::Run(Mode::Replay { span }) => Some(*span),
+        Request::Run(Mode::Replay { span, tally }) => Some((*span, *tally)),
         _ => None,
     }
 }
 
-fn span_asked(alloc: Global, words: &[&str]) -> Result<Option<u32>, AllocError> {
-    Ok(span_of(&request_of(alloc, Some(words))?))
+fn run_asked(alloc: Global, words: &[&str]) -> Result<Option<(u32, bool)>, AllocError> {
+    Ok(run_of(&request_of(alloc, Some(words))?))
 }
 
 /// Whether a text begins so, and is empty where nothing is wanted.
@@ -92,11 +114,7 @@ fn ends(ending: &Ending, output: &[u8], wanted: &Wanted<'_>) -> bool {
 
 /// The input is empty, so that a replay is refused.
 fn check_words(rt: &impl Abort, host: &HostRuntime, words: &[&str], wanted: &Wanted<'_>) {
-    assert_eq!(rt;
-        span_asked(host.alloc(), words),
-        Ok(wanted.span),
-        "{words:?}"
-    );
+    assert_eq!(rt; run_asked(host.alloc(), words), Ok(wanted.run), "{words:?}");
     let mut sink = Sink::wide();
     let mut reader = Counted::new("".as_bytes());
     let mut writer = Counted::new(&mut sink);
@@ -118,18 +136,27 @@ fn check_line(
     Ok(())
 }
 
+/// The run that a row names by its span, and by `tally` after it.
+fn run_named(asked: &str) -> Option<(u32, bool)> {
+    let (span, tally) = match asked.split_once(' ') {
+        Some((span, "tally")) => (span, true),
+        _ => (asked, false),
+    };
+    Some((span.parse().ok()?, tally))
+}
+
 fn wanted_of(asked: &str) -> Wanted<'_> {
-    let (span, is_mistake) = (asked.parse().ok(), asked == "a mistake");
-    if span.is_some() {
+    let (run, is_mistake) = (run_named(asked), asked == "a mistake");
+    if run.is_some() {
         return Wanted {
-            span,
+            run,
             code: 1,
             output: "refused H1\n",
             message: "",
         };
     }
     Wanted {
-        span,
+        run,
         code: if is_mistake { 2 } else { 0 },
         output: if is_mistake { "" } else { asked },
         message: if is_mistake { "error: " } else { "" },

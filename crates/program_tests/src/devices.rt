@@ -85,7 +85,10 @@ pub(crate) fn ran<R: Read, W: Write>(
 ) -> (Status, u64, u64) {
     let mut reader = Counted::new(reader);
     let mut writer = Counted::new(writer);
-    let mode = Mode::Replay { span: DEFAULT_SPAN };
+    let mode = Mode::Replay {
+        span: DEFAULT_SPAN,
+        tally: false,
+    };
     let status = run(rt, rt.alloc(), &mut reader, &mut writer, &mode);
     (status, reader.failures(), writer.failures())
 }

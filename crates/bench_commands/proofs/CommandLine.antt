@@ -1,12 +1,15 @@
 -- What clap answers to the words of a command line, and what the program asks for by that.
-use Rattle.std.proofs.Common.{◌≡◌, ◌⊎◌, Bool, true, false, true≢false, List, [], ◌∷◌, codes, Option, Some, None, Result, Ok, Err, IfOk, IsErr, refl, sym, ap, ap₂, subst, ◌∙◌, inl, inr, bytes_eq}
+use Rattle.std.proofs.Common.{◌≡◌, true, true≢false, List, [], ◌∷◌, flat_map, codes, Option, Some, None, Result, Ok, Err, IfOk, IsErr, refl, sym, ap, ap₂, subst, ◌∙◌, inl, inr}
 use Rattle.std.specs.Prelude.{IfSome}
 use Rattle.std.specs.Option.{IsSomeAnd, option_map_or}
 use Rattle.clap.specs.Words.{App, HasKind, IsAmong, Kinds, Row, Rule, Text, built, fault_of, is_simple, is_simple_and_free, kind_of, one_of, subcommand_of}
-use Rattle.clap.specs.Simple.{argument_words, filled, help_rule}
+use Rattle.clap.specs.Facts.{parser_of_value}
+use Rattle.clap.specs.Simple.{argument_words}
+use Rattle.clap.specs.ValueTests.{accepts}
+use Rattle.clap.specs.Walk.{arg_by_id, reading_by}
 use Rattle.clap.specs.Values.{read_as}
 use Rattle.clap.specs.declared.builder.value_parser.Reading.{Reading}
-use Rattle.clap.specs.declared.builder.value_parser.Reading.TheVariants.{AsWritten, WithoutMinus}
+use Rattle.clap.specs.declared.builder.value_parser.Reading.TheVariants.{AsWritten}
 use Rattle.clap.specs.declared.error.Error.{Error}
 use Rattle.clap.specs.declared.error.kind.ErrorKind.{ErrorKind}
 use Rattle.clap.specs.declared.error.kind.ErrorKind.TheVariants.{OutOfMemory}
@@ -14,44 +17,32 @@ use Rattle.bench_types.specs.Name.{is_within}
 use Rattle.bench_types.specs.Limits.{max_span}
 use Rattle.bench_commands.specs.declared.execution.Mode.{Mode}
 use Rattle.bench_commands.specs.declared.command.Request.{Request}
-use Rattle.bench_commands.specs.Command.{AreTaken, Asked, a_run, asked_by, asked_in, asked_in_words, asked_of, bench_app, default_span, is_flag, is_span, mode_of, number_of, span_rule, tally_rule}
+use Rattle.bench_commands.specs.Command.{AreTaken, a_run, asked_by, asked_in, asked_in_words, asked_of, bench_app, default_span, is_flag, is_span, mode_of, number_of}
 use Rattle.bench_commands.specs.Run.{has_span}
 use Rattle.bench_commands.proofs.ClapAnswers.{AskOne, Every, Reads, RowsFit, RuleFits, ShapeFits, Yields, app_yields, one_fits}
-use Rattle.bench_commands.proofs.SpanTexts.{accepted, span_is_within, span_taken}
+use Rattle.bench_commands.proofs.SpanTexts.{span_is_within, span_taken}
 
 -- ---- the values of the options
 
--- what is known of the values of an option, by its id
+-- the options of all commands
+abbrev options : List Rule
+options = flat_map (λ shape. shape.rules) (built bench_app).subs
+
+-- the parser of the option with this id takes the text
 abbrev Value : Text → Text → Type 0
-Value id text =
-    (bytes_eq id (codes "span") ≡ true → accepted text ≡ true) × (bytes_eq id (codes "tally") ≡ true → is_flag text ≡ true)
+Value id text = option_map_or (λ option. accepts option.ignore_case (parser_of_value option.parser) text) (arg_by_id options id) true ≡ true
 
 abbrev Read : Text → Reading → Type 0
-Read id how = (bytes_eq id (codes "span") ≡ true → how ≡ WithoutMinus) × (bytes_eq id (codes "tally") ≡ true → how ≡ AsWritten)
+Read id how = option_map_or reading_by (arg_by_id options id) AsWritten ≡ how
 
-span_fits : RuleFits Value Read (filled span_rule)
-span_fits = record {
-  reading = (λ _. refl, λ e. absurd (true≢false (sym e)));
-  values = λ text e. (λ _. e, λ other. absurd (true≢false (sym other)));
-}
-
-tally_fits : RuleFits Value Read (filled tally_rule)
-tally_fits = record {
-  reading = (λ e. absurd (true≢false (sym e)), λ _. refl);
-  values = λ text e. (λ other. absurd (true≢false (sym other)), λ _. e);
-}
-
-help_fits : RuleFits Value Read (filled help_rule)
-help_fits = record {
-  reading = (λ e. absurd (true≢false (sym e)), λ e. absurd (true≢false (sym e)));
-  values = λ text e. (λ other. absurd (true≢false (sym other)), λ other. absurd (true≢false (sym other)));
-}
+as_told : (option : Rule) → arg_by_id options option.id ≡ Some option → RuleFits Value Read option
+as_told option is = record { reading = rw is refl; values = λ text e. rw is e }
 
 top_fits : ShapeFits Value Read (built bench_app).top
-top_fits = record { rules = (help_fits, tt); helpless = refl }
+top_fits = record { rules = (as_told _ refl, tt); helpless = refl }
 
 commands_fit : Every (ShapeFits Value Read) (built bench_app).subs
-commands_fit = (record { rules = (span_fits, (tally_fits, (help_fits, tt))); helpless = refl }, tt)
+commands_fit = (record { rules = (as_told _ refl, (as_told _ refl, (as_told _ refl, tt))); helpless = refl }, tt)
 
 taken : (rows : List Row) → RowsFit Value Read rows → AreTaken rows
 taken rows fit = record {
@@ -65,11 +56,11 @@ taken rows fit = record {
 
     span : (text : Text) → Reads Value Read (codes "span") text → is_span text ≡ true
     span text (how, given, read, value, same) =
-        subst (λ (t : Text). is_span t ≡ true) (sym (same ∙ ap (λ (how : Reading). read_as how given) (read.0 refl))) (span_taken given (value.0 refl))
+        subst (λ (t : Text). is_span t ≡ true) (sym (same ∙ ap (λ (how : Reading). read_as how given) (sym read))) (span_taken given value)
 
     tally : (text : Text) → Reads Value Read (codes "tally") text → is_flag text ≡ true
     tally text (how, given, read, value, same) =
-        subst (λ (t : Text). is_flag t ≡ true) (sym (same ∙ ap (λ (how : Reading). read_as how given) (read.1 refl))) (value.1 refl)
+        subst (λ (t : Text). is_flag t ≡ true) (sym (same ∙ ap (λ (how : Reading). read_as how given) (sym read))) value
 
 -- ---- what clap answers
 

@@ -7,3 +7,4 @@ mod Replays
 mod Refused
 mod Opened
 mod SpanTexts
+mod CommandLines

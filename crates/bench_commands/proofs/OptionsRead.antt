@@ -1,5 +1,5 @@
 -- What the program reads of the matches is what the rows of the command say.
-use Rattle.std.proofs.Common.{◌≡◌, ℕ, ◌||◌, Bool, true, false, true≢false, [], ◌∷◌, Option, Some, None, Result, Ok, Err, codes, find, is_some, not, option_and_then, option_map, slice_get, unwrap_or, refl, sym, ap, subst, ◌∙◌, bytes_eq}
+use Rattle.std.proofs.Common.{◌≡◌, ℕ, ◌||◌, Bool, true, false, true≢false, [], ◌∷◌, Option, Some, None, Result, Ok, Err, codes, find, is_some, not, option_and_then, option_map, slice_get, unwrap_or, refl, sym, ap, ◌∙◌, bytes_eq}
 use Rattle.std.specs.Prelude.{IfSome, List}
 use Rattle.std.specs.Borrow.{Bor}
 use Rattle.std.specs.Option.{option_map_or}

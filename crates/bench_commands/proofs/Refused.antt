@@ -1,9 +1,9 @@
 -- What is written for a text that was not read.
-use Rattle.std.proofs.Common.{◌≡◌, ◌⊎◌, ℕ, ◌≤◌, List, [], length, Bool, true, false, Result, Ok, Err, IfOk, nat_lt, nat_le, codes, if◌then◌else◌, refl, sym, ap, ◌∙◌, arith, inl, inr}
+use Rattle.std.proofs.Common.{◌≡◌, ◌⊎◌, ℕ, List, [], length, Bool, true, false, Result, Ok, Err, IfOk, nat_lt, nat_le, codes, refl, sym, ap, ◌∙◌, arith, inl, inr}
 use Rattle.std.specs.Prelude.{IsErr, OnOk}
 use Rattle.std.proofs.lemmas.Bool.Decides.{nat_tests}
 use Rattle.bench_types.specs.Name.{is_within}
-use Rattle.bench_types.specs.Limits.{max_input, max_span, max_steps}
+use Rattle.bench_types.specs.Limits.{max_span, max_steps}
 use Rattle.session_store.specs.declared.fault.OpenRefusal.{OpenRefusal}
 use Rattle.session_store.specs.declared.fault.OpenRefusal.TheVariants as refusal
 use Rattle.session_store.specs.declared.fault.OpenRefusal.TheVariants.{TooLong}
@@ -12,7 +12,7 @@ use Rattle.session_text.specs.declared.bench.Bench.{Bench}
 use Rattle.session_text.specs.declared.fault.TextFault.{TextFault}
 use Rattle.session_text.specs.declared.fault.Why.TheVariants.{NoMemory}
 use Rattle.session_text.specs.Bench.{bench_text, IsCheckedBench}
-use Rattle.bench_commands.specs.Answer.{why_text, refused, output, output_of, output_of_bench, Output}
+use Rattle.bench_commands.specs.Answer.{why_text, refused, output_of, output_of_bench, Output}
 use Rattle.bench_commands.proofs.Opened.{opens}
 
 pub refused_output : {E : Type 0} (text : Bench → List ℕ) (input : List ℕ) (fault : TextFault) (result : Result Output E) → (bench_text input ≡ Err fault) ⊎ (fault ≡ record { why = NoMemory; path = [] })

@@ -1,5 +1,6 @@
 pub mod Answer
 pub mod Command
+pub mod CommandLines
 pub mod Device
 pub mod Lines
 pub mod Program

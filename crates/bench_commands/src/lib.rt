@@ -4,6 +4,7 @@
 mod answer;
 mod command;
 mod device;
+mod examples;
 mod execution;
 mod input;
 mod lines;
@@ -13,5 +14,6 @@ mod writing;
 
 pub use command::{DEFAULT_SPAN, Request, request_of};
 pub use device::{Counted, CountedRead, CountedWrite};
+pub use examples::examples_of_command_lines;
 pub use execution::{Mode, RunFault, Status, run};
 pub use program::{Ending, carry_out, run_program};

@@ -1,7 +1,7 @@
-use Rattle.std.proofs.Common.{rules, ◌≡◌, ◌∙◌, ap, ap₂, codes, true, false}
+use Rattle.std.proofs.Common.{rules, ◌≡◌, ◌∙◌, ap, ap₂, codes}
 use Rattle.std.proofs.lemmas.Result.{IfOk-weaker}
 use Rattle.clap.specs.Words.{App, Rule, app_of, new_app, with_rule, with_subcommand}
-use Rattle.bench_commands.specs.Command.{program_app, replay_app, span_rule, tally_rule}
+use Rattle.bench_commands.specs.Command.{program_app, replay_app, span_rule}
 use Rattle.bench_commands.proofs.OptionsRead.{simple_is_local}
 use Rattle.bench_commands.proofs.command.command.Goals as goal
 

@@ -1,6 +1,5 @@
 use Rattle.std.proofs.Common.{◌∙◌, ap, subst, map}
 use Rattle.clap.specs.Words.{HasKind, app_of, fault_of, is_simple_and_free, subcommand_rows_of}
-use Rattle.bench_commands.specs.Command.{bench_app}
 use Rattle.bench_commands.proofs.CommandLine.{commands_are_simple, error_asked, matched, run_asked}
 use Rattle.bench_commands.proofs.command.request_in.Goals as goal
 

@@ -64,6 +64,15 @@ run 'the least span' 0 "$lines" '' replay --span 1
 run 'the usual span, behind an equals sign' 0 "$lines" '' replay --span=64
 run 'the greatest span, and the end of the options' 0 "$lines" '' replay --span 1000 --
 run 'a span with a sign and zeros' 0 "$lines" '' replay --span +007
+tallies='task IDLE0 run 0 0 wait 1 inverted 0 in 0 displaced 0 timeouts 0 top 0
+task IDLE1 run 0 0 wait 1 inverted 0 in 0 displaced 0 timeouts 0 top 0
+task A run 0 0 wait 0 inverted 0 in 0 displaced 0 timeouts 0 top 2
+task B run 0 1 wait 0 inverted 0 in 0 displaced 0 timeouts 0 top 1
+task C run 1 0 wait 0 inverted 0 in 1 displaced 0 timeouts 0 top 1
+'
+run 'tallies' 0 "$lines$tallies" '' replay --tally
+run 'tallies, then a span' 0 "$lines$tallies" '' replay --tally --span 7
+run 'a span, then tallies' 0 "$lines$tallies" '' replay --span=7 --tally --
 session '"steps": [' '"steps": [{"do": "switch", "core": 0}, {"do": "finish", "core": 1, "by": "B"},'
 run 'replay of steps that the kernel refuses' 0 "start A B
 0 refused E10 A B
@@ -87,6 +96,12 @@ start A B
 '
 run 'replay of an edited session' 0 "$edited" '' replay
 run 'replay of an edited session, with a span' 0 "$edited" '' replay --span 2
+run 'replay of an edited session, with tallies' 0 "${edited}task IDLE0 run 0 0 wait 1 inverted 0 in 0 displaced 0 timeouts 0 top 0
+task IDLE1 run 0 0 wait 1 inverted 0 in 0 displaced 0 timeouts 0 top 0
+task A run 1 0 wait 0 inverted 0 in 0 displaced 0 timeouts 0 top 2
+task B run 0 1 wait 0 inverted 0 in 0 displaced 0 timeouts 0 top 1
+task C run 0 0 wait 1 inverted 0 in 0 displaced 1 timeouts 0 top 1
+" '' replay --tally
 
 # ---- refused input
 
@@ -137,6 +152,7 @@ Usage: smp_bench replay [OPTIONS]
 
 Options:
       --span <STEPS>  Steps from one checkpoint to the next, 1 to 1000, or 64 if left out
+      --tally         Prints how each task fared, after the steps
   -h, --help          Print help
 '
 run '--help' 0 "$help" '' --help
@@ -157,20 +173,23 @@ run 'a command cut short' 2 '' "error: unrecognized subcommand 'repla'" repla
 run 'an empty word' 2 '' "error: unrecognized subcommand ''" ''
 run 'help, which is no command' 2 '' "error: unrecognized subcommand 'help'" help
 run 'help of a command' 2 '' "error: unrecognized subcommand 'help'" help replay
-run 'an unknown option' 2 '' "error: unexpected argument '--tally' found" --tally
+run 'an unknown option' 2 '' "error: unexpected argument '--tallies' found" --tallies
+run 'tallies before the command' 2 '' "error: unexpected argument '--tally' found" --tally replay
 run 'an unknown letter' 2 '' "error: unexpected argument '-x' found" -x
 run 'an unknown letter before -h' 2 '' "error: unexpected argument '-x' found" -xh
 run 'no version' 2 '' "error: unexpected argument '--version' found" --version
 run '--help with a value' 2 '' "error: unexpected value '1' for '--help' found" --help=1
 run 'a hyphen' 2 '' "error: unrecognized subcommand '-'" -
 run 'the end of the options before the command' 2 '' "error: " -- replay
-run 'replay with an unknown option' 2 '' "error: unexpected argument '--tally' found" replay --tally
+run 'replay with an unknown option' 2 '' "error: unexpected argument '--tallies' found" replay --tallies
 run 'a span of 0' 2 '' "error: invalid value '0' for '--span <STEPS>'" replay --span 0
 run 'a span of 1001' 2 '' "error: invalid value '1001' for '--span <STEPS>'" replay --span 1001
 run 'a span of -1' 2 '' "error: unexpected argument '-1' found" replay --span -1
 run 'a span that is no number' 2 '' "error: invalid value 'x' for '--span <STEPS>'" replay --span x
 run 'an empty span' 2 '' "error: invalid value '' for '--span <STEPS>'" replay --span=
 run 'a span that is left out' 2 '' "error: a value is required for '--span <STEPS>'" replay --span
+run 'tallies twice' 2 '' "error: the argument '--tally' cannot be used multiple times" replay --tally --span 5 --tally
+run 'tallies with a value' 2 '' "error: unexpected value 'yes' for '--tally' found" replay --tally=yes
 run 'two spans' 2 '' "error: the argument '--span <STEPS>' cannot be used multiple times" replay --span 5 --span 5
 run 'a bad span before --help' 2 '' "error: invalid value '0' for '--span <STEPS>'" replay --span 0 --help
 run 'a span before the command' 2 '' "error: unexpected argument '--span' found" --span 5 replay

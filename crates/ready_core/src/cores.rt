@@ -318,7 +318,7 @@ impl Cores {
         self.tasks[task as usize].mask = cut;
     }
 
-    /// Whether a core may be asked to give the task up for another.
+    /// From now on a core may be asked to give the task up for another, or may not be.
     pub fn set_preempt(&mut self, task: u32, on: bool)
         requires { task < length self.old.control.tasks }
         ensures { self.new

@@ -24,8 +24,8 @@ ChangeIsApart =
     → block.in_use ≡ (task_at control task).in_use →
     lists_of (with_task task block control) stamps ≡ lists_of control stamps
 
--- and it keeps a table sound where both its priorities are below their number and its mask has bits
--- of cores alone
+-- and it keeps a table consistent where both its priorities are below their number and its mask has
+-- bits of cores alone
 abbrev pub ChangeKeepsConsistent : Type 0
 ChangeKeepsConsistent =
     (table : Table) (task : ℕ) (block : TaskControl) → IsConsistent table

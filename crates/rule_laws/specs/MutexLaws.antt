@@ -65,7 +65,7 @@ GiveSimulates =
     seen_of (mutex_give stamp_queues core task mutex table)
     ≡ mutex_give list_queues core task mutex (view_of table)
 
--- each rule keeps a table sound, for a user task and a mutex that there is
+-- each rule keeps a table consistent, for a user task and a mutex that there is
 
 abbrev pub TakeKeepsConsistent : Type 0
 TakeKeepsConsistent =
@@ -86,7 +86,7 @@ GiveKeepsConsistent =
     → mutex < table.settings.mutexes →
     IsConsistent (mutex_give stamp_queues core task mutex table).1
 
--- seen as lists, giving up an inherited priority is so, and it keeps a table sound
+-- seen as lists, giving up an inherited priority is so, and it keeps a table consistent
 
 abbrev pub LowerSimulates : Type 0
 LowerSimulates =

@@ -28,7 +28,7 @@ NotesKeepOrders =
     (table : Table) (notes : List Notification)
     → view_of (record table { notes = notes }) ≡ record (view_of table) { notes = notes }
 
--- and they keep a table sound where there is one for each task, with a value of 32 bits
+-- and they keep a table consistent where there is one for each task, with a value of 32 bits
 abbrev pub NotesKeepConsistent : Type 0
 NotesKeepConsistent =
     (table : Table) (notes : List Notification) → IsConsistent table

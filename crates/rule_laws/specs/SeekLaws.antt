@@ -40,7 +40,7 @@ SlicesAreSeen =
     (table : Table) → IsConsistent table
     → view_of (sliced stamp_queues table) ≡ sliced list_queues (view_of table)
 
--- each rule keeps a table sound
+-- each rule keeps a table consistent
 
 abbrev pub AskKeepsConsistent : Type 0
 AskKeepsConsistent =

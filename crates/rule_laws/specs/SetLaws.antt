@@ -60,7 +60,7 @@ PreemptionOnSimulates =
     → view_of (preemption_on stamp_queues acting task table)
     ≡ preemption_on list_queues acting task (view_of table)
 
--- each rule keeps a table sound
+-- each rule keeps a table consistent
 
 abbrev pub AskItsCoreKeepsConsistent : Type 0
 AskItsCoreKeepsConsistent =

@@ -148,7 +148,7 @@ impl Store {
     /// Makes edits one after another, each of the session that those before it left. An edit that
     /// is not accepted is passed over.
     ///
-    /// It answers for each edit what [`Store::apply`] would. Where memory is wanting, none of the
+    /// Returns for each edit what [`Store::apply`] would. Where memory is wanting, none of the
     /// edits was made.
     pub fn apply_all(
         &mut self,
@@ -195,7 +195,7 @@ impl Store {
         self.segment.steps.get(i as usize).copied()
     }
 
-    /// What step `i` answered.
+    /// The reply of the step at index `i`; `None` past the last.
     pub fn reply(&self, i: u32) -> Option<Reply>
         ensures { result ≡ reply_at self.now.session.header self.now.session.steps i }
     {
@@ -203,7 +203,7 @@ impl Store {
         Some(*reply)
     }
 
-    /// The current tasks at the place, core 0 first.
+    /// The current tasks at the place, core 0 first; `None` past the last place.
     pub fn row(&self, place: u32) -> Option<Row>
         ensures { option_map row_items result
             ≡ running_at self.now.session.header self.now.session.steps place }
@@ -215,7 +215,8 @@ impl Store {
         Some(copy_row(row))
     }
 
-    /// The place of checkpoint `k`, counted from 0. So far the start is the one checkpoint.
+    /// The place of checkpoint `k`, counted from 0; `None` past the last. So far the start is the
+    /// one checkpoint.
     pub fn checkpoint(&self, k: u32) -> Option<u32>
         ensures place { result ≡ slice_get self.now.checkpoints k }
         ensures start { self.now.checkpoints ≡ 0 ∷ [] }
@@ -223,8 +224,8 @@ impl Store {
         (k == 0).then_some(self.segment.from)
     }
 
-    /// A kernel that stands for the state at the place. It is replayed from the checkpoint before,
-    /// which the meter counts.
+    /// A kernel that stands for the state at the place, `None` past the last. It is replayed from
+    /// the checkpoint before, which the meter counts.
     pub fn state(
         &self,
         alloc: Global,

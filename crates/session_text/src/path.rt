@@ -27,7 +27,8 @@ impl Path {
         Path { text: None }
     }
 
-    /// The members and indices down to the place, as `steps[3].core`; empty for the whole text.
+    /// The members and indices down to the place, as `steps[3].core`, or `top` for the outermost
+    /// value; empty where the fault has no place.
     pub fn as_str(&self) -> &str
         ensures { result.now ≡ self.now }
     {

@@ -82,7 +82,7 @@ impl Kernel {
         Ok(Kernel { scheduler })
     }
 
-    /// Whether the two kernels are equal, and so answer every step alike from now on.
+    /// Whether the two kernels are equal, and so reply alike to every step from now on.
     ///
     /// Compared are the settings (cores, priorities, slicing, mutexes, tasks), the tick count as 32
     /// bits, each core's current task and flags, each task's control block, notification and

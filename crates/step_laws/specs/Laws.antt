@@ -121,7 +121,7 @@ BlockSimulates =
     view_of (blocked stamp_queues core task call ticks wait table)
     ≡ blocked list_queues core task call ticks wait (view_of table)
 
--- a user task that a call blocks leaves a sound table sound
+-- a user task that a call blocks leaves a consistent table consistent
 abbrev pub BlockKeepsConsistent : Type 0
 BlockKeepsConsistent =
     (table : Table) (core task : ℕ) (call : Unfinished) (ticks : Option ℕ) (wait : Option MutexWait)

@@ -96,7 +96,7 @@ impl Delays {
     }
 
     /// The task waits until its wake, which is `inc` ticks after the last one, where that lies
-    /// ahead of the tick count. Answers whether it does, and the wake, a tick count. Where it
+    /// ahead of the tick count. Returns whether it does, and the wake, a tick count. Where it
     /// doesn't, nothing changes.
     #[tactic(auto, unfolding(crate::specs::Parts::until_delayed))]
     pub fn delay_until(&mut self, task: u32, prev: u32, inc: u32) -> (bool, u32)

@@ -16,8 +16,10 @@ pub const A_DELAYS: Step = Step::Call {
     call: Call::Delay(2),
 };
 
+/// The switch of core 0.
 pub const SWITCH_0: Step = Step::Switch { core: 0 };
 
+/// The switch of core 1.
 pub const SWITCH_1: Step = Step::Switch { core: 1 };
 
 /// So many cores, and A (of priority 2), B and C (of priority 1), which may run on cores 0 and 1
@@ -58,6 +60,7 @@ pub struct Started<'a> {
 }
 
 impl<'a> Started<'a> {
+    /// A kernel at the start of the header.
     pub fn new(rt: &HostRuntime, header: &'a Header) -> Result<Started<'a>, Fail> {
         Ok(Started {
             header,
@@ -66,6 +69,7 @@ impl<'a> Started<'a> {
         })
     }
 
+    /// Makes a step, which has to be one under the header.
     pub fn step(&mut self, rt: &impl Abort, step: &Step) -> Reply {
         assert_eq!(rt; step.check(self.header), Ok(()));
         self.kernel.step(&mut self.meter, step)
@@ -86,6 +90,7 @@ impl Opened {
         Opened::of(rt, header, Vec::from_slice(rt.alloc(), steps)?, 64)
     }
 
+    /// Of the session, with a checkpoint every so many steps.
     pub fn of(rt: &HostRuntime, header: Header, steps: Vec<Step>, span: u32) -> Result<Self, Fail> {
         let mut meter = Meter::new(rt);
         let store = Store::open(rt.alloc(), header, steps, span, &mut meter)?;
@@ -93,6 +98,7 @@ impl Opened {
     }
 }
 
+/// So many ticks.
 pub fn ticks(alloc: Global, count: u32) -> Result<Vec<Step>, AllocError> {
     let mut steps = Vec::with_capacity(alloc, count as usize)?;
     for _step in 0..count {
@@ -131,6 +137,7 @@ pub fn assert_steps(rt: &impl Abort, store: &Store, steps: &[Step]) {
     assert_eq!(rt; store.step(len), None);
 }
 
+/// The tasks of both cores at the place.
 pub fn assert_row(rt: &impl Abort, store: &Store, place: u32, tasks: [u32; 2]) {
     match store.row(place) {
         Some(row) => assert_eq!(rt; row.as_slice(), tasks.as_slice(), "place {place}"),

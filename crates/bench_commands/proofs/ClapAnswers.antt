@@ -32,8 +32,8 @@ Every P [] = ⊤
 Every P (x ∷ xs) = P x × Every P xs
 
 every_append : {X : Type 0} (P : X → Type 0) (xs ys : List X) → Every P xs → Every P ys → Every P (xs ++ ys)
-every_append P [] ys first then_those = then_those
-every_append P (x ∷ xs) ys first then_those = (first.0, every_append P xs ys first.1 then_those)
+every_append P [] ys first others = others
+every_append P (x ∷ xs) ys first others = (first.0, every_append P xs ys first.1 others)
 
 -- all of them ask for what the first does
 abbrev pub AskOne : Kinds → Type 0

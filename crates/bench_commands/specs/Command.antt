@@ -76,12 +76,12 @@ tally_in options = option_map_or (bytes_eq (codes "true")) (one_of (codes "tally
 abbrev pub mode_of : List Row → Mode
 mode_of options = Replay (span_in options) (tally_in options)
 
--- by the kind of its error: `--help` and `-h` are one too
+-- by the kind of an error, of which `--help` and `-h` make one too
 abbrev pub asked_by : ErrorKind → Asked
 asked_by kind.DisplayHelp = help
 asked_by _ = a_mistake
 
--- by the kinds of error that clap may answer, or else by the command that it found
+-- by the kinds that clap's error may have, which all ask for the same, or else by what it met
 abbrev pub asked_of : Kinds → Option (Text × List Row) → Asked
 asked_of (kind ∷ kinds) met = asked_by kind
 asked_of [] None = a_mistake

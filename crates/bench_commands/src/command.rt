@@ -100,7 +100,7 @@ fn tally_in(options: &ArgMatches) -> bool
     options.get_flag("tally")
 }
 
-// The run that the command asks for which was met.
+// What the command that was met asks for.
 fn mode_in(matches: &ArgMatches) -> Mode
     requires { IsSomeAnd (subcommand_rows_of matches.now) (λ met. AreTaken met.1) }
     ensures { IfSome (subcommand_rows_of matches.now) (λ met. result ≡ mode_of met.1) }

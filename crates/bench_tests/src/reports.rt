@@ -1,8 +1,12 @@
-//! The tallies of tasks: before any step, and a copy of them.
-use crate::samples::three_tasks;
+//! The tallies of tasks: before any step, a copy of them, and those that a store keeps.
+use crate::samples::{A_DELAYS, Opened, SWITCH_0, SWITCH_1, three_tasks};
 use bench_reports::Tallies;
-use bench_types::Header;
+use bench_samples::low_and_high;
+use bench_types::{Call, Edit, Header, Step};
+use session_store::Store;
 use smp_kernel::Kernel;
+use std::alloc::Global;
+use std::process::Abort;
 use std::test::Fail;
 
 const BEGUN: &str = "\
@@ -27,4 +31,135 @@ fn tallies_as_text(rt: HostRuntime) -> Result<(), Fail> {
     let copy = tallies.copy(rt.alloc())?.text(rt.alloc(), &header)?;
     assert_eq!(&rt; copy.as_str(), BEGUN);
     Ok(())
+}
+
+/// A goes to the core of another task, and C twice; ticks find the idle tasks waiting.
+const SHARED: [Step; 8] = [
+    A_DELAYS,
+    SWITCH_0,
+    Step::Tick,
+    SWITCH_0,
+    SWITCH_1,
+    Step::Tick,
+    SWITCH_0,
+    SWITCH_1,
+];
+
+const SHARED_TALLIES: &str = "\
+task IDLE0 run 0 0 wait 2 inverted 0 in 0 displaced 0 timeouts 0 top 0
+task IDLE1 run 0 0 wait 2 inverted 0 in 0 displaced 0 timeouts 0 top 0
+task A run 0 0 wait 0 inverted 0 in 1 displaced 0 timeouts 0 top 2
+task B run 0 2 wait 0 inverted 0 in 0 displaced 0 timeouts 0 top 1
+task C run 2 0 wait 0 inverted 0 in 2 displaced 0 timeouts 0 top 1
+";
+
+/// A is ready at the second tick, and tasks of lower priority run.
+const INVERTED: [Step; 4] = [
+    Step::Call {
+        core: 0,
+        task: 2,
+        call: Call::Delay(1),
+    },
+    SWITCH_0,
+    Step::Tick,
+    Step::Tick,
+];
+
+const INVERTED_TALLIES: &str = "\
+task IDLE0 run 0 0 wait 2 inverted 0 in 0 displaced 0 timeouts 0 top 0
+task IDLE1 run 0 0 wait 2 inverted 0 in 0 displaced 0 timeouts 0 top 0
+task A run 0 0 wait 1 inverted 1 in 0 displaced 0 timeouts 0 top 2
+task B run 0 2 wait 0 inverted 0 in 0 displaced 0 timeouts 0 top 1
+task C run 2 0 wait 0 inverted 0 in 1 displaced 0 timeouts 0 top 1
+";
+
+/// L takes a mutex that H then waits for, one tick long, and not long enough.
+const RUN_OUT: [Step; 5] = [
+    Step::Call {
+        core: 1,
+        task: 2,
+        call: Call::MutexTake { mutex: 0, ticks: 0 },
+    },
+    Step::Call {
+        core: 0,
+        task: 3,
+        call: Call::MutexTake { mutex: 0, ticks: 1 },
+    },
+    Step::Tick,
+    SWITCH_0,
+    Step::Call {
+        core: 0,
+        task: 3,
+        call: Call::Finish,
+    },
+];
+
+const RUN_OUT_TALLIES: &str = "\
+task IDLE0 run 0 0 wait 1 inverted 0 in 0 displaced 0 timeouts 0 top 0
+task IDLE1 run 0 0 wait 1 inverted 0 in 0 displaced 0 timeouts 0 top 0
+task L run 0 1 wait 0 inverted 0 in 0 displaced 0 timeouts 0 top 3
+task H run 1 0 wait 0 inverted 0 in 0 displaced 0 timeouts 1 top 3
+";
+
+/// After A waits and leaves its core, which two edits put before these, its call is displaced.
+const THEN_DISPLACED: [Step; 3] = [Step::Tick, SWITCH_1, A_DELAYS];
+
+const DISPLACED_TALLIES: &str = "\
+task IDLE0 run 0 0 wait 1 inverted 0 in 0 displaced 0 timeouts 0 top 0
+task IDLE1 run 0 0 wait 1 inverted 0 in 0 displaced 0 timeouts 0 top 0
+task A run 0 0 wait 0 inverted 0 in 0 displaced 1 timeouts 0 top 2
+task B run 0 1 wait 0 inverted 0 in 0 displaced 0 timeouts 0 top 1
+task C run 1 0 wait 0 inverted 0 in 1 displaced 0 timeouts 0 top 1
+";
+
+fn assert_tallies(rt: &impl Abort, alloc: Global, store: &Store, wanted: &str) -> Result<(), Fail> {
+    let text = store.tallies(alloc)?.text(alloc, store.header())?;
+    assert_eq!(rt; text.as_str(), wanted);
+    Ok(())
+}
+
+fn check_session(
+    rt: &impl Abort,
+    host: &HostRuntime,
+    header: Header,
+    steps: &[Step],
+    wanted: &str,
+) -> Result<(), Fail> {
+    let steps = Vec::from_slice(host.alloc(), steps)?;
+    let opened = Opened::of(host, header, steps, 64)?;
+    assert_tallies(rt, host.alloc(), &opened.store, wanted)
+}
+
+#[test]
+fn tallies_of_a_session(rt: HostRuntime) -> Result<(), Fail> {
+    let alloc = rt.alloc();
+    check_session(
+        &rt,
+        &rt,
+        three_tasks(alloc, 2, true)?,
+        &SHARED,
+        SHARED_TALLIES,
+    )?;
+    check_session(
+        &rt,
+        &rt,
+        three_tasks(alloc, 2, false)?,
+        &INVERTED,
+        INVERTED_TALLIES,
+    )?;
+    check_session(&rt, &rt, low_and_high(alloc)?, &RUN_OUT, RUN_OUT_TALLIES)
+}
+
+fn insert(rt: &HostRuntime, opened: &mut Opened, at: u32, step: Step) -> Result<(), Fail> {
+    let edit = Edit::Insert { at, step };
+    opened.store.apply(rt.alloc(), edit, &mut opened.meter)?;
+    Ok(())
+}
+
+#[test]
+fn tallies_of_an_edited_session(rt: HostRuntime) -> Result<(), Fail> {
+    let mut opened = Opened::new(&rt, true, &THEN_DISPLACED)?;
+    insert(&rt, &mut opened, 0, A_DELAYS)?;
+    insert(&rt, &mut opened, 1, SWITCH_0)?;
+    assert_tallies(&rt, rt.alloc(), &opened.store, DISPLACED_TALLIES)
 }

@@ -1,4 +1,7 @@
 //! Devices that give or take little, fail, or have little room, and a run over two devices.
+ghost use Rattle.std.specs.Prelude.{◌≡◌, true};
+ghost use Rattle.bench_commands.specs.Run.{has_span};
+
 use bench_commands::{Counted, CountedRead, CountedWrite, DEFAULT_SPAN, Mode, Status, run};
 use std::io::{self, Read, Write};
 
@@ -83,12 +86,24 @@ pub(crate) fn ran<R: Read, W: Write>(
     reader: &mut R,
     writer: &mut W,
 ) -> (Status, u64, u64) {
-    let mut reader = Counted::new(reader);
-    let mut writer = Counted::new(writer);
     let mode = Mode::Replay {
         span: DEFAULT_SPAN,
         tally: false,
     };
-    let status = run(rt, rt.alloc(), &mut reader, &mut writer, &mode);
+    ran_in(rt, reader, writer, &mode)
+}
+
+/// The same in a mode.
+pub(crate) fn ran_in<R: Read, W: Write>(
+    rt: &HostRuntime,
+    reader: &mut R,
+    writer: &mut W,
+    mode: &Mode,
+) -> (Status, u64, u64)
+    requires { has_span mode.now ≡ true }
+{
+    let mut reader = Counted::new(reader);
+    let mut writer = Counted::new(writer);
+    let status = run(rt, rt.alloc(), &mut reader, &mut writer, mode);
     (status, reader.failures(), writer.failures())
 }

@@ -12,3 +12,5 @@ mod documents;
 mod faults;
 #[cfg(test)]
 mod processes;
+#[cfg(test)]
+mod tallies;

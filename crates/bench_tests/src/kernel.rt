@@ -6,7 +6,7 @@ ghost use Rattle.bench_model.specs.Table.{Table};
 ghost use Rattle.bench_model.specs.Session.{step_of};
 ghost use Rattle.bench_model.specs.Equal.{StandsFor};
 
-use crate::samples::{A_DELAYS, Started, three_tasks};
+use crate::samples::{Started, three_tasks};
 use bench_types::{Call, NoteState, Refusal, Reply, Settings, Step, TaskLook};
 use smp_kernel::{Kernel, Meter, StartFault};
 use std::alloc::Global;
@@ -137,39 +137,4 @@ fn check_ways(rt: &impl Abort, started: &mut Started<'_>, copy: &Kernel) {
     make(rt, started, Step::Tick, Reply::Done);
     assert_eq!(rt; (copy.hold(), copy.tick()), (Some((0, 2)), 0));
     assert!(rt; !copy.same(&started.kernel) && !started.kernel.same(copy));
-}
-
-/// A, of priority 2, stands above B, of priority 1, and an idle task below both.
-fn check_ranks(rt: &impl Abort, kernel: &Kernel) {
-    assert!(rt; kernel.settings().tasks == 5);
-    assert_eq!(rt;
-        (kernel.in_use(2), kernel.in_use(3), kernel.in_use(0)),
-        (2, 1, 0)
-    );
-    assert!(rt; kernel.stands_below(0, 3) && kernel.stands_below(3, 2));
-    assert!(rt; !kernel.stands_below(3, 4) && !kernel.stands_below(0, 1));
-}
-
-fn check_cores(rt: &impl Abort, kernel: &Kernel) {
-    assert!(rt; kernel.settings().tasks == 5 && kernel.settings().cores == 2);
-    assert!(rt; kernel.is_allowed(1, 2) && kernel.is_allowed(1, 0));
-}
-
-fn check_ready(rt: &impl Abort, kernel: &Kernel, wanted: [bool; 5]) {
-    let mut marks = [true, true, true, true, true];
-    assert!(rt; kernel.settings().tasks as usize == marks.len());
-    kernel.mark_ready(&mut marks);
-    assert_eq!(rt; marks, wanted);
-}
-
-#[test]
-fn shows_ranks_and_ready_tasks(rt: HostRuntime) -> Result<(), Fail> {
-    let header = three_tasks(rt.alloc(), 2, true)?;
-    let mut started = Started::new(&rt, &header)?;
-    check_ranks(&rt, &started.kernel);
-    check_cores(&rt, &started.kernel);
-    check_ready(&rt, &started.kernel, [true, true, true, true, true]);
-    assert_eq!(&rt; started.step(&rt, &A_DELAYS), Reply::Blocked);
-    check_ready(&rt, &started.kernel, [true, true, false, true, true]);
-    Ok(())
 }

@@ -14,8 +14,14 @@ same_default [] i d e low = absurd (omega (arith, low))
 same_default (x ∷ xs) zero d e low = refl
 same_default (x ∷ xs) (suc i) d e low = same_default xs i d e (omega (arith, low))
 
-same_length : (a b : List TaskTally) → shape a ≡ shape b → length a ≡ length b
+pub same_length : (a b : List TaskTally) → shape a ≡ shape b → length a ≡ length b
 same_length a b same = sym (length-map a (λ (t : TaskTally). length t.run)) ∙ ap (λ (ns : List ℕ). length ns) same ∙ length-map b (λ (t : TaskTally). length t.run)
+
+-- for as many cores in both
+pub run_lengths : (a b : List TaskTally) (task : ℕ) → shape a ≡ shape b → task < length a → length (tally_at a task).run ≡ length (tally_at b task).run
+run_lengths a b task same low =
+    sym (get_or-map (λ (t : TaskTally). length t.run) a task nothing 0 low) ∙ ap (λ ns. get_or ns task 0) same
+    ∙ get_or-map (λ (t : TaskTally). length t.run) b task nothing 0 (omega (arith, low, same_length a b same))
 
 -- a task's numbers are there as they were, with as many cores in both parts, and their sums are numbers
 pub add_at : (a b now : List TaskTally) (task : ℕ) (x y : TaskTally) → shape a ≡ shape b → AllCountsBelow (2 ^ 32) (added a b) → task < length a
@@ -26,9 +32,7 @@ add_at a b now task x y same sums low set is_x is_y =
     let long = same_length a b same in
     let one : x ≡ tally_at a task = is_x ∙ same_default now task x nothing (omega (arith, low, set.size)) ∙ set.others task (omega arith) in
     let other : y ≡ tally_at b task = is_y ∙ same_default b task y nothing (omega (arith, low, long)) in
-    let runs : length (tally_at a task).run ≡ length (tally_at b task).run =
-    sym (get_or-map (λ (t : TaskTally). length t.run) a task nothing 0 low) ∙ ap (λ ns. get_or ns task 0) same
-    ∙ get_or-map (λ (t : TaskTally). length t.run) b task nothing 0 (omega (arith, low, long)) in
+    let runs = run_lengths a b task same low in
     let sum : get_or (added a b) task nothing ≡ added_tally (tally_at a task) (tally_at b task) =
     get_or-map-range_with_len (λ task. added_tally (tally_at a task) (tally_at b task)) 0 (length a) task task nothing low (omega arith) in
     let below : CountsBelow (2 ^ 32) (get_or (added a b) task nothing) = sums task nothing (omega (arith, low, length-map-range_with_len (λ task. added_tally (tally_at a task) (tally_at b task)) 0 (length a))) in (

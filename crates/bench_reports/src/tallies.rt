@@ -1,4 +1,4 @@
-ghost use Rattle.std.specs.Prelude.{◌≡◌, ◌+◌, ◌-◌, ◌<◌, ◌^◌, All, Ok, length, map, min, string_bytes, IfOk};
+ghost use Rattle.std.specs.Prelude.{◌≡◌, ℕ, suc, ◌+◌, ◌-◌, ◌<◌, ◌^◌, All, Ok, length, map, min, string_bytes, IfOk};
 ghost use Rattle.bench_types.specs.Step.{step_check};
 ghost use Rattle.bench_types.specs.declared.step.Step.TheVariants.{Tick};
 ghost use Rattle.list_orders.specs.Search.{has, numbers};
@@ -48,8 +48,10 @@ impl Model for Tallies {
 impl Tallies {
     /// Before any step of the kernel: zeros, and each task's priority in use.
     pub fn begin(alloc: Global, kernel: &Kernel) -> Result<Tallies, AllocError>
-        ensures { IfOk result
+        ensures tallies { IfOk result
             (λ tallies. tallies ≡ first_tallies kernel.now.settings kernel.now.control) }
+        ensures shape { IfOk result (λ tallies. shape tallies ≡ shape_of kernel.now.settings) }
+        ensures room { IfOk result (AllCountsBelow 1) }
     {
         let settings = kernel.settings();
         let mut tasks = Vec::with_capacity(alloc, settings.tasks as usize)?;
@@ -69,12 +71,15 @@ impl Tallies {
         requires shape { shape self.old ≡ shape_of before.now.settings }
         requires settings { after.now.settings ≡ before.now.settings }
         requires room { AllCountsBelow (2 ^ 32 - 1) self.old }
-        ensures { self.new ≡ tallied list_queues (record {
+        ensures counted { self.new ≡ tallied list_queues (record {
           before = before.now;
           step = step.now;
           reply = reply;
           after = after.now;
         }) self.old }
+        ensures kept { shape self.new ≡ shape self.old }
+        ensures grown { (bound : ℕ) → AllCountsBelow bound self.old
+            → AllCountsBelow (suc bound) self.new }
     {
         let left = left_by(before, step);
         self.find(before, step);
@@ -98,6 +103,9 @@ impl Tallies {
           reply = result;
           after = kernel.new;
         }) self.old }
+        ensures kept { shape self.new ≡ shape self.old }
+        ensures grown { (bound : ℕ) → AllCountsBelow bound self.old
+            → AllCountsBelow (suc bound) self.new }
     {
         let left = left_by(kernel, step);
         self.find(kernel, step);
@@ -111,7 +119,8 @@ impl Tallies {
     pub fn add(&mut self, other: &Tallies)
         requires shapes { shape self.old ≡ shape other.now }
         requires sums { AllCountsBelow (2 ^ 32) (added self.old other.now) }
-        ensures { self.new ≡ added self.old other.now }
+        ensures added { self.new ≡ added self.old other.now }
+        ensures kept { shape self.new ≡ shape self.old }
     {
         add_counts(&mut self.tasks, &other.tasks);
     }
@@ -129,6 +138,21 @@ impl Tallies {
             current: no_marks(alloc, tasks.len())?,
             tasks,
         })
+    }
+
+    /// How many tasks there are.
+    pub fn len(&self) -> usize
+        ensures { result ≡ length self.now }
+    {
+        self.tasks.len()
+    }
+
+    /// For how many cores the task has a number of ticks.
+    pub fn cores(&self, task: u32) -> usize
+        requires { task < length self.now }
+        ensures { result ≡ length (tally_at self.now task).run }
+    {
+        self.tasks[task as usize].run().len()
     }
 
     /// The counts of the task beside the ticks that it ran.
@@ -247,7 +271,8 @@ fn raise_tops(tasks: &mut [TaskCounts], kernel: &Kernel)
 fn add_counts(tasks: &mut [TaskCounts], more: &[TaskCounts])
     requires shapes { shape tasks.old ≡ shape more.now }
     requires sums { AllCountsBelow (2 ^ 32) (added tasks.old more.now) }
-    ensures { tasks.new ≡ added tasks.old more.now }
+    ensures added { tasks.new ≡ added tasks.old more.now }
+    ensures kept { shape tasks.new ≡ shape tasks.old }
 {
     for task in 0..tasks.len() {
         tasks[task].add(&more[task]);

@@ -138,3 +138,27 @@ fn check_ways(rt: &impl Abort, started: &mut Started<'_>, copy: &Kernel) {
     assert_eq!(rt; (copy.hold(), copy.tick()), (Some((0, 2)), 0));
     assert!(rt; !copy.same(&started.kernel) && !started.kernel.same(copy));
 }
+
+#[test]
+fn shows_ranks_and_ready_tasks(rt: HostRuntime) -> Result<(), Fail> {
+    let header = three_tasks(rt.alloc(), 2, true)?;
+    let mut started = Started::new(&rt, &header)?;
+    make(&rt, &mut started, call(Call::Delay(2)), Reply::Blocked);
+    check_ranks(&rt, &started.kernel);
+    Ok(())
+}
+
+fn check_ranks(rt: &impl Abort, kernel: &Kernel) {
+    let settings = kernel.settings();
+    assert!(rt; settings.tasks == 5 && settings.cores == 2);
+    assert_eq!(rt;
+        (kernel.in_use(0), kernel.in_use(2), kernel.in_use(3)),
+        (0, 2, 1)
+    );
+    assert!(rt; kernel.stands_below(0, 3) && kernel.stands_below(3, 2));
+    assert!(rt; !kernel.stands_below(3, 4) && !kernel.stands_below(2, 3));
+    assert!(rt; kernel.is_allowed(1, 2));
+    let mut marks = [false; 5];
+    kernel.mark_ready(&mut marks);
+    assert_eq!(rt; marks, [true, true, false, true, true]);
+}

@@ -17,7 +17,8 @@ fn is_checked(header: &Header, step: &Step) -> bool
     step.check(header).is_ok()
 }
 
-fn are_checked(header: &Header, steps: &[Step]) -> bool
+/// Whether each step may stand under the header.
+pub(crate) fn are_checked(header: &Header, steps: &[Step]) -> bool
     ensures { IsTrue result
         → All (λ step. step_check (settings_of header.now) step ≡ Ok tt) steps.now }
 {

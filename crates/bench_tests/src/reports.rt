@@ -1,11 +1,17 @@
-//! The tallies of tasks: before any step, a copy of them, and those that a store keeps.
+//! The tallies of tasks: before any step, a copy of them, those of a kernel's steps, and those that
+//! a store keeps.
+ghost use Rattle.std.specs.Prelude.{◌≡◌, ◌<◌, suc, length, All, IfOk, Ok};
+ghost use Rattle.bench_types.specs.Step.{step_check};
+ghost use Rattle.bench_model.specs.Tallied.{shape, shape_of, AllCountsBelow};
+
+use crate::replays::are_checked;
 use crate::samples::{A_DELAYS, Opened, SWITCH_0, SWITCH_1, three_tasks};
 use bench_reports::Tallies;
 use bench_samples::low_and_high;
-use bench_types::{Call, Edit, Header, Step};
+use bench_types::{Call, Edit, Header, Step, Tally};
 use session_store::Store;
-use smp_kernel::Kernel;
-use std::alloc::Global;
+use smp_kernel::{Kernel, Meter};
+use std::alloc::{AllocError, Global};
 use std::process::Abort;
 use std::test::Fail;
 
@@ -162,4 +168,109 @@ fn tallies_of_an_edited_session(rt: HostRuntime) -> Result<(), Fail> {
     insert(&rt, &mut opened, 0, A_DELAYS)?;
     insert(&rt, &mut opened, 1, SWITCH_0)?;
     assert_tallies(&rt, rt.alloc(), &opened.store, DISPLACED_TALLIES)
+}
+
+// What the steps take, each made and counted at once.
+fn tallied(
+    alloc: Global,
+    kernel: &mut Kernel,
+    meter: &mut Meter,
+    steps: &[Step],
+) -> Result<Tallies, AllocError>
+    requires steps { All (λ step. step_check kernel.old.settings step ≡ Ok tt) steps.now }
+    requires few { length steps.now < 1000 }
+    ensures shape { IfOk result (λ tallies. shape tallies ≡ shape_of kernel.old.settings) }
+    ensures room { IfOk result (AllCountsBelow 1000) }
+    ensures settings { kernel.new.settings ≡ kernel.old.settings }
+{
+    let mut tallies = Tallies::begin(alloc, kernel)?;
+    for step in steps {
+        tallies.make(kernel, meter, step);
+    }
+    Ok(tallies)
+}
+
+// What they take, each counted after it was made, by a copy of the kernel before it.
+fn tallied_by_copies(
+    alloc: Global,
+    kernel: &mut Kernel,
+    meter: &mut Meter,
+    steps: &[Step],
+) -> Result<Tallies, AllocError>
+    requires steps { All (λ step. step_check kernel.old.settings step ≡ Ok tt) steps.now }
+    requires few { length steps.now < 1000 }
+{
+    let mut tallies = Tallies::begin(alloc, kernel)?;
+    for step in steps {
+        let before = kernel.copy(alloc)?;
+        let reply = kernel.step(meter, step);
+        tallies.step(&before, step, reply, kernel);
+    }
+    Ok(tallies)
+}
+
+// Adds what one part takes to what an earlier one took.
+fn add_part(tallies: &mut Tallies, more: &Tallies)
+    requires shapes { shape tallies.old ≡ shape more.now }
+    requires room { AllCountsBelow 1000 tallies.old }
+    requires more { AllCountsBelow 1000 more.now }
+{
+    tallies.add(more);
+}
+
+fn assert_text(
+    rt: &impl Abort,
+    alloc: Global,
+    header: &Header,
+    tallies: &Tallies,
+) -> Result<(), Fail> {
+    let text = tallies.text(alloc, header)?;
+    assert_eq!(rt; text.as_str(), SHARED_TALLIES);
+    Ok(())
+}
+
+#[test]
+fn tallies_of_two_parts(rt: HostRuntime) -> Result<(), Fail> {
+    let alloc = rt.alloc();
+    let header = three_tasks(alloc, 2, true)?;
+    let (first, second) = SHARED.split_at(5);
+    assert!(&rt; are_checked(&header, first) && are_checked(&header, second));
+    let (mut kernel, mut meter) = (Kernel::start(alloc, &header)?, Meter::new(&rt));
+    let mut tallies = tallied(alloc, &mut kernel, &mut meter, first)?;
+    add_part(
+        &mut tallies,
+        &tallied(alloc, &mut kernel, &mut meter, second)?,
+    );
+    assert_text(&rt, alloc, &header, &tallies)
+}
+
+#[test]
+fn tallies_by_copies_of_the_kernel(rt: HostRuntime) -> Result<(), Fail> {
+    let alloc = rt.alloc();
+    let header = three_tasks(alloc, 2, true)?;
+    assert!(&rt; are_checked(&header, &SHARED));
+    let (mut kernel, mut meter) = (Kernel::start(alloc, &header)?, Meter::new(&rt));
+    let tallies = tallied_by_copies(alloc, &mut kernel, &mut meter, &SHARED)?;
+    assert_text(&rt, alloc, &header, &tallies)
+}
+
+const OF_C: Tally = Tally {
+    wait: 0,
+    inverted: 0,
+    switched: 2,
+    displaced: 0,
+    timeouts: 0,
+    top: 1,
+};
+
+#[test]
+fn numbers_of_a_task(rt: HostRuntime) -> Result<(), Fail> {
+    let opened = Opened::new(&rt, true, &SHARED)?;
+    let tallies = opened.store.tallies(rt.alloc())?;
+    assert_eq!(&rt; tallies.len(), 5);
+    assert!(&rt; 4 < tallies.len());
+    assert_eq!(&rt; tallies.get(4), OF_C);
+    assert!(&rt; 1 < tallies.cores(4));
+    assert_eq!(&rt; (tallies.run_on(4, 0), tallies.run_on(4, 1)), (2, 0));
+    Ok(())
 }

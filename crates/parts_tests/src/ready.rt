@@ -73,6 +73,19 @@ fn start(rt: HostRuntime) -> Result<(), Fail> {
     assert_eq!(&rt; cores.mask(4), 2);
     assert!(&rt; cores.preempt(4));
     assert!(&rt; cores.ready(4));
+    assert!(&rt; cores.stands_below(3, 2) && !cores.stands_below(3, 4));
+    assert!(&rt; cores.is_allowed(1, 4) && !cores.is_allowed(0, 4));
+    Ok(())
+}
+
+#[test]
+fn marks_of_ready_tasks(rt: HostRuntime) -> Result<(), Fail> {
+    let mut cores = started(&rt, rt.alloc(), false, &[(2, 3), (1, 3), (1, 3)])?;
+    unready(&rt, &mut cores, 3);
+    assert!(&rt; cores.has_task(4) && !cores.has_task(5));
+    let mut marks = [false, false, false, true, false];
+    cores.mark_ready(&mut marks);
+    assert_eq!(&rt; marks, [true, true, true, false, true]);
     Ok(())
 }
 

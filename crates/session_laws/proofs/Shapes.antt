@@ -15,7 +15,7 @@ use Rattle.session_laws.proofs.Tallies.{numbers_agree, length_each, own_items}
 abbrev size_at : List TaskTally → ℕ → ℕ
 size_at tallies task = length (tally_at tallies task).run
 
-shape_of_each : (f : ℕ → TaskTally) (ns : List ℕ) → shape (map f ns) ≡ map (λ n. length (f n).run) ns
+pub shape_of_each : (f : ℕ → TaskTally) (ns : List ℕ) → shape (map f ns) ≡ map (λ n. length (f n).run) ns
 shape_of_each f [] = refl
 shape_of_each f (n ∷ ns) = ap (λ rest. length (f n).run ∷ rest) (shape_of_each f ns)
 

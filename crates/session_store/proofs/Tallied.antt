@@ -14,10 +14,11 @@ use Rattle.bench_model.specs.Session.{step_of, state_after}
 use Rattle.bench_model.specs.Start.{start}
 use Rattle.bench_model.specs.Table.{Table, stamp_queues}
 use Rattle.bench_model.specs.Tally.{TaskTally, tallies}
-use Rattle.bench_model.specs.Tallied.{first_tallies, tallied, moment_of, tallied_after, part_tallies, shape, shape_of, CountsBelow, AllCountsBelow}
+use Rattle.bench_model.specs.Tallied.{first_tallies, tallied, moment_of, tallied_after, part_tallies, shape, shape_of, AllCountsBelow}
 use Rattle.session_laws.specs.TallyLaws.{seen_moment}
-use Rattle.session_laws.proofs.Shapes.{tallied_shape, session_shape}
+use Rattle.session_laws.proofs.Shapes.{tallied_shape}
 use Rattle.session_laws.proofs.Tallies.{stepwise, part_few, tallied_seen}
+use Rattle.bench_reports.proofs.Rooms.{wider_room}
 use Rattle.bench_reports.proofs.TickLoop.{shape_length}
 
 -- one step more at the end is counted last
@@ -52,20 +53,9 @@ tallied_goes settings table steps place view next reply old new early same stand
 
 -- no count of few steps is near the end of its numbers
 pub tallied_room : (settings : Settings) (table : Table) (steps : List Step) (place : ℕ) (counted : List TaskTally) → place ≤ length steps → length steps ≤ max_steps → IsTallied settings table steps place counted → AllCountsBelow (2 ^ 32 - 1) counted
-tallied_room settings table steps place counted within few so_far task d low =
-    let below = part_few settings table (take place steps) task d (omega (arith, low, ap (λ (ts : List TaskTally). length ts) so_far.counts)) in
+tallied_room settings table steps place counted within few so_far =
     let bound : suc (length (take place steps)) ≤ 2 ^ 32 - 1 = omega (arith, length-take-le place steps within, within, few) in
-    subst (λ (ts : List TaskTally). CountsBelow (2 ^ 32 - 1) (get_or ts task d)) (sym so_far.counts) (wider bound below)
-  where
-    wider : {bound most : ℕ} {tally : TaskTally} → bound ≤ most → CountsBelow bound tally → CountsBelow most tally
-    wider low counts = record {
-      run = λ core d within. omega (arith, counts.run core d within, low);
-      wait = omega (arith, counts.wait, low);
-      inverted = omega (arith, counts.inverted, low);
-      switched = omega (arith, counts.switched, low);
-      displaced = omega (arith, counts.displaced, low);
-      timeouts = omega (arith, counts.timeouts, low);
-    }
+    wider_room counted bound (subst (AllCountsBelow (suc (length (take place steps)))) (sym so_far.counts) (part_few settings table (take place steps)))
 
 pub tallied_ends : (settings : Settings) (table : Table) (steps : List Step) (place : ℕ) (counted : List TaskTally) → length steps ≤ place → IsTallied settings table steps place counted → counted ≡ part_tallies settings table steps
 tallied_ends settings table steps place counted all so_far = so_far.counts ∙ ap (part_tallies settings table) (take_all place steps all)
@@ -73,10 +63,6 @@ tallied_ends settings table steps place counted all so_far = so_far.counts ∙ a
 -- the first tallies of a kernel are those of a table that it stands for
 pub first_stands : (view : View) (table : Table) → StandsFor view table → first_tallies view.settings view.control ≡ first_tallies view.settings table.control
 first_stands view table stands = ap (λ (v : View). first_tallies view.settings v.control) (sym stands.shows)
-
-pub begun_sizes : (header : Header) (view : View) → StandsFor view (start header) → view.settings ≡ settings_of header → shape (first_tallies view.settings view.control) ≡ shape_of view.settings
-begun_sizes header view stands same =
-    ap shape (first_stands view (start header) stands ∙ ap (λ (s : Settings). first_tallies s (start header).control) same ∙ sym (stepwise header [])) ∙ session_shape header [] ∙ ap shape_of (sym same)
 
 pub session_tallies : (header : Header) (steps : List Step) (settings : Settings) → settings ≡ settings_of header → part_tallies settings (start header) steps ≡ tallies header steps
 session_tallies header steps settings same = ap (λ s. part_tallies s (start header) steps) same ∙ sym (stepwise header steps)

@@ -1,5 +1,9 @@
-use Rattle.std.proofs.Common.{◌++◌, ◌∷◌, [], length, ap, ◌∙◌, arith}
+use Rattle.std.proofs.Common.{◌≡◌, ◌++◌, ◌∷◌, [], length, map, ap, sym, subst, ◌∙◌, arith}
+use Rattle.bench_types.specs.declared.kernel_data.Settings.{Settings}
+use Rattle.list_orders.specs.Search.{numbers}
+use Rattle.bench_model.specs.Tallied.{first_tally, shape, AllCountsBelow}
 use Rattle.bench_reports.proofs.Begins.{firsts_more, firsts_length}
+use Rattle.bench_reports.proofs.Rooms.{first_shape, first_room}
 use Rattle.bench_reports.proofs.tallies.Tallies.begin.Goals as goal
 
 pub loop-task-preserved : goal.loop-task-preserved
@@ -13,3 +17,15 @@ pub invariant_of-result : goal.invariant_of-result
 invariant_of-result c =
     let kernel = c.args.kernel.now in
     omega (arith, ap length c.loop-task.invariant, firsts_length kernel.settings kernel.control c.loop-task.task)
+
+pub returns-clause-tallies : goal.returns-clause-tallies
+returns-clause-tallies c =
+    let kernel = c.args.kernel.now in
+    let all : c.loop-task.task ≡ kernel.settings.tasks = omega (arith, ap (λ (s : Settings). s.tasks) c.settings-settings.ensures.settings) in
+    c.loop-task.invariant ∙ ap (λ n. map (first_tally kernel.settings kernel.control) (numbers n)) all
+
+pub returns-clause-shape : goal.returns-clause-shape
+returns-clause-shape c = ap shape (returns-clause-tallies c) ∙ first_shape c.args.kernel.now.settings c.args.kernel.now.control
+
+pub returns-clause-room : goal.returns-clause-room
+returns-clause-room c = subst (AllCountsBelow 1) (sym (returns-clause-tallies c)) (first_room c.args.kernel.now.settings c.args.kernel.now.control)

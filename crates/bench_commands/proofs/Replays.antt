@@ -1,5 +1,5 @@
 -- The lines of a replay, place by place.
-use Rattle.std.proofs.Common.{◌≡◌, ℕ, suc, ◌+◌, ◌≤◌, Bool, true, false, List, [], ◌∷◌, ◌++◌, length, flat_map, nat_le, if◌then◌else◌, Option, Some, None, refl, sym, ap, ◌∙◌, arith, append_assoc, zero-add}
+use Rattle.std.proofs.Common.{◌≡◌, ℕ, suc, ◌+◌, ◌≤◌, Bool, true, false, List, [], ◌∷◌, ◌++◌, length, flat_map, nat_le, if◌then◌else◌, Option, Some, None, refl, sym, ap, ◌∙◌, arith, append_assoc}
 use Rattle.std.specs.Prelude.{option_map}
 use Rattle.std.specs.Option.{option_map_or}
 use Rattle.std.proofs.lemmas.Bool.Decides.{nat_tests}
@@ -13,7 +13,7 @@ use Rattle.list_orders.specs.Search.{numbers}
 use Rattle.bench_model.specs.Control.{running}
 use Rattle.bench_model.specs.Start.{start}
 use Rattle.bench_model.specs.Session.{step_of, state_at, reply_at, running_at}
-use Rattle.list_orders.proofs.Stamped.{range_parts}
+use Rattle.list_orders.proofs.Stamped.{numbers_more}
 use Rattle.bench_commands.specs.Lines.{step_line}
 use Rattle.bench_commands.specs.Answer.{first_line, line_at, replay_text}
 
@@ -68,7 +68,7 @@ start_is_there header steps =
 lines_more : (header : Header) (steps : List Step) (place : ℕ) → flat_map (line_at header steps) (numbers (place + 1)) ≡ flat_map (line_at header steps) (numbers place) ++ line_at header steps place
 lines_more header steps place =
     let line = line_at header steps in
-    ap (flat_map line) (range_parts 0 place 1 ∙ ap (λ last. numbers place ++ last) (ap (λ k. k ∷ []) (zero-add place))) ∙ flat_map-append line (numbers place) (place ∷ []) ∙ ap (λ last. flat_map line (numbers place) ++ last) (append-nil (line place))
+    ap (flat_map line) (numbers_more place) ∙ flat_map-append line (numbers place) (place ∷ []) ∙ ap (λ last. flat_map line (numbers place) ++ last) (append-nil (line place))
 
 -- the lines after a text: the start, then those of the steps before a place
 abbrev pub lines_after : List ℕ → Header → List Step → ℕ → List ℕ

@@ -1,5 +1,5 @@
 -- The orders of ready tasks, of delays and of waiters are orders of ranks.
-use Rattle.std.proofs.Common.{ℕ, ◌-◌, arith}
+use Rattle.std.proofs.Common.{ℕ, arith}
 use Rattle.std.proofs.lemmas.Bool.Decides.{nat_tests}
 use Rattle.bench_model.specs.Control.{Control, task_at}
 use Rattle.bench_model.specs.Lists.{outranks, wakes_first, waits_first}

@@ -5,7 +5,7 @@ use Rattle.std.proofs.lemmas.List.FromFn.{length-range_with_len}
 use Rattle.bench_types.specs.declared.kernel_data.Settings.{Settings}
 use Rattle.bench_types.specs.declared.kernel_data.TaskLook.{TaskLook}
 use Rattle.list_orders.specs.Search.{numbers}
-use Rattle.list_orders.proofs.Stamped.{range_parts}
+use Rattle.list_orders.proofs.Stamped.{numbers_more}
 use Rattle.bench_model.specs.Control.{Control, task_at}
 use Rattle.bench_model.specs.Equal.{StandsFor}
 use Rattle.bench_model.specs.Lists.{View}
@@ -19,9 +19,6 @@ use Rattle.smp_kernel.specs.Kernel.{StandsForSome}
 in_use_seen : (kernel : View) (task : ℕ) (look : TaskLook) → StandsForSome kernel → ((table : Table) → StandsFor kernel table → look ≡ task_look table task) → look.in_use ≡ (task_at kernel.control task).in_use
 unfolding task_look
 in_use_seen kernel task look some is = ap (λ (l : TaskLook). l.in_use) (is some.0 some.1) ∙ ap (λ (v : View). (task_at v.control task).in_use) some.1.shows
-
-numbers_more : (n : ℕ) → numbers (n + 1) ≡ numbers n ++ n ∷ []
-numbers_more n = let one : 0 + n ≡ n = omega arith in range_parts 0 n 1 ∙ ap (λ i. numbers n ++ i ∷ []) one
 
 -- the tally of one task more
 pub firsts_more : (kernel : View) (task : ℕ) (tallies : List TaskTally) (look : TaskLook) → tallies ≡ map (first_tally kernel.settings kernel.control) (numbers task)

@@ -7,4 +7,4 @@ mod usual;
 
 pub use fault::SampleFault;
 pub use header::{crowd, header_of, numbered_header};
-pub use usual::{PLAIN, low_and_high, three_tasks};
+pub use usual::{LARGEST, PLAIN, low_and_high, three_tasks};

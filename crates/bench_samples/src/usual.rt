@@ -2,7 +2,7 @@ ghost use Rattle.std.specs.Prelude.{◌≡◌, IfOk, Ok};
 ghost use Rattle.bench_types.specs.Header.{header_check};
 
 use crate::{SampleFault, header_of, numbered_header};
-use bench_types::{Config, Header};
+use bench_types::{Config, Header, MAX_CORES, MAX_MUTEXES, MAX_PRIORITIES};
 use std::alloc::Global;
 
 /// Two cores, 5 priorities, no time slices and no mutexes, from tick 0.
@@ -12,6 +12,15 @@ pub const PLAIN: Config = Config {
     slicing: false,
     tick: 0,
     mutexes: 0,
+};
+
+/// The most cores, priorities and mutexes, with time slices, from the last tick.
+pub const LARGEST: Config = Config {
+    cores: MAX_CORES,
+    priorities: MAX_PRIORITIES,
+    slicing: true,
+    tick: u32::MAX,
+    mutexes: MAX_MUTEXES,
 };
 
 /// Two cores and the tasks A, B and C on both, of the priorities 2, 1 and 1.

@@ -3,23 +3,13 @@
 
 use crate::replays::check_store;
 use crate::samples::{Opened, SWITCH_0, Started, ticks, whole};
-use bench_samples::crowd;
-use bench_types::{
-    Config, Edit, Header, MAX_CORES, MAX_MUTEXES, MAX_PRIORITIES, MAX_SPAN, MAX_STEPS, MAX_TASKS,
-};
+use bench_samples::{LARGEST, crowd};
+use bench_types::{Edit, Header, MAX_CORES, MAX_MUTEXES, MAX_SPAN, MAX_STEPS, MAX_TASKS};
 use session_store::Store;
 use smp_kernel::Kernel;
 use std::alloc::Global;
 use std::process::Abort;
 use std::test::Fail;
-
-const LARGEST: Config = Config {
-    cores: MAX_CORES,
-    priorities: MAX_PRIORITIES,
-    slicing: true,
-    tick: u32::MAX,
-    mutexes: MAX_MUTEXES,
-};
 
 fn check_header(rt: &impl Abort, copy: &Header, header: &Header) {
     let tasks = header.tasks.as_slice();

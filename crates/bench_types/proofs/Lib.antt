@@ -1,2 +1,3 @@
+pub mod Equalities
 pub mod Masks
 pub mod Passes

@@ -106,6 +106,10 @@ range_parts a (suc m) n =
     let sum : suc m + n ≡ suc (m + n) = omega arith in
     ap (range_with_len a) sum ∙ ap (λ rest. a ∷ rest) (range_parts (a + 1) m n ∙ ap (λ k. range_with_len (a + 1) m ++ range_with_len k n) shifted)
 
+-- one number more
+pub numbers_more : (n : ℕ) → numbers (n + 1) ≡ numbers n ++ n ∷ []
+numbers_more n = range_parts 0 n 1 ∙ ap (λ k. numbers n ++ k ∷ []) (zero-add n)
+
 -- One number of many gets the next stamp.
 module _ (stamp later : ℕ → ℕ) (test passes : ℕ → Bool) (n next t : ℕ) (below : t < n) (given : (i : ℕ) → i < n → stamp i < next) (stays : (i : ℕ) → i ≢ t → later i ≡ stamp i) (same : (i : ℕ) → i ≢ t → passes i ≡ test i) (gets : later t ≡ next) where
   moved_at : (i b : ℕ) → b < next → (passes i && eqb (later i) b) ≡ ((test i && eqb (stamp i) b) && not (eqb i t))

@@ -11,7 +11,7 @@ ghost use Rattle.bench_model.specs.Cores.{cores_rule};
 ghost use Rattle.mutex_inherit.specs.Parts.{free_mutexes, holder_of};
 
 use crate::inheritance::{disinherit_priority, inherit, is_marked, lower};
-use crate::waiters::{copy_with_room, first_of, have_same_order, remove_waiter, wait_of};
+use crate::waiters::{first_of, have_same_order, remove_waiter, wait_of};
 use bench_types::{MutexWait, Waiter};
 use ready_core::Cores;
 use std::alloc::{AllocError, Global};
@@ -60,11 +60,13 @@ impl Mutexes {
     pub fn copy(&self, alloc: Global) -> Result<Self, AllocError>
         ensures { IfOk result (λ copy. copy ≡ self.now) }
     {
+        let mut waiters = Vec::with_capacity(alloc, self.tasks as usize)?;
+        waiters.extend_from_slice(&self.waiters)?;
         Ok(Mutexes {
             tasks: self.tasks,
             priorities: self.priorities,
             holders: Vec::from_slice(alloc, &self.holders)?,
-            waiters: copy_with_room(alloc, &self.waiters, self.tasks as usize)?,
+            waiters,
         })
     }
 

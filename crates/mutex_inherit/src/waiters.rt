@@ -1,5 +1,5 @@
 //! The tasks that wait for mutexes, in the order in which they began to wait.
-ghost use Rattle.std.specs.Prelude.{◌≡◌, ◌↔◌, ◌≤◌, ◌==◌, filter, [], ◌∷◌, All, MatchOption, IsTrue, IfOk};
+ghost use Rattle.std.specs.Prelude.{◌≡◌, ◌↔◌, ◌==◌, filter, [], ◌∷◌, All, MatchOption, IsTrue};
 ghost use Rattle.std.specs.Vec.{vec_capacity};
 ghost use Rattle.list_orders.specs.Search.{ranked};
 ghost use Rattle.bench_model.specs.Lists.{waits_first, first_of, without_waiter};
@@ -8,7 +8,6 @@ ghost use Rattle.list_orders.specs.Scans.{better_of};
 ghost use Rattle.mutex_inherit.specs.Parts.{has_wait};
 
 use bench_types::{MutexWait, Waiter};
-use std::alloc::{AllocError, Global};
 
 /// What the task waits for.
 pub(crate) fn wait_of(waiters: &[Waiter], task: u32) -> Option<MutexWait>
@@ -26,20 +25,6 @@ pub(crate) fn remove_waiter(waiters: &mut Vec<Waiter>, task: u32)
     ensures capacity { vec_capacity waiters.new ≡ vec_capacity waiters.old }
 {
     waiters.retain(|waiter| waiter.task != task);
-}
-
-/// A second list with so many places.
-pub(crate) fn copy_with_room(
-    alloc: Global,
-    waiters: &[Waiter],
-    places: usize,
-) -> Result<Vec<Waiter>, AllocError>
-    ensures items { IfOk result (λ copy. copy.items ≡ waiters.now) }
-    ensures room { IfOk result (λ copy. places ≤ vec_capacity copy) }
-{
-    let mut copy = Vec::with_capacity(alloc, places)?;
-    copy.extend_from_slice(waiters)?;
-    Ok(copy)
 }
 
 // Whether the first stays in front of the second, which began to wait after it.

@@ -72,9 +72,9 @@ ready_without : (control : Control) (task : ℕ) (ids : List ℕ) → ranked (ou
 ready_without control task ids = sym (filter-ranked (outranks control) (outranks-IsRank control) (λ m. not (eqb m task)) ids)
 
 -- a task made ready
-pub make_ready_seen : (control : Control) (stamps : Stamps) (task : ℕ) → IsGiven stamps → task < length stamps.rows → lists_of control (add_to_ready_list task stamps) ≡ seen.add_to_ready_list control task (lists_of control stamps)
+pub add_to_ready_seen : (control : Control) (stamps : Stamps) (task : ℕ) → IsGiven stamps → task < length stamps.rows → lists_of control (add_to_ready_list task stamps) ≡ seen.add_to_ready_list control task (lists_of control stamps)
 unfolding lists_of add_to_ready_list seen.add_to_ready_list
-make_ready_seen control stamps task given below =
+add_to_ready_seen control stamps task given below =
     let ready = standing_so stands_ready stamps in
     same_seen _ _ _ _ _ _ _ _ _ _
     (ap (ranked (outranks control)) (standing_so_moved stamps task Ready below stands_ready given) ∙ ranked-push (outranks control) (without task ready) task ∙ ap (placed (outranks control) task) (ready_without control task ready))

@@ -18,7 +18,7 @@ use Rattle.bench_model.specs.Lists.{Lists, list_queues, lists_of, view_of}
 use Rattle.bench_model.specs.Sound.{IsStamped, WakesInTime}
 use Rattle.list_orders.proofs.Stamped.{numbers_below, All-by_stamp}
 use Rattle.order_laws.proofs.Restamps.{IsGiven, moved_length, moved_given, moved_once}
-use Rattle.order_laws.proofs.SeenMoves.{is_ready_seen, pick_seen, make_ready_seen, delay_seen, advance_seen, due_seen, IsAhead, IsNotPast}
+use Rattle.order_laws.proofs.SeenMoves.{is_ready_seen, pick_seen, add_to_ready_seen, delay_seen, advance_seen, due_seen, IsAhead, IsNotPast}
 
 abbrev pub state_from : {Orders : Type 0} → Settings → Control → List (Option Unfinished) → List Notification → List (Option ℕ) → Option Hold → Orders → State Orders
 state_from settings control calls notes holders hold orders = record { settings = settings; control = control; calls = calls; notes = notes; holders = holders; hold = hold; orders = orders }
@@ -43,25 +43,25 @@ cond_stamped : (b : Bool) (x y : Stamps) → IsStamped x → IsStamped y → IsS
 cond_stamped true x y one other = one
 cond_stamped false x y one other = other
 
-pub make_ready_once : (stamps : Stamps) (task : ℕ) → IsStamped stamps → task < length stamps.rows → IsStamped (add_to_ready_list task stamps)
+pub add_to_ready_once : (stamps : Stamps) (task : ℕ) → IsStamped stamps → task < length stamps.rows → IsStamped (add_to_ready_list task stamps)
 unfolding add_to_ready_list
-make_ready_once stamps task stamped below = moved_once stamps task Ready below stamped
+add_to_ready_once stamps task stamped below = moved_once stamps task Ready below stamped
 
 pub queued_once : (stamps : Stamps) (task : ℕ) → IsStamped stamps → task < length stamps.rows → IsStamped (queued stamps task)
-queued_once stamps task stamped below = cond_stamped (is_ready task stamps) (add_to_ready_list task stamps) stamps (make_ready_once stamps task stamped below) stamped
+queued_once stamps task stamped below = cond_stamped (is_ready task stamps) (add_to_ready_list task stamps) stamps (add_to_ready_once stamps task stamped below) stamped
 
 abbrev seen_queue : Control → Stamps → ℕ → Lists
 seen_queue control stamps task = cond (seen.is_ready task (lists_of control stamps)) (seen.add_to_ready_list control task (lists_of control stamps)) (lists_of control stamps)
 
 queued_seen : (control : Control) (stamps : Stamps) (task : ℕ) → IsGiven stamps → task < length stamps.rows → lists_of control (queued stamps task) ≡ cond (seen.is_ready task (lists_of control stamps)) (seen.add_to_ready_list control task (lists_of control stamps)) (lists_of control stamps)
 queued_seen control stamps task given below =
-    let moved = make_ready_seen control stamps task given below in
+    let moved = add_to_ready_seen control stamps task given below in
     let tested = is_ready_seen control stamps task given below in
     cond_seen control (is_ready task stamps) (add_to_ready_list task stamps) stamps ∙ cc (moved, tested)
 
-pub switched_seen : (core : ℕ) (table : Table) → IsStamped table.orders → current table.control core < length table.orders.rows → view_of (after_select stamp_queues core table) ≡ after_select list_queues core (view_of table)
+pub after_select_seen : (core : ℕ) (table : Table) → IsStamped table.orders → current table.control core < length table.orders.rows → view_of (after_select stamp_queues core table) ≡ after_select list_queues core (view_of table)
 unfolding after_select
-switched_seen core table stamped below =
+after_select_seen core table stamped below =
     let left = current table.control core in
     let orders = queued table.orders left in
     let lists = queued_seen table.control table.orders left stamped.given below in
@@ -71,13 +71,13 @@ switched_seen core table stamped below =
     (ap (λ o. run_on core (unwrap_or o left) table.control) (sym picked ∙ chosen))
     (lists_of_cores table.control _ orders ∙ lists)
 
-pub make_ready_given : (stamps : Stamps) (task : ℕ) → IsGiven stamps → task < length stamps.rows → IsGiven (add_to_ready_list task stamps)
+pub add_to_ready_given : (stamps : Stamps) (task : ℕ) → IsGiven stamps → task < length stamps.rows → IsGiven (add_to_ready_list task stamps)
 unfolding add_to_ready_list
-make_ready_given stamps task given below = moved_given stamps task Ready below given
+add_to_ready_given stamps task given below = moved_given stamps task Ready below given
 
-pub make_ready_length : (stamps : Stamps) (task : ℕ) → task < length stamps.rows → length (add_to_ready_list task stamps).rows ≡ length stamps.rows
+pub add_to_ready_length : (stamps : Stamps) (task : ℕ) → task < length stamps.rows → length (add_to_ready_list task stamps).rows ≡ length stamps.rows
 unfolding add_to_ready_list
-make_ready_length stamps task below = moved_length stamps task Ready below
+add_to_ready_length stamps task below = moved_length stamps task Ready below
 
 pub advanced_given : (stamps : Stamps) → IsGiven stamps → IsGiven (advance stamps)
 unfolding advance

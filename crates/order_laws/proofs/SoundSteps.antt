@@ -25,7 +25,7 @@ use Rattle.order_laws.proofs.Restamps.{moved_length, moved_once}
 use Rattle.order_laws.proofs.SoundMutexes.{standing_same, standing_other, readied_field, readied_mutexes, advanced_mutexes, waiting_mutexes}
 use Rattle.order_laws.proofs.Selects.{selects, list_any_at}
 use Rattle.order_laws.proofs.Sizes.{lengths_of, resized}
-use Rattle.order_laws.proofs.SeenSteps.{queued, queued_once, make_ready_once, due_below}
+use Rattle.order_laws.proofs.SeenSteps.{queued, queued_once, add_to_ready_once, due_below}
 
 module _ (control : Control) (core : ℕ) (look : CoreLook) where
   abbrev changed : Control
@@ -49,24 +49,24 @@ module _ (stamps : Stamps) (task : ℕ) (standing : TaskState) (below : task < l
   ready_other i away = ap stands_ready (standing_other stamps task standing below i away)
 
 -- a ready task stays ready when some task is made ready
-pub make_ready_keeps : (stamps : Stamps) (task i : ℕ) → task < length stamps.rows → is_ready i stamps ≡ true → is_ready i (add_to_ready_list task stamps) ≡ true
+pub add_to_ready_keeps : (stamps : Stamps) (task i : ℕ) → task < length stamps.rows → is_ready i stamps ≡ true → is_ready i (add_to_ready_list task stamps) ≡ true
 unfolding add_to_ready_list
-make_ready_keeps stamps task i below ready = elim (cases_eq i task) [
+add_to_ready_keeps stamps task i below ready = elim (cases_eq i task) [
   | inl here ↦ ap (λ j. is_ready j (restamped task Ready stamps)) here ∙ ap stands_ready (standing_same stamps task Ready below)
   | inr away ↦ ready_other stamps task Ready below i away ∙ ready
 ]
 
-pub make_ready_length : (stamps : Stamps) (task : ℕ) → task < length stamps.rows → length (add_to_ready_list task stamps).rows ≡ length stamps.rows
+pub add_to_ready_length : (stamps : Stamps) (task : ℕ) → task < length stamps.rows → length (add_to_ready_list task stamps).rows ≡ length stamps.rows
 unfolding add_to_ready_list
-make_ready_length stamps task below = moved_length stamps task Ready below
+add_to_ready_length stamps task below = moved_length stamps task Ready below
 
-make_ready_deadlines : (stamps : Stamps) (task : ℕ) → length (add_to_ready_list task stamps).deadlines ≡ length stamps.deadlines
+add_to_ready_deadlines : (stamps : Stamps) (task : ℕ) → length (add_to_ready_list task stamps).deadlines ≡ length stamps.deadlines
 unfolding add_to_ready_list
-make_ready_deadlines stamps task = refl
+add_to_ready_deadlines stamps task = refl
 
-pub make_ready_tick : (stamps : Stamps) (task : ℕ) → (add_to_ready_list task stamps).tick ≡ stamps.tick
+pub add_to_ready_tick : (stamps : Stamps) (task : ℕ) → (add_to_ready_list task stamps).tick ≡ stamps.tick
 unfolding add_to_ready_list
-make_ready_tick stamps task = refl
+add_to_ready_tick stamps task = refl
 
 false_before : (b : Bool) → (b ≡ true → ⊥) → b ≡ false
 false_before true not_true = absurd (not_true refl)
@@ -76,19 +76,19 @@ abbrev running_look : ℕ → CoreLook
 running_look task = record { current = task; pend = false; asked = false }
 
 -- making a task ready keeps the places of all
-make_ready_placed : (control : Control) (stamps : Stamps) (task : ℕ) → task < length stamps.rows → HasCurrentTasks control stamps → HasCurrentTasks control (add_to_ready_list task stamps)
-make_ready_placed control stamps task below place = record {
-  is_task = λ c low. omega (arith, place.is_task c low, make_ready_length stamps task below);
+add_to_ready_placed : (control : Control) (stamps : Stamps) (task : ℕ) → task < length stamps.rows → HasCurrentTasks control stamps → HasCurrentTasks control (add_to_ready_list task stamps)
+add_to_ready_placed control stamps task below place = record {
+  is_task = λ c low. omega (arith, place.is_task c low, add_to_ready_length stamps task below);
   on_one_core = place.on_one_core;
-  blocked_is_due = λ c low waits. place.blocked_is_due c low (false_before (is_ready (current control c) stamps) (λ ready. cc (make_ready_keeps stamps task (current control c) below ready, waits)));
-  idle_is_ready = λ i low. make_ready_keeps stamps task i below (place.idle_is_ready i low);
+  blocked_is_due = λ c low waits. place.blocked_is_due c low (false_before (is_ready (current control c) stamps) (λ ready. cc (add_to_ready_keeps stamps task (current control c) below ready, waits)));
+  idle_is_ready = λ i low. add_to_ready_keeps stamps task i below (place.idle_is_ready i low);
 }
 
-make_ready_in_time : (stamps : Stamps) (task : ℕ) → task < length stamps.rows → WakesInTime stamps → WakesInTime (add_to_ready_list task stamps)
-make_ready_in_time stamps task below in_time i wake low waits =
+add_to_ready_in_time : (stamps : Stamps) (task : ℕ) → task < length stamps.rows → WakesInTime stamps → WakesInTime (add_to_ready_list task stamps)
+add_to_ready_in_time stamps task below in_time i wake low waits =
     let before = readied_field wake_in refl stamps task i wake below waits in
-    let bounds = in_time i wake (omega (arith, make_ready_length stamps task below)) before.0 in
-    let same = make_ready_tick stamps task in
+    let bounds = in_time i wake (omega (arith, add_to_ready_length stamps task below)) before.0 in
+    let same = add_to_ready_tick stamps task in
     (omega (arith, same, bounds.0), omega (arith, same, bounds.1))
 
 -- a ready task runs on a core that may select it
@@ -131,10 +131,10 @@ pub ready_sound : (table : Table) (task : ℕ) → IsConsistent table → task <
 ready_sound table task sound low =
     let below : task < length table.orders.rows = omega (arith, sound.sized.rows) in
     record {
-      sized = resized table _ refl (ap₂ (λ a b. record (lengths_of table) { rows = a; deadlines = b }) (make_ready_length table.orders task below) (make_ready_deadlines table.orders task)) sound.sized;
-      stamped = make_ready_once table.orders task sound.stamped below;
-      in_place = make_ready_placed table.control table.orders task below sound.in_place;
-      in_time = make_ready_in_time table.orders task below sound.in_time;
+      sized = resized table _ refl (ap₂ (λ a b. record (lengths_of table) { rows = a; deadlines = b }) (add_to_ready_length table.orders task below) (add_to_ready_deadlines table.orders task)) sound.sized;
+      stamped = add_to_ready_once table.orders task sound.stamped below;
+      in_place = add_to_ready_placed table.control table.orders task below sound.in_place;
+      in_time = add_to_ready_in_time table.orders task below sound.in_time;
       blocks = sound.blocks;
       calls = sound.calls;
       notes = sound.notes;
@@ -145,28 +145,28 @@ queued_placed : (control : Control) (stamps : Stamps) (task : ℕ) → task < le
 queued_placed control stamps task below place = either (is_ready task stamps)
   where
     either : (b : Bool) → HasCurrentTasks control (cond b (add_to_ready_list task stamps) stamps)
-    either true = make_ready_placed control stamps task below place
+    either true = add_to_ready_placed control stamps task below place
     either false = place
 
 queued_in_time : (stamps : Stamps) (task : ℕ) → task < length stamps.rows → WakesInTime stamps → WakesInTime (queued stamps task)
 queued_in_time stamps task below in_time = either (is_ready task stamps)
   where
     either : (b : Bool) → WakesInTime (cond b (add_to_ready_list task stamps) stamps)
-    either true = make_ready_in_time stamps task below in_time
+    either true = add_to_ready_in_time stamps task below in_time
     either false = in_time
 
 pub queued_length : (stamps : Stamps) (task : ℕ) → task < length stamps.rows → length (queued stamps task).rows ≡ length stamps.rows
 queued_length stamps task below = either (is_ready task stamps)
   where
     either : (b : Bool) → length (cond b (add_to_ready_list task stamps) stamps).rows ≡ length stamps.rows
-    either true = make_ready_length stamps task below
+    either true = add_to_ready_length stamps task below
     either false = refl
 
 queued_deadlines : (stamps : Stamps) (task : ℕ) → length (queued stamps task).deadlines ≡ length stamps.deadlines
 queued_deadlines stamps task = either (is_ready task stamps)
   where
     either : (b : Bool) → length (cond b (add_to_ready_list task stamps) stamps).deadlines ≡ length stamps.deadlines
-    either true = make_ready_deadlines stamps task
+    either true = add_to_ready_deadlines stamps task
     either false = refl
 
 queued_mutexes : (table : Table) (task : ℕ) → task < length table.orders.rows → HasMutexes table.settings table.calls table.holders table.orders → HasMutexes table.settings table.calls table.holders (queued table.orders task)
@@ -176,9 +176,9 @@ queued_mutexes table task below kept = either (is_ready task table.orders)
     either true = readied_mutexes table.settings table.calls table.holders table.orders kept task below
     either false = kept
 
-pub switched_sound : (core : ℕ) (table : Table) → IsConsistent table → core < length table.control.cores → IsConsistent (after_select stamp_queues core table)
+pub after_select_sound : (core : ℕ) (table : Table) → IsConsistent table → core < length table.control.cores → IsConsistent (after_select stamp_queues core table)
 unfolding after_select
-switched_sound core table sound below =
+after_select_sound core table sound below =
     let control = table.control in
     let left = current control core in
     let low = sound.in_place.is_task core below in
@@ -203,23 +203,23 @@ abbrev pub readied : Stamps → List ℕ → Stamps
 readied stamps tasks = fold (λ orders task. add_to_ready_list task orders) stamps tasks
 
 readied_low : (stamps : Stamps) (task : ℕ) (tasks : List ℕ) → task < length stamps.rows → AllByRecursion (λ i. i < length stamps.rows) tasks → AllByRecursion (λ i. i < length (add_to_ready_list task stamps).rows) tasks
-readied_low stamps task tasks below all = All-weaker (λ i. i < length stamps.rows) (λ i. i < length (add_to_ready_list task stamps).rows) (λ i h. omega (arith, make_ready_length stamps task below)) tasks all
+readied_low stamps task tasks below all = All-weaker (λ i. i < length stamps.rows) (λ i. i < length (add_to_ready_list task stamps).rows) (λ i h. omega (arith, add_to_ready_length stamps task below)) tasks all
 
 readied_length : (tasks : List ℕ) (stamps : Stamps) → AllByRecursion (λ i. i < length stamps.rows) tasks → length (readied stamps tasks).rows ≡ length stamps.rows
 readied_length [] stamps all = refl
-readied_length (task ∷ tasks) stamps all = readied_length tasks (add_to_ready_list task stamps) (readied_low stamps task tasks all.0 all.1) ∙ make_ready_length stamps task all.0
+readied_length (task ∷ tasks) stamps all = readied_length tasks (add_to_ready_list task stamps) (readied_low stamps task tasks all.0 all.1) ∙ add_to_ready_length stamps task all.0
 
 pub readied_tick : (tasks : List ℕ) (stamps : Stamps) → (readied stamps tasks).tick ≡ stamps.tick
 readied_tick [] stamps = refl
-readied_tick (task ∷ tasks) stamps = readied_tick tasks (add_to_ready_list task stamps) ∙ make_ready_tick stamps task
+readied_tick (task ∷ tasks) stamps = readied_tick tasks (add_to_ready_list task stamps) ∙ add_to_ready_tick stamps task
 
 readied_stamped : (tasks : List ℕ) (stamps : Stamps) → AllByRecursion (λ i. i < length stamps.rows) tasks → IsStamped stamps → IsStamped (readied stamps tasks)
 readied_stamped [] stamps all stamped = stamped
-readied_stamped (task ∷ tasks) stamps all stamped = readied_stamped tasks (add_to_ready_list task stamps) (readied_low stamps task tasks all.0 all.1) (make_ready_once stamps task stamped all.0)
+readied_stamped (task ∷ tasks) stamps all stamped = readied_stamped tasks (add_to_ready_list task stamps) (readied_low stamps task tasks all.0 all.1) (add_to_ready_once stamps task stamped all.0)
 
 readied_placed : (control : Control) (tasks : List ℕ) (stamps : Stamps) → AllByRecursion (λ i. i < length stamps.rows) tasks → HasCurrentTasks control stamps → HasCurrentTasks control (readied stamps tasks)
 readied_placed control [] stamps all place = place
-readied_placed control (task ∷ tasks) stamps all place = readied_placed control tasks (add_to_ready_list task stamps) (readied_low stamps task tasks all.0 all.1) (make_ready_placed control stamps task all.0 place)
+readied_placed control (task ∷ tasks) stamps all place = readied_placed control tasks (add_to_ready_list task stamps) (readied_low stamps task tasks all.0 all.1) (add_to_ready_placed control stamps task all.0 place)
 
 -- what still waits waited before, and is none of them
 readied_blocked : (tasks : List ℕ) (stamps : Stamps) → AllByRecursion (λ i. i < length stamps.rows) tasks → (i wake : ℕ) → wake_in (row_at (readied stamps tasks) i).standing ≡ Some wake → (wake_in (row_at stamps i).standing ≡ Some wake) × (has i tasks ≡ false)
@@ -270,7 +270,7 @@ still_in_time stamps stamped in_time i wake low waits =
 
 readied_deadlines : (tasks : List ℕ) (stamps : Stamps) → length (readied stamps tasks).deadlines ≡ length stamps.deadlines
 readied_deadlines [] stamps = refl
-readied_deadlines (task ∷ tasks) stamps = readied_deadlines tasks (add_to_ready_list task stamps) ∙ make_ready_deadlines stamps task
+readied_deadlines (task ∷ tasks) stamps = readied_deadlines tasks (add_to_ready_list task stamps) ∙ add_to_ready_deadlines stamps task
 
 advanced_deadlines : (stamps : Stamps) → length (advance stamps).deadlines ≡ length stamps.deadlines
 unfolding advance

@@ -3,10 +3,8 @@ ghost use Rattle.std.specs.Prelude.{◌≡◌, Ok};
 ghost use Rattle.bench_types.specs.Header.{header_check};
 
 use crate::started::is_checked;
-use bench_samples::crowd;
-use bench_types::{
-    Action, Config, Header, MAX_CORES, MAX_MUTEXES, MAX_PRIORITIES, MAX_TASKS, NoteState,
-};
+use bench_samples::{LARGEST, crowd};
+use bench_types::{Action, Header, MAX_CORES, MAX_MUTEXES, MAX_PRIORITIES, MAX_TASKS, NoteState};
 use mutex_inherit::Mutexes;
 use notify_core::Notes;
 use ready_core::Cores;
@@ -14,14 +12,6 @@ use std::alloc::Global;
 use std::process::Abort;
 use std::test::Fail;
 use tick_delay::Delays;
-
-const LARGEST: Config = Config {
-    cores: MAX_CORES,
-    priorities: MAX_PRIORITIES,
-    slicing: true,
-    tick: u32::MAX,
-    mutexes: MAX_MUTEXES,
-};
 
 // The tasks with the idle tasks, of which the last has the number before.
 const TASKS: u32 = MAX_CORES + MAX_TASKS;

@@ -13,7 +13,7 @@ use Rattle.list_orders.specs.Search.{numbers, has}
 use Rattle.bench_model.specs.Start.{first_look, first_control, first_lists, unstarted}
 use Rattle.bench_model.specs.Cores.{cores_of}
 use Rattle.list_orders.proofs.Filters.{list_any-append}
-use Rattle.list_orders.proofs.Stamped.{numbers_below, range_parts}
+use Rattle.list_orders.proofs.Stamped.{numbers_below, numbers_more, range_parts}
 use Rattle.order_laws.proofs.FirstBlocks.{first_tasks, first_blocks}
 use Rattle.ready_core.specs.Fields.{seen_of}
 use Rattle.list_orders.specs.Listings.{IsListing}
@@ -22,9 +22,6 @@ use Rattle.list_orders.proofs.Listings.{listing_push}
 
 pub range_more : (a n : ℕ) → range_with_len a (n + 1) ≡ range_with_len a n ++ (a + n) ∷ []
 range_more a n = range_parts a n 1
-
-pub numbers_more : (n : ℕ) → numbers (n + 1) ≡ numbers n ++ n ∷ []
-numbers_more n = let one : 0 + n ≡ n = omega arith in range_parts 0 n 1 ∙ ap (λ i. numbers n ++ i ∷ []) one
 
 pub range_upto : (a n : ℕ) → a ≤ n → range_with_len a (n + 1 - a) ≡ range_with_len a (n - a) ++ n ∷ []
 range_upto a n low =

@@ -3,7 +3,7 @@ ghost use Rattle.std.specs.Option.{ForSome};
 ghost use Rattle.bench_types.specs.Header.{header_check};
 ghost use Rattle.bench_types.specs.Limits.{max_cores};
 ghost use Rattle.list_orders.specs.Search.{numbers, placed, without, has};
-ghost use Rattle.bench_model.specs.Control.{core_at, task_at, current, is_allowed, is_idle, is_elsewhere, may_select, ask, run_on, runs_on, ask_its_core};
+ghost use Rattle.bench_model.specs.Control.{core_at, task_at, current, in_mask, is_allowed, is_idle, is_elsewhere, may_select, ask, run_on, runs_on, ask_its_core};
 ghost use Rattle.bench_model.specs.State.{after_select};
 ghost use Rattle.bench_model.specs.Lists.{list_queues, outranks};
 ghost use Rattle.bench_model.specs.Start.{first_lists, unstarted};
@@ -14,7 +14,7 @@ ghost use Rattle.list_orders.specs.Scans.{better_of};
 ghost use Rattle.ready_core.specs.Fields.{may_be_asked, stays_asked};
 
 use crate::first::{first_controls, first_looks, first_queue};
-use crate::ready_list::{copy_with_room, has_company, have_same_lists, remove_task, requeue};
+use crate::ready_list::{has_company, have_same_lists, remove_task, requeue};
 use bench_types::{CoreLook, Header, TaskControl, cores_of_mask};
 use std::alloc::{AllocError, Global};
 use std::marker::Model;
@@ -70,12 +70,14 @@ impl Cores {
     pub fn copy(&self, alloc: Global) -> Result<Self, AllocError>
         ensures { IfOk result (λ copy. copy ≡ self.now) }
     {
+        let mut ready = Vec::with_capacity(alloc, self.tasks.len())?;
+        ready.extend_from_slice(&self.ready)?;
         Ok(Cores {
             priorities: self.priorities,
             slicing: self.slicing,
             cores: Vec::from_slice(alloc, &self.cores)?,
             tasks: Vec::from_slice(alloc, &self.tasks)?,
-            ready: copy_with_room(alloc, &self.ready, self.tasks.len())?,
+            ready,
         })
     }
 
@@ -193,13 +195,22 @@ impl Cores {
         !self.is_idle(other) && is_lower
     }
 
+    /// Whether the core's bit is set in the core affinity mask of the task.
+    pub fn is_in_mask(&self, task: u32, core: u32) -> bool
+        requires task { task < length self.now.control.tasks }
+        requires core { core < length self.now.control.cores }
+        ensures { result ≡ in_mask self.now.control task core }
+    {
+        self.has_bit(self.mask(task), core)
+    }
+
     /// Whether the task may run on the core, by its core affinity mask; an idle task may on each.
     pub fn is_allowed(&self, core: u32, task: u32) -> bool
         requires core { core < length self.now.control.cores }
         requires task { task < length self.now.control.tasks }
         ensures { result ≡ is_allowed self.now.control core task }
     {
-        self.is_idle(task) || self.has_bit(self.mask(task), core)
+        self.is_idle(task) || self.is_in_mask(task, core)
     }
 
     /// The core that acts notes a switch for itself; any other core is asked.
@@ -212,6 +223,16 @@ impl Cores {
         } else {
             self.cores[core as usize].asked = true;
         }
+    }
+
+    /// The core that the task runs on: it is the core's current task, and no other core asked that
+    /// core to switch (`taskTASK_IS_RUNNING`).
+    pub fn its_core(&self, task: u32) -> Option<u32>
+        ensures core { result ≡ runs_on self.now.control task }
+        ensures below { IfSome result (λ core. core < length self.now.control.cores) }
+    {
+        self.core_numbers()
+            .find(|core| self.keeps_running(*core, task))
     }
 
     /// The core that the task runs on is asked, if there is one.
@@ -388,15 +409,6 @@ impl Cores {
             ≡ (current self.now.control core == task && not (core_at self.now.control core).asked) }
     {
         self.running(core) == task && !self.flags(core).asked
-    }
-
-    // The core that the task runs on.
-    fn its_core(&self, task: u32) -> Option<u32>
-        ensures core { result ≡ runs_on self.now.control task }
-        ensures below { IfSome result (λ core. core < length self.now.control.cores) }
-    {
-        self.core_numbers()
-            .find(|core| self.keeps_running(*core, task))
     }
 
     // Whether the core is not due and runs a task that may be given up for this one.

@@ -1,5 +1,5 @@
 //! The queue of ready tasks: who leaves it, who stands in one list with whom.
-ghost use Rattle.std.specs.Prelude.{◌≡◌, ◌↔◌, ◌<◌, ◌≤◌, ◌++◌, ◌==◌, ◌&&◌, not, length, filter, [], ◌∷◌, All, MatchOption, IsTrue, IfOk};
+ghost use Rattle.std.specs.Prelude.{◌≡◌, ◌↔◌, ◌<◌, ◌++◌, ◌==◌, ◌&&◌, not, length, filter, [], ◌∷◌, All, MatchOption, IsTrue};
 ghost use Rattle.std.specs.List.{list_any};
 ghost use Rattle.std.specs.Vec.{vec_capacity};
 ghost use Rattle.list_orders.specs.Search.{ranked, without};
@@ -7,7 +7,6 @@ ghost use Rattle.bench_model.specs.Lists.{outranks};
 ghost use Rattle.ready_core.specs.Fields.{control_from, has_priority, shares_list};
 
 use bench_types::TaskControl;
-use std::alloc::{AllocError, Global};
 
 pub(crate) fn remove_task(queue: &mut Vec<u32>, task: u32)
     ensures items { queue.new.items ≡ without task queue.old.items }
@@ -24,20 +23,6 @@ pub(crate) fn requeue(queue: &mut Vec<u32>, task: u32)
 {
     remove_task(queue, task);
     queue.push_reserved(task);
-}
-
-/// A second queue with so many places.
-pub(crate) fn copy_with_room(
-    alloc: Global,
-    queue: &[u32],
-    places: usize,
-) -> Result<Vec<u32>, AllocError>
-    ensures items { IfOk result (λ copy. copy.items ≡ queue.now) }
-    ensures room { IfOk result (λ copy. places ≤ vec_capacity copy) }
-{
-    let mut copy = Vec::with_capacity(alloc, places)?;
-    copy.extend_from_slice(queue)?;
-    Ok(copy)
 }
 
 fn has_priority(tasks: &[TaskControl], priority: u32, task: u32) -> bool

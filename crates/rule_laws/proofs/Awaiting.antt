@@ -132,10 +132,10 @@ completed_seen table task calls.Finish = refl
 completed_seen table task calls.HoldOpen = refl
 completed_seen table task calls.HoldClose = refl
 
-pub awaited_seen : (table : Table) (core task : ℕ) (call : Call) (ticks : ℕ) (begun : Bool × List Notification) → IsConsistent table → task < length table.orders.rows → is_ready task table.orders ≡ true →
+pub timeout_seen : (table : Table) (core task : ℕ) (call : Call) (ticks : ℕ) (begun : Bool × List Notification) → IsConsistent table → task < length table.orders.rows → is_ready task table.orders ≡ true →
     seen_of (awaited stamp_queues core task call ticks begun table) ≡ awaited list_queues core task call ticks begun (view_of table)
 unfolding awaited
-awaited_seen table core task call ticks begun sound below ready = either (begun.0 && ltb 0 ticks)
+timeout_seen table core task call ticks begun sound below ready = either (begun.0 && ltb 0 ticks)
   where
     waiting : Table
     waiting = record table { notes = begun.1 }
@@ -194,10 +194,10 @@ waits_short ticks low = either (eqb ticks (2 ^ 32 - 1)) refl
     either true endless = tt
     either false short = grind (arith, nat_tests, short, low)
 
-pub awaited_sound : (table : Table) (core task : ℕ) (call : Call) (ticks : ℕ) (begun : Bool × List Notification) → IsConsistent (record table { notes = begun.1 }) → IsCaller table core task → IsCheckedCall table.settings call → length table.control.cores ≤ task → ticks < 2 ^ 32 →
+pub timeout_sound : (table : Table) (core task : ℕ) (call : Call) (ticks : ℕ) (begun : Bool × List Notification) → IsConsistent (record table { notes = begun.1 }) → IsCaller table core task → IsCheckedCall table.settings call → length table.control.cores ≤ task → ticks < 2 ^ 32 →
     IsConsistent (awaited stamp_queues core task call ticks begun table).1
 unfolding awaited
-awaited_sound table core task call ticks begun sound place checked user low = either (begun.0 && ltb 0 ticks) refl
+timeout_sound table core task call ticks begun sound place checked user low = either (begun.0 && ltb 0 ticks) refl
   where
     waiting : Table
     waiting = record table { notes = begun.1 }

@@ -13,7 +13,7 @@ use Rattle.bench_model.specs.Lists.{Lists, list_queues, lists_of, outranks, view
 use Rattle.bench_model.specs.Sound.{IsControlBlock, IsConsistent}
 use Rattle.order_laws.proofs.Entries.{without_absent}
 use Rattle.order_laws.proofs.Restamps.{standing_so}
-use Rattle.order_laws.proofs.SeenMoves.{is_ready_seen, make_ready_seen}
+use Rattle.order_laws.proofs.SeenMoves.{is_ready_seen, add_to_ready_seen}
 use Rattle.order_laws.proofs.SeenSteps.{same_state}
 use Rattle.order_laws.proofs.SoundSteps.{ready_sound}
 use Rattle.order_laws.proofs.Sizes.{lengths_of, resized}
@@ -88,7 +88,7 @@ in_use_seen table task priority sound low = at (is_ready task table.orders) refl
     below = omega (arith, sound.sized.rows)
 
     at : (b : Bool) → is_ready task table.orders ≡ b → (d : Bool) → d ≡ is_ready task table.orders → view_of (record table { control = changed; orders = cond b (add_to_ready_list task table.orders) table.orders }) ≡ record (view_of table) { control = changed; orders = cond d (seen.add_to_ready_list changed task (lists_of table.control table.orders)) (lists_of table.control table.orders) }
-    at true is true same = same_state table.settings changed changed table.calls table.notes table.holders table.hold _ _ refl (make_ready_seen changed table.orders task sound.stamped.given below ∙ moved_last table.control changed task table.orders (others_stay table.control task _ (standing_so stands_ready table.orders)))
+    at true is true same = same_state table.settings changed changed table.calls table.notes table.holders table.hold _ _ refl (add_to_ready_seen changed table.orders task sound.stamped.given below ∙ moved_last table.control changed task table.orders (others_stay table.control task _ (standing_so stands_ready table.orders)))
     at false is false same = same_state table.settings changed changed table.calls table.notes table.holders table.hold _ _ refl (blocked_apart table task priority sound low is)
     at true is false same = absurd (cc (is, same))
     at false is true same = absurd (cc (is, same))

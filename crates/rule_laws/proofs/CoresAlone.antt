@@ -17,16 +17,16 @@ use Rattle.rule_laws.specs.CoresLaws.{cores_seen}
 use Rattle.bench_model.specs.Sound.{IsStamped, IsConsistent}
 use Rattle.rule_laws.proofs.ControlFields.{in_use_seen}
 use Rattle.order_laws.proofs.SeenMoves.{delay_seen}
-use Rattle.rule_laws.proofs.Mutexes.{inherited_seen, lowered_seen}
-use Rattle.rule_laws.proofs.Seeks.{seek_seen, wake_seen, sought_switch_seen, sliced_seen}
+use Rattle.rule_laws.proofs.Mutexes.{inherited_seen, after_disinherit_seen}
+use Rattle.rule_laws.proofs.Seeks.{seek_seen, wake_seen, after_switch_seen, sliced_seen}
 
 wake_alone : (acting task : ℕ) (view : View) → cores_of (wake list_queues acting task view) ≡ cores_rule (wake list_queues acting task) (cores_of view)
 unfolding wake seen.add_to_ready_list
 wake_alone acting task view = refl
 
-switched_alone : (core : ℕ) (view : View) → cores_of (after_select list_queues core view) ≡ cores_rule (after_select list_queues core) (cores_of view)
+after_select_alone : (core : ℕ) (view : View) → cores_of (after_select list_queues core view) ≡ cores_rule (after_select list_queues core) (cores_of view)
 unfolding after_select seen.pick seen.add_to_ready_list
-switched_alone core view = at (has left view.orders.ready)
+after_select_alone core view = at (has left view.orders.ready)
   where
     left : ℕ
     left = current view.control core
@@ -41,9 +41,9 @@ switched_alone core view = at (has left view.orders.ready)
     at true = refl
     at false = refl
 
-resettled_alone : (core loser : ℕ) (view : View) → cores_of (after_eviction list_queues core loser view) ≡ cores_rule (after_eviction list_queues core loser) (cores_of view)
+after_eviction_alone : (core loser : ℕ) (view : View) → cores_of (after_eviction list_queues core loser view) ≡ cores_rule (after_eviction list_queues core loser) (cores_of view)
 unfolding after_eviction
-resettled_alone core loser view = at (not (eqb (current view.control core) loser) && has loser view.orders.ready)
+after_eviction_alone core loser view = at (not (eqb (current view.control core) loser) && has loser view.orders.ready)
   where
     among : ℕ → Bool
     among = may_move view.control loser (current view.control core) core
@@ -56,8 +56,8 @@ switch_alone : (core : ℕ) (view : View) → cores_of (after_switch list_queues
 unfolding after_switch
 switch_alone core view =
     let loser = current view.control core in
-    resettled_alone core loser (after_select list_queues core view) ∙ ap (cores_rule (after_eviction list_queues core loser)) (switched_alone core view)
-    ∙ sym (resettled_alone core loser (after_select list_queues core (bare_view (cores_of view))))
+    after_eviction_alone core loser (after_select list_queues core view) ∙ ap (cores_rule (after_eviction list_queues core loser)) (after_select_alone core view)
+    ∙ sym (after_eviction_alone core loser (after_select list_queues core (bare_view (cores_of view))))
 
 sliced_alone : (view : View) → cores_of (sliced list_queues view) ≡ cores_rule (sliced list_queues) (cores_of view)
 unfolding sliced
@@ -85,7 +85,7 @@ pub wake_on : (table : Table) (acting task : ℕ) → IsStamped table.orders →
 wake_on table acting task stamped below = ap cores_of (wake_seen table acting task stamped.given below) ∙ wake_alone acting task (view_of table)
 
 pub switch_on : (table : Table) (core : ℕ) → IsConsistent table → core < table.settings.cores → cores_seen (after_switch stamp_queues core table) ≡ cores_rule (after_switch list_queues core) (cores_seen table)
-switch_on table core sound low = ap cores_of (sought_switch_seen table core sound low) ∙ switch_alone core (view_of table)
+switch_on table core sound low = ap cores_of (after_switch_seen table core sound low) ∙ switch_alone core (view_of table)
 
 pub slices_on : (table : Table) → IsConsistent table → cores_seen (sliced stamp_queues table) ≡ cores_rule (sliced list_queues) (cores_seen table)
 slices_on table sound = ap cores_of (sliced_seen table sound) ∙ sliced_alone (view_of table)
@@ -125,9 +125,9 @@ inherited_alone acting holder priority view = at (ltb (task_at view.control hold
     at true false = refl
     at false d = refl
 
-lowered_alone : (acting task priority : ℕ) (view : View) → cores_of (after_disinherit list_queues acting task priority view) ≡ cores_rule (after_disinherit list_queues acting task priority) (cores_of view)
+after_disinherit_alone : (acting task priority : ℕ) (view : View) → cores_of (after_disinherit list_queues acting task priority view) ≡ cores_rule (after_disinherit list_queues acting task priority) (cores_of view)
 unfolding after_disinherit in_use_set seen.add_to_ready_list
-lowered_alone acting task priority view = at (eqb (task_at view.control task).in_use priority) (has task view.orders.ready)
+after_disinherit_alone acting task priority view = at (eqb (task_at view.control task).in_use priority) (has task view.orders.ready)
   where
     changed : Control
     changed = with_in_use task priority view.control
@@ -146,5 +146,5 @@ lowered_alone acting task priority view = at (eqb (task_at view.control task).in
 pub inherited_on : (table : Table) (acting holder priority : ℕ) → IsConsistent table → holder < table.settings.tasks → cores_seen (inherited stamp_queues acting holder priority table) ≡ cores_rule (inherited list_queues acting holder priority) (cores_seen table)
 inherited_on table acting holder priority sound low = ap cores_of (inherited_seen table acting holder priority sound low) ∙ inherited_alone acting holder priority (view_of table)
 
-pub lowered_on : (table : Table) (acting task priority : ℕ) → IsConsistent table → task < table.settings.tasks → cores_seen (after_disinherit stamp_queues acting task priority table) ≡ cores_rule (after_disinherit list_queues acting task priority) (cores_seen table)
-lowered_on table acting task priority sound low = ap cores_of (lowered_seen table acting task priority sound low) ∙ lowered_alone acting task priority (view_of table)
+pub after_disinherit_on : (table : Table) (acting task priority : ℕ) → IsConsistent table → task < table.settings.tasks → cores_seen (after_disinherit stamp_queues acting task priority table) ≡ cores_rule (after_disinherit list_queues acting task priority) (cores_seen table)
+after_disinherit_on table acting task priority sound low = ap cores_of (after_disinherit_seen table acting task priority sound low) ∙ after_disinherit_alone acting task priority (view_of table)

@@ -32,7 +32,7 @@ use Rattle.order_laws.proofs.SeenSteps.{blocked_seen}
 use Rattle.rule_laws.proofs.Seeks.{seek_seen, seek_sound, seek_more, wake_seen, wake_sound}
 use Rattle.rule_laws.proofs.PriorityAffinity.{either_seen, either_sound, ready_seen, its_core_seen, its_core_sound}
 use Rattle.order_laws.proofs.SoundMutexes.{freed_mutexes, held_mutexes}
-use Rattle.order_laws.proofs.SoundSteps.{blocked_sound, call_set, make_ready_keeps}
+use Rattle.order_laws.proofs.SoundSteps.{blocked_sound, call_set, add_to_ready_keeps}
 use Rattle.order_laws.proofs.Sizes.{lengths_of, resized}
 
 -- ---- holding
@@ -118,7 +118,7 @@ in_use_kept table task priority sound low = record {
 }
   where
     still : (b : Bool) (i : ℕ) → is_ready i table.orders ≡ true → is_ready i (cond b (add_to_ready_list task table.orders) table.orders) ≡ true
-    still true i is = make_ready_keeps table.orders task i (omega (arith, sound.sized.rows)) is
+    still true i is = add_to_ready_keeps table.orders task i (omega (arith, sound.sized.rows)) is
     still false i is = is
 
 sought_kept : (table other : Table) (acting task : ℕ) (among : ℕ → Bool) → IsKept table other → IsKept table (sought acting task among other)
@@ -249,23 +249,23 @@ forgotten_sound table task sound low = record {
 -- ---- disinheriting
 
 module _ (table : Table) (acting task priority : ℕ) (sound : IsConsistent table) (low : task < table.settings.tasks) where
-  pub lowered_seen : view_of (after_disinherit stamp_queues acting task priority table) ≡ after_disinherit list_queues acting task priority (view_of table)
+  pub after_disinherit_seen : view_of (after_disinherit stamp_queues acting task priority table) ≡ after_disinherit list_queues acting task priority (view_of table)
   unfolding after_disinherit
-  lowered_seen =
+  after_disinherit_seen =
       let now = in_use_set stamp_queues task priority table in
       either_seen (eqb (task_at table.control task).in_use priority) table (on_control (ask_its_core acting task) now) (view_of table) (on_control (ask_its_core acting task) (in_use_set list_queues task priority (view_of table)))
       refl
       (its_core_seen now acting task ∙ ap (on_control (ask_its_core acting task)) (in_use_seen table task priority sound low))
 
-  pub lowered_sound : priority < table.settings.priorities → IsConsistent (after_disinherit stamp_queues acting task priority table)
+  pub after_disinherit_sound : priority < table.settings.priorities → IsConsistent (after_disinherit stamp_queues acting task priority table)
   unfolding after_disinherit
-  lowered_sound below =
+  after_disinherit_sound below =
       let now = in_use_set stamp_queues task priority table in
       either_sound (eqb (task_at table.control task).in_use priority) table (on_control (ask_its_core acting task) now) sound
       (its_core_sound now acting task (in_use_sound table task priority sound low below))
 
-owed_seen : (table : Table) (task mutex : ℕ) → IsConsistent table → owed list_queues task mutex (view_of table) ≡ owed stamp_queues task mutex table
-owed_seen table task mutex sound = ap (λ first. disinherit_priority first (task_at table.control task).base) (first_waiter_seen mutex table.orders table.control sound.stamped)
+disinherit_seen : (table : Table) (task mutex : ℕ) → IsConsistent table → owed list_queues task mutex (view_of table) ≡ owed stamp_queues task mutex table
+disinherit_seen table task mutex sound = ap (λ first. disinherit_priority first (task_at table.control task).base) (first_waiter_seen mutex table.orders table.control sound.stamped)
 
 greater_below : (base rank bound : ℕ) → base < bound → rank < bound → cond (ltb base rank) rank base < bound
 greater_below base rank bound low high = at (ltb base rank)
@@ -274,8 +274,8 @@ greater_below base rank bound low high = at (ltb base rank)
     at true = high
     at false = low
 
-owed_below : (table : Table) (task mutex : ℕ) → IsConsistent table → task < table.settings.tasks → owed stamp_queues task mutex table < table.settings.priorities
-owed_below table task mutex sound low = from (first_waiter mutex table.orders) refl
+disinherit_below : (table : Table) (task mutex : ℕ) → IsConsistent table → task < table.settings.tasks → owed stamp_queues task mutex table < table.settings.priorities
+disinherit_below table task mutex sound low = from (first_waiter mutex table.orders) refl
   where
     base : ℕ
     base = (task_at table.control task).base
@@ -295,14 +295,14 @@ module _ (table : Table) (acting task mutex : ℕ) (mark : Bool) (holder : ℕ) 
   timed_out_seen =
       either_seen gives_back (after_disinherit stamp_queues acting holder (owed stamp_queues holder mutex table) table) table
       (after_disinherit list_queues acting holder (owed stamp_queues holder mutex table) (view_of table)) (view_of table)
-      (lowered_seen table acting holder (owed stamp_queues holder mutex table) sound low) refl
-      ∙ ap (λ rank. cond gives_back (after_disinherit list_queues acting holder rank (view_of table)) (view_of table)) (sym (owed_seen table holder mutex sound))
+      (after_disinherit_seen table acting holder (owed stamp_queues holder mutex table) sound low) refl
+      ∙ ap (λ rank. cond gives_back (after_disinherit list_queues acting holder rank (view_of table)) (view_of table)) (sym (disinherit_seen table holder mutex sound))
 
   pub timed_out_sound : IsConsistent (timed_out stamp_queues acting task mutex mark holder table)
   unfolding timed_out
   timed_out_sound =
       either_sound gives_back (after_disinherit stamp_queues acting holder (owed stamp_queues holder mutex table) table) table
-      (lowered_sound table acting holder (owed stamp_queues holder mutex table) sound low (owed_below table holder mutex sound low)) sound
+      (after_disinherit_sound table acting holder (owed stamp_queues holder mutex table) sound low (disinherit_below table holder mutex sound low)) sound
 
 -- ---- finishing a wait
 
@@ -415,14 +415,14 @@ module _ (table : Table) (core task : ℕ) (sound : IsConsistent table) (low : t
   disinherited_seen =
       let base = (task_at table.control task).base in
       either_seen (eqb (held_by table.holders task) 0) (after_disinherit stamp_queues core task base table) table (after_disinherit list_queues core task base (view_of table)) (view_of table)
-      (lowered_seen table core task base sound low) refl
+      (after_disinherit_seen table core task base sound low) refl
 
   pub disinherited_sound : IsConsistent (disinherited stamp_queues core task table)
   unfolding disinherited
   disinherited_sound =
       let base = (task_at table.control task).base in
       either_sound (eqb (held_by table.holders task) 0) (after_disinherit stamp_queues core task base table) table
-      (lowered_sound table core task base sound low (sound.blocks task low).base) sound
+      (after_disinherit_sound table core task base sound low (sound.blocks task low).base) sound
 
 module _ (table : Table) (core task mutex : ℕ) (sound : IsConsistent table) (low : task < table.settings.tasks) (below : mutex < table.settings.mutexes) where
   abbrev freed : Table

@@ -64,17 +64,17 @@ its_core_more acting task control = at (runs_on control task) refl
     at None same = none_more control
     at (Some core) same = asked_more control acting core (runs_below control task core same)
 
-pub ranked_more : (acting task old new : ℕ) (ready : Bool) (control : Control) → IsAskedMore control (yields_after_priority_set acting task old new ready control)
+pub after_priority_set_more : (acting task old new : ℕ) (ready : Bool) (control : Control) → IsAskedMore control (yields_after_priority_set acting task old new ready control)
 unfolding yields_after_priority_set
-ranked_more acting task old new ready control =
+after_priority_set_more acting task old new ready control =
     let asked = ask_its_core acting task control in
     let lowered = ltb new old && (task_at control task).preempt in
     either_more control (seek acting task (in_mask control task) control) (cond lowered asked control) (ltb old new && ready) (seek_more acting task (in_mask control task) control)
     (either_more control asked control lowered (its_core_more acting task control) (none_more control))
 
-pub masked_more : (acting task : ℕ) (ready : Bool) (control : Control) → IsAskedMore control (yields_after_affinity_set acting task ready control)
+pub after_affinity_set_more : (acting task : ℕ) (ready : Bool) (control : Control) → IsAskedMore control (yields_after_affinity_set acting task ready control)
 unfolding yields_after_affinity_set
-masked_more acting task ready control = at (runs_on control task) refl
+after_affinity_set_more acting task ready control = at (runs_on control task) refl
   where
     sought : Control
     sought = seek acting task (in_mask control task) control
@@ -94,20 +94,20 @@ more_seen table other more = same_state table.settings other other table.calls t
 pub its_core_seen : (table : Table) (acting task : ℕ) → view_of (on_control (ask_its_core acting task) table) ≡ on_control (ask_its_core acting task) (view_of table)
 its_core_seen table acting task = more_seen table (ask_its_core acting task table.control) (its_core_more acting task table.control)
 
-pub ranked_seen : (table : Table) (acting task old new : ℕ) (ready : Bool) → view_of (on_control (yields_after_priority_set acting task old new ready) table) ≡ on_control (yields_after_priority_set acting task old new ready) (view_of table)
-ranked_seen table acting task old new ready = more_seen table (yields_after_priority_set acting task old new ready table.control) (ranked_more acting task old new ready table.control)
+pub after_priority_set_seen : (table : Table) (acting task old new : ℕ) (ready : Bool) → view_of (on_control (yields_after_priority_set acting task old new ready) table) ≡ on_control (yields_after_priority_set acting task old new ready) (view_of table)
+after_priority_set_seen table acting task old new ready = more_seen table (yields_after_priority_set acting task old new ready table.control) (after_priority_set_more acting task old new ready table.control)
 
-pub masked_seen : (table : Table) (acting task : ℕ) (ready : Bool) → view_of (on_control (yields_after_affinity_set acting task ready) table) ≡ on_control (yields_after_affinity_set acting task ready) (view_of table)
-masked_seen table acting task ready = more_seen table (yields_after_affinity_set acting task ready table.control) (masked_more acting task ready table.control)
+pub after_affinity_set_seen : (table : Table) (acting task : ℕ) (ready : Bool) → view_of (on_control (yields_after_affinity_set acting task ready) table) ≡ on_control (yields_after_affinity_set acting task ready) (view_of table)
+after_affinity_set_seen table acting task ready = more_seen table (yields_after_affinity_set acting task ready table.control) (after_affinity_set_more acting task ready table.control)
 
 pub its_core_sound : (table : Table) (acting task : ℕ) → IsConsistent table → IsConsistent (on_control (ask_its_core acting task) table)
 its_core_sound table acting task sound = more_sound table (ask_its_core acting task table.control) (its_core_more acting task table.control) sound
 
-pub ranked_sound : (table : Table) (acting task old new : ℕ) (ready : Bool) → IsConsistent table → IsConsistent (on_control (yields_after_priority_set acting task old new ready) table)
-ranked_sound table acting task old new ready sound = more_sound table (yields_after_priority_set acting task old new ready table.control) (ranked_more acting task old new ready table.control) sound
+pub after_priority_set_sound : (table : Table) (acting task old new : ℕ) (ready : Bool) → IsConsistent table → IsConsistent (on_control (yields_after_priority_set acting task old new ready) table)
+after_priority_set_sound table acting task old new ready sound = more_sound table (yields_after_priority_set acting task old new ready table.control) (after_priority_set_more acting task old new ready table.control) sound
 
-pub masked_sound : (table : Table) (acting task : ℕ) (ready : Bool) → IsConsistent table → IsConsistent (on_control (yields_after_affinity_set acting task ready) table)
-masked_sound table acting task ready sound = more_sound table (yields_after_affinity_set acting task ready table.control) (masked_more acting task ready table.control) sound
+pub after_affinity_set_sound : (table : Table) (acting task : ℕ) (ready : Bool) → IsConsistent table → IsConsistent (on_control (yields_after_affinity_set acting task ready) table)
+after_affinity_set_sound table acting task ready sound = more_sound table (yields_after_affinity_set acting task ready table.control) (after_affinity_set_more acting task ready table.control) sound
 
 -- a control block that keeps its priority in use
 change_seen : (table : Table) (task : ℕ) (block : TaskControl) → block.in_use ≡ (task_at table.control task).in_use → view_of (with_control table (with_task task block table.control)) ≡ record (view_of table) { control = with_task task block table.control }
@@ -152,14 +152,14 @@ pub affinity_seen : (table : Table) (acting task mask : ℕ) → IsConsistent ta
 unfolding affinity_set
 affinity_seen table acting task mask sound low =
     let changed = with_affinity task mask table.control in
-    masked_seen (with_control table changed) acting task (is_ready task table.orders)
+    after_affinity_set_seen (with_control table changed) acting task (is_ready task table.orders)
     ∙ ap (on_control (yields_after_affinity_set acting task (is_ready task table.orders))) (change_seen table task _ refl)
     ∙ ap (λ ready. record (view_of table) { control = yields_after_affinity_set acting task ready changed }) (ready_seen table task sound low)
 
 pub affinity_sound : (table : Table) (acting task mask : ℕ) → IsConsistent table → task < table.settings.tasks → IsConsistent (affinity_set stamp_queues acting task mask table)
 unfolding affinity_set
 affinity_sound table acting task mask sound low =
-    masked_sound (with_control table (with_affinity task mask table.control)) acting task (is_ready task table.orders) (change_sound table task _ sound (masked table task mask sound low))
+    after_affinity_set_sound (with_control table (with_affinity task mask table.control)) acting task (is_ready task table.orders) (change_sound table task _ sound (masked table task mask sound low))
 
 either_below : (x y bound : ℕ) (b : Bool) → x < bound → y < bound → cond b x y < bound
 either_below x y bound true here there = here
@@ -215,7 +215,7 @@ priority_seen table acting task priority sound low =
     let later = in_use_set stamp_queues task (in_use_after (task_at table.control task) (capped table.settings.priorities priority)) (based table task priority sound low) in
     let later_view = in_use_set list_queues task (in_use_after (task_at table.control task) (capped table.settings.priorities priority)) (based_view table task priority sound low) in
     either_seen (eqb (capped table.settings.priorities priority) (task_at table.control task).base) table _ (view_of table) _ refl
-    (ranked_seen later acting task (task_at table.control task).base (capped table.settings.priorities priority) (is_ready task table.orders)
+    (after_priority_set_seen later acting task (task_at table.control task).base (capped table.settings.priorities priority) (is_ready task table.orders)
     ∙ ap (on_control (rule (is_ready task table.orders))) (later_seen table task priority sound low)
     ∙ ap (λ ready. on_control (rule ready) later_view) (ready_seen table task sound low))
 
@@ -223,4 +223,4 @@ pub priority_sound : (table : Table) (acting task priority : ℕ) → IsConsiste
 unfolding priority_set
 priority_sound table acting task priority sound low =
     either_sound (eqb (capped table.settings.priorities priority) (task_at table.control task).base) table _ sound
-    (ranked_sound _ acting task (task_at table.control task).base (capped table.settings.priorities priority) (is_ready task table.orders) (later_sound table task priority sound low))
+    (after_priority_set_sound _ acting task (task_at table.control task).base (capped table.settings.priorities priority) (is_ready task table.orders) (later_sound table task priority sound low))

@@ -18,9 +18,9 @@ use Rattle.order_laws.specs.AskedCores.{IsAnswer}
 use Rattle.bench_model.specs.Sound.{IsConsistent}
 use Rattle.list_orders.proofs.Filters.{All-weaker, filter_agrees, map_agrees}
 use Rattle.order_laws.proofs.Restamps.{IsGiven}
-use Rattle.order_laws.proofs.SeenMoves.{is_ready_seen, make_ready_seen}
-use Rattle.order_laws.proofs.SeenSteps.{same_state, lists_of_cores, switched_seen}
-use Rattle.order_laws.proofs.SoundSteps.{IsAskedMore, asked_more, asked_runs, asked_is_due, more_sound, ready_sound, queued_length, switched_sound}
+use Rattle.order_laws.proofs.SeenMoves.{is_ready_seen, add_to_ready_seen}
+use Rattle.order_laws.proofs.SeenSteps.{same_state, lists_of_cores, after_select_seen}
+use Rattle.order_laws.proofs.SoundSteps.{IsAskedMore, asked_more, asked_runs, asked_is_due, more_sound, ready_sound, queued_length, after_select_sound}
 use Rattle.list_orders.proofs.Stamped.{numbers_below}
 
 -- the orders do not read the cores, of which seeking may ask one
@@ -40,11 +40,11 @@ pub wake_seen : (table : Table) (acting task : ℕ) → IsGiven table.orders →
 unfolding wake
 wake_seen table acting task given below =
     same_state table.settings _ _ table.calls table.notes table.holders table.hold _ _ refl
-    (seek_apart acting task (in_mask table.control task) table.control (add_to_ready_list task table.orders) ∙ make_ready_seen table.control table.orders task given below)
+    (seek_apart acting task (in_mask table.control task) table.control (add_to_ready_list task table.orders) ∙ add_to_ready_seen table.control table.orders task given below)
 
-resettled_seen : (table : Table) (core loser : ℕ) → IsGiven table.orders → loser < length table.orders.rows → view_of (after_eviction stamp_queues core loser table) ≡ after_eviction list_queues core loser (view_of table)
+after_eviction_seen : (table : Table) (core loser : ℕ) → IsGiven table.orders → loser < length table.orders.rows → view_of (after_eviction stamp_queues core loser table) ≡ after_eviction list_queues core loser (view_of table)
 unfolding after_eviction
-resettled_seen table core loser given below =
+after_eviction_seen table core loser given below =
     at (lost && is_ready loser table.orders) (lost && seen.is_ready loser (lists_of table.control table.orders)) (ap (λ b. lost && b) (sym (is_ready_seen table.control table.orders loser given below)))
   where
     lost : Bool
@@ -56,19 +56,19 @@ resettled_seen table core loser given below =
     at true false same = absurd (cc (same))
     at false true same = absurd (cc (same))
 
-pub switched_rows : (table : Table) (core : ℕ) → IsConsistent table → core < length table.control.cores → length (after_select stamp_queues core table).orders.rows ≡ length table.orders.rows
+pub after_select_rows : (table : Table) (core : ℕ) → IsConsistent table → core < length table.control.cores → length (after_select stamp_queues core table).orders.rows ≡ length table.orders.rows
 unfolding after_select
-switched_rows table core sound below = queued_length table.orders (current table.control core) (sound.in_place.is_task core below)
+after_select_rows table core sound below = queued_length table.orders (current table.control core) (sound.in_place.is_task core below)
 
-pub sought_switch_seen : (table : Table) (core : ℕ) → IsConsistent table → core < table.settings.cores → view_of (after_switch stamp_queues core table) ≡ after_switch list_queues core (view_of table)
+pub after_switch_seen : (table : Table) (core : ℕ) → IsConsistent table → core < table.settings.cores → view_of (after_switch stamp_queues core table) ≡ after_switch list_queues core (view_of table)
 unfolding after_switch
-sought_switch_seen table core sound low =
+after_switch_seen table core sound low =
     let below : core < length table.control.cores = omega (arith, sound.sized.cores) in
     let loser = current table.control core in
     let on = sound.in_place.is_task core below in
-    let there = switched_sound core table sound below in
-    resettled_seen (after_select stamp_queues core table) core loser there.stamped.given (omega (arith, on, switched_rows table core sound below))
-    ∙ ap (after_eviction list_queues core loser) (switched_seen core table sound.stamped on)
+    let there = after_select_sound core table sound below in
+    after_eviction_seen (after_select stamp_queues core table) core loser there.stamped.given (omega (arith, on, after_select_rows table core sound below))
+    ∙ ap (after_eviction list_queues core loser) (after_select_seen core table sound.stamped on)
 
 -- the tasks of a ready list
 ready_in_seen : (table : Table) (priority : ℕ) → IsConsistent table → ready_in stamp_queues priority table ≡ ready_in list_queues priority (view_of table)
@@ -124,9 +124,9 @@ wake_sound table acting task sound low =
     let readied = ready_sound table task sound low in
     more_sound (record table { orders = add_to_ready_list task table.orders }) (seek acting task (in_mask table.control task) table.control) (seek_more acting task (in_mask table.control task) table.control) readied
 
-resettled_sound : (table : Table) (core loser : ℕ) → IsConsistent table → IsConsistent (after_eviction stamp_queues core loser table)
+after_eviction_sound : (table : Table) (core loser : ℕ) → IsConsistent table → IsConsistent (after_eviction stamp_queues core loser table)
 unfolding after_eviction
-resettled_sound table core loser sound = at (not (eqb (current table.control core) loser) && is_ready loser table.orders)
+after_eviction_sound table core loser sound = at (not (eqb (current table.control core) loser) && is_ready loser table.orders)
   where
     among : ℕ → Bool
     among = may_move table.control loser (current table.control core) core
@@ -135,13 +135,13 @@ resettled_sound table core loser sound = at (not (eqb (current table.control cor
     at true = seek_sound table core loser among sound
     at false = sound
 
-pub sought_switch_sound : (table : Table) (core : ℕ) → IsConsistent table → core < table.settings.cores → IsConsistent (after_switch stamp_queues core table)
+pub after_switch_sound : (table : Table) (core : ℕ) → IsConsistent table → core < table.settings.cores → IsConsistent (after_switch stamp_queues core table)
 unfolding after_switch
-sought_switch_sound table core sound low = resettled_sound (after_select stamp_queues core table) core (current table.control core) (switched_sound core table sound (omega (arith, sound.sized.cores)))
+after_switch_sound table core sound low = after_eviction_sound (after_select stamp_queues core table) core (current table.control core) (after_select_sound core table sound (omega (arith, sound.sized.cores)))
 
-resettled_length : (table : Table) (core loser : ℕ) → length (after_eviction stamp_queues core loser table).control.cores ≡ length table.control.cores
+after_eviction_length : (table : Table) (core loser : ℕ) → length (after_eviction stamp_queues core loser table).control.cores ≡ length table.control.cores
 unfolding after_eviction
-resettled_length table core loser = at (not (eqb (current table.control core) loser) && is_ready loser table.orders)
+after_eviction_length table core loser = at (not (eqb (current table.control core) loser) && is_ready loser table.orders)
   where
     among : ℕ → Bool
     among = may_move table.control loser (current table.control core) core
@@ -150,13 +150,13 @@ resettled_length table core loser = at (not (eqb (current table.control core) lo
     at true = (seek_more core loser among table.control).cores
     at false = refl
 
-switched_length : (core : ℕ) (table : Table) → length (after_select stamp_queues core table).control.cores ≡ length table.control.cores
+after_select_length : (core : ℕ) (table : Table) → length (after_select stamp_queues core table).control.cores ≡ length table.control.cores
 unfolding after_select
-switched_length core table = length-set table.control.cores core _
+after_select_length core table = length-set table.control.cores core _
 
-pub sought_switch_length : (core : ℕ) (table : Table) → length (after_switch stamp_queues core table).control.cores ≡ length table.control.cores
+pub after_switch_length : (core : ℕ) (table : Table) → length (after_switch stamp_queues core table).control.cores ≡ length table.control.cores
 unfolding after_switch
-sought_switch_length core table = resettled_length (after_select stamp_queues core table) core (current table.control core) ∙ switched_length core table
+after_switch_length core table = after_eviction_length (after_select stamp_queues core table) core (current table.control core) ∙ after_select_length core table
 
 -- the looks of cores some of which were asked
 abbrev no_look : CoreLook

@@ -12,7 +12,7 @@ use Rattle.bench_model.specs.Sound.{WakesInTime, IsConsistent}
 use Rattle.list_orders.proofs.Filters.{All-weaker}
 use Rattle.order_laws.proofs.Restamps.{IsGiven}
 use Rattle.order_laws.proofs.SeenMoves.{advance_seen, due_seen}
-use Rattle.order_laws.proofs.SeenSteps.{same_state, make_ready_given, make_ready_length, advanced_given, in_time_ahead, advanced_near, due_below}
+use Rattle.order_laws.proofs.SeenSteps.{same_state, add_to_ready_given, add_to_ready_length, advanced_given, in_time_ahead, advanced_near, due_below}
 use Rattle.order_laws.proofs.SoundSteps.{IsAskedMore, more_sound, readied, readied_sound}
 use Rattle.rule_laws.proofs.Seeks.{wake_seen, seek_more, sliced_seen, sliced_sound}
 
@@ -21,11 +21,11 @@ with_orders state orders = record state { orders = orders }
 
 wake_given : (table : Table) (task : ℕ) → IsGiven table.orders → task < length table.orders.rows → IsGiven (wake stamp_queues 0 task table).orders
 unfolding wake
-wake_given table task given below = make_ready_given table.orders task given below
+wake_given table task given below = add_to_ready_given table.orders task given below
 
 wake_length : (table : Table) (task : ℕ) → task < length table.orders.rows → length (wake stamp_queues 0 task table).orders.rows ≡ length table.orders.rows
 unfolding wake
-wake_length table task below = make_ready_length table.orders task below
+wake_length table task below = add_to_ready_length table.orders task below
 
 -- tasks that are woken in turn
 pub woken_seen : (tasks : List ℕ) (table : Table) → IsGiven table.orders → AllByRecursion (λ task. task < length table.orders.rows) tasks → view_of (woken stamp_queues tasks table) ≡ woken list_queues tasks (view_of table)

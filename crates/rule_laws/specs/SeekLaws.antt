@@ -30,8 +30,8 @@ WakeSimulates =
     (table : Table) (acting task : ℕ) → IsStamped table.orders → task < length table.orders.rows →
     view_of (wake stamp_queues acting task table) ≡ wake list_queues acting task (view_of table)
 
-abbrev pub SoughtSwitchSimulates : Type 0
-SoughtSwitchSimulates =
+abbrev pub AfterSwitchSimulates : Type 0
+AfterSwitchSimulates =
     (table : Table) (core : ℕ) → IsConsistent table → core < table.settings.cores →
     view_of (after_switch stamp_queues core table) ≡ after_switch list_queues core (view_of table)
 
@@ -57,8 +57,8 @@ WakeKeepsConsistent =
     (table : Table) (acting task : ℕ) → IsConsistent table → task < table.settings.tasks
     → IsConsistent (wake stamp_queues acting task table)
 
-abbrev pub SoughtSwitchKeepsConsistent : Type 0
-SoughtSwitchKeepsConsistent =
+abbrev pub AfterSwitchKeepsConsistent : Type 0
+AfterSwitchKeepsConsistent =
     (table : Table) (core : ℕ) → IsConsistent table → core < table.settings.cores
     → IsConsistent (after_switch stamp_queues core table)
 

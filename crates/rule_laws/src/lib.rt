@@ -5,7 +5,7 @@
 ghost use Rattle.rule_laws.specs.CoresLaws.{ChangeIsApart, ChangeKeepsConsistent, InUseSimulates, InUseKeepsConsistent, AskOnCores, SeekOnCores, WakeOnCores, WaitOnCores, SwitchOnCores, SlicesOnCores, InUseOnCores};
 ghost use Rattle.rule_laws.specs.MutexLaws.{FirstWaiterSimulates, DeadlineSimulates, ForgettingSimulates, InheritSimulates, InheritKeepsConsistent, TakeSimulates, TakeKeepsConsistent, FinishSimulates, FinishKeepsConsistent, GiveSimulates, GiveKeepsConsistent, LowerSimulates, LowerKeepsConsistent, InheritOnCores, LowerOnCores};
 ghost use Rattle.rule_laws.specs.NoteLaws.{NotifySimulates, NotifyKeepsConsistent, NotesKeepOrders, NotesKeepConsistent};
-ghost use Rattle.rule_laws.specs.SeekLaws.{BestCoreIsAsked, SeekSimulates, WakeSimulates, SoughtSwitchSimulates, SlicesAreSeen, AskKeepsConsistent, SeekKeepsConsistent, WakeKeepsConsistent, SoughtSwitchKeepsConsistent, SlicesKeepConsistent};
+ghost use Rattle.rule_laws.specs.SeekLaws.{BestCoreIsAsked, SeekSimulates, WakeSimulates, AfterSwitchSimulates, SlicesAreSeen, AskKeepsConsistent, SeekKeepsConsistent, WakeKeepsConsistent, AfterSwitchKeepsConsistent, SlicesKeepConsistent};
 ghost use Rattle.rule_laws.specs.SetLaws.{RunsOnSomeCore, AskItsCoreSimulates, YieldsAfterPrioritySetSimulates, YieldsAfterAffinitySetSimulates, PrioritySetSimulates, AffinitySetSimulates, PreemptionOffSimulates, PreemptionOnSimulates, AskItsCoreKeepsConsistent, YieldsAfterPrioritySetKeepsConsistent, YieldsAfterAffinitySetKeepsConsistent, PrioritySetKeepsConsistent, AffinitySetKeepsConsistent, PreemptionOffKeepsConsistent, PreemptionOnKeepsConsistent};
 
 /// Seeking a core for a task, waking one, switches and time slices. Each rule is the same over
@@ -19,7 +19,7 @@ pub fn laws_of_seeking()
     // Waking a task, and seeking a core for it, is so over lists.
     ensures wake_simulates { WakeSimulates }
     // A switch, with the seek for the task that lost the core, is so over lists.
-    ensures sought_switch_simulates { SoughtSwitchSimulates }
+    ensures after_switch_simulates { AfterSwitchSimulates }
     // The cores that are asked as time slices end are the same over lists.
     ensures slices_simulate { SlicesAreSeen }
     // A sound table is sound when any core was asked.
@@ -29,7 +29,7 @@ pub fn laws_of_seeking()
     // A sound table is sound when a task was woken and a core sought for it.
     ensures wake_keeps_consistent { WakeKeepsConsistent }
     // A sound table is sound after a switch and the seek for the task that lost the core.
-    ensures sought_switch_keeps_consistent { SoughtSwitchKeepsConsistent }
+    ensures after_switch_keeps_consistent { AfterSwitchKeepsConsistent }
     // A sound table is sound when cores were asked as time slices ended.
     ensures slices_keep_consistent { SlicesKeepConsistent }
 {}

@@ -1,7 +1,7 @@
 -- The slow start and the slow replay, place by place.
-use Rattle.std.proofs.Common.{◌≡◌, ℕ, zero, suc, ◌+◌, ◌*◌, ◌<◌, ◌≤◌, ◌^◌, List, [], ◌∷◌, ◌++◌, length, map, drop, Ok, refl, sym, ap, subst, ◌∙◌, arith, zero-add}
+use Rattle.std.proofs.Common.{◌≡◌, ℕ, zero, suc, ◌+◌, ◌*◌, ◌<◌, ◌≤◌, ◌^◌, List, [], ◌∷◌, ◌++◌, length, map, drop, Ok, refl, sym, ap, subst, ◌∙◌, arith}
 use Rattle.std.specs.Prelude.{option_map, slice_get}
-use Rattle.std.specs.List.{fold, range_with_len}
+use Rattle.std.specs.List.{fold}
 use Rattle.std.proofs.lemmas.List.FromFn.{length-range_with_len}
 use Rattle.std.proofs.lemmas.List.{append_assoc, append-nil, map_push, drop_all}
 use Rattle.arrayvec.specs.ArrayVec.{ArrayVec}
@@ -22,10 +22,10 @@ use Rattle.bench_model.specs.Session.{step_of, outcome_at, trace}
 use Rattle.bench_types.specs.Reply.{shown}
 use Rattle.bench_types.specs.Limits.{max_cores, max_tasks}
 use Rattle.list_orders.proofs.Filters.{fold-append}
-use Rattle.list_orders.proofs.Stamped.{range_parts}
+use Rattle.list_orders.proofs.Stamped.{numbers_more}
 use Rattle.session_laws.proofs.Traces.{trace_at}
 use Rattle.step_laws.proofs.Nears.{turned_next, turned_tick, turned_settings, after_near}
-use Rattle.rule_laws.proofs.Seeks.{sought_switch_sound, sought_switch_length}
+use Rattle.rule_laws.proofs.Seeks.{after_switch_sound, after_switch_length}
 use Rattle.step_laws.proofs.Steps.{after_sound}
 use Rattle.step_laws.proofs.Starts.{start_sound, first_sound, first_next, unstarted_cores}
 
@@ -51,12 +51,11 @@ pub starting_goes : (header : Header) (core : ℕ) (table next : Table) → IsSt
 starting_goes header core table next starting low goes =
     let turn = λ (table : Table) (core : ℕ). after_switch stamp_queues core table in
     let before = unstarted (first_stamps header) header in
-    let one : range_with_len (0 + core) 1 ≡ core ∷ [] = ap (λ k. k ∷ []) (zero-add core) in
-    let cores = ap (fold turn before) (range_parts 0 core 1 ∙ ap (λ last. numbers core ++ last) one) ∙ fold-append turn before (numbers core) (core ∷ []) in
+    let cores = ap (fold turn before) (numbers_more core) ∙ fold-append turn before (numbers core) (core ∷ []) in
     subst (λ t. IsStarting header (core + 1) t) (sym goes) (record {
       so_far = ap (after_switch stamp_queues core) starting.so_far ∙ sym cores;
-      sound = sought_switch_sound table core starting.sound (omega (arith, starting.cores, starting.sound.sized.cores));
-      cores = sought_switch_length core table ∙ starting.cores;
+      sound = after_switch_sound table core starting.sound (omega (arith, starting.cores, starting.sound.sized.cores));
+      cores = after_switch_length core table ∙ starting.cores;
       room = omega (arith, turned_next core table, starting.room);
     })
 

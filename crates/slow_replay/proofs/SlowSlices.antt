@@ -1,5 +1,5 @@
 -- Counting the tasks of a ready list, and ending time slices core by core.
-use Rattle.std.proofs.Common.{◌≡◌, ℕ, ◌+◌, ◌-◌, ◌<◌, ◌≤◌, Bool, true, false, cond, not, ◌&&◌, ◌||◌, eqb, ltb, List, [], ◌∷◌, ◌++◌, length, map, drop, refl, sym, ap, ◌∙◌, arith, zero-add}
+use Rattle.std.proofs.Common.{◌≡◌, ℕ, ◌+◌, ◌-◌, ◌<◌, ◌≤◌, Bool, true, false, cond, not, ◌&&◌, ◌||◌, eqb, ltb, List, [], ◌∷◌, ◌++◌, length, map, drop, refl, sym, ap, ◌∙◌, arith}
 use Rattle.std.specs.Prelude.{slice_set, slice_index_or}
 use Rattle.std.specs.List.{filter}
 use Rattle.std.proofs.lemmas.List.{length-append, append-nil, append_assoc, map-append, drop_more, drop_all, length-drop, get_or-drop, get_or-append_right, set-append_right}
@@ -11,10 +11,7 @@ use Rattle.bench_model.specs.Control.{core_at, task_at, with_core, asked_by, ask
 use Rattle.bench_model.specs.Table.{Table, stamp_queues, is_ready}
 use Rattle.bench_model.specs.Seek.{ready_in, shares_its_time, sliced}
 use Rattle.list_orders.proofs.Stamped.{length_filter}
-use Rattle.list_orders.proofs.Stamped.{range_parts}
-
-numbers_more : (n : ℕ) → numbers (n + 1) ≡ numbers n ++ n ∷ []
-numbers_more n = range_parts 0 n 1 ∙ ap (λ k. numbers n ++ k ∷ []) (zero-add n)
+use Rattle.list_orders.proofs.Stamped.{numbers_more}
 
 -- how many numbers below n pass the test
 abbrev pub count_below : (ℕ → Bool) → ℕ → ℕ

@@ -14,7 +14,7 @@ use Rattle.bench_model.specs.Sound.{IsStamped, IsConsistent}
 use Rattle.list_orders.proofs.Filters.{All-weaker, All-filter_passes, filter_all}
 use Rattle.list_orders.proofs.Stamped.{numbers_below, numbers_have, range_all, All-by_stamp, has-by_stamp}
 use Rattle.list_orders.proofs.Choices.{IsOrdered, IsOrdered-append, IsOrdered-filter, by_stamp_ordered, by_stamp_early, first_is_best}
-use Rattle.order_laws.proofs.SeenSteps.{make_ready_once}
+use Rattle.order_laws.proofs.SeenSteps.{add_to_ready_once}
 use Rattle.order_laws.proofs.SoundSteps.{advanced_stamped}
 use Rattle.order_laws.proofs.Restamps.{standing_so, standing_so_moved}
 
@@ -90,9 +90,9 @@ waking_starts old now sound starts =
       room = omega (arith, length_due (advance old.orders), advance_next old.orders);
     })
 
-make_ready_next : (stamps : Stamps) (task : ℕ) → (add_to_ready_list task stamps).next ≡ suc stamps.next
+add_to_ready_next : (stamps : Stamps) (task : ℕ) → (add_to_ready_list task stamps).next ≡ suc stamps.next
 unfolding add_to_ready_list
-make_ready_next stamps task = refl
+add_to_ready_next stamps task = refl
 
 pub waking_goes : (old now next : Table) (task : ℕ) → IsWaking old now → task < length now.orders.rows → first_due now.orders ≡ Some task → next ≡ wake stamp_queues 0 task now → IsWaking old next × (length (due next.orders) < length (due now.orders))
 unfolding wake
@@ -103,8 +103,8 @@ waking_goes old now next task waking below some goes =
     subst (λ t. IsWaking old t × (length (due t.orders) < length (due now.orders))) (sym goes) (
       record {
         rest = sym turn ∙ waking.rest;
-        stamped = make_ready_once now.orders task waking.stamped below;
-        room = omega (arith, waking.room, shorter, make_ready_next now.orders task);
+        stamped = add_to_ready_once now.orders task waking.stamped below;
+        room = omega (arith, waking.room, shorter, add_to_ready_next now.orders task);
       },
       omega (arith, shorter),
     )

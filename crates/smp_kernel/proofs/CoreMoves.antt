@@ -214,8 +214,8 @@ raised_cores acting holder priority cores =
     let later = with_in_use holder priority cores.control in
     changed_part (ltb (task_at cores.control holder).in_use priority) holder later (sought_by acting holder cores.ready later) cores
 
-abbrev lowered_cores : ℕ → ℕ → ℕ → CoresView → CoresView
-lowered_cores acting task priority cores =
+abbrev after_disinherit_cores : ℕ → ℕ → ℕ → CoresView → CoresView
+after_disinherit_cores acting task priority cores =
     let later = with_in_use task priority cores.control in
     changed_part (not (eqb (task_at cores.control task).in_use priority)) task later (ask_its_core acting task later) cores
 
@@ -241,9 +241,9 @@ inherited_part acting holder priority view apart =
     at true false = refl
     at false d = refl
 
-lowered_part : (acting task priority : ℕ) (view : View) → NoneWaits view.orders → after_disinherit list_queues acting task priority view ≡ with_part view (lowered_cores acting task priority (cores_of view)).control (lowered_cores acting task priority (cores_of view)).ready
+after_disinherit_part : (acting task priority : ℕ) (view : View) → NoneWaits view.orders → after_disinherit list_queues acting task priority view ≡ with_part view (after_disinherit_cores acting task priority (cores_of view)).control (after_disinherit_cores acting task priority (cores_of view)).ready
 unfolding after_disinherit
-lowered_part acting task priority view apart =
+after_disinherit_part acting task priority view apart =
     ap (λ (later : View). cond stays view (record later { control = ask_its_core acting task later.control })) (in_use_part task priority view apart) ∙ at stays
   where
     stays : Bool
@@ -262,8 +262,8 @@ lowered_part acting task priority view apart =
 inherited_cores : (acting holder priority : ℕ) (cores : CoresView) → cores_rule (inherited list_queues acting holder priority) cores ≡ raised_cores acting holder priority cores
 inherited_cores acting holder priority cores = ap cores_of (inherited_part acting holder priority (bare_view cores) (none_waits_alone cores))
 
-given_back_cores : (acting task priority : ℕ) (cores : CoresView) → cores_rule (after_disinherit list_queues acting task priority) cores ≡ lowered_cores acting task priority cores
-given_back_cores acting task priority cores = ap cores_of (lowered_part acting task priority (bare_view cores) (none_waits_alone cores))
+given_back_cores : (acting task priority : ℕ) (cores : CoresView) → cores_rule (after_disinherit list_queues acting task priority) cores ≡ after_disinherit_cores acting task priority cores
+given_back_cores acting task priority cores = ap cores_of (after_disinherit_part acting task priority (bare_view cores) (none_waits_alone cores))
 
 -- the core of a task is asked, and no number of cores and tasks changes
 record HasSameSizes (control other : Control) : Type 0 where
@@ -277,6 +277,17 @@ its_core_sizes acting task control = at (runs_on control task)
     at : (o : Option ℕ) → HasSameSizes control (option_map_or (λ core. ask acting core control) o control)
     at None = record { cores = refl; tasks = refl }
     at (Some core) = record { cores = length-set control.cores core _; tasks = refl }
+
+pub ask_its_core_shape : (parts : Parts) → IsKernelShape parts → (acting task : ℕ) → IsKernelShape (with_cores parts (record parts.cores { control = ask_its_core acting task parts.cores.control }))
+ask_its_core_shape parts shape acting task =
+    let sizes = its_core_sizes acting task parts.cores.control in
+    let kept : IsKept parts.cores (record parts.cores { control = ask_its_core acting task parts.cores.control }) = record {
+      priorities = refl;
+      slicing = refl;
+      cores = sizes.cores;
+      controls = sizes.tasks;
+    } in
+    cores_shape parts _ shape kept (none_waits parts shape)
 
 sought_sizes : (acting holder : ℕ) (ready : List ℕ) (control : Control) → HasSameSizes control (sought_by acting holder ready control)
 sought_sizes acting holder ready control = at (has holder ready)
@@ -308,7 +319,7 @@ module _ (parts : Parts) (shape : IsKernelShape parts) where
 
   pub lower_seen : (acting task priority : ℕ) → kernel_view (with_cores parts (cores_rule (after_disinherit list_queues acting task priority) parts.cores)) ≡ after_disinherit list_queues acting task priority (kernel_view parts)
   lower_seen acting task priority =
-      ap (λ cores. kernel_view (with_cores parts cores)) (given_back_cores acting task priority parts.cores) ∙ sym (lowered_part acting task priority (kernel_view parts) (none_waits parts shape))
+      ap (λ cores. kernel_view (with_cores parts cores)) (given_back_cores acting task priority parts.cores) ∙ sym (after_disinherit_part acting task priority (kernel_view parts) (none_waits parts shape))
 
   pub lower_shape : (acting task priority : ℕ) → IsKernelShape (with_cores parts (cores_rule (after_disinherit list_queues acting task priority) parts.cores))
   lower_shape acting task priority =

@@ -16,7 +16,7 @@ use Rattle.bench_model.specs.Start.{first_look, first_lists, unstarted, started,
 use Rattle.list_orders.proofs.Filters.{fold-append}
 use Rattle.order_laws.proofs.FirstBlocks.{first_tasks}
 use Rattle.mutex_inherit.specs.Parts.{free_mutexes}
-use Rattle.ready_core.proofs.Firsts.{numbers_more}
+use Rattle.list_orders.proofs.Stamped.{numbers_more}
 use Rattle.tick_delay.specs.Parts.{no_delays}
 use Rattle.smp_kernel.specs.Kernel.{Parts, kernel_view, IsKernelShape}
 use Rattle.smp_kernel.proofs.CoreMoves.{turned_settings}

@@ -1,7 +1,6 @@
 pub mod Accepted
 pub mod Apart
 pub mod Blocks
-pub mod Calls
 pub mod CoreMoves
 pub mod Firsts
 pub mod Owing

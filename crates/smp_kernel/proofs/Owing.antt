@@ -17,20 +17,20 @@ use Rattle.smp_kernel.proofs.Sizes.{reshaped, sizes_of}
 use Rattle.smp_kernel.proofs.CoreMoves.{with_cores, lower_seen, lower_shape}
 
 -- the cores of a holder that may give up what it inherited
-abbrev pub lowered_where : Bool → ℕ → ℕ → ℕ → CoresView → CoresView
-lowered_where gives acting task priority cores = cond gives (cores_rule (after_disinherit list_queues acting task priority) cores) cores
+abbrev pub after_disinherit_where : Bool → ℕ → ℕ → ℕ → CoresView → CoresView
+after_disinherit_where gives acting task priority cores = cond gives (cores_rule (after_disinherit list_queues acting task priority) cores) cores
 
 module _ (parts : Parts) (shape : IsKernelShape parts) where
-  pub lower_where_seen : (gives : Bool) (acting task priority : ℕ) → kernel_view (with_cores parts (lowered_where gives acting task priority parts.cores)) ≡ cond gives (after_disinherit list_queues acting task priority (kernel_view parts)) (kernel_view parts)
+  pub lower_where_seen : (gives : Bool) (acting task priority : ℕ) → kernel_view (with_cores parts (after_disinherit_where gives acting task priority parts.cores)) ≡ cond gives (after_disinherit list_queues acting task priority (kernel_view parts)) (kernel_view parts)
   lower_where_seen true acting task priority = lower_seen parts shape acting task priority
   lower_where_seen false acting task priority = refl
 
-  pub lower_where_shape : (gives : Bool) (acting task priority : ℕ) → IsKernelShape (with_cores parts (lowered_where gives acting task priority parts.cores))
+  pub lower_where_shape : (gives : Bool) (acting task priority : ℕ) → IsKernelShape (with_cores parts (after_disinherit_where gives acting task priority parts.cores))
   lower_where_shape true acting task priority = lower_shape parts shape acting task priority
   lower_where_shape false acting task priority = shape
 
   -- a wait with a mark ends without the mutex
-  pub timed_out_seen : (core task mutex holder : ℕ) → kernel_view (with_cores parts (lowered_where (not (eqb holder task) && eqb (held_by parts.mutexes.holders holder) 1) core holder (disinherit_priority (first_of mutex parts.mutexes.waiters) (task_at parts.cores.control holder).base) parts.cores)) ≡ timed_out list_queues core task mutex true holder (kernel_view parts)
+  pub timed_out_seen : (core task mutex holder : ℕ) → kernel_view (with_cores parts (after_disinherit_where (not (eqb holder task) && eqb (held_by parts.mutexes.holders holder) 1) core holder (disinherit_priority (first_of mutex parts.mutexes.waiters) (task_at parts.cores.control holder).base) parts.cores)) ≡ timed_out list_queues core task mutex true holder (kernel_view parts)
   unfolding timed_out first_waiter
   timed_out_seen core task mutex holder =
       lower_where_seen (not (eqb holder task) && eqb (held_by parts.mutexes.holders holder) 1) core holder (disinherit_priority (first_of mutex parts.mutexes.waiters) (task_at parts.cores.control holder).base)
@@ -47,7 +47,7 @@ module _ (parts : Parts) (shape : IsKernelShape parts) where
   holds_none task mutex = eqb (held_by (slice_set parts.mutexes.holders mutex None) task) 0
 
   abbrev pub given_parts : ℕ → ℕ → ℕ → Parts
-  given_parts core task mutex = with_cores (freed mutex) (lowered_where (holds_none task mutex) core task (task_at parts.cores.control task).base parts.cores)
+  given_parts core task mutex = with_cores (freed mutex) (after_disinherit_where (holds_none task mutex) core task (task_at parts.cores.control task).base parts.cores)
 
   pub give_seen : (core task mutex : ℕ) → kernel_view (given_parts core task mutex) ≡ disinherited list_queues core task (record (kernel_view parts) { holders = slice_set parts.mutexes.holders mutex None })
   unfolding disinherited

@@ -41,7 +41,6 @@ use Rattle.bench_model.specs.Session.{step_of}
 use Rattle.bench_model.specs.Equal.{StandsFor}
 use Rattle.rule_laws.proofs.Awaiting.{completed_notes}
 use Rattle.list_orders.proofs.Filters.{All-weaker}
-use Rattle.order_laws.proofs.FirstWaiters.{first_waiter_seen, first_waiter_waits}
 use Rattle.list_orders.proofs.Stamped.{numbers_below, by_stamp_none}
 use Rattle.order_laws.proofs.SeenMoves.{is_ready_seen, due_seen}
 use Rattle.order_laws.proofs.Looks.{look_seen}
@@ -135,9 +134,9 @@ inherited_settings acting holder priority view = at (ltb (task_at view.control h
     at true false = refl
     at false d = refl
 
-lowered_settings : (acting task priority : ℕ) (view : View) → (after_disinherit list_queues acting task priority view).settings ≡ view.settings
+after_disinherit_settings : (acting task priority : ℕ) (view : View) → (after_disinherit list_queues acting task priority view).settings ≡ view.settings
 unfolding after_disinherit in_use_set
-lowered_settings acting task priority view =
+after_disinherit_settings acting task priority view =
     let later = in_use_set list_queues task priority view in
     elim (eqb (task_at view.control task).in_use priority) as (λ b. (cond b view (record later { control = ask_its_core acting task later.control })).settings ≡ view.settings) [ true ↦ refl | false ↦ refl ]
 
@@ -159,7 +158,7 @@ unfolding timed_out
 timed_out_settings core task mutex mark holder view = at (mark && not (eqb holder task) && eqb (held_by view.holders holder) 1)
   where
     at : (b : Bool) → (cond b (after_disinherit list_queues core holder (owed list_queues holder mutex view) view) view).settings ≡ view.settings
-    at true = lowered_settings core holder (owed list_queues holder mutex view) view
+    at true = after_disinherit_settings core holder (owed list_queues holder mutex view) view
     at false = refl
 
 take_finished_settings : (core task mutex : ℕ) (mark : Bool) (view : View) → (take_finished list_queues core task mutex mark view).1.settings ≡ view.settings
@@ -193,7 +192,7 @@ disinherited_settings core task view = at (eqb (held_by view.holders task) 0)
     base = (task_at view.control task).base
 
     at : (b : Bool) → (cond b (after_disinherit list_queues core task base view) view).settings ≡ view.settings
-    at true = lowered_settings core task base view
+    at true = after_disinherit_settings core task base view
     at false = refl
 
 given_settings : (core task mutex : ℕ) (view : View) → (mutex_give list_queues core task mutex view).1.settings ≡ view.settings
@@ -208,9 +207,9 @@ given_settings core task mutex view = at (holder_at view.holders mutex) (seen.fi
     at (Some holder) None = disinherited_settings core task (record view { holders = slice_set view.holders mutex None })
     at (Some holder) (Some waiter) = disinherited_settings core task (record view { holders = slice_set view.holders mutex None })
 
-awaited_settings : (core task : ℕ) (call : Call) (ticks : ℕ) (begun : Bool × List Notification) (view : View) → (awaited list_queues core task call ticks begun view).1.settings ≡ view.settings
+timeout_settings : (core task : ℕ) (call : Call) (ticks : ℕ) (begun : Bool × List Notification) (view : View) → (awaited list_queues core task call ticks begun view).1.settings ≡ view.settings
 unfolding awaited blocked
-awaited_settings core task call ticks begun view =
+timeout_settings core task call ticks begun view =
     let waiting = record view { notes = begun.1 } in
     elim (begun.0 && ltb 0 ticks) as (λ b. (cond b (outcome Blocked (blocked list_queues core task (Made call) (timeout_of ticks) None waiting)) (completed task call waiting)).1.settings ≡ view.settings) [ true ↦ refl | false ↦ completed_settings task call waiting ]
 
@@ -231,8 +230,8 @@ called_settings core task (AffinitySet other mask) view = refl
 called_settings core task (PreemptOff other) view = refl
 called_settings core task (PreemptOn other) view = refl
 called_settings core task (Notify note) view = notify_settings core note.task note.action view
-called_settings core task (NotifyWait entry exit ticks) view = awaited_settings core task (NotifyWait entry exit ticks) ticks (of_task task (wait_begun entry) view.notes) view
-called_settings core task (NotifyTake clear ticks) view = awaited_settings core task (NotifyTake clear ticks) ticks (of_task task take_begun view.notes) view
+called_settings core task (NotifyWait entry exit ticks) view = timeout_settings core task (NotifyWait entry exit ticks) ticks (of_task task (wait_begun entry) view.notes) view
+called_settings core task (NotifyTake clear ticks) view = timeout_settings core task (NotifyTake clear ticks) ticks (of_task task take_begun view.notes) view
 called_settings core task (StateClear other) view = refl
 called_settings core task (ValueClear other bits) view = refl
 called_settings core task (MutexTake mutex ticks) view = taken_settings core task mutex ticks view

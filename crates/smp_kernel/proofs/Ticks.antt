@@ -4,7 +4,7 @@ use Rattle.std.proofs.lemmas.List.{length-map}
 use Rattle.bench_types.specs.declared.kernel_data.Delayed.{Delayed}
 use Rattle.bench_model.specs.Steps.{ticked, woken}
 use Rattle.bench_model.specs.Seek.{wake, sliced}
-use Rattle.bench_model.specs.Lists.{View, list_queues, advance, due, add_to_ready_list, without_delay, due_tasks}
+use Rattle.bench_model.specs.Lists.{View, list_queues, advance, add_to_ready_list, without_delay, due_tasks}
 use Rattle.list_orders.proofs.Filters.{filter_all, All-filter_passes}
 use Rattle.tick_delay.specs.Parts.{advanced}
 use Rattle.smp_kernel.specs.Deadlines.{one_less}

@@ -32,7 +32,6 @@ use notify_core::Notes;
 use ready_core::Cores;
 use std::alloc::{AllocError, Global};
 use std::marker::Model;
-use std::ops::Range;
 use tick_delay::Delays;
 
 /// A kernel as far as it can be seen: its parts, and the queue operations of a step.
@@ -212,14 +211,6 @@ impl Scheduler {
             Some(why) => Reply::Refused(why),
             None => self.perform(step),
         }
-    }
-
-    fn core_numbers(&self) -> Range<u32>
-        ensures numbers { result ≡ record { start = 0; end = self.now.settings.cores } }
-        ensures few { self.now.settings.cores ≤ max_cores }
-        ensures all { length self.now.control.cores ≡ self.now.settings.cores }
-    {
-        0..self.settings.cores
     }
 
     // What a step that is not refused answers and does.

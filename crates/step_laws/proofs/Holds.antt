@@ -37,7 +37,7 @@ use Rattle.bench_model.specs.Seek.{after_switch}
 use Rattle.bench_model.specs.Steps.{ticked, called, performed, delayed_until, after}
 use Rattle.bench_model.specs.Sound.{StepFits, IsSound}
 use Rattle.step_laws.proofs.Nears.{keeps_hold, called_near, turned_hold}
-use Rattle.step_laws.proofs.Undisturbed.{IsUndisturbed, hold_kept, yielded_undisturbed, until_undisturbed, priority_undisturbed, affinity_undisturbed, off_undisturbed, on_undisturbed, notify_undisturbed, awaited_undisturbed, forgotten_undisturbed, bits_undisturbed, take_undisturbed, give_undisturbed, ticked_undisturbed, inherited_undisturbed}
+use Rattle.step_laws.proofs.Undisturbed.{IsUndisturbed, hold_kept, yielded_undisturbed, until_undisturbed, priority_undisturbed, affinity_undisturbed, off_undisturbed, on_undisturbed, notify_undisturbed, timeout_undisturbed, forgotten_undisturbed, bits_undisturbed, take_undisturbed, give_undisturbed, ticked_undisturbed, inherited_undisturbed}
 
 either_none : {A : Type 0} (one other : Option A) → option_or one other ≡ None → (one ≡ None) × (other ≡ None)
 either_none None other none = (refl, none)
@@ -123,8 +123,8 @@ calm core task (AffinitySet other mask) table sound place checked begins keeps g
 calm core task (PreemptOff other) table sound place checked begins keeps goes = off_undisturbed other table
 calm core task (PreemptOn other) table sound place checked begins keeps goes = on_undisturbed core other table
 calm core task (Notify note) table sound place checked begins keeps goes = notify_undisturbed core note.task note.action table (omega (arith, sound.sized.rows, (checked_task table.settings note.task checked.passes).1))
-calm core task (NotifyWait entry exit ticks) table sound place checked begins keeps goes = awaited_undisturbed core task (NotifyWait entry exit ticks) ticks (of_task task (wait_begun entry) table.notes) table goes
-calm core task (NotifyTake clear ticks) table sound place checked begins keeps goes = awaited_undisturbed core task (NotifyTake clear ticks) ticks (of_task task take_begun table.notes) table goes
+calm core task (NotifyWait entry exit ticks) table sound place checked begins keeps goes = timeout_undisturbed core task (NotifyWait entry exit ticks) ticks (of_task task (wait_begun entry) table.notes) table goes
+calm core task (NotifyTake clear ticks) table sound place checked begins keeps goes = timeout_undisturbed core task (NotifyTake clear ticks) ticks (of_task task take_begun table.notes) table goes
 calm core task (StateClear other) table sound place checked begins keeps goes = forgotten_undisturbed other table
 calm core task (ValueClear other bits) table sound place checked begins keeps goes = bits_undisturbed other bits table
 calm core task (MutexTake mutex ticks) table sound place checked begins keeps goes = take_undisturbed core task mutex ticks table goes

@@ -31,33 +31,33 @@ use Rattle.bench_model.specs.Seek.{seek, may_move, wake, after_eviction, after_s
 use Rattle.bench_model.specs.PriorityAffinity.{capped, in_use_after, priority_set, affinity_set, preemption_off, preemption_on}
 use Rattle.bench_model.specs.Table.{Stamps, Table, stamp_queues, is_ready, add_to_ready_list, delay, advance, due, deadline_left, forget_deadline, first_waiter, tick_count}
 use Rattle.rule_laws.proofs.Awaiting.{completed_notes}
-use Rattle.order_laws.proofs.SoundSteps.{make_ready_tick, readied_tick, advanced_tick}
+use Rattle.order_laws.proofs.SoundSteps.{add_to_ready_tick, readied_tick, advanced_tick}
 use Rattle.rule_laws.proofs.Ticks.{with_orders, after_wakes, woken_parts}
 use Rattle.order_laws.proofs.DueTasks.{length_due, advance_next}
 
-switched_next : (core : ℕ) (table : Table) → (after_select stamp_queues core table).orders.next ≤ suc table.orders.next
+after_select_next : (core : ℕ) (table : Table) → (after_select stamp_queues core table).orders.next ≤ suc table.orders.next
 unfolding after_select add_to_ready_list
-switched_next core table = at (is_ready (current table.control core) table.orders)
+after_select_next core table = at (is_ready (current table.control core) table.orders)
   where
     at : (b : Bool) → (cond b (add_to_ready_list (current table.control core) table.orders) table.orders).next ≤ suc table.orders.next
     at true = omega arith
     at false = omega arith
 
-switched_tick : (core : ℕ) (table : Table) → (after_select stamp_queues core table).orders.tick ≡ table.orders.tick
+after_select_tick : (core : ℕ) (table : Table) → (after_select stamp_queues core table).orders.tick ≡ table.orders.tick
 unfolding after_select
-switched_tick core table = at (is_ready (current table.control core) table.orders)
+after_select_tick core table = at (is_ready (current table.control core) table.orders)
   where
     at : (b : Bool) → (cond b (add_to_ready_list (current table.control core) table.orders) table.orders).tick ≡ table.orders.tick
-    at true = make_ready_tick table.orders (current table.control core)
+    at true = add_to_ready_tick table.orders (current table.control core)
     at false = refl
 
 -- seeking a core changes no order, no setting and no hold
 abbrev pub IsSameBeside : Table → Table → Type 0
 IsSameBeside table next = (next.orders ≡ table.orders) × (next.settings ≡ table.settings) × (next.hold ≡ table.hold)
 
-resettled_beside : (core loser : ℕ) (table : Table) → IsSameBeside table (after_eviction stamp_queues core loser table)
+after_eviction_beside : (core loser : ℕ) (table : Table) → IsSameBeside table (after_eviction stamp_queues core loser table)
 unfolding after_eviction
-resettled_beside core loser table = at (not (eqb (current table.control core) loser) && is_ready loser table.orders)
+after_eviction_beside core loser table = at (not (eqb (current table.control core) loser) && is_ready loser table.orders)
   where
     at : (b : Bool) → IsSameBeside table (cond b (record table { control = seek core loser (may_move table.control loser (current table.control core) core) table.control }) table)
     at true = (refl, refl, refl)
@@ -73,19 +73,19 @@ sliced_beside table = at table.settings.slicing
 
 pub turned_next : (core : ℕ) (table : Table) → (after_switch stamp_queues core table).orders.next ≤ suc table.orders.next
 unfolding after_switch
-turned_next core table = omega (arith, ap (λ (o : Stamps). o.next) (resettled_beside core (current table.control core) (after_select stamp_queues core table)).0, switched_next core table)
+turned_next core table = omega (arith, ap (λ (o : Stamps). o.next) (after_eviction_beside core (current table.control core) (after_select stamp_queues core table)).0, after_select_next core table)
 
 pub turned_tick : (core : ℕ) (table : Table) → (after_switch stamp_queues core table).orders.tick ≡ table.orders.tick
 unfolding after_switch
-turned_tick core table = ap (λ (o : Stamps). o.tick) (resettled_beside core (current table.control core) (after_select stamp_queues core table)).0 ∙ switched_tick core table
+turned_tick core table = ap (λ (o : Stamps). o.tick) (after_eviction_beside core (current table.control core) (after_select stamp_queues core table)).0 ∙ after_select_tick core table
 
 pub turned_settings : (core : ℕ) (table : Table) → (after_switch stamp_queues core table).settings ≡ table.settings
 unfolding after_switch after_select
-turned_settings core table = (resettled_beside core (current table.control core) (after_select stamp_queues core table)).1
+turned_settings core table = (after_eviction_beside core (current table.control core) (after_select stamp_queues core table)).1
 
 pub turned_hold : (core : ℕ) (table : Table) → (after_switch stamp_queues core table).hold ≡ table.hold
 unfolding after_switch after_select
-turned_hold core table = (resettled_beside core (current table.control core) (after_select stamp_queues core table)).2
+turned_hold core table = (after_eviction_beside core (current table.control core) (after_select stamp_queues core table)).2
 
 -- how far stamps and the tick count go in one step, whose settings stay
 abbrev pub IsNear : Table → Table → Type 0
@@ -118,8 +118,8 @@ ticked_near table =
       same.2 ∙ ap (λ (t : Table). t.hold) (woken_parts (due later) woke),
     )
 
-switched_near : (core : ℕ) (table : Table) → 0 < length table.orders.rows → IsNearer table (after_switch stamp_queues core table)
-switched_near core table some = (omega (arith, turned_next core table), omega (arith, turned_tick core table), turned_settings core table, turned_hold core table)
+after_select_near : (core : ℕ) (table : Table) → 0 < length table.orders.rows → IsNearer table (after_switch stamp_queues core table)
+after_select_near core table some = (omega (arith, turned_next core table), omega (arith, turned_tick core table), turned_settings core table, turned_hold core table)
 
 in_use_near : (task priority : ℕ) (table : Table) → 0 < length table.orders.rows → IsNearer table (in_use_set stamp_queues task priority table)
 unfolding in_use_set add_to_ready_list
@@ -194,9 +194,9 @@ waited_gives core task mutex holder ticks table =
     giving_then 1 1 table inheriting (blocked stamp_queues core task (Take mutex (is_marked table.control task holder)) ticks (Some (record { mutex = mutex; priority = priority })) inheriting) (inherited_gives core holder priority table)
     (blocked_gives core task (Take mutex (is_marked table.control task holder)) ticks (Some (record { mutex = mutex; priority = priority })) inheriting)
 
-lowered_gives : (acting task priority : ℕ) (table : Table) → IsGiving 1 table (after_disinherit stamp_queues acting task priority table)
+after_disinherit_gives : (acting task priority : ℕ) (table : Table) → IsGiving 1 table (after_disinherit stamp_queues acting task priority table)
 unfolding after_disinherit
-lowered_gives acting task priority table = either_gives 1 table table _ (eqb (task_at table.control task).in_use priority) (giving_none 1 table) (in_use_gives task priority table)
+after_disinherit_gives acting task priority table = either_gives 1 table table _ (eqb (task_at table.control task).in_use priority) (giving_none 1 table) (in_use_gives task priority table)
 
 ended_gives : (task : ℕ) (table : Table) → IsGiving 0 table (after_return stamp_queues task table)
 unfolding forget_deadline
@@ -205,7 +205,7 @@ ended_gives task table = giving_none 0 table
 timed_out_gives : (acting task mutex : ℕ) (mark : Bool) (holder : ℕ) (table : Table) → IsGiving 1 table (timed_out stamp_queues acting task mutex mark holder table)
 unfolding timed_out
 timed_out_gives acting task mutex mark holder table =
-    either_gives 1 table _ table (mark && not (eqb holder task) && eqb (held_by table.holders holder) 1) (lowered_gives acting holder (owed stamp_queues holder mutex table) table) (giving_none 1 table)
+    either_gives 1 table _ table (mark && not (eqb holder task) && eqb (held_by table.holders holder) 1) (after_disinherit_gives acting holder (owed stamp_queues holder mutex table) table) (giving_none 1 table)
 
 taken_gives : (task mutex : ℕ) (table : Table) → IsGiving 0 table (taken task mutex table)
 unfolding taken
@@ -273,7 +273,7 @@ call_finished_near core task table some = at (call_at table.calls task)
 disinherited_gives : (core task : ℕ) (table : Table) → IsGiving 1 table (disinherited stamp_queues core task table)
 unfolding disinherited
 disinherited_gives core task table =
-    either_gives 1 table _ table (eqb (held_by table.holders task) 0) (lowered_gives core task (task_at table.control task).base table) (giving_none 1 table)
+    either_gives 1 table _ table (eqb (held_by table.holders task) 0) (after_disinherit_gives core task (task_at table.control task).base table) (giving_none 1 table)
 
 first_woken_gives : (acting mutex : ℕ) (table : Table) → IsGiving 1 table (first_woken stamp_queues acting mutex table)
 unfolding first_woken wake add_to_ready_list
@@ -311,9 +311,9 @@ notify_near acting task action table some = at (is_waiting note.state)
     at true = (omega arith, omega arith, refl, refl)
     at false = (omega arith, omega arith, refl, refl)
 
-awaited_near : (core task : ℕ) (call : Call) (ticks : ℕ) (begun : Bool × List Notification) (table : Table) → 0 < length table.orders.rows → IsNearer table (awaited stamp_queues core task call ticks begun table).1
+timeout_near : (core task : ℕ) (call : Call) (ticks : ℕ) (begun : Bool × List Notification) (table : Table) → 0 < length table.orders.rows → IsNearer table (awaited stamp_queues core task call ticks begun table).1
 unfolding awaited blocked delay
-awaited_near core task call ticks begun table some = at (begun.0 && ltb 0 ticks)
+timeout_near core task call ticks begun table some = at (begun.0 && ltb 0 ticks)
   where
     waiting : Table
     waiting = record table { notes = begun.1 }
@@ -363,8 +363,8 @@ called_near core task (AffinitySet other mask) table some = (omega arith, omega 
 called_near core task (PreemptOff other) table some = (omega arith, omega arith, refl, λ keeps. refl)
 called_near core task (PreemptOn other) table some = (omega arith, omega arith, refl, λ keeps. refl)
 called_near core task (Notify note) table some = let near = notify_near core note.task note.action table some in (near.0, near.1, near.2, λ keeps. near.3)
-called_near core task (NotifyWait entry exit ticks) table some = let near = awaited_near core task (NotifyWait entry exit ticks) ticks (of_task task (wait_begun entry) table.notes) table some in (near.0, near.1, near.2, λ keeps. near.3)
-called_near core task (NotifyTake clear ticks) table some = let near = awaited_near core task (NotifyTake clear ticks) ticks (of_task task take_begun table.notes) table some in (near.0, near.1, near.2, λ keeps. near.3)
+called_near core task (NotifyWait entry exit ticks) table some = let near = timeout_near core task (NotifyWait entry exit ticks) ticks (of_task task (wait_begun entry) table.notes) table some in (near.0, near.1, near.2, λ keeps. near.3)
+called_near core task (NotifyTake clear ticks) table some = let near = timeout_near core task (NotifyTake clear ticks) ticks (of_task task take_begun table.notes) table some in (near.0, near.1, near.2, λ keeps. near.3)
 called_near core task (StateClear other) table some = (omega arith, omega arith, refl, λ keeps. refl)
 called_near core task (ValueClear other bits) table some = (omega arith, omega arith, refl, λ keeps. refl)
 called_near core task (MutexTake mutex ticks) table some = let near = giving_near table (mutex_take stamp_queues core task mutex ticks table).1 some (take_near core task mutex ticks table) in (near.0, near.1, near.2, λ keeps. near.3)
@@ -379,7 +379,7 @@ keeps_step (Interrupt core note) = true
 pub performed_near : (step : Step) (table : Table) → 0 < length table.orders.rows → IsNearBut (keeps_step step) table (performed stamp_queues step table).1
 unfolding performed interrupted
 performed_near Tick table some = let near = ticked_near table in (near.0, near.1, near.2, λ keeps. near.3)
-performed_near (Switch core) table some = let near = switched_near core table some in (near.0, near.1, near.2, λ keeps. near.3)
+performed_near (Switch core) table some = let near = after_select_near core table some in (near.0, near.1, near.2, λ keeps. near.3)
 performed_near (steps.Call core task call) table some = called_near core task call table some
 performed_near (Interrupt core note) table some = let near = notify_near core note.task note.action table some in (near.0, near.1, near.2, λ keeps. near.3)
 

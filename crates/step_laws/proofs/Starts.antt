@@ -32,7 +32,7 @@ use Rattle.list_orders.proofs.Stamped.{numbers_below, by_stamp_listed, by_stamp_
 use Rattle.order_laws.proofs.Restamps.{standing_so, waits}
 use Rattle.order_laws.proofs.SeenMoves.{same_seen, deadline_from, queues}
 use Rattle.order_laws.proofs.SeenSteps.{same_state}
-use Rattle.rule_laws.proofs.Seeks.{sought_switch_seen, sought_switch_sound, sought_switch_length}
+use Rattle.rule_laws.proofs.Seeks.{after_switch_seen, after_switch_sound, after_switch_length}
 
 -- where each is none, each is none
 none_at : {A : Type 0} (n i : ℕ) → slice_index_or {A = Option A} (replicate n None) i None ≡ None
@@ -227,19 +227,19 @@ module _ (header : Header) where
 
 -- cores that switch in turn, from a sound table
 in_turn_rest : (core : ℕ) (cores : List ℕ) (table : Table) → AllByRecursion (λ c. c < length table.control.cores) cores → AllByRecursion (λ c. c < length (after_switch stamp_queues core table).control.cores) cores
-in_turn_rest core cores table all = All-weaker (λ c. c < length table.control.cores) (λ c. c < length (after_switch stamp_queues core table).control.cores) (λ c h. omega (arith, sought_switch_length core table)) cores all
+in_turn_rest core cores table all = All-weaker (λ c. c < length table.control.cores) (λ c. c < length (after_switch stamp_queues core table).control.cores) (λ c h. omega (arith, after_switch_length core table)) cores all
 
 in_turn_sound : (cores : List ℕ) (table : Table) → AllByRecursion (λ c. c < length table.control.cores) cores → IsConsistent table → IsConsistent (fold (λ table core. after_switch stamp_queues core table) table cores)
 in_turn_sound [] table all sound = sound
 in_turn_sound (core ∷ cores) table all sound =
-    in_turn_sound cores (after_switch stamp_queues core table) (in_turn_rest core cores table all.1) (sought_switch_sound table core sound (omega (arith, sound.sized.cores, all.0)))
+    in_turn_sound cores (after_switch stamp_queues core table) (in_turn_rest core cores table all.1) (after_switch_sound table core sound (omega (arith, sound.sized.cores, all.0)))
 
 in_turn_seen : (cores : List ℕ) (table : Table) → AllByRecursion (λ c. c < length table.control.cores) cores → IsConsistent table → view_of (fold (λ table core. after_switch stamp_queues core table) table cores) ≡ fold (λ view core. after_switch list_queues core view) (view_of table) cores
 in_turn_seen [] table all sound = refl
 in_turn_seen (core ∷ cores) table all sound =
     let low : core < table.settings.cores = omega (arith, sound.sized.cores, all.0) in
-    in_turn_seen cores (after_switch stamp_queues core table) (in_turn_rest core cores table all.1) (sought_switch_sound table core sound low)
-    ∙ ap (λ view. fold (λ view core. after_switch list_queues core view) view cores) (sought_switch_seen table core sound low)
+    in_turn_seen cores (after_switch stamp_queues core table) (in_turn_rest core cores table all.1) (after_switch_sound table core sound low)
+    ∙ ap (λ view. fold (λ view core. after_switch list_queues core view) view cores) (after_switch_seen table core sound low)
 
 pub unstarted_cores : (header : Header) → length (unstarted (first_stamps header) header).control.cores ≡ header.config.cores
 unfolding unstarted

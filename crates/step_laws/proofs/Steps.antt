@@ -34,12 +34,12 @@ use Rattle.bench_model.specs.Lists.{seen_of}
 use Rattle.bench_model.specs.Equal.{Same}
 use Rattle.bench_model.specs.Session.{step_of}
 use Rattle.bench_model.specs.Sound.{IsCaller, StepFits, IsConsistent, IsSound}
-use Rattle.rule_laws.proofs.Awaiting.{wait_begun_word, take_begun_word, interrupted_seen, interrupted_sound, forgotten_seen, forgotten_sound, bits_seen, bits_sound, awaited_seen, awaited_sound}
+use Rattle.rule_laws.proofs.Awaiting.{wait_begun_word, take_begun_word, interrupted_seen, interrupted_sound, forgotten_seen, forgotten_sound, bits_seen, bits_sound, timeout_seen, timeout_sound}
 use Rattle.rule_laws.proofs.Mutexes.{take_seen, take_sound, give_seen, give_sound, finished_seen, finished_sound}
 use Rattle.rule_laws.proofs.Notifying.{notify_seen, notify_sound, ruled_sound}
 use Rattle.order_laws.proofs.SeenSteps.{yielded_seen, blocked_seen}
 use Rattle.order_laws.proofs.SoundSteps.{yielded_sound, blocked_sound}
-use Rattle.rule_laws.proofs.Seeks.{sought_switch_seen, sought_switch_sound}
+use Rattle.rule_laws.proofs.Seeks.{after_switch_seen, after_switch_sound}
 use Rattle.rule_laws.proofs.PriorityAffinity.{priority_seen, priority_sound, affinity_seen, affinity_sound, off_seen, off_sound, on_seen, on_sound}
 use Rattle.rule_laws.proofs.Ticks.{ticked_seen, ticked_sound}
 use Rattle.order_laws.proofs.Sizes.{resized}
@@ -54,8 +54,8 @@ same_outcome reply one other a = ap (λ view. outcome_from reply view) a
 pub set_task : (settings : Settings) (task : ℕ) → task_check settings task ≡ Ok tt → task < settings.tasks
 set_task settings task passes = (checked_task settings task passes).1
 
-pub masked_task : (settings : Settings) (task mask : ℕ) → (task_check settings task >> mask_check settings mask) ≡ Ok tt → task < settings.tasks
-masked_task settings task mask passes = set_task settings task (both_pass (task_check settings task) (mask_check settings mask) passes).0
+pub affinity_set_task : (settings : Settings) (task mask : ℕ) → (task_check settings task >> mask_check settings mask) ≡ Ok tt → task < settings.tasks
+affinity_set_task settings task mask passes = set_task settings task (both_pass (task_check settings task) (mask_check settings mask) passes).0
 
 -- the caller of a step in place is a task
 caller_below : (core task : ℕ) (table : Table) → IsConsistent table → IsCaller table core task → task < table.settings.tasks
@@ -101,12 +101,12 @@ called_seen core task Finish table sound checked place = from (call_at table.cal
     from None = refl
     from (Some call) = finished_seen table core task call sound place
 called_seen core task (PrioritySet other priority) table sound checked place = same_outcome Done _ _ (priority_seen table core other priority sound (set_task table.settings other checked.passes))
-called_seen core task (AffinitySet other mask) table sound checked place = same_outcome Done _ _ (affinity_seen table core other mask sound (masked_task table.settings other mask checked.passes))
+called_seen core task (AffinitySet other mask) table sound checked place = same_outcome Done _ _ (affinity_seen table core other mask sound (affinity_set_task table.settings other mask checked.passes))
 called_seen core task (PreemptOff other) table sound checked place = same_outcome Done _ _ (off_seen table other)
 called_seen core task (PreemptOn other) table sound checked place = same_outcome Done _ _ (on_seen table core other)
 called_seen core task (Notify note) table sound checked place = same_outcome (Flag (is_passed note table)) _ _ (notify_seen table core note.task note.action sound (set_task table.settings note.task checked.passes))
-called_seen core task (NotifyWait entry exit ticks) table sound checked place = awaited_seen table core task (NotifyWait entry exit ticks) ticks (of_task task (wait_begun entry) table.notes) sound place.2 place.3
-called_seen core task (NotifyTake clear ticks) table sound checked place = awaited_seen table core task (NotifyTake clear ticks) ticks (of_task task take_begun table.notes) sound place.2 place.3
+called_seen core task (NotifyWait entry exit ticks) table sound checked place = timeout_seen table core task (NotifyWait entry exit ticks) ticks (of_task task (wait_begun entry) table.notes) sound place.2 place.3
+called_seen core task (NotifyTake clear ticks) table sound checked place = timeout_seen table core task (NotifyTake clear ticks) ticks (of_task task take_begun table.notes) sound place.2 place.3
 called_seen core task (StateClear other) table sound checked place = forgotten_seen table other
 called_seen core task (ValueClear other bits) table sound checked place = bits_seen table other bits
 called_seen core task (MutexTake mutex ticks) table sound checked place = take_seen table core task mutex ticks sound place
@@ -117,7 +117,7 @@ called_seen core task HoldClose table sound checked place = closed_seen core tab
 pub performed_seen : (step : Step) (table : Table) → IsConsistent table → IsCheckedStep table.settings step → StepFits table step → seen_of (performed stamp_queues step table) ≡ performed list_queues step (view_of table)
 unfolding performed
 performed_seen Tick table sound checked place = same_outcome Done _ _ (ticked_seen table sound)
-performed_seen (Switch core) table sound checked place = same_outcome Done _ _ (sought_switch_seen table core sound (omega (arith, sound.sized.cores, place)))
+performed_seen (Switch core) table sound checked place = same_outcome Done _ _ (after_switch_seen table core sound (omega (arith, sound.sized.cores, place)))
 performed_seen (Interrupt core note) table sound checked place = interrupted_seen table core note sound place.1
 performed_seen (steps.Call core task call) table sound checked place = called_seen core task call table sound (checked_call table.settings core task call checked).0 place
 
@@ -227,18 +227,18 @@ called_sound core task Finish table sound place checked user = from (call_at tab
     from None none = sound
     from (Some call) some = finished_sound table core task call sound place (sound.calls task call some) user
 called_sound core task (PrioritySet other priority) table sound place checked user = priority_sound table core other priority sound (set_task table.settings other checked.passes)
-called_sound core task (AffinitySet other mask) table sound place checked user = affinity_sound table core other mask sound (masked_task table.settings other mask checked.passes)
+called_sound core task (AffinitySet other mask) table sound place checked user = affinity_sound table core other mask sound (affinity_set_task table.settings other mask checked.passes)
 called_sound core task (PreemptOff other) table sound place checked user = off_sound table other sound (set_task table.settings other checked.passes)
 called_sound core task (PreemptOn other) table sound place checked user = on_sound table core other sound (set_task table.settings other checked.passes)
 called_sound core task (Notify note) table sound place checked user = notify_sound table core note.task note.action sound (set_task table.settings note.task checked.passes) checked.words
 called_sound core task (NotifyWait entry exit ticks) table sound place checked user =
     let call = NotifyWait entry exit ticks in
     let begun = ruled_sound task (wait_begun entry) table sound (caller_below core task table sound place) (wait_begun_word entry) in
-    awaited_sound table core task call ticks (of_task task (wait_begun entry) table.notes) begun place checked user checked.words.2
+    timeout_sound table core task call ticks (of_task task (wait_begun entry) table.notes) begun place checked user checked.words.2
 called_sound core task (NotifyTake clear ticks) table sound place checked user =
     let call = NotifyTake clear ticks in
     let begun = ruled_sound task take_begun table sound (caller_below core task table sound place) take_begun_word in
-    awaited_sound table core task call ticks (of_task task take_begun table.notes) begun place checked user checked.words
+    timeout_sound table core task call ticks (of_task task take_begun table.notes) begun place checked user checked.words
 called_sound core task (StateClear other) table sound place checked user = forgotten_sound table other sound (set_task table.settings other checked.passes)
 called_sound core task (ValueClear other bits) table sound place checked user = bits_sound table other bits sound (set_task table.settings other checked.passes)
 called_sound core task (MutexTake mutex ticks) table sound place checked user = take_sound table core task mutex ticks sound place user checked.words (checked_mutex table.settings mutex checked.passes)
@@ -249,7 +249,7 @@ called_sound core task HoldClose table sound place checked user = closed_sound c
 pub performed_sound : (step : Step) (table : Table) → IsConsistent table → IsCheckedStep table.settings step → StepFits table step → IsConsistent (performed stamp_queues step table).1
 unfolding performed
 performed_sound Tick table sound checked place = ticked_sound table sound
-performed_sound (Switch core) table sound checked place = sought_switch_sound table core sound (omega (arith, sound.sized.cores, place))
+performed_sound (Switch core) table sound checked place = after_switch_sound table core sound (omega (arith, sound.sized.cores, place))
 performed_sound (Interrupt core note) table sound checked place = interrupted_sound table core note sound place.1 checked.words
 performed_sound (steps.Call core task call) table sound checked place =
     let call_checked = checked_call table.settings core task call checked in

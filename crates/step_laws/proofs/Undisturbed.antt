@@ -33,8 +33,8 @@ use Rattle.order_laws.proofs.FirstWaiters.{first_waiter_waits}
 use Rattle.list_orders.proofs.Filters.{All-weaker}
 use Rattle.rule_laws.proofs.Seeks.{seek_more, each_more}
 use Rattle.order_laws.proofs.SeenSteps.{due_below}
-use Rattle.rule_laws.proofs.PriorityAffinity.{its_core_more, ranked_more, masked_more}
-use Rattle.order_laws.proofs.SoundSteps.{IsAskedMore, asked_more, make_ready_keeps, make_ready_length}
+use Rattle.rule_laws.proofs.PriorityAffinity.{its_core_more, after_priority_set_more, after_affinity_set_more}
+use Rattle.order_laws.proofs.SoundSteps.{IsAskedMore, asked_more, add_to_ready_keeps, add_to_ready_length}
 
 pub record IsUndisturbed (table later : Table) : Type 0 where
   pub settings : later.settings ≡ table.settings
@@ -84,8 +84,8 @@ readied_undisturbed : (table : Table) (task : ℕ) → task < length table.order
 readied_undisturbed table task below = record {
   settings = refl;
   currents = λ c. refl;
-  rows = make_ready_length table.orders task below;
-  ready = λ i is. make_ready_keeps table.orders task i below is;
+  rows = add_to_ready_length table.orders task below;
+  ready = λ i is. add_to_ready_keeps table.orders task i below is;
   calls = refl;
   hold = refl;
 }
@@ -153,13 +153,13 @@ priority_undisturbed acting task priority table below =
     either_undisturbed table table _ (eqb new block.base) (undisturbed table)
     (undisturbed_then table later _
     (undisturbed_then table based later (block_undisturbed table task (record block { base = new })) (in_use_undisturbed task (in_use_after block new) based below))
-    (asked_undisturbed later (yields_after_priority_set acting task block.base new ready later.control) (ranked_more acting task block.base new ready later.control)))
+    (asked_undisturbed later (yields_after_priority_set acting task block.base new ready later.control) (after_priority_set_more acting task block.base new ready later.control)))
 
 pub affinity_undisturbed : (acting task mask : ℕ) (table : Table) → IsUndisturbed table (affinity_set stamp_queues acting task mask table)
 unfolding affinity_set
 affinity_undisturbed acting task mask table =
     let changed = record table { control = with_task task _ table.control } in
-    undisturbed_then table changed _ (block_undisturbed table task _) (asked_undisturbed changed _ (masked_more acting task (is_ready task table.orders) changed.control))
+    undisturbed_then table changed _ (block_undisturbed table task _) (asked_undisturbed changed _ (after_affinity_set_more acting task (is_ready task table.orders) changed.control))
 
 pub off_undisturbed : (task : ℕ) (table : Table) → IsUndisturbed table (preemption_off stamp_queues task table)
 unfolding preemption_off
@@ -172,9 +172,9 @@ on_undisturbed acting task table =
     undisturbed_then table changed _ (block_undisturbed table task _) (asked_undisturbed changed _ (its_core_more acting task changed.control))
 
 -- giving a mutex
-lowered_undisturbed : (acting task priority : ℕ) (table : Table) → task < length table.orders.rows → IsUndisturbed table (after_disinherit stamp_queues acting task priority table)
+after_disinherit_undisturbed : (acting task priority : ℕ) (table : Table) → task < length table.orders.rows → IsUndisturbed table (after_disinherit stamp_queues acting task priority table)
 unfolding after_disinherit
-lowered_undisturbed acting task priority table below =
+after_disinherit_undisturbed acting task priority table below =
     let later = in_use_set stamp_queues task priority table in
     either_undisturbed table table _ (eqb (task_at table.control task).in_use priority) (undisturbed table)
     (undisturbed_then table later _ (in_use_undisturbed task priority table below) (asked_undisturbed later _ (its_core_more acting task later.control)))
@@ -191,7 +191,7 @@ inherited_undisturbed acting holder priority table below =
 disinherited_undisturbed : (core task : ℕ) (table : Table) → task < length table.orders.rows → IsUndisturbed table (disinherited stamp_queues core task table)
 unfolding disinherited
 disinherited_undisturbed core task table below =
-    either_undisturbed table _ table (eqb (held_by table.holders task) 0) (lowered_undisturbed core task (task_at table.control task).base table below) (undisturbed table)
+    either_undisturbed table _ table (eqb (held_by table.holders task) 0) (after_disinherit_undisturbed core task (task_at table.control task).base table below) (undisturbed table)
 
 first_woken_undisturbed : (acting mutex : ℕ) (table : Table) → IsUndisturbed table (first_woken stamp_queues acting mutex table)
 unfolding first_woken
@@ -245,9 +245,9 @@ bits_undisturbed task bits table = notes_undisturbed table _
 completed_undisturbed : (task : ℕ) (call : Call) (table : Table) → IsUndisturbed table (completed task call table).1
 completed_undisturbed task call table = let made = completed_notes task call table in subst (IsUndisturbed table) (sym made.1) (notes_undisturbed table made.0)
 
-pub awaited_undisturbed : (core task : ℕ) (call : Call) (ticks : ℕ) (begun : Bool × List Notification) (table : Table) → (begun.0 && ltb 0 ticks) ≡ false → IsUndisturbed table (awaited stamp_queues core task call ticks begun table).1
+pub timeout_undisturbed : (core task : ℕ) (call : Call) (ticks : ℕ) (begun : Bool × List Notification) (table : Table) → (begun.0 && ltb 0 ticks) ≡ false → IsUndisturbed table (awaited stamp_queues core task call ticks begun table).1
 unfolding awaited
-awaited_undisturbed core task call ticks begun table goes = at (begun.0 && ltb 0 ticks) goes
+timeout_undisturbed core task call ticks begun table goes = at (begun.0 && ltb 0 ticks) goes
   where
     waiting : Table
     waiting = record table { notes = begun.1 }

@@ -4,22 +4,12 @@ ghost use Rattle.bench_types.specs.Header.{header_check};
 
 use crate::outcomes::with_steps;
 use crate::writing::most_ticks;
-use bench_samples::crowd;
-use bench_types::{
-    Config, Edit, Header, MAX_CORES, MAX_MUTEXES, MAX_PRIORITIES, MAX_STEPS, MAX_TASKS, Step,
-};
+use bench_samples::{LARGEST, crowd};
+use bench_types::{Edit, Header, MAX_STEPS, MAX_TASKS, Step};
 use session_text::{Bench, read_bench, read_edit};
 use std::alloc::{AllocError, Global};
 use std::process::Abort;
 use std::test::Fail;
-
-const LARGEST: Config = Config {
-    cores: MAX_CORES,
-    priorities: MAX_PRIORITIES,
-    slicing: true,
-    tick: 0,
-    mutexes: MAX_MUTEXES,
-};
 
 const CHANGE: &str = r#"{"edit":"change","task":"T63","priority":31,"mask":128}"#;
 

@@ -1,8 +1,8 @@
 use Rattle.order_laws.proofs.FirstWaiters.{first_waiter_seen}
 use Rattle.order_laws.proofs.SeenMoves.{deadline_left_seen, forget_deadline_seen}
-use Rattle.rule_laws.proofs.Mutexes.{inherited_seen, inherited_sound, take_seen, take_sound, finished_seen, finished_sound, give_seen, give_sound, lowered_seen, lowered_sound}
+use Rattle.rule_laws.proofs.Mutexes.{inherited_seen, inherited_sound, take_seen, take_sound, finished_seen, finished_sound, give_seen, give_sound, after_disinherit_seen, after_disinherit_sound}
 use Rattle.std.proofs.Common.{arith}
-use Rattle.rule_laws.proofs.CoresAlone.{inherited_on, lowered_on}
+use Rattle.rule_laws.proofs.CoresAlone.{inherited_on, after_disinherit_on}
 use Rattle.rule_laws.proofs.laws_of_mutexes.Goals as goal
 
 pub returns-clause-first_waiter_simulates : goal.returns-clause-first_waiter_simulates
@@ -39,13 +39,13 @@ pub returns-clause-give_keeps_consistent : goal.returns-clause-give_keeps_consis
 returns-clause-give_keeps_consistent c = give_sound
 
 pub returns-clause-lower_simulates : goal.returns-clause-lower_simulates
-returns-clause-lower_simulates c = lowered_seen
+returns-clause-lower_simulates c = after_disinherit_seen
 
 pub returns-clause-lower_keeps_consistent : goal.returns-clause-lower_keeps_consistent
-returns-clause-lower_keeps_consistent c = lowered_sound
+returns-clause-lower_keeps_consistent c = after_disinherit_sound
 
 pub returns-clause-inherit_on_cores : goal.returns-clause-inherit_on_cores
 returns-clause-inherit_on_cores c = inherited_on
 
 pub returns-clause-lower_on_cores : goal.returns-clause-lower_on_cores
-returns-clause-lower_on_cores c = lowered_on
+returns-clause-lower_on_cores c = after_disinherit_on

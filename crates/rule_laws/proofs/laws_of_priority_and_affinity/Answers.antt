@@ -1,4 +1,4 @@
-use Rattle.rule_laws.proofs.PriorityAffinity.{runs_on_some, its_core_seen, ranked_seen, masked_seen, priority_seen, affinity_seen, off_seen, on_seen, its_core_sound, ranked_sound, masked_sound, priority_sound, affinity_sound, off_sound, on_sound}
+use Rattle.rule_laws.proofs.PriorityAffinity.{runs_on_some, its_core_seen, after_priority_set_seen, after_affinity_set_seen, priority_seen, affinity_seen, off_seen, on_seen, its_core_sound, after_priority_set_sound, after_affinity_set_sound, priority_sound, affinity_sound, off_sound, on_sound}
 use Rattle.rule_laws.proofs.laws_of_priority_and_affinity.Goals as goal
 
 pub returns-clause-runs_on_some_core : goal.returns-clause-runs_on_some_core
@@ -8,10 +8,10 @@ pub returns-clause-ask_its_core_simulates : goal.returns-clause-ask_its_core_sim
 returns-clause-ask_its_core_simulates c = its_core_seen
 
 pub returns-clause-yields_after_priority_set_simulates : goal.returns-clause-yields_after_priority_set_simulates
-returns-clause-yields_after_priority_set_simulates c = ranked_seen
+returns-clause-yields_after_priority_set_simulates c = after_priority_set_seen
 
 pub returns-clause-yields_after_affinity_set_simulates : goal.returns-clause-yields_after_affinity_set_simulates
-returns-clause-yields_after_affinity_set_simulates c = masked_seen
+returns-clause-yields_after_affinity_set_simulates c = after_affinity_set_seen
 
 pub returns-clause-priority_set_simulates : goal.returns-clause-priority_set_simulates
 returns-clause-priority_set_simulates c = priority_seen
@@ -29,10 +29,10 @@ pub returns-clause-ask_its_core_keeps_consistent : goal.returns-clause-ask_its_c
 returns-clause-ask_its_core_keeps_consistent c = its_core_sound
 
 pub returns-clause-yields_after_priority_set_keeps_consistent : goal.returns-clause-yields_after_priority_set_keeps_consistent
-returns-clause-yields_after_priority_set_keeps_consistent c = ranked_sound
+returns-clause-yields_after_priority_set_keeps_consistent c = after_priority_set_sound
 
 pub returns-clause-yields_after_affinity_set_keeps_consistent : goal.returns-clause-yields_after_affinity_set_keeps_consistent
-returns-clause-yields_after_affinity_set_keeps_consistent c = masked_sound
+returns-clause-yields_after_affinity_set_keeps_consistent c = after_affinity_set_sound
 
 pub returns-clause-priority_set_keeps_consistent : goal.returns-clause-priority_set_keeps_consistent
 returns-clause-priority_set_keeps_consistent c = priority_sound

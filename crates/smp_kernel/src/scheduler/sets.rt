@@ -1,7 +1,7 @@
 //! The calls that set a task's priority, core affinity mask and preemption.
-ghost use Rattle.std.specs.Prelude.{◌≡◌, ◌<◌, ◌==◌, ◌&&◌, true, not, IfSome};
+ghost use Rattle.std.specs.Prelude.{◌≡◌, ◌<◌, true};
 ghost use Rattle.list_orders.specs.Search.{has};
-ghost use Rattle.bench_model.specs.Control.{core_at, task_at, current, in_mask, runs_on, ask_its_core};
+ghost use Rattle.bench_model.specs.Control.{task_at, in_mask, ask_its_core};
 ghost use Rattle.bench_model.specs.Lists.{list_queues};
 ghost use Rattle.bench_model.specs.Seek.{seek};
 ghost use Rattle.bench_model.specs.ControlFields.{with_base, with_affinity, with_preemption, in_use_set};
@@ -10,39 +10,13 @@ ghost use Rattle.bench_model.specs.PriorityAffinity.{capped, in_use_after, yield
 use super::Scheduler;
 
 impl Scheduler {
-    // Whether the core has the task and no other core asked it to switch.
-    fn keeps_running(&self, core: u32, task: u32) -> bool
-        requires { core < self.now.settings.cores }
-        ensures { result
-            ≡ (current self.now.control core == task && not (core_at self.now.control core).asked) }
-    {
-        self.cores.running(core) == task && !self.cores.flags(core).asked
-    }
-
-    fn its_core(&self, task: u32) -> Option<u32>
-        ensures core { result ≡ runs_on self.now.control task }
-        ensures below { IfSome result (λ core. core < self.now.settings.cores) }
-    {
-        self.core_numbers()
-            .find(|core| self.keeps_running(*core, task))
-    }
-
-    #[tactic(auto, unfolding(bench_model::specs::Control::ask_its_core))]
+    // The core that the task runs on is asked, if there is one.
     fn ask_its_core(&mut self, acting: u32, task: u32)
+        requires { task < self.old.settings.tasks }
         ensures { self.new
             ≡ record self.old { control = ask_its_core acting task self.old.control } }
     {
-        if let Some(core) = self.its_core(task) {
-            self.cores.ask(acting, core);
-        }
-    }
-
-    fn is_in_mask(&self, task: u32, core: u32) -> bool
-        requires task { task < self.now.settings.tasks }
-        requires core { core < self.now.settings.cores }
-        ensures { result ≡ in_mask self.now.control task core }
-    {
-        core < self.core_numbers().end && (self.cores.mask(task) >> core) & 1 == 1
+        self.cores.ask_its_core(acting, task);
     }
 
     // A core of its mask is sought for the ready task.
@@ -145,8 +119,8 @@ impl Scheduler {
               (has task self.old.orders.ready) self.old.control;
         } }
     {
-        match self.its_core(task) {
-            Some(core) if !self.is_in_mask(task, core) => self.cores.ask(acting, core),
+        match self.cores.its_core(task) {
+            Some(core) if !self.cores.is_in_mask(task, core) => self.cores.ask(acting, core),
             None if self.cores.ready(task) => self.seek(acting, task),
             _ => (),
         }

@@ -1,7 +1,7 @@
-use Rattle.order_laws.proofs.SeenMoves.{is_ready_seen, make_ready_seen, pick_seen, delay_seen}
+use Rattle.order_laws.proofs.SeenMoves.{is_ready_seen, add_to_ready_seen, pick_seen, delay_seen}
 use Rattle.order_laws.proofs.Looks.{look_seen}
 use Rattle.std.proofs.Common.{arith}
-use Rattle.order_laws.proofs.SeenSteps.{switched_seen, advance_seen_lem, blocked_seen, lists_of_cores}
+use Rattle.order_laws.proofs.SeenSteps.{after_select_seen, advance_seen_lem, blocked_seen, lists_of_cores}
 use Rattle.rule_laws.proofs.Ticks.{woken_seen}
 use Rattle.order_laws.proofs.SoundSteps.{blocked_sound}
 use Rattle.step_laws.proofs.laws_of_orders.Goals as goal
@@ -13,13 +13,13 @@ pub returns-clause-look_simulates : goal.returns-clause-look_simulates
 returns-clause-look_simulates c = look_seen
 
 pub returns-clause-ready_at_end_simulates : goal.returns-clause-ready_at_end_simulates
-returns-clause-ready_at_end_simulates c = λ control stamps task stamped. make_ready_seen control stamps task stamped.given
+returns-clause-ready_at_end_simulates c = λ control stamps task stamped. add_to_ready_seen control stamps task stamped.given
 
 pub returns-clause-pick_simulates : goal.returns-clause-pick_simulates
 returns-clause-pick_simulates c = pick_seen
 
 pub returns-clause-switch_simulates : goal.returns-clause-switch_simulates
-returns-clause-switch_simulates c = λ table core sound low. switched_seen core table sound.stamped (sound.in_place.is_task core (omega (arith, sound.sized.cores)))
+returns-clause-switch_simulates c = λ table core sound low. after_select_seen core table sound.stamped (sound.in_place.is_task core (omega (arith, sound.sized.cores)))
 
 pub returns-clause-delay_simulates : goal.returns-clause-delay_simulates
 returns-clause-delay_simulates c = λ control stamps task ticks wait stamped. delay_seen control stamps task ticks wait stamped.given

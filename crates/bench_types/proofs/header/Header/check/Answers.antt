@@ -1,7 +1,6 @@
-use Rattle.std.proofs.Common.{◌≡◌, ◌^◌, ◌<◌, Ok, rules, arith, subst}
+use Rattle.std.proofs.Common.{◌^◌, ◌<◌, arith, subst}
 use Rattle.std.specs.Prelude.{All, IsTrue}
 use Rattle.bench_types.specs.declared.header.TaskArgs.{TaskArgs}
-use Rattle.bench_types.specs.Header.{header_check}
 use Rattle.bench_types.specs.Name.{is_name}
 use Rattle.bench_types.proofs.header.Header.check.Goals as goal
 

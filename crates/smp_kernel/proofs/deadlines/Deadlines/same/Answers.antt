@@ -1,7 +1,7 @@
 use Rattle.std.proofs.Common.{◌∙◌, sym}
 use Rattle.std.proofs.lemmas.Bool.Decides.{Decides-eqb}
 use Rattle.std.proofs.lemmas.Slice.Eq.{slice_eq-Decides}
-use Rattle.smp_kernel.proofs.Calls.{option_decides}
+use Rattle.bench_types.proofs.Equalities.{option_decides}
 use Rattle.smp_kernel.proofs.deadlines.Deadlines.same.Goals as goal
 
 pub returns : goal.returns

@@ -1,6 +1,6 @@
 use Rattle.std.proofs.Common.{◌≡◌, Ok, subst}
 use Rattle.bench_types.specs.Step.{call_check}
-use Rattle.step_laws.proofs.Steps.{set_task, masked_task}
+use Rattle.step_laws.proofs.Steps.{set_task, affinity_set_task}
 use Rattle.smp_kernel.proofs.scheduler.Scheduler.call.Goals as goal
 
 pub set_priority-requires : goal.set_priority-requires
@@ -11,7 +11,7 @@ set_priority-requires c =
 pub set_affinity-requires : goal.set_affinity-requires
 set_affinity-requires c =
     let settings = c.args.self.now.settings in
-    masked_task settings c.in-AffinitySet.task c.in-AffinitySet.mask (subst (λ call. call_check settings call ≡ Ok tt) c.in-AffinitySet.is c.requires.checked)
+    affinity_set_task settings c.in-AffinitySet.task c.in-AffinitySet.mask (subst (λ call. call_check settings call ≡ Ok tt) c.in-AffinitySet.is c.requires.checked)
 
 pub preempt_off-requires : goal.preempt_off-requires
 preempt_off-requires c =

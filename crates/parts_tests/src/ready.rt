@@ -75,6 +75,8 @@ fn start(rt: HostRuntime) -> Result<(), Fail> {
     assert!(&rt; cores.ready(4));
     assert!(&rt; cores.stands_below(3, 2) && !cores.stands_below(3, 4));
     assert!(&rt; cores.is_allowed(1, 4) && !cores.is_allowed(0, 4));
+    assert!(&rt; cores.is_in_mask(4, 1) && !cores.is_in_mask(4, 0));
+    assert_eq!(&rt; (cores.its_core(2), cores.its_core(4)), (Some(0), None));
     Ok(())
 }
 

@@ -14,7 +14,8 @@ pub enum Reply {
     Done,
     /// The call was made, and its task waits.
     Blocked,
-    /// Of a notification whether it passed, of a cleared state whether a notification had come.
+    /// Whether a notification passed, a cleared state had received one, or a mutex was taken or
+    /// given.
     Flag(bool),
     /// The notification value before the call changed it.
     Value(u32),
@@ -37,7 +38,7 @@ pub enum Refusal {
     Held,
     /// E2: the task of the call is not the current task of the core.
     Displaced,
-    /// E3: the core of the call is due to switch.
+    /// E3: the core of the call is due to switch, and has no hold open.
     SwitchDue,
     /// E4: the task has an unfinished call, and this is another one.
     InCall,

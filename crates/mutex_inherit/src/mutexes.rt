@@ -74,6 +74,7 @@ impl Mutexes {
     pub fn same(&self, other: &Self) -> bool
         ensures { IsTrue result ↔ (self.now ≡ other.now) }
     {
+        // Nested, so that each test is proved where those before it hold.
         self.has_same_sizes(other)
             && (self.has_same_holders(other) && have_same_order(&self.waiters, &other.waiters))
     }

@@ -85,6 +85,7 @@ impl Cores {
     pub fn same(&self, other: &Self) -> bool
         ensures { IsTrue result ↔ (self.now ≡ other.now) }
     {
+        // Nested, so that each test is proved where those before it hold.
         self.has_same_settings(other)
             && (self.has_same_control(other)
                 && have_same_lists(&self.tasks, self.priorities, &self.ready, &other.ready))
@@ -380,7 +381,8 @@ impl Cores {
         self.cores == other.cores && self.tasks == other.tasks
     }
 
-    // Whether the bit of the core is set. There are fewer cores than bits.
+    // Whether the bit of the core is set. The first test always holds: it shows that there are
+    // fewer cores than bits.
     fn has_bit(&self, mask: u32, core: u32) -> bool
         requires { core < length self.now.control.cores }
         ensures bit { result ≡ has_core mask core }

@@ -654,6 +654,7 @@ pub fn replay_slow(
     ensures { IfOk result (λ outcomes. (place : ℕ) →
         option_map shown (slice_get outcomes.items place) ≡ outcome_at header.now steps.now place) }
 {
+    // Once it is read, the proof knows that the tick count has 32 bits.
     let _start = header.config.tick;
     let mut table = start(alloc, header)?;
     let mut outcomes = Vec::with_capacity(alloc, steps.len())?;

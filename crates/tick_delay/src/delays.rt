@@ -67,6 +67,7 @@ impl Delays {
     pub fn same(&self, other: &Self) -> bool
         ensures { IsTrue result ↔ (self.now ≡ other.now) }
     {
+        // Nested, so that each test is proved where those before it hold.
         self.tasks == other.tasks && (self.tick == other.tick && self.has_same_entries(other))
     }
 

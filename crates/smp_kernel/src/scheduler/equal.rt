@@ -27,6 +27,7 @@ impl Scheduler {
     pub fn same(&self, other: &Self) -> bool
         ensures { IsTrue result ↔ (self.now ≡ other.now) }
     {
+        // Nested, so that each test is proved where those before it hold.
         have_same_settings(self.settings, other.settings)
             && (have_same_hold(self.hold, other.hold)
                 && (have_same_calls(&self.calls, &other.calls)
@@ -39,6 +40,7 @@ impl Scheduler {
         requires { self.now.settings ≡ other.now.settings }
         ensures { IsTrue result ↔ HasSameOrders self.now other.now }
     {
+        // Nested, so that each test is proved where those before it hold.
         self.cores.same(&other.cores)
             && (self.mutexes.same(&other.mutexes)
                 && (self.delays.same(&other.delays) && self.deadlines.same(&other.deadlines)))

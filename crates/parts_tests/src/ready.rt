@@ -5,7 +5,7 @@ use ready_core::Cores;
 use std::process::Abort;
 use std::test::Fail;
 
-fn make_ready(rt: &impl Abort, cores: &mut Cores, task: u32) {
+fn wake(rt: &impl Abort, cores: &mut Cores, task: u32) {
     assert!(rt; cores.has_task(task));
     cores.wake(0, task);
 }
@@ -100,11 +100,11 @@ fn woken_task_is_sought_a_core(rt: HostRuntime) -> Result<(), Fail> {
     expect(&rt, &cores, (4, false, false), (3, false, false));
     let mut other = cores.copy(rt.alloc())?;
     // Of two cores of one priority that of the greater number is asked.
-    make_ready(&rt, &mut cores, 2);
+    wake(&rt, &mut cores, 2);
     expect(&rt, &cores, (4, false, false), (3, false, true));
     // The task there is not to be preempted.
     set_preempt(&rt, &mut other, 3, false);
-    make_ready(&rt, &mut other, 2);
+    wake(&rt, &mut other, 2);
     expect(&rt, &other, (4, true, false), (3, false, false));
     Ok(())
 }
@@ -115,7 +115,7 @@ fn idle_is_below_priority_0(rt: HostRuntime) -> Result<(), Fail> {
     unready(&rt, &mut cores, 3);
     select(&rt, &mut cores, 0);
     expect(&rt, &cores, (0, false, false), (2, false, false));
-    make_ready(&rt, &mut cores, 3);
+    wake(&rt, &mut cores, 3);
     expect(&rt, &cores, (0, true, false), (2, false, false));
     Ok(())
 }
@@ -143,7 +143,7 @@ fn displaced_task_finds_another_core(rt: HostRuntime) -> Result<(), Fail> {
     set_mask(&rt, &mut cores, 3, 0xFFFF_FFFF);
     assert!(&rt; cores.has_task(3));
     assert_eq!(&rt; cores.mask(3), 3);
-    make_ready(&rt, &mut cores, 2);
+    wake(&rt, &mut cores, 2);
     expect(&rt, &cores, (3, true, false), (4, false, false));
     select(&rt, &mut cores, 0);
     expect(&rt, &cores, (2, false, false), (4, false, true));

@@ -1,34 +1,19 @@
 //! Calls that delay until a tick count, and calls that open and close a hold, as texts. What
 //! reading gives was worked out by hand from the format's description.
 
-use crate::outcomes::{Base, Document, Table, check_tables};
+use crate::outcomes::{Base, CallTables, check_calls};
 use crate::values::{Edited, Orders};
 use bench_types::{Call, Edit, Step};
 use std::test::Fail;
 
 // The tables of these calls.
-const TABLES: &[Table] = &[
-    Table {
-        document: Document::Session,
-        base: Base::Steps(0),
-        rows: SHAPES,
-    },
-    Table {
-        document: Document::Session,
-        base: Base::Steps(0),
-        rows: JUDGED,
-    },
-    Table {
-        document: Document::Bench,
-        base: Base::Inserted(0),
-        rows: EDITS,
-    },
-    Table {
-        document: Document::Edit(0),
-        base: Base::Text(REPLACE),
-        rows: REPLACES,
-    },
-];
+const CALLS: CallTables = CallTables {
+    mutexes: 0,
+    steps: &[SHAPES, JUDGED],
+    edits: EDITS,
+    replace: REPLACE,
+    replaces: REPLACES,
+};
 
 // Steps, and what reading the session of them gives: each member is missing, ill-typed, out of its
 // order or joined by an unknown one.
@@ -238,5 +223,5 @@ const ROWS: &str = r#"
 
 #[test]
 fn holds_as_texts(rt: HostRuntime) -> Result<(), Fail> {
-    check_tables(&rt, rt.alloc(), TABLES)
+    check_calls(&rt, rt.alloc(), &CALLS)
 }

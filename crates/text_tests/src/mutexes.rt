@@ -1,39 +1,26 @@
 //! Calls that take and give mutexes, as texts. What reading gives was worked out by hand from the
 //! format's description.
 
-use crate::outcomes::{Base, Document, Table, check_tables};
+use crate::outcomes::{Base, CallTables, Document, Table, check_calls, check_tables};
 use crate::values::{Edited, Orders};
 use bench_types::{Call, Edit, Step};
 use std::test::Fail;
 
 // The tables of these calls.
-const TABLES: &[Table] = &[
-    Table {
-        document: Document::Session,
-        base: Base::Steps(2),
-        rows: SHAPES,
-    },
-    Table {
-        document: Document::Session,
-        base: Base::Steps(2),
-        rows: JUDGED,
-    },
-    Table {
-        document: Document::Bench,
-        base: Base::Inserted(2),
-        rows: EDITS,
-    },
-    Table {
-        document: Document::Edit(2),
-        base: Base::Text(REPLACE),
-        rows: REPLACES,
-    },
-    Table {
-        document: Document::Session,
-        base: Base::Text(NO_MUTEX),
-        rows: NUMBERS_OF_MUTEXES,
-    },
-];
+const CALLS: CallTables = CallTables {
+    mutexes: 2,
+    steps: &[SHAPES, JUDGED],
+    edits: EDITS,
+    replace: REPLACE,
+    replaces: REPLACES,
+};
+
+// The table of sessions by the number of their mutexes.
+const NUMBERS: Table = Table {
+    document: Document::Session,
+    base: Base::Text(NO_MUTEX),
+    rows: NUMBERS_OF_MUTEXES,
+};
 
 // Steps, and what reading the session of them gives, which has two mutexes: each member is missing,
 // ill-typed, out of its order or joined by an unknown one.
@@ -201,5 +188,6 @@ const ROWS: &str = r#"
 
 #[test]
 fn mutex_calls_as_texts(rt: HostRuntime) -> Result<(), Fail> {
-    check_tables(&rt, rt.alloc(), TABLES)
+    check_calls(&rt, rt.alloc(), &CALLS)?;
+    check_tables(&rt, rt.alloc(), &[NUMBERS])
 }

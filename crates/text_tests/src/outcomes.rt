@@ -13,10 +13,22 @@ use std::test::Fail;
 
 /// Rows, each with a text, and after a bar the outcome of reading it: `read`, or the code of the
 /// fault and its path.
+#[derive(Drop)]
 pub struct Table {
     pub document: Document,
     pub base: Base,
     pub rows: &'static str,
+}
+
+/// The texts of some calls: rows of steps, rows of edits that insert them, and a text that replaces
+/// a step by one of them, with the rows that change it.
+pub struct CallTables {
+    /// How many mutexes the sessions have.
+    pub mutexes: u32,
+    pub steps: &'static [&'static str],
+    pub edits: &'static str,
+    pub replace: &'static str,
+    pub replaces: &'static str,
 }
 
 /// What a text is read as.
@@ -184,6 +196,36 @@ pub fn check_tables(rt: &impl Abort, alloc: Global, tables: &[Table]) -> Result<
         check_table(rt, alloc, table)?;
     }
     Ok(())
+}
+
+fn check_steps(rt: &impl Abort, alloc: Global, calls: &CallTables) -> Result<(), Fail> {
+    for rows in calls.steps {
+        let table = Table {
+            document: Document::Session,
+            base: Base::Steps(calls.mutexes),
+            rows: *rows,
+        };
+        check_table(rt, alloc, &table)?;
+    }
+    Ok(())
+}
+
+/// Checks each row of the tables of calls.
+pub fn check_calls(rt: &impl Abort, alloc: Global, calls: &CallTables) -> Result<(), Fail> {
+    check_steps(rt, alloc, calls)?;
+    let edits = [
+        Table {
+            document: Document::Bench,
+            base: Base::Inserted(calls.mutexes),
+            rows: calls.edits,
+        },
+        Table {
+            document: Document::Edit(calls.mutexes),
+            base: Base::Text(calls.replace),
+            rows: calls.replaces,
+        },
+    ];
+    check_tables(rt, alloc, &edits)
 }
 
 #[test]

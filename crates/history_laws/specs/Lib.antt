@@ -1,1 +1,2 @@
 pub mod LegalLaws
+pub mod PartLaws

@@ -3,6 +3,7 @@
 #![tactic(auto)]
 
 ghost use Rattle.history_laws.specs.LegalLaws.{EmptyIsLegal, OneMoreIsLegal, EmptyEndsAtStart, OneMoreEndsAfter};
+ghost use Rattle.history_laws.specs.PartLaws.{OneMoreIsMade, MadeInBoth, CoresAddUp, WholeIsBeginning, BeginningsNest, FirstIsBeginning, BeginningIsLegal, NoneIsGrowth, OneIsGrowth, GrowthGoesOn, GrowthLeavesOthers, GrowthKeepsBeginning};
 
 /// Legal histories, entry by entry.
 pub fn laws_of_histories()
@@ -15,4 +16,40 @@ pub fn laws_of_histories()
     ensures empty_ends_at_start { EmptyEndsAtStart }
     // One of an entry more ends after the entry's step.
     ensures one_more_ends_after { OneMoreEndsAfter }
+{}
+
+/// The entries of one core in a history, in their order.
+pub fn laws_of_entries()
+    // An entry more is one more of its core, and no other core's.
+    ensures one_more_is_made { OneMoreIsMade }
+    // Of two histories, one after the other, a core's entries are those of the first and then those
+    // of the second.
+    ensures made_in_both { MadeInBoth }
+    // The entries of all cores add up to the history.
+    ensures cores_add_up { CoresAddUp }
+{}
+
+/// Histories that begin with another one.
+pub fn laws_of_beginnings()
+    // Each history begins with itself.
+    ensures whole_is_beginning { WholeIsBeginning }
+    // A beginning of a beginning is a beginning.
+    ensures beginnings_nest { BeginningsNest }
+    // Entries that come after a history leave it the beginning.
+    ensures first_is_beginning { FirstIsBeginning }
+    // A beginning of a legal history is legal.
+    ensures beginning_is_legal { BeginningIsLegal }
+{}
+
+/// Histories to which one core added entries.
+pub fn laws_of_growth()
+    // No entries at all are growth by every core, and an entry is growth by its own.
+    ensures none_is_growth { NoneIsGrowth }
+    ensures one_is_growth { OneIsGrowth }
+    // A core's growth after its growth is its growth.
+    ensures growth_goes_on { GrowthGoesOn }
+    // Other cores have the entries that they had.
+    ensures growth_leaves_others { GrowthLeavesOthers }
+    // What the history began with, it begins with still.
+    ensures growth_keeps_beginning { GrowthKeepsBeginning }
 {}

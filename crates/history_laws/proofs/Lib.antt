@@ -1,2 +1,3 @@
+pub mod KeptOut
 pub mod Legal
 pub mod Parts

@@ -2,6 +2,7 @@
 //! does nothing: its contract is the laws, one a clause.
 #![tactic(auto)]
 
+ghost use Rattle.history_laws.specs.HoldLaws.{HeldIsKeptOut, StartHoldsNothing};
 ghost use Rattle.history_laws.specs.LegalLaws.{EmptyIsLegal, OneMoreIsLegal, EmptyEndsAtStart, OneMoreEndsAfter};
 ghost use Rattle.history_laws.specs.PartLaws.{OneMoreIsMade, MadeInBoth, CoresAddUp, WholeIsBeginning, BeginningsNest, FirstIsBeginning, BeginningIsLegal, NoneIsGrowth, OneIsGrowth, GrowthGoesOn, GrowthLeavesOthers, GrowthKeepsBeginning};
 
@@ -52,4 +53,12 @@ pub fn laws_of_growth()
     ensures growth_leaves_others { GrowthLeavesOthers }
     // What the history began with, it begins with still.
     ensures growth_keeps_beginning { GrowthKeepsBeginning }
+{}
+
+/// What an open hold of the kernel keeps out.
+pub fn laws_of_keeping_out()
+    // A step is refused with E1 exactly where the hold keeps it out, whatever the table.
+    ensures held_is_kept_out { HeldIsKeptOut }
+    // At the start no hold is open.
+    ensures start_holds_nothing { StartHoldsNothing }
 {}

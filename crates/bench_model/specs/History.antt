@@ -1,5 +1,5 @@
 -- A history: the entries that the threads of cores recorded of one kernel, in their order.
-use Rattle.std.specs.Prelude.{◌≡◌, ◌≢◌, ℕ, ◌-◌, List, ◌++◌, length, map, filter, take, All, Bool, false, ◌==◌, Ok, Option, is_some, option_map, if◌then◌else◌, slice_get}
+use Rattle.std.specs.Prelude.{◌≡◌, ◌≢◌, ℕ, ◌-◌, List, ◌++◌, length, map, filter, take, All, Bool, false, ◌==◌, Ok, Option, is_some, option_map, if◌then◌else◌, slice_get, ⊤}
 use Rattle.bench_types.specs.declared.entry.Entry.{Entry}
 use Rattle.bench_types.specs.declared.header.Header.{Header}
 use Rattle.bench_types.specs.declared.kernel_data.Hold.{Hold}
@@ -11,6 +11,7 @@ use Rattle.bench_types.specs.declared.step.Step.{Step}
 use Rattle.bench_types.specs.declared.step.Step.TheVariants.{Tick, Switch, Interrupt}
 use Rattle.bench_types.specs.declared.step.Step.TheVariants as steps
 use Rattle.bench_types.specs.Step.{settings_of, step_check}
+use Rattle.bench_model.specs.Control.{Control, current}
 use Rattle.bench_model.specs.Holds.{is_held_by, is_held_elsewhere, depth_of}
 use Rattle.bench_model.specs.Session.{step_of, state_after, reply_at}
 use Rattle.bench_model.specs.Start.{start}
@@ -86,3 +87,10 @@ places_of hold Tick = 1
 places_of hold (Switch core) = 1
 places_of hold (steps.Call core task call) = places_for hold core call
 places_of hold (Interrupt core note) = 1
+
+-- a call is made by the current task of its core
+abbrev pub IsByCurrent : Control → Step → Type 0
+IsByCurrent control Tick = ⊤
+IsByCurrent control (Switch core) = ⊤
+IsByCurrent control (steps.Call core task call) = current control core ≡ task
+IsByCurrent control (Interrupt core note) = ⊤

@@ -1,3 +1,4 @@
 pub mod KeptOut
 pub mod Legal
 pub mod Parts
+pub mod Room

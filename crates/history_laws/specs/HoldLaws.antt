@@ -1,11 +1,17 @@
 -- The laws of what an open hold keeps out. Each is a clause of a public function.
-use Rattle.std.specs.Prelude.{◌≡◌, ◌↔◌, true, None}
+use Rattle.std.specs.Prelude.{◌≡◌, ◌↔◌, ℕ, suc, ◌+◌, ◌≤◌, List, length, true, None}
+use Rattle.bench_types.specs.declared.entry.Entry.{Entry}
 use Rattle.bench_types.specs.declared.header.Header.{Header}
 use Rattle.bench_types.specs.declared.reply.Refusal.TheVariants.{Held}
-use Rattle.bench_types.specs.declared.reply.Reply.TheVariants.{Refused}
+use Rattle.bench_types.specs.declared.reply.Reply.TheVariants.{Done, Refused}
 use Rattle.bench_types.specs.declared.step.Step.{Step}
-use Rattle.bench_model.specs.History.{is_kept_out}
+use Rattle.bench_types.specs.declared.step.Step.TheVariants.{Call}
+use Rattle.bench_types.specs.declared.step.Call.TheVariants.{HoldClose}
+use Rattle.bench_model.specs.Control.{current}
+use Rattle.bench_model.specs.History.{is_kept_out, free_places, places_of, IsByCurrent}
+use Rattle.bench_model.specs.Holds.{is_held_by, depth_of, hold_closed}
 use Rattle.bench_model.specs.Session.{step_of}
+use Rattle.bench_model.specs.Sound.{IsSound}
 use Rattle.bench_model.specs.Start.{start}
 use Rattle.bench_model.specs.Table.{Table}
 
@@ -18,3 +24,19 @@ HeldIsKeptOut =
 -- at the start no core holds the kernel
 abbrev pub StartHoldsNothing : Type 0
 StartHoldsNothing = (header : Header) → (start header).hold ≡ None
+
+-- a step that there are places for leaves room for its entry, and for the closing of what is held
+-- after it
+abbrev pub StepFitsRoom : Type 0
+StepFitsRoom =
+    (limit : ℕ) (entries : List Entry) (table : Table) (step : Step) → IsSound table
+    → IsByCurrent table.control step → length entries + depth_of table.hold ≤ limit
+    → places_of table.hold step ≤ free_places limit entries table.hold →
+    suc (length entries) + depth_of (step_of step table).1.hold ≤ limit
+
+-- the current task of the core that holds the kernel always closes the hold
+abbrev pub CloseIsDone : Type 0
+CloseIsDone =
+    (table : Table) (core task : ℕ) → IsSound table → is_held_by core table.hold ≡ true
+    → current table.control core ≡ task →
+    step_of (Call core task HoldClose) table ≡ (Done, hold_closed core table)

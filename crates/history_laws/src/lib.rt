@@ -2,7 +2,7 @@
 //! does nothing: its contract is the laws, one a clause.
 #![tactic(auto)]
 
-ghost use Rattle.history_laws.specs.HoldLaws.{HeldIsKeptOut, StartHoldsNothing};
+ghost use Rattle.history_laws.specs.HoldLaws.{HeldIsKeptOut, StartHoldsNothing, StepFitsRoom, CloseIsDone};
 ghost use Rattle.history_laws.specs.LegalLaws.{EmptyIsLegal, OneMoreIsLegal, EmptyEndsAtStart, OneMoreEndsAfter};
 ghost use Rattle.history_laws.specs.PartLaws.{OneMoreIsMade, MadeInBoth, CoresAddUp, WholeIsBeginning, BeginningsNest, FirstIsBeginning, BeginningIsLegal, NoneIsGrowth, OneIsGrowth, GrowthGoesOn, GrowthLeavesOthers, GrowthKeepsBeginning};
 
@@ -61,4 +61,13 @@ pub fn laws_of_keeping_out()
     ensures held_is_kept_out { HeldIsKeptOut }
     // At the start no hold is open.
     ensures start_holds_nothing { StartHoldsNothing }
+{}
+
+/// The room that a recording needs while a core holds the kernel.
+pub fn laws_of_room()
+    // A step that there are places for leaves room for its entry, and for one for each time that
+    // the kernel is held after it.
+    ensures step_fits_room { StepFitsRoom }
+    // The current task of a core that holds the kernel can always close the hold.
+    ensures close_is_done { CloseIsDone }
 {}

@@ -1,6 +1,6 @@
 -- A history is legal entry by entry.
-use Rattle.std.proofs.Common.{◌≡◌, ℕ, zero, suc, List, [], ◌∷◌, ◌++◌, length, take, Some, refl, sym, ap, subst, ◌∙◌, arith}
-use Rattle.std.specs.Prelude.{All, ◌↔◌, ◌≢◌, Ok, option_map, slice_get}
+use Rattle.std.proofs.Common.{◌≡◌, ℕ, zero, suc, List, [], ◌∷◌, ◌++◌, ◌<◌, length, take, Some, refl, sym, ap, subst, ◌∙◌, arith}
+use Rattle.std.specs.Prelude.{All, ◌↔◌, ◌≢◌, Ok, option_map, slice_get, slice_index_or}
 use Rattle.std.proofs.lemmas.List.Elements.{All-nil, All-push, All-get_or, All-take, All-same}
 use Rattle.std.proofs.lemmas.List.{length-append, map-append}
 use Rattle.std.proofs.lemmas.Option.{same_Some}
@@ -10,8 +10,12 @@ use Rattle.bench_types.specs.declared.entry.Entry.{Entry}
 use Rattle.bench_types.specs.declared.header.Header.{Header}
 use Rattle.bench_types.specs.declared.reply.Refusal.TheVariants.{Held}
 use Rattle.bench_types.specs.declared.reply.Reply.TheVariants.{Refused}
-use Rattle.bench_types.specs.Step.{settings_of, step_check}
+use Rattle.bench_types.specs.Header.{header_check}
+use Rattle.bench_types.specs.Step.{settings_of, step_check, core_check, task_check, call_check, ◌>>◌}
+use Rattle.bench_types.proofs.Passes.{both_pass, checked_core, checked_header}
 use Rattle.bench_types.specs.declared.step.Step.{Step}
+use Rattle.bench_types.specs.declared.step.Step.TheVariants.{Tick, Switch, Interrupt}
+use Rattle.bench_types.specs.declared.step.Step.TheVariants as steps
 use Rattle.bench_model.specs.History.{core_of, steps_of, end_of, IsLegal, IsNext}
 use Rattle.bench_model.specs.Session.{step_of, state_after, state_at, reply_at}
 use Rattle.bench_model.specs.Start.{start}
@@ -99,3 +103,19 @@ legal_parts header entries entry legal = (
 
 pub one_more_legal : (header : Header) (entries : List Entry) (entry : Entry) → (IsLegal header (entries ++ entry ∷ []) ↔ (IsLegal header entries × IsNext header entries entry))
 one_more_legal header entries entry = (legal_parts header entries entry, λ both. legal-push header entries entry both.0 both.1)
+
+-- the core of a checked step is one of the cores
+core_there : (header : Header) (step : Step) → 0 < header.config.cores → step_check (settings_of header) step ≡ Ok tt → core_of step < header.config.cores
+core_there header Tick some checked = some
+core_there header (Switch core) some checked = checked_core (settings_of header) core checked
+core_there header (steps.Call core task call) some checked =
+    let settings = settings_of header in
+    checked_core settings core (both_pass (core_check settings core) (task_check settings task) (both_pass (core_check settings core >> task_check settings task) (call_check settings call) checked).0).0
+core_there header (Interrupt core note) some checked =
+    let settings = settings_of header in
+    checked_core settings core (both_pass (core_check settings core) (task_check settings note.task) checked).0
+
+pub cores_there : (header : Header) (entries : List Entry) → header_check header ≡ Ok tt → IsLegal header entries → All (λ entry. entry.core < header.config.cores) entries
+cores_there header entries passes legal place other below =
+    subst (λ core. core < header.config.cores) (sym (legal.own place other below))
+    (core_there header (slice_index_or entries place other).step (checked_header header passes).some_core (legal.checked place other below))

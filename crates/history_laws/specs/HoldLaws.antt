@@ -1,4 +1,5 @@
--- The laws of what an open hold keeps out. Each is a clause of a public function.
+-- The laws of what an open hold keeps out, and of the room that it needs until it is closed. Each
+-- is a clause of a public function.
 use Rattle.std.specs.Prelude.{◌≡◌, ◌↔◌, ℕ, suc, ◌+◌, ◌≤◌, List, length, true, None}
 use Rattle.bench_types.specs.declared.entry.Entry.{Entry}
 use Rattle.bench_types.specs.declared.header.Header.{Header}
@@ -25,8 +26,8 @@ HeldIsKeptOut =
 abbrev pub StartHoldsNothing : Type 0
 StartHoldsNothing = (header : Header) → (start header).hold ≡ None
 
--- a step that there are places for leaves room for its entry, and for the closing of what is held
--- after it
+-- a step that there are places for leaves room for its entry, and for the calls that close what is
+-- held after it
 abbrev pub StepFitsRoom : Type 0
 StepFitsRoom =
     (limit : ℕ) (entries : List Entry) (table : Table) (step : Step) → IsSound table

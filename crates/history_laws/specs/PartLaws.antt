@@ -34,7 +34,7 @@ BeginningsNest =
     (entries longer shorter : List Entry) → StartsWith entries longer → StartsWith longer shorter
     → StartsWith entries shorter
 
--- what comes after entries leaves them the beginning
+-- entries that others come after are the beginning
 abbrev pub FirstIsBeginning : Type 0
 FirstIsBeginning = (first second : List Entry) → StartsWith (first ++ second) first
 
@@ -44,11 +44,11 @@ BeginningIsLegal =
     (header : Header) (entries first : List Entry) → IsLegal header entries
     → StartsWith entries first → IsLegal header first
 
--- no entry is growth, by any core
+-- no entry at all is growth by every core
 abbrev pub NoneIsGrowth : Type 0
 NoneIsGrowth = (core : ℕ) (entries : List Entry) → IsGrowthBy core entries entries
 
--- an entry of the core is
+-- an entry is growth by its core
 abbrev pub OneIsGrowth : Type 0
 OneIsGrowth =
     (entries : List Entry) (entry : Entry) → IsGrowthBy entry.core entries (entries ++ entry ∷ [])
@@ -59,13 +59,13 @@ GrowthGoesOn =
     (core : ℕ) (old middle new : List Entry) → IsGrowthBy core old middle
     → IsGrowthBy core middle new → IsGrowthBy core old new
 
--- growth by a core leaves the entries of others
+-- growth by a core leaves the entries of the others
 abbrev pub GrowthLeavesOthers : Type 0
 GrowthLeavesOthers =
     (core other : ℕ) (old new : List Entry) → IsGrowthBy core old new → core ≢ other
     → made_by other new ≡ made_by other old
 
--- and the entries that there were as the beginning
+-- growth leaves what the history begins with
 abbrev pub GrowthKeepsBeginning : Type 0
 GrowthKeepsBeginning =
     (core : ℕ) (old new first : List Entry) → IsGrowthBy core old new → StartsWith old first

@@ -3,7 +3,7 @@
 #![tactic(auto)]
 
 ghost use Rattle.history_laws.specs.HoldLaws.{HeldIsKeptOut, StartHoldsNothing, StepFitsRoom, CloseIsDone};
-ghost use Rattle.history_laws.specs.LegalLaws.{EmptyIsLegal, OneMoreIsLegal, EmptyEndsAtStart, OneMoreEndsAfter};
+ghost use Rattle.history_laws.specs.LegalLaws.{EmptyIsLegal, OneMoreIsLegal, EmptyEndsAtStart, OneMoreEndsAfter, CoresAreThere};
 ghost use Rattle.history_laws.specs.PartLaws.{OneMoreIsMade, MadeInBoth, CoresAddUp, WholeIsBeginning, BeginningsNest, FirstIsBeginning, BeginningIsLegal, NoneIsGrowth, OneIsGrowth, GrowthGoesOn, GrowthLeavesOthers, GrowthKeepsBeginning};
 
 /// Legal histories, entry by entry.
@@ -17,6 +17,8 @@ pub fn laws_of_histories()
     ensures empty_ends_at_start { EmptyEndsAtStart }
     // One of an entry more ends after the entry's step.
     ensures one_more_ends_after { OneMoreEndsAfter }
+    // Each entry is made by one of the cores, where the header was checked.
+    ensures cores_are_there { CoresAreThere }
 {}
 
 /// The entries of one core in a history, in their order.

@@ -1,6 +1,6 @@
 -- The laws of what an open hold keeps out, and of the room that it needs until it is closed. Each
 -- is a clause of a public function.
-use Rattle.std.specs.Prelude.{◌≡◌, ◌↔◌, ℕ, suc, ◌+◌, ◌≤◌, List, length, true, None}
+use Rattle.std.specs.Prelude.{◌≡◌, ◌≢◌, ◌↔◌, ℕ, suc, ◌+◌, ◌≤◌, List, length, true, None}
 use Rattle.bench_types.specs.declared.entry.Entry.{Entry}
 use Rattle.bench_types.specs.declared.header.Header.{Header}
 use Rattle.bench_types.specs.declared.reply.Refusal.TheVariants.{Held}
@@ -9,8 +9,8 @@ use Rattle.bench_types.specs.declared.step.Step.{Step}
 use Rattle.bench_types.specs.declared.step.Step.TheVariants.{Call}
 use Rattle.bench_types.specs.declared.step.Call.TheVariants.{HoldClose}
 use Rattle.bench_model.specs.Control.{current}
-use Rattle.bench_model.specs.History.{is_kept_out, free_places, places_of, IsByCurrent}
-use Rattle.bench_model.specs.Holds.{is_held_by, depth_of, hold_closed}
+use Rattle.bench_model.specs.History.{core_of, is_kept_out, free_places, places_of, IsByCurrent}
+use Rattle.bench_model.specs.Holds.{is_held_by, depth_of, depth_by, hold_closed}
 use Rattle.bench_model.specs.Session.{step_of}
 use Rattle.bench_model.specs.Sound.{IsSound}
 use Rattle.bench_model.specs.Start.{start}
@@ -25,6 +25,12 @@ HeldIsKeptOut =
 -- at the start no core holds the kernel
 abbrev pub StartHoldsNothing : Type 0
 StartHoldsNothing = (header : Header) → (start header).hold ≡ None
+
+-- no step opens or closes a hold for another core
+abbrev pub OthersKeepDepth : Type 0
+OthersKeepDepth =
+    (table : Table) (step : Step) (core : ℕ) → IsSound table → core ≢ core_of step →
+    depth_by core (step_of step table).1.hold ≡ depth_by core table.hold
 
 -- a step that there are places for leaves room for its entry, and for the calls that close what is
 -- held after it

@@ -2,7 +2,7 @@
 //! does nothing: its contract is the laws, one a clause.
 #![tactic(auto)]
 
-ghost use Rattle.history_laws.specs.HoldLaws.{HeldIsKeptOut, StartHoldsNothing, StepFitsRoom, CloseIsDone};
+ghost use Rattle.history_laws.specs.HoldLaws.{HeldIsKeptOut, StartHoldsNothing, OthersKeepDepth, StepFitsRoom, CloseIsDone};
 ghost use Rattle.history_laws.specs.LegalLaws.{EmptyIsLegal, OneMoreIsLegal, EmptyEndsAtStart, OneMoreEndsAfter, CoresAreThere};
 ghost use Rattle.history_laws.specs.PartLaws.{OneMoreIsMade, MadeInBoth, CoresAddUp, WholeIsBeginning, BeginningsNest, FirstIsBeginning, BeginningIsLegal, NoneIsGrowth, OneIsGrowth, GrowthGoesOn, GrowthLeavesOthers, GrowthKeepsBeginning};
 
@@ -63,6 +63,8 @@ pub fn laws_of_keeping_out()
     ensures held_is_kept_out { HeldIsKeptOut }
     // At the start no hold is open.
     ensures start_holds_nothing { StartHoldsNothing }
+    // How many times over a core holds the kernel changes only by the core's own steps.
+    ensures others_keep_depth { OthersKeepDepth }
 {}
 
 /// The room that a recording needs while a core holds the kernel.

@@ -17,6 +17,10 @@ is_held_elsewhere core hold = option_map_or (λ hold. not (hold.core == core)) h
 abbrev pub depth_of : Option Hold → ℕ
 depth_of hold = option_map_or (λ hold. hold.depth) hold 0
 
+-- how many times over the core holds it
+abbrev pub depth_by : ℕ → Option Hold → ℕ
+depth_by core hold = if is_held_by core hold then depth_of hold else 0
+
 module _ {Orders : Type 0} where
   -- The core holds the kernel once more (V11 tasks.c, vTaskEnterCritical).
   unfoldable pub hold_opened : ℕ → State Orders → State Orders

@@ -4,6 +4,7 @@ pub mod ControlFields
 pub mod Cores
 pub mod Edits
 pub mod Equal
+pub mod History
 pub mod Holds
 pub mod Lists
 pub mod Looks

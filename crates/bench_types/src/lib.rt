@@ -4,6 +4,7 @@
 
 mod code;
 mod edit;
+mod entry;
 mod fault;
 mod header;
 mod items;
@@ -17,6 +18,7 @@ mod step;
 mod tally;
 
 pub use edit::{Edit, EditFault};
+pub use entry::Entry;
 pub use fault::Fault;
 pub use header::{Config, Header, TaskArgs};
 pub use items::Items;

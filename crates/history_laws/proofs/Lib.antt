@@ -1,0 +1,5 @@
+pub mod KeptOut
+pub mod Legal
+pub mod OwnHolds
+pub mod Parts
+pub mod Room

@@ -1,0 +1,62 @@
+-- A core opens and closes its own holds alone.
+use Rattle.std.proofs.Common.{◌≡◌, ℕ, ◌+◌, ◌-◌, Bool, true, false, cond, eqb, Option, Some, None, refl, sym, ap, ◌∙◌, arith}
+use Rattle.std.specs.Prelude.{◌≢◌}
+use Rattle.std.specs.Option.{option_map_or}
+use Rattle.std.proofs.lemmas.Bool.Decides.{nat_tests}
+use Rattle.bench_types.specs.declared.kernel_data.Hold.{Hold}
+use Rattle.bench_types.specs.declared.reply.Refusal.{Refusal}
+use Rattle.bench_types.specs.declared.reply.Reply.{Reply}
+use Rattle.bench_types.specs.declared.reply.Reply.TheVariants.{Refused}
+use Rattle.bench_types.specs.declared.step.Step.{Step}
+use Rattle.bench_types.specs.declared.step.Step.TheVariants as steps
+use Rattle.bench_types.specs.declared.step.Call.TheVariants.{HoldOpen, HoldClose}
+use Rattle.bench_model.specs.History.{core_of}
+use Rattle.bench_model.specs.Holds.{is_held_elsewhere, depth_of, depth_by, hold_opened, hold_closed}
+use Rattle.bench_model.specs.Refusals.{refusal}
+use Rattle.bench_model.specs.Session.{step_of}
+use Rattle.bench_model.specs.Sound.{IsSound}
+use Rattle.bench_model.specs.Steps.{performed, called, after}
+use Rattle.bench_model.specs.Table.{Table, stamp_queues}
+use Rattle.step_laws.proofs.Holds.{accepted}
+use Rattle.step_laws.proofs.Nears.{performed_near, keeps_step}
+
+-- a core holds nothing while only another one may
+none_held : (core acting : ℕ) (hold : Option Hold) → core ≢ acting → is_held_elsewhere acting hold ≡ false → depth_by core hold ≡ 0
+none_held core acting None apart free = refl
+none_held core acting (Some hold) apart free = ap (λ b. cond b hold.depth 0) (other (grind (arith, nat_tests, free)))
+  where
+    other : hold.core ≡ acting → eqb hold.core core ≡ false
+    other own = grind (arith, nat_tests, own, apart)
+
+-- the hold of the acting core, if it has one
+abbrev hold_by : ℕ → ℕ → Bool → Option Hold
+hold_by acting depth none = cond none None (Some (record { core = acting; depth = depth }))
+
+its_own : (acting depth : ℕ) (none : Bool) → is_held_elsewhere acting (hold_by acting depth none) ≡ false
+its_own acting depth true = refl
+its_own acting depth false = grind (arith, nat_tests)
+
+never_held : (core acting depth : ℕ) (none : Bool) (old : Option Hold) → core ≢ acting → is_held_elsewhere acting old ≡ false → depth_by core (hold_by acting depth none) ≡ depth_by core old
+never_held core acting depth none old apart free = none_held core acting (hold_by acting depth none) apart (its_own acting depth none) ∙ sym (none_held core acting old apart free)
+
+kept_depth : (core : ℕ) (step : Step) (table : Table) → IsSound table → keeps_step step ≡ true → depth_by core (performed stamp_queues step table).1.hold ≡ depth_by core table.hold
+kept_depth core step table sound keeps =
+    let sized = sound.consistent.sized in
+    ap (depth_by core) ((performed_near step table (omega arith)).3 keeps)
+
+performed_depth : (core : ℕ) (step : Step) (table : Table) → IsSound table → core ≢ core_of step → refusal stamp_queues step table ≡ None → depth_by core (performed stamp_queues step table).1.hold ≡ depth_by core table.hold
+unfolding performed called hold_opened hold_closed
+performed_depth core (steps.Call acting task HoldOpen) table sound apart none =
+    never_held core acting (depth_of table.hold + 1) false table.hold apart (accepted stamp_queues acting task HoldOpen table none).free
+performed_depth core (steps.Call acting task HoldClose) table sound apart none =
+    let left = depth_of table.hold - 1 in
+    never_held core acting left (eqb left 0) table.hold apart (accepted stamp_queues acting task HoldClose table none).free
+performed_depth core step table sound apart none = kept_depth core step table sound refl
+
+pub others_depth : (table : Table) (step : Step) (core : ℕ) → IsSound table → core ≢ core_of step → depth_by core (step_of step table).1.hold ≡ depth_by core table.hold
+unfolding after
+others_depth table step core sound apart = at (refusal stamp_queues step table) refl
+  where
+    at : (why : Option Refusal) → refusal stamp_queues step table ≡ why → depth_by core (option_map_or {U = Reply × Table} (λ why. (Refused why, table)) why (performed stamp_queues step table)).1.hold ≡ depth_by core table.hold
+    at None none = performed_depth core step table sound apart none
+    at (Some why) is = refl

@@ -1,0 +1,3 @@
+pub mod HoldLaws
+pub mod LegalLaws
+pub mod PartLaws

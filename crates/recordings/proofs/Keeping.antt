@@ -1,11 +1,13 @@
 -- What the fields of a recording keep, from its start and from step to step.
 use Rattle.std.proofs.Common.{◌≡◌, ℕ, ◌≤◌, false, List, [], ◌∷◌, ◌++◌, length, refl, sym, ap, subst, ◌∙◌, arith}
-use Rattle.std.specs.Prelude.{Ok}
+use Rattle.std.specs.Prelude.{Result, Ok, Err, IsErr}
 use Rattle.std.proofs.lemmas.List.{length_push}
 use Rattle.bench_types.specs.declared.entry.Entry.{Entry}
 use Rattle.bench_types.specs.declared.header.Header.{Header}
 use Rattle.bench_types.specs.declared.reply.Reply.{Reply}
 use Rattle.bench_types.specs.declared.step.Step.{Step}
+use Rattle.bench_types.specs.declared.fault.Fault.{Fault}
+use Rattle.bench_types.specs.Header.{header_check}
 use Rattle.bench_types.specs.Step.{settings_of, step_check}
 use Rattle.bench_model.specs.Equal.{StandsFor}
 use Rattle.bench_model.specs.History.{core_of, end_of, is_kept_out, places_of, IsByCurrent, IsLegal, IsNext}
@@ -20,9 +22,15 @@ use Rattle.history_laws.proofs.Room.{fits_room}
 use Rattle.recordings.specs.Kept.{IsRecording}
 use Rattle.recordings.specs.RecordingView.{RecordingView, entry_of, table_of, hold_of, room_of}
 
-pub start_is_recording : (header : Header) (entries : List Entry) (limit capacity : ℕ) (kernel : View) → StandsFor kernel (start header) → kernel.settings ≡ settings_of header → entries ≡ [] → limit ≤ capacity → IsRecording header entries limit capacity kernel
-start_is_recording header entries limit capacity kernel stands settings none reserved =
+-- a check without a fault
+pub no_fault : (check : Result (Unit {0}) Fault) → ¬ IsErr check → check ≡ Ok tt
+no_fault (Ok done) none = refl
+no_fault (Err why) none = absurd (none refl)
+
+pub start_is_recording : (header : Header) (entries : List Entry) (limit capacity : ℕ) (kernel : View) → header_check header ≡ Ok tt → StandsFor kernel (start header) → kernel.settings ≡ settings_of header → entries ≡ [] → limit ≤ capacity → IsRecording header entries limit capacity kernel
+start_is_recording header entries limit capacity kernel passes stands settings none reserved =
     subst (λ (es : List Entry). IsRecording header es limit capacity kernel) (sym none) (record {
+      passes = passes;
       stands = subst (StandsFor kernel) (sym (end_empty header)) stands;
       settings = settings;
       legal = legal_empty header;
@@ -61,6 +69,7 @@ module _ (header : Header) (entries later : List Entry) (limit capacity room : �
       let ends : end_of header later ≡ (step_of step table).1 = ap (end_of header) longer ∙ end-push header entries entry in
       let fits = fits_room limit entries table step kept.stands.sound fit.current kept.closable fit.room in
       record {
+        passes = kept.passes;
         stands = subst (StandsFor next) (sym ends) stands;
         settings = settings ∙ kept.settings;
         legal = subst (IsLegal header) (sym longer) (legal-push header entries entry kept.legal (fit_is_next before step fit));

@@ -1,7 +1,7 @@
 ghost use Rattle.std.specs.Prelude.{◌≡◌, ◌<◌, ◌≤◌, ◌+◌, ◌↔◌, length, option_map, is_some, false, Ok, Err, IsErr, IfOk, OnOk, OnErr};
 ghost use Rattle.bench_types.specs.Header.{header_check};
 ghost use Rattle.bench_types.specs.Step.{settings_of, step_check, call_check, task_check};
-ghost use Rattle.bench_model.specs.History.{core_of as made_on, is_kept_out, places_of, places_for, IsByCurrent, IsGrowthBy, IsLegal, IsNext};
+ghost use Rattle.bench_model.specs.History.{core_of as made_on, is_kept_out, places_of, IsByCurrent, IsGrowthBy, IsLegal, IsNext};
 ghost use Rattle.bench_model.specs.Holds.{depth_of, is_held_elsewhere};
 ghost use Rattle.recordings.specs.RecordingView.{empty_recording, entry_of, table_of, hold_of, task_on, room_of, with_step, answer_to, answer_in_room, call_on, answer_to_call};
 
@@ -116,7 +116,7 @@ impl Recording {
         Answer { place, reply }
     }
 
-    /// Makes the step and records it where there is room, else refuses it with G1.
+    // Makes the step and records it where there is room, else refuses it with G1.
     fn record_in_room(&mut self, step: Step) -> Result<Answer, RecordRefusal>
         requires checked { step_check (settings_of self.old.header) step ≡ Ok tt }
         requires current { IsByCurrent (table_of self.old).control step }
@@ -216,6 +216,7 @@ impl Recording {
     /// Ends the recording, and gives its header and what was recorded.
     pub fn into_parts(self) -> (Header, Vec<Entry>)
         ensures header { result.0 ≡ self.header }
+        ensures passes { header_check self.header ≡ Ok tt }
         ensures entries { result.1.items ≡ self.entries }
         ensures legal { IsLegal self.header self.entries }
         ensures few { length self.entries ≤ self.limit }
@@ -230,7 +231,8 @@ impl Recording {
 
     /// The settings and tasks that the recording began with.
     pub fn header(&self) -> &Header
-        ensures { result.now ≡ self.now.header }
+        ensures header { result.now ≡ self.now.header }
+        ensures passes { header_check self.now.header ≡ Ok tt }
     {
         &self.header
     }

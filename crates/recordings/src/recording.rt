@@ -97,6 +97,10 @@ impl Recording {
     }
 
     /// Makes the step on the kernel and records it. It takes no memory.
+    ///
+    /// The step is checked, a call is made by the current task of its core, no hold keeps the step
+    /// out, and there is room for it: [`Step::check`], [`Recording::running`],
+    /// [`Recording::is_kept_out`], [`Recording::places`] and [`Recording::room`] tell.
     pub fn record(&mut self, step: Step) -> Answer
         requires checked { step_check (settings_of self.old.header) step ≡ Ok tt }
         requires current { IsByCurrent (table_of self.old).control step }
@@ -129,20 +133,6 @@ impl Recording {
             return Err(RecordRefusal::Full);
         }
         Ok(self.record(step))
-    }
-
-    // How many places the step needs.
-    fn places(&self, step: &Step) -> u32
-        ensures { result ≡ places_of (hold_of self.now) step.now }
-    {
-        match *step {
-            Step::Tick | Step::Switch { .. } | Step::Interrupt { .. } => 1,
-            Step::Call { core, call, .. } => match call {
-                Call::HoldOpen => 2,
-                Call::HoldClose if self.holder() == Some(core) => 0,
-                _ => 1,
-            },
-        }
     }
 
     /// Makes a call of the core's current task and records it.
@@ -271,6 +261,32 @@ impl Recording {
         ensures { result ≡ option_map (λ hold. hold.core) (hold_of self.now) }
     {
         self.kernel.hold().map(|hold| hold.0)
+    }
+
+    /// How many places the step needs: to open a hold takes two, of which one is kept for the call
+    /// that closes it, to close the core's own hold none, every other step one.
+    pub fn places(&self, step: &Step) -> u32
+        ensures { result ≡ places_of (hold_of self.now) step.now }
+    {
+        match *step {
+            Step::Tick | Step::Switch { .. } | Step::Interrupt { .. } => 1,
+            Step::Call { core, call, .. } => match call {
+                Call::HoldOpen => 2,
+                Call::HoldClose if self.holder() == Some(core) => 0,
+                _ => 1,
+            },
+        }
+    }
+
+    /// Whether an open hold keeps the step out, so that the kernel would refuse it with E1.
+    pub fn is_kept_out(&self, step: &Step) -> bool
+        ensures { result ≡ is_kept_out (hold_of self.now) step.now }
+    {
+        match (*step, self.holder()) {
+            (Step::Switch { .. }, holder) => holder.is_some(),
+            (Step::Call { core, .. }, Some(holder)) => holder != core,
+            (Step::Tick | Step::Interrupt { .. } | Step::Call { .. }, _) => false,
+        }
     }
 
     /// The current task of the core.

@@ -1,0 +1,13 @@
+use Rattle.std.proofs.Common.{subst, sym}
+use Rattle.std.specs.Vec.{vec_capacity}
+use Rattle.bench_types.specs.declared.header.Header.{Header}
+use Rattle.bench_types.specs.Header.{header_check}
+use Rattle.recordings.specs.Kept.{IsRecording}
+use Rattle.recordings.proofs.Keeping.{no_fault, start_is_recording}
+use Rattle.recordings.proofs.recording.Recording.new.Goals as goal
+
+pub invariant_of-result : goal.invariant_of-result
+invariant_of-result c =
+    let entries = c.in_ok-entries.entries in
+    subst (λ (h : Header). IsRecording h entries.items c.args.limit (vec_capacity entries) c.in_ok-kernel.kernel) (sym c.in_ok-header.ensures)
+    (start_is_recording c.args.header.now entries.items c.args.limit (vec_capacity entries) c.in_ok-kernel.kernel (no_fault (header_check c.args.header.now) (λ fault. let bad = c.in_ok-kernel.ensures.bad_header.1 fault in cc bad)) c.in_ok-kernel.ensures.started c.in_ok-kernel.ensures.shape c.in_ok-entries.ensures.items c.in_ok-entries.ensures.capacity)

@@ -1,0 +1,2 @@
+pub mod RecordingView
+pub mod Kept

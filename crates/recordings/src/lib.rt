@@ -1,0 +1,6 @@
+//! A kernel with the history of the steps that were made on it, and with room for more of them.
+#![tactic(auto)]
+
+mod recording;
+
+pub use recording::{Answer, RecordRefusal, Recording};

@@ -1,0 +1,300 @@
+ghost use Rattle.std.specs.Prelude.{◌≡◌, ◌<◌, ◌≤◌, ◌+◌, ◌↔◌, length, option_map, is_some, false, Ok, Err, IsErr, IfOk, OnOk, OnErr};
+ghost use Rattle.bench_types.specs.Header.{header_check};
+ghost use Rattle.bench_types.specs.Step.{settings_of, step_check, call_check, task_check};
+ghost use Rattle.bench_model.specs.History.{core_of as made_on, is_kept_out, places_of, IsByCurrent, IsGrowthBy, IsLegal, IsNext};
+ghost use Rattle.bench_model.specs.Holds.{depth_of, is_held_elsewhere};
+ghost use Rattle.recordings.specs.RecordingView.{empty_recording, entry_of, table_of, hold_of, task_on, room_of, with_step, answer_to, answer_in_room, call_on, answer_to_call};
+
+use bench_types::{Call, Entry, Header, Note, Reply, Settings, Step};
+use smp_kernel::{Kernel, Meter, StartFault};
+use std::alloc::Global;
+use std::marker::Model;
+use thiserror::Error;
+
+/// What a step that was recorded is answered.
+#[derive(Clone, Copy, Debug, PartialEq, Eq, Hash)]
+pub struct Answer {
+    /// The index of its entry, the first at 0.
+    pub place: u32,
+    /// The kernel's reply, which may be that the step is refused.
+    pub reply: Reply,
+}
+
+/// Why a step is not recorded, with the code that the texts give it.
+#[derive(Clone, Copy, Debug, PartialEq, Eq, Hash, Error)]
+pub enum RecordRefusal {
+    /// G2: the current task of the core is an idle task, which makes no calls.
+    #[error("an idle task runs on the core")]
+    IdleHere,
+    /// G1: there is no room for the entry.
+    #[error("the recording is full")]
+    Full,
+}
+
+/// A kernel with the steps that were made on it, in their order, each with its core and its reply.
+///
+/// There is room for so many entries, and each time that a hold of the kernel is open keeps one
+/// place of it, for the call that closes it. So an open hold can always be closed.
+#[derive(Debug, Drop)]
+pub struct Recording {
+    header: Header,
+    kernel: Kernel,
+    meter: Meter,
+    entries: Vec<Entry>,
+    limit: u32,
+}
+
+impl Model for Recording {
+    ghost use Rattle.std.specs.Prelude.{vec_capacity};
+    ghost use Rattle.recordings.specs.RecordingView.{RecordingView};
+    ghost use Rattle.recordings.specs.Kept.{IsRecording};
+
+    ghost Value = { RecordingView };
+
+    ghost view = { λ recording. record {
+      header = recording.header;
+      entries = recording.entries.items;
+      limit = recording.limit;
+    } };
+
+    ghost invariant = { λ recording. IsRecording recording.header recording.entries.items
+        recording.limit (vec_capacity recording.entries) recording.kernel };
+}
+
+fn core_of(step: &Step) -> u32
+    ensures { result ≡ made_on step.now }
+{
+    match *step {
+        Step::Tick => 0,
+        Step::Switch { core } | Step::Call { core, .. } | Step::Interrupt { core, .. } => core,
+    }
+}
+
+impl Recording {
+    /// A recording of no entries, with room for `limit` of them. It takes all the memory that it
+    /// will ever have, and counts the steps that are made on `meter`.
+    ///
+    /// A header at fault is refused with F1.
+    pub fn new(
+        alloc: Global,
+        meter: Meter,
+        header: &Header,
+        limit: u32,
+    ) -> Result<Recording, StartFault>
+        ensures bad_header { (result ≡ Err StartFault.BadHeader) ↔ IsErr (header_check header.now) }
+        ensures empty { IfOk result (λ recording. recording ≡ empty_recording header.now limit) }
+    {
+        let kernel = Kernel::start(alloc, header)?;
+        let header = header.copy(alloc)?;
+        let entries = Vec::with_capacity(alloc, limit as usize)?;
+        Ok(Recording {
+            header,
+            kernel,
+            meter,
+            entries,
+            limit,
+        })
+    }
+
+    /// Makes the step on the kernel and records it. It takes no memory.
+    ///
+    /// The step is checked, a call is made by the current task of its core, no hold keeps the step
+    /// out, and there is room for it: [`Step::check`], [`Recording::running`],
+    /// [`Recording::is_kept_out`], [`Recording::places`] and [`Recording::room`] tell.
+    pub fn record(&mut self, step: Step) -> Answer
+        requires checked { step_check (settings_of self.old.header) step ≡ Ok tt }
+        requires current { IsByCurrent (table_of self.old).control step }
+        requires unheld { is_kept_out (hold_of self.old) step ≡ false }
+        requires room { places_of (hold_of self.old) step ≤ room_of self.old }
+        ensures answer { result ≡ answer_to step self.old }
+        ensures history { self.new ≡ with_step step self.old }
+        ensures next { IsNext self.old.header self.old.entries (entry_of step self.old) }
+    {
+        let place = self.entries.len() as u32;
+        let reply = self.kernel.step(&mut self.meter, &step);
+        self.entries.push_reserved(Entry {
+            core: core_of(&step),
+            step,
+            reply,
+        });
+        Answer { place, reply }
+    }
+
+    // Makes the step and records it where there is room, else refuses it with G1.
+    fn record_in_room(&mut self, step: Step) -> Result<Answer, RecordRefusal>
+        requires checked { step_check (settings_of self.old.header) step ≡ Ok tt }
+        requires current { IsByCurrent (table_of self.old).control step }
+        requires unheld { is_kept_out (hold_of self.old) step ≡ false }
+        ensures answer { result ≡ answer_in_room step self.old }
+        ensures history { OnOk result (self.new ≡ with_step step self.old) }
+        ensures unchanged { OnErr result (self.new ≡ self.old) }
+    {
+        if self.room() < self.places(&step) {
+            return Err(RecordRefusal::Full);
+        }
+        Ok(self.record(step))
+    }
+
+    /// Makes a call of the core's current task and records it.
+    ///
+    /// It is refused with G2 where that is an idle task, else with G1 where there is no room for
+    /// it: `HoldOpen` needs two places, a `HoldClose` of the core's own hold none, every other call
+    /// one. A refused call changes nothing.
+    pub fn call(&mut self, core: u32, call: Call) -> Result<Answer, RecordRefusal>
+        requires core { core < self.old.header.config.cores }
+        requires call { call_check (settings_of self.old.header) call ≡ Ok tt }
+        requires unheld { is_held_elsewhere core (hold_of self.old) ≡ false }
+        ensures answer { result ≡ answer_to_call core call self.old }
+        ensures history { OnOk result (self.new ≡ with_step (call_on core call self.old) self.old) }
+        ensures unchanged { OnErr result (self.new ≡ self.old) }
+        ensures growth { IsGrowthBy core self.old.entries self.new.entries }
+    {
+        let task = self.running(core);
+        if task < self.settings().cores {
+            return Err(RecordRefusal::IdleHere);
+        }
+        self.record_in_room(Step::Call { core, task, call })
+    }
+
+    /// Interrupts the core, whose handler notifies a task (`xTaskNotifyFromISR`), and records it;
+    /// G1 where there is no room for that, which changes nothing.
+    pub fn interrupt(&mut self, core: u32, note: Note) -> Result<Answer, RecordRefusal>
+        requires core { core < self.old.header.config.cores }
+        requires task { task_check (settings_of self.old.header) note.task ≡ Ok tt }
+        ensures answer { result ≡ answer_in_room (Step.Interrupt core note) self.old }
+        ensures history { OnOk result (self.new ≡ with_step (Step.Interrupt core note) self.old) }
+        ensures unchanged { OnErr result (self.new ≡ self.old) }
+        ensures growth { IsGrowthBy core self.old.entries self.new.entries }
+    {
+        self.record_in_room(Step::Interrupt { core, note })
+    }
+
+    /// Makes the tick interrupt, which core 0 serves (`xTaskIncrementTick`), and records it; G1
+    /// where there is no room for that, which changes nothing.
+    pub fn tick(&mut self) -> Result<Answer, RecordRefusal>
+        ensures answer { result ≡ answer_in_room Step.Tick self.old }
+        ensures history { OnOk result (self.new ≡ with_step Step.Tick self.old) }
+        ensures unchanged { OnErr result (self.new ≡ self.old) }
+        ensures growth { IsGrowthBy 0 self.old.entries self.new.entries }
+    {
+        self.record_in_room(Step::Tick)
+    }
+
+    /// Switches the core to the task that it selects (`vTaskSwitchContext`), and records it; G1
+    /// where there is no room for that, which changes nothing.
+    pub fn switch(&mut self, core: u32) -> Result<Answer, RecordRefusal>
+        requires core { core < self.old.header.config.cores }
+        requires unheld { is_some (hold_of self.old) ≡ false }
+        ensures answer { result ≡ answer_in_room (Step.Switch core) self.old }
+        ensures history { OnOk result (self.new ≡ with_step (Step.Switch core) self.old) }
+        ensures unchanged { OnErr result (self.new ≡ self.old) }
+        ensures growth { IsGrowthBy core self.old.entries self.new.entries }
+    {
+        self.record_in_room(Step::Switch { core })
+    }
+
+    /// What was recorded, in its order.
+    pub fn entries(&self) -> &[Entry]
+        ensures entries { result.now ≡ self.now.entries }
+        ensures legal { IsLegal self.now.header self.now.entries }
+        ensures closable { length self.now.entries + depth_of (hold_of self.now)
+            ≤ self.now.limit }
+    {
+        self.entries.as_slice()
+    }
+
+    /// Ends the recording, and gives its header and what was recorded.
+    pub fn into_parts(self) -> (Header, Vec<Entry>)
+        ensures header { result.0 ≡ self.header }
+        ensures passes { header_check self.header ≡ Ok tt }
+        ensures entries { result.1.items ≡ self.entries }
+        ensures legal { IsLegal self.header self.entries }
+        ensures few { length self.entries ≤ self.limit }
+    {
+        let Recording {
+            header,
+            entries,
+            ..
+        } = self;
+        (header, entries)
+    }
+
+    /// The settings and tasks that the recording began with.
+    pub fn header(&self) -> &Header
+        ensures header { result.now ≡ self.now.header }
+        ensures passes { header_check self.now.header ≡ Ok tt }
+    {
+        &self.header
+    }
+
+    /// The settings that the kernel keeps of the header.
+    pub fn settings(&self) -> Settings
+        ensures { result ≡ settings_of self.now.header }
+    {
+        self.kernel.settings()
+    }
+
+    /// How many entries there may be.
+    pub fn limit(&self) -> u32
+        ensures { result ≡ self.now.limit }
+    {
+        self.limit
+    }
+
+    /// How many more entries there is room for, without the places that an open hold keeps.
+    pub fn room(&self) -> u32
+        ensures { result ≡ room_of self.now }
+    {
+        self.limit - self.entries.len() as u32 - self.depth()
+    }
+
+    /// How many times over the kernel is held (`uxCriticalNesting`); 0 where no hold is open.
+    pub fn depth(&self) -> u32
+        ensures depth { result ≡ depth_of (hold_of self.now) }
+        ensures closable { length self.now.entries + result ≤ self.now.limit }
+    {
+        self.kernel.hold().map_or(0, |hold| hold.1)
+    }
+
+    /// The core that holds the kernel, if there is one.
+    pub fn holder(&self) -> Option<u32>
+        ensures { result ≡ option_map (λ hold. hold.core) (hold_of self.now) }
+    {
+        self.kernel.hold().map(|hold| hold.0)
+    }
+
+    /// How many places the step needs: to open a hold takes two, of which one is kept for the call
+    /// that closes it, to close the core's own hold none, every other step one.
+    pub fn places(&self, step: &Step) -> u32
+        ensures { result ≡ places_of (hold_of self.now) step.now }
+    {
+        match *step {
+            Step::Tick | Step::Switch { .. } | Step::Interrupt { .. } => 1,
+            Step::Call { core, call, .. } => match call {
+                Call::HoldOpen => 2,
+                Call::HoldClose if self.holder() == Some(core) => 0,
+                _ => 1,
+            },
+        }
+    }
+
+    /// Whether an open hold keeps the step out, so that the kernel would refuse it with E1.
+    pub fn is_kept_out(&self, step: &Step) -> bool
+        ensures { result ≡ is_kept_out (hold_of self.now) step.now }
+    {
+        match (*step, self.holder()) {
+            (Step::Switch { .. }, holder) => holder.is_some(),
+            (Step::Call { core, .. }, Some(holder)) => holder != core,
+            (Step::Tick | Step::Interrupt { .. } | Step::Call { .. }, _) => false,
+        }
+    }
+
+    /// The current task of the core.
+    pub fn running(&self, core: u32) -> u32
+        requires { core < self.now.header.config.cores }
+        ensures current { result ≡ task_on core self.now }
+        ensures task { result < (settings_of self.now.header).tasks }
+    {
+        self.kernel.running(core)
+    }
+}

@@ -28,13 +28,13 @@ no_fault (Ok done) none = refl
 no_fault (Err why) none = absurd (none refl)
 
 pub start_is_recording : (header : Header) (entries : List Entry) (limit capacity : ℕ) (kernel : View) → header_check header ≡ Ok tt → StandsFor kernel (start header) → kernel.settings ≡ settings_of header → entries ≡ [] → limit ≤ capacity → IsRecording header entries limit capacity kernel
-start_is_recording header entries limit capacity kernel passes stands settings none reserved =
+start_is_recording header entries limit capacity kernel passes stands settings none memory =
     subst (λ (es : List Entry). IsRecording header es limit capacity kernel) (sym none) (record {
       passes = passes;
       stands = subst (StandsFor kernel) (sym (end_empty header)) stands;
       settings = settings;
       legal = legal_empty header;
-      reserved = reserved;
+      memory = memory;
       closable = omega (arith, ap (λ (table : Table). depth_of table.hold) (end_empty header), ap depth_of (start_free header));
     })
 
@@ -57,7 +57,7 @@ module _ (header : Header) (entries later : List Entry) (limit capacity room : �
   abbrev before : RecordingView
   before = record { header = header; entries = entries; limit = limit }
 
-  pub step_is_recording : IsRecording header entries limit capacity kernel → IsFit (record { header = header; entries = entries; limit = limit }) step
+  pub step_is_recording : IsRecording header entries limit capacity kernel → IsFit before step
       → core ≡ core_of step → reply ≡ (step_of step (end_of header entries)).0 → StandsFor next (step_of step (end_of header entries)).1 → next.settings ≡ kernel.settings
       → later ≡ entries ++ (record { core = core; step = step; reply = reply }) ∷ [] → room ≡ capacity
       → IsRecording header later limit room next
@@ -73,6 +73,6 @@ module _ (header : Header) (entries later : List Entry) (limit capacity room : �
         stands = subst (StandsFor next) (sym ends) stands;
         settings = settings ∙ kept.settings;
         legal = subst (IsLegal header) (sym longer) (legal-push header entries entry kept.legal (fit_is_next before step fit));
-        reserved = omega (arith, kept.reserved, stays);
+        memory = omega (arith, kept.memory, stays);
         closable = omega (arith, ap length longer, length_push entries entry, ap (λ (t : Table). depth_of t.hold) ends, fits);
       }

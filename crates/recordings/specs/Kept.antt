@@ -17,5 +17,5 @@ pub record IsRecording (header : Header) (entries : List Entry) (limit capacity 
   pub stands : StandsFor kernel (end_of header entries)
   pub settings : kernel.settings ≡ settings_of header
   pub legal : IsLegal header entries
-  pub reserved : limit ≤ capacity
+  pub memory : limit ≤ capacity
   pub closable : length entries + depth_of (end_of header entries).hold ≤ limit

@@ -26,15 +26,15 @@ pub enum RecordRefusal {
     /// G2: the current task of the core is an idle task, which makes no calls.
     #[error("an idle task runs on the core")]
     IdleHere,
-    /// G1: there is no room for the entry.
+    /// G1: there is no room for the step.
     #[error("the recording is full")]
     Full,
 }
 
 /// A kernel with the steps that were made on it, in their order, each with its core and its reply.
 ///
-/// There is room for so many entries, and each time that a hold of the kernel is open keeps one
-/// place of it, for the call that closes it. So an open hold can always be closed.
+/// There is room for a limited number of entries. Each time that an open hold is open keeps one
+/// place free, for the call that closes it: so it can always be closed.
 #[derive(Debug, Drop)]
 pub struct Recording {
     header: Header,
@@ -74,7 +74,7 @@ impl Recording {
     /// A recording of no entries, with room for `limit` of them. It takes all the memory that it
     /// will ever have, and counts the steps that are made on `meter`.
     ///
-    /// A header at fault is refused with F1.
+    /// A header at fault is refused with F1, and else only memory can be wanting.
     pub fn new(
         alloc: Global,
         meter: Meter,

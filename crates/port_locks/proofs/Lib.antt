@@ -1,0 +1,5 @@
+pub mod Histories
+pub mod Alike
+pub mod Steps
+pub mod Seats
+pub mod Hands

@@ -1,0 +1,5 @@
+pub mod Holds
+pub mod Locks
+pub mod Steps
+pub mod Seats
+pub mod Lent

@@ -6,7 +6,8 @@ use Rattle.port_locks.specs.declared.view.View.{View}
 use Rattle.bench_types.specs.declared.entry.Entry.{Entry}
 use Rattle.port_locks.specs.declared.view.Terms.{Terms}
 use Rattle.port_locks.specs.Steps.{MayFollow}
-use Rattle.port_locks.specs.Seats.{SeatView, IsSeated, MayReturn, owns}
+use Rattle.port_locks.specs.Holds.{hold_after, own_hold}
+use Rattle.port_locks.specs.Seats.{SeatView, IsSeated, MayReturn, HasNoHold, owns}
 
 -- the slot that was taken last is the first in hand
 pub front_of : {S : Type 0} (held more : List (ℕ × S)) (x : ℕ × S) → held ≡ x ∷ more
@@ -44,3 +45,11 @@ pub same_may : (view : View) (number : ℕ) (own : Bool) (new : List Entry)
 same_may view number own new is owned may =
     subst (λ (x : ℕ × Bool). MayFollow view.terms x.0 x.1 view.seen new)
     (λ i. (sym is i, sym owned i)) may
+
+-- no hold is open of the seat's number, by its view
+pub same_hold : {V : Type 0} (seat inside : SeatView V) (number : ℕ) → inside ≡ seat
+    → number ≡ inside.number → HasNoHold seat
+    → own_hold number (hold_after inside.terms.header inside.seen) ≡ None
+same_hold seat inside number same is none =
+    subst (λ (n : ℕ). own_hold n (hold_after inside.terms.header inside.seen) ≡ None) (sym is)
+    (subst HasNoHold (sym same) none)

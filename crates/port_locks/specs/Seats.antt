@@ -5,6 +5,7 @@ use Rattle.bench_types.specs.declared.entry.Entry.{Entry}
 use Rattle.bench_model.specs.History.{made_by}
 use Rattle.port_locks.specs.declared.view.Terms.{Terms}
 use Rattle.port_locks.specs.declared.view.View.{View}
+use Rattle.port_locks.specs.Holds.{hold_after, own_hold}
 use Rattle.port_locks.specs.Steps.{Finds, MayFollow}
 
 pub record PairView : Type 0 where
@@ -46,6 +47,10 @@ module _ {V : Type 0} where
   -- the seat is one of the pair's
   abbrev pub IsSeatOf : PairView → SeatView V → Type 0
   IsSeatOf pair seat = (seat.pair ≡ pair.pair) × (seat.terms ≡ pair.terms)
+
+  -- the seat's core has no hold open
+  abbrev pub HasNoHold : SeatView V → Type 0
+  HasNoHold seat = own_hold seat.number (hold_after seat.terms.header seat.seen) ≡ None
 
   -- the seat with w as its value
   abbrev pub with_value : SeatView V → V → SeatView V

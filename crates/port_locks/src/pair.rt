@@ -1,9 +1,9 @@
 ghost use Rattle.std.specs.Prelude.{◌≡◌, ◌<◌, ◌+◌, ◌-◌, ◌↔◌, Ok, Err, IsErr, OnOk, OnErr, MatchBool};
-ghost use Rattle.port_locks.specs.Seats.{IsSeatOf, HasTaken, MayReturn, HasFreed};
+ghost use Rattle.port_locks.specs.Seats.{IsSeatOf, HasTaken, MayReturn, HasFreed, HasNoHold};
 ghost use Rattle.port_locks.specs.declared.fault.TryFault.{TryFault};
 
 use crate::kept::Kept;
-use crate::rule::{FreeInterrupt, LockRule, Publish, TakeInterrupt};
+use crate::rule::{FreeInterrupt, FreeTask, LockRule, Publish, TakeInterrupt, TakeTask};
 use crate::seat::Seat;
 use crate::view::{About, View};
 use crate::{Deep, TryFault};
@@ -135,5 +135,59 @@ impl<V: Kept> LockPair<V> {
         shared.store::<FreeInterrupt>(&mut seat.inner, 1, 0);
         seat.seen = entries;
         seat.interrupt_depth = 0;
+    }
+    // One try at the task word of a seat that owns neither word.
+    fn enter_task(&self, seat: &mut Seat<V>) -> bool
+        requires own { IsSeatOf self.now seat.old }
+        requires outside { (seat.old.task_depth ≡ 0) × (seat.old.interrupt_depth ≡ 0) }
+        ensures { MatchBool result (seat.new ≡ record seat.old { task_depth = 1 })
+            (seat.new ≡ seat.old) }
+    {
+        let mark = u64::from(seat.number) + 1;
+        let shared = &self.table.shared;
+        if shared.compare_exchange::<TakeTask>(&mut seat.inner, 2, 0, mark) != 0 {
+            return false;
+        }
+        seat.task_depth = 1;
+        true
+    }
+
+    /// Takes the task word, waiting until no other seat owns it. L2 where the seat has taken it 255
+    /// times over.
+    ///
+    /// A seat takes the task word before the interrupt word.
+    pub fn take_task<R: Wait>(&self, rt: &R, seat: &mut Seat<V>) -> Result<(), Deep>
+        requires own { IsSeatOf self.now seat.old }
+        requires before { seat.old.task_depth ≡ 0 → seat.old.interrupt_depth ≡ 0 }
+        ensures deep { IsErr result ↔ (seat.old.task_depth ≡ 255) }
+        ensures unchanged { OnErr result (seat.new ≡ seat.old) }
+        ensures deeper { OnOk result
+            (seat.new ≡ record seat.old { task_depth = seat.old.task_depth + 1 }) }
+    {
+        if seat.task_depth > 0 {
+            return seat.enter_task_again();
+        }
+        for _ in rt.forever() {
+            if self.enter_task(seat) {
+                return Ok(());
+            }
+            thread::yield_now();
+        }
+        unreachable!()
+    }
+
+    /// Gives the task word up once, and frees it with the last time: then the seat has no hold open,
+    /// and does not own the interrupt word.
+    pub fn free_task(&self, seat: &mut Seat<V>)
+        requires own { IsSeatOf self.now seat.old }
+        requires taken { 0 < seat.old.task_depth }
+        requires last { seat.old.task_depth ≡ 1
+            → (seat.old.interrupt_depth ≡ 0) × HasNoHold seat.old }
+        ensures { seat.new ≡ record seat.old { task_depth = seat.old.task_depth - 1 } }
+    {
+        if seat.task_depth == 1 {
+            self.table.shared.store::<FreeTask>(&mut seat.inner, 2, 0);
+        }
+        seat.task_depth -= 1;
     }
 }

@@ -94,4 +94,19 @@ impl<V: Kept> Seat<V> {
         self.interrupt_depth += 1;
         Ok(())
     }
+
+    // The task word once more, of the seat that owns it.
+    pub(crate) fn enter_task_again(&mut self) -> Result<(), Deep>
+        requires inside { 0 < self.old.task_depth }
+        ensures deep { IsErr result ↔ (self.old.task_depth ≡ 255) }
+        ensures unchanged { OnErr result (self.new ≡ self.old) }
+        ensures deeper { OnOk result
+            (self.new ≡ record self.old { task_depth = self.old.task_depth + 1 }) }
+    {
+        if self.task_depth == 255 {
+            return Err(Deep);
+        }
+        self.task_depth += 1;
+        Ok(())
+    }
 }

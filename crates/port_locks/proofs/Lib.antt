@@ -3,3 +3,4 @@ pub mod Alike
 pub mod Steps
 pub mod Seats
 pub mod Hands
+pub mod NewSeats

@@ -12,7 +12,7 @@ use Rattle.bench_model.specs.History.{IsLegal}
 use Rattle.port_locks.specs.declared.view.About.{About}
 use Rattle.port_locks.specs.declared.view.Terms.{Terms}
 use Rattle.port_locks.specs.declared.view.View.{View}
-use Rattle.port_locks.specs.Holds.{hold_after, own_hold}
+use Rattle.port_locks.specs.Holds.{hold_after, holder_after, own_hold}
 use Rattle.port_locks.specs.Locks.{PairState, IsTold, Fits, FitsIfKept, Locked}
 use Rattle.port_locks.specs.Steps.{seated, nobody, one_more, newcomer, handover, gathered}
 use Rattle.port_locks.proofs.Alike.{Alike, all_alike, fits_alike, views_stay}
@@ -63,6 +63,10 @@ own_hold_beyond task given number None few is all = refl
 own_hold_beyond task given number (Some h) few is all =
     let owner : task ≡ h.core + 1 = all h.core refl in
     rw (ne_eqb h.core number (λ e. omega arith)) refl
+
+no_hold : (hold : Option Hold) → option_map (λ (h : Hold). h.core) hold ≡ None → hold ≡ None
+no_hold None none = refl
+no_hold (Some h) none = absurd (cc none)
 
 module _ {V : Type 0} (terms_of : V → Terms) (list_of : V → List Entry) (key : About V) where
   abbrev Rule : State (Option V) View → Type 0
@@ -301,3 +305,18 @@ module _ {V : Type 0} (terms_of : V → Terms) (list_of : V → List Entry) (key
         not_given = λ n _. refl;
         views = λ seat u e. one (FitsIfKept q) (seated (terms_of key.first.value) 0 1) (λ _. mine) seat u e;
       }
+
+  pub opens_as : (value : V) (slots : List (Option V)) → slots ≡ Some value ∷ []
+      → key.first.value ≡ value → list_of value ≡ [] → 1 ≤ key.cores
+      → IsLegal (terms_of value).header (list_of value)
+      → holder_after (terms_of value).header (list_of value) ≡ None
+      → Rule (opening (0 ∷ 0 ∷ 0 ∷ []) slots (seated (terms_of key.first.value) 0 1))
+  opens_as value slots one is empty room legal unheld =
+      subst
+      (λ (xs : List (Option V)).
+      Rule (opening (0 ∷ 0 ∷ 0 ∷ []) xs (seated (terms_of key.first.value) 0 1)))
+      (sym one)
+      (opens value is empty room
+      (subst (IsLegal (terms_of value).header) empty legal)
+      (no_hold (hold_after (terms_of value).header [])
+      (subst (λ es. holder_after (terms_of value).header es ≡ None) empty unheld)))

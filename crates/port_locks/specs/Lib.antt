@@ -3,3 +3,4 @@ pub mod Locks
 pub mod Steps
 pub mod Seats
 pub mod Lent
+pub mod Made

@@ -4,6 +4,7 @@
 
 mod fault;
 mod kept;
+mod making;
 mod pair;
 mod rule;
 mod seat;

@@ -17,8 +17,8 @@ use std::thread;
 /// the owner of the interrupt word has in hand.
 #[derive(Drop)]
 pub struct LockPair<V: Kept> {
-    table: Table<Option<V>, View, About<V>, LockRule, Global>,
-    cores: u32,
+    pub(crate) table: Table<Option<V>, View, About<V>, LockRule, Global>,
+    pub(crate) cores: u32,
 }
 
 impl<V: Kept> Model for LockPair<V> {

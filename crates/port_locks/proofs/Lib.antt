@@ -4,3 +4,5 @@ pub mod Steps
 pub mod Seats
 pub mod Hands
 pub mod NewSeats
+pub mod Ends
+pub mod Joined

@@ -4,3 +4,4 @@ pub mod Steps
 pub mod Seats
 pub mod Lent
 pub mod Made
+pub mod Closing

@@ -2,6 +2,7 @@
 //! owner of the interrupt word takes out and puts back.
 #![tactic(auto)]
 
+mod closing;
 mod fault;
 mod kept;
 mod making;

@@ -1,7 +1,6 @@
 -- What the seats of a pair know at its end, once all are joined into one.
-use Rattle.std.proofs.Common.{◌≡◌, ◌≢◌, ◌⊎◌, ℕ, suc, ◌+◌, ◌<◌, ◌≤◌, ◌==◌, ◌-◌, List, [], ◌∷◌, length, get_or, Bool, true, false, true≢false, Option, Some, None, refl, sym, ap, ◌∙◌, subst, ⊎_elim, arith, eq-eqb, ne_eqb}
+use Rattle.std.proofs.Common.{◌≡◌, ◌≢◌, ℕ, ◌+◌, ◌<◌, ◌==◌, ◌-◌, List, [], ◌∷◌, length, get_or, Bool, true, false, true≢false, Option, Some, refl, sym, ap, ◌∙◌, subst, ⊎_elim, arith, eq-eqb}
 use Rattle.std.specs.List.{All}
-use Rattle.std.proofs.lemmas.Bool.Decides.{nat_tests}
 use mathlib.Core.Logic.{dite}
 use mathlib.Core.Option as maybe
 use native.Mathlib.Decide.{ℕ_discrete}
@@ -16,8 +15,7 @@ use Rattle.port_locks.specs.declared.view.View.{View}
 use Rattle.port_locks.specs.Closing.{Knows, IsEnd, HasAllNumbers, IsEndOf}
 use Rattle.port_locks.specs.Seats.{SeatView}
 use Rattle.port_locks.proofs.Joined.{IsKnown}
-use Rattle.port_locks.specs.Locks.{PairState, IsTold, Fits, IsHome, Locked}
-use Rattle.port_locks.proofs.Histories.{starts_itself}
+use Rattle.port_locks.specs.Locks.{PairState, IsTold, Fits, Locked}
 
 -- what is so of a seat that was joined, or is the one into which all are
 knows_end : (p : PairState) (id : ℕ) (v : View) → Fits p id v → (number : ℕ)

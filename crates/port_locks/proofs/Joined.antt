@@ -1,9 +1,9 @@
 -- What a seat knows of the seats that were joined into it.
-use Rattle.std.proofs.Common.{◌≡◌, ◌⊎◌, false, Option, ℕ, ◌+◌, ◌<◌, List, [], ◌∷◌, ◌++◌, length, get_or, refl, sym, ap, ◌∙◌, subst, ⊎_elim, inl, inr, arith, length-append, append_assoc}
+use Rattle.std.proofs.Common.{◌≡◌, false, Option, ℕ, ◌<◌, List, [], ◌∷◌, ◌++◌, length, get_or, refl, sym, ap, ◌∙◌, subst, ⊎_elim, inl, inr, arith, length-append, append_assoc}
 use Rattle.std.specs.List.{All}
 use Rattle.std.proofs.Math.Seq.{get_or-append_seam}
 use Rattle.std.proofs.lemmas.List.{get_or_append_left}
-use Rattle.std.proofs.lemmas.List.Elements.{All-nil, All-cons}
+use Rattle.std.proofs.lemmas.List.Elements.{All-cons}
 use Rattle.atomic_table.specs.Seated.{TableId}
 use Rattle.bench_types.specs.declared.entry.Entry.{Entry}
 use Rattle.port_locks.specs.declared.view.Handover.{Handover}

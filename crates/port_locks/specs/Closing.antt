@@ -1,11 +1,8 @@
 -- The end of a pair.
-use Rattle.std.specs.Prelude.{◌≡◌, ℕ, ◌+◌, ◌<◌, ◌⊎◌, List, [], ◌∷◌, length, Bool, ◌&&◌, ◌||◌, ◌==◌, not, Ok, Err, Result, ⊤, if◌then◌else◌, slice_index_or, map}
-use Rattle.std.specs.List.{All, list_all, list_any}
-use Rattle.list_orders.specs.Search.{numbers}
+use Rattle.std.specs.Prelude.{◌≡◌, ℕ, ◌<◌, ◌⊎◌, List, length, slice_index_or}
 use Rattle.bench_types.specs.declared.entry.Entry.{Entry}
-use Rattle.bench_model.specs.History.{made_by, StartsWith, IsLegal}
+use Rattle.bench_model.specs.History.{made_by, StartsWith}
 use Rattle.port_locks.specs.declared.view.Handover.{Handover}
-use Rattle.port_locks.specs.declared.view.Terms.{Terms}
 use Rattle.port_locks.specs.declared.view.View.{View}
 use Rattle.port_locks.specs.Seats.{SeatView}
 

@@ -1,5 +1,5 @@
 -- The seats of a new pair.
-use Rattle.std.specs.Prelude.{◌≡◌, ℕ, [], None}
+use Rattle.std.specs.Prelude.{ℕ, [], None}
 use Rattle.port_locks.specs.Seats.{PairView, SeatView}
 
 -- a seat that has seen nothing

@@ -1,4 +1,4 @@
-use Rattle.std.proofs.Common.{rules, ◌≡◌, ◌∙◌, Some, All, refl, sym, ap, subst}
+use Rattle.std.proofs.Common.{◌∙◌, All, sym, ap, subst}
 use Rattle.std.proofs.lemmas.Option.{same_Some}
 use Rattle.bench_model.specs.History.{IsLegal}
 use Rattle.port_locks.specs.Closing.{IsEndOf}

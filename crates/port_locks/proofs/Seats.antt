@@ -1,0 +1,322 @@
+-- Seats that are made and joined, and the pair at its start and its end, keep the rule.
+use Rattle.std.proofs.Common.{◌≡◌, ◌≢◌, ◌⊎◌, ℕ, zero, suc, ◌+◌, ◌<◌, ◌≤◌, ◌==◌, cond, List, [], ◌∷◌, ◌++◌, length, set, Bool, true, false, true≢false, Option, Some, None, option_map, refl, sym, ap, ◌∙◌, subst, ⊎_elim, inl, inr, arith, eq-eqb, ne_eqb}
+use Rattle.std.specs.List.{All}
+use Rattle.std.proofs.lemmas.List.Elements.{All-nil, All-cons, All-append}
+use mathlib.Core.Option as maybe
+use lib.ListN.{get_elem?}
+use Rattle.atomic_table.specs.Table.{State, Splits, Joins, opening}
+use Rattle.atomic_table.proofs.Lists.{at_set, set_else}
+use Rattle.bench_types.specs.declared.entry.Entry.{Entry}
+use Rattle.bench_types.specs.declared.kernel_data.Hold.{Hold}
+use Rattle.bench_model.specs.History.{IsLegal}
+use Rattle.port_locks.specs.declared.view.About.{About}
+use Rattle.port_locks.specs.declared.view.Terms.{Terms}
+use Rattle.port_locks.specs.declared.view.View.{View}
+use Rattle.port_locks.specs.Holds.{hold_after, holder_after, own_hold}
+use Rattle.port_locks.specs.Locks.{PairState, IsTold, Fits, FitsIfKept, Locked}
+use Rattle.port_locks.specs.Steps.{seated, nobody, one_more, newcomer, handover, gathered}
+use Rattle.port_locks.proofs.Alike.{Alike, all_alike, fits_alike, views_stay}
+use Rattle.port_locks.proofs.Histories.{starts_itself}
+use Rattle.port_locks.proofs.Steps.{elsewhere, not_told, same_home}
+
+at_end : (views : List View) (w u : View) (seat : ℕ)
+    → get_elem? (views ++ w ∷ []) seat ≡ maybe.some u
+    → (get_elem? views seat ≡ maybe.some u) ⊎ ((seat ≡ length views) × (w ≡ u))
+at_end [] w u zero e = inr (refl, maybe.some-injective w u e)
+at_end [] w u (suc seat) e = absurd (maybe.some-ne-none u (sym e))
+at_end (x ∷ xs) w u zero e = inl e
+at_end (x ∷ xs) w u (suc seat) e =
+    ⊎_elim inl (λ (t : (seat ≡ length xs) × (w ≡ u)). inr (ap suc t.0, t.1))
+    (at_end xs w u seat e)
+
+-- where the numbers are, with one more given out
+abbrev placed : ℕ → ℕ → (ℕ → ℕ × Bool) → ℕ → ℕ × Bool
+placed number seat place n = cond (n == number) (seat, true) (place n)
+
+-- where they are, with a seat joined into another
+abbrev joined : ℕ → ℕ → (ℕ → ℕ × Bool) → ℕ → ℕ × Bool
+joined id other place n = cond ((place n).0 == other) (id, false) (place n)
+
+-- a fact of the view that the one seat has
+one : (K : ℕ → View → Type 0) (w : View) → K 0 w → (seat : ℕ) (u : View)
+    → get_elem? (w ∷ []) seat ≡ maybe.some u → K seat u
+one K w mine zero u e = subst (K 0) (maybe.some-injective w u e) mine
+one K w mine (suc seat) u e = absurd (maybe.some-ne-none u (sym e))
+
+-- a fact of a view after one has changed
+keep : (seat : ℕ) (u : View) {X : Type 0} → X → (views : List View) (K : ℕ → View → Type 0)
+    (id : ℕ) (w : View) → K id w
+    → (seat ≢ id → get_elem? views seat ≡ maybe.some u → K seat u)
+    → get_elem? (set views id w) seat ≡ maybe.some u → K seat u
+keep seat u away views K id w mine others e =
+    ⊎_elim
+    (λ (t : (seat ≡ id) × (w ≡ u)).
+    subst (λ (x : ℕ × View). K x.0 x.1) (λ i. (sym t.0 i, t.1 i)) mine)
+    (λ (t : (seat ≢ id) × (get_elem? views seat ≡ maybe.some u)). others t.0 t.1)
+    (at_set views id seat w u e)
+
+-- no hold is open of a number that is not given out
+own_hold_beyond : (task given number : ℕ) (hold : Option Hold) → task ≤ given → number ≡ given
+    → ((core : ℕ) → option_map (λ (h : Hold). h.core) hold ≡ Some core → task ≡ core + 1)
+    → own_hold number hold ≡ None
+own_hold_beyond task given number None few is all = refl
+own_hold_beyond task given number (Some h) few is all =
+    let owner : task ≡ h.core + 1 = all h.core refl in
+    rw (ne_eqb h.core number (λ e. omega arith)) refl
+
+no_hold : (hold : Option Hold) → option_map (λ (h : Hold). h.core) hold ≡ None → hold ≡ None
+no_hold None none = refl
+no_hold (Some h) none = absurd (cc none)
+
+module _ {V : Type 0} (terms_of : V → Terms) (list_of : V → List Entry) (key : About V) where
+  abbrev Rule : State (Option V) View → Type 0
+  Rule = Locked terms_of list_of key
+
+  pub splits : (id : ℕ) (v : View) → v.spent ≡ false → v.number ≡ 0 → v.given < key.cores
+      → Splits Rule id v (one_more v) (newcomer v)
+  splits id v kept first room s r at =
+      let fits = r.views id v at kept in
+      let given : v.given ≡ r.p.given = fits.first first in
+      let some = r.some_given in
+      let seats : ℕ = length (set s.views id (one_more v)) in
+      let q : PairState =
+      record r.p {
+        given = r.p.given + 1;
+        place = placed r.p.given seats r.p.place;
+      } in
+      let N : ℕ → Type 0 = λ n. (n ≢ 0) × (n ≢ r.p.given) in
+      let old : (n : ℕ) → n ≢ r.p.given → q.place n ≡ r.p.place n =
+      λ n other. ap (λ b. cond b (seats, true) (r.p.place n)) (ne_eqb n r.p.given other) in
+      let a : Alike r.p q N = record {
+        terms = refl;
+        place = λ n apart. old n apart.1;
+        given = omega arith;
+        first = λ apart. absurd (apart.0 refl);
+        interrupt = λ n _. refl;
+        task = λ n _. refl;
+        owner = λ n _ _. (refl, refl);
+        history = starts_itself r.p.history;
+        made = λ n _. refl;
+        hold = λ n _. refl;
+      } in
+      let mine : Fits q id (one_more v) = record {
+        place = old v.number (λ same. omega arith) ∙ fits.place;
+        below = let less = fits.below in omega arith;
+        terms = fits.terms;
+        interrupt = fits.interrupt;
+        owner = fits.owner;
+        task = fits.task;
+        seen = fits.seen;
+        made = fits.made;
+        hold = fits.hold;
+        first = λ _. ap (λ n. n + 1) given;
+        told =
+            all_alike r.p q N a id v.told
+            (λ t is.
+            let apart : t.number ≢ v.number =
+            not_told r.p id v.number t.number fits.place is.place in (
+              (λ zero. apart (zero ∙ sym first)),
+              λ same. (let less = is.below in omega arith),
+            ))
+            fits.told;
+      } in
+      let header = r.p.terms.header in
+      let no_hold : own_hold v.given (hold_after header r.p.history) ≡ None =
+      own_hold_beyond r.p.task r.p.given v.given (hold_after header r.p.history)
+      r.task_given given r.hold in
+      let new : Fits q seats (newcomer v) = record {
+        place =
+            ap (λ b. cond b (seats, true) (r.p.place v.given)) (eq-eqb v.given r.p.given given);
+        below = omega arith;
+        terms = fits.terms;
+        interrupt = let few = r.interrupt_given in ne_eqb r.p.interrupt (v.given + 1) (λ e. omega arith);
+        owner = λ own. absurd (true≢false (sym own));
+        task = let few = r.task_given in ne_eqb r.p.task (v.given + 1) (λ e. omega arith);
+        seen = refl;
+        made = r.not_given v.given (omega arith);
+        hold = ap (own_hold v.given) r.start ∙ sym no_hold;
+        first = λ zero. omega arith;
+        told = All-nil (IsTold q seats);
+      } in
+      record {
+        p = q;
+        terms = r.terms;
+        words = r.words;
+        home = λ out. same_home terms_of list_of key r.p q s.homes refl refl (r.home out);
+        owned = r.owned;
+        legal = r.legal;
+        start = r.start;
+        hold = r.hold;
+        interrupt_given = let few = r.interrupt_given in omega arith;
+        task_given = let few = r.task_given in omega arith;
+        some_given = omega arith;
+        few_given = omega arith;
+        not_given = λ n over. r.not_given n (omega arith);
+        views = λ seat u e.
+            ⊎_elim
+            (λ there.
+            views_stay (FitsIfKept q) s.views id (one_more v) (λ _. mine)
+            (λ seat u apart at kept.
+            fits_alike r.p q N a seat u
+            (λ n b less there. (
+              (λ zero. elsewhere r.p id seat v.number n true b fits.place there apart
+                  (zero ∙ sym first)),
+              λ same. omega arith,
+            ))
+            (r.views seat u at kept))
+            seat u there)
+            (λ (t : (seat ≡ seats) × (newcomer v ≡ u)).
+            subst (λ (x : ℕ × View). FitsIfKept q x.0 x.1) (λ i. (sym t.0 i, t.1 i))
+            (λ _. new))
+            (at_end (set s.views id (one_more v)) (newcomer v) u seat e);
+      }
+
+  pub joins : (id : ℕ) (v : View) (other : ℕ) (w : View) → v.spent ≡ false → w.spent ≡ false
+      → w.owns_interrupt ≡ false → w.owns_task ≡ false
+      → Joins Rule id v other w (gathered v w) nobody
+  joins id v other w kept kept' free free_task s r at apart there =
+      let fits = r.views id v at kept in
+      let at' : get_elem? s.views other ≡ maybe.some w =
+      sym (set_else s.views id other (gathered v w) apart) ∙ there in
+      let fits' = r.views other w at' kept' in
+      let q : PairState = record r.p { place = joined id other r.p.place } in
+      let N : ℕ → Type 0 = λ n. (r.p.place n).0 ≢ other in
+      let old : (n : ℕ) → N n → q.place n ≡ r.p.place n =
+      λ n far. ap (λ b. cond b (id, false) (r.p.place n)) (ne_eqb (r.p.place n).0 other far) in
+      let moved : (n : ℕ) (b : Bool) → r.p.place n ≡ (other, b) → q.place n ≡ (id, false) =
+      λ n b is.
+      ap (λ b. cond b (id, false) (r.p.place n))
+      (eq-eqb (r.p.place n).0 other (ap (λ (x : ℕ × Bool). x.0) is)) in
+      let a : Alike r.p q N = record {
+        terms = refl;
+        place = old;
+        given = omega arith;
+        first = λ _. refl;
+        interrupt = λ n _. refl;
+        task = λ n _. refl;
+        owner = λ n _ _. (refl, refl);
+        history = starts_itself r.p.history;
+        made = λ n _. refl;
+        hold = λ n _. refl;
+      } in
+      let far : (seat n : ℕ) (b : Bool) → r.p.place n ≡ (seat, b) → seat ≢ other → N n =
+      λ seat n b is off e. off (sym (ap (λ (x : ℕ × Bool). x.0) is) ∙ e) in
+      let off : id ≢ other = λ e. apart (sym e) in
+      let hands : IsTold q id (handover w) = record {
+        place = moved w.number true fits'.place;
+        below = fits'.below;
+        interrupt = fits'.interrupt ∙ free;
+        task = fits'.task ∙ free_task;
+        seen = fits'.seen;
+        made = fits'.made;
+      } in
+      let theirs : All (IsTold q id) w.told =
+      λ k d l. let t = fits'.told k d l in record {
+        place = moved _ false t.place;
+        below = t.below;
+        interrupt = t.interrupt;
+        task = t.task;
+        seen = t.seen;
+        made = t.made;
+      } in
+      let mine : Fits q id (gathered v w) = record {
+        place = old v.number (far id v.number true fits.place off) ∙ fits.place;
+        below = fits.below;
+        terms = fits.terms;
+        interrupt = fits.interrupt;
+        owner = fits.owner;
+        task = fits.task;
+        seen = fits.seen;
+        made = fits.made;
+        hold = fits.hold;
+        first = fits.first;
+        told =
+            All-append (IsTold q id) v.told (handover w ∷ w.told)
+            (all_alike r.p q N a id v.told
+            (λ t is. far id t.number false is.place off) fits.told)
+            (All-cons (IsTold q id) (handover w) w.told hands theirs);
+      } in
+      record {
+        p = q;
+        terms = r.terms;
+        words = r.words;
+        home = λ out. same_home terms_of list_of key r.p q s.homes refl refl (r.home out);
+        owned = r.owned;
+        legal = r.legal;
+        start = r.start;
+        hold = r.hold;
+        interrupt_given = r.interrupt_given;
+        task_given = r.task_given;
+        some_given = r.some_given;
+        few_given = r.few_given;
+        not_given = r.not_given;
+        views =
+            views_stay (FitsIfKept q) (set s.views id (gathered v w)) other nobody
+            (λ spent. absurd (true≢false spent))
+            (λ seat u away.
+            keep seat u away s.views (FitsIfKept q) id (gathered v w) (λ _. mine)
+            (λ e was kept.
+            fits_alike r.p q N a seat u (λ n b _ is. far seat n b is away)
+            (r.views seat u was kept)));
+      }
+
+  -- the pair as it is made
+  pub opens : (value : V) → key.first.value ≡ value → list_of value ≡ [] → 1 ≤ key.cores
+      → IsLegal (terms_of value).header [] → hold_after (terms_of value).header [] ≡ None
+      → Rule (opening (0 ∷ 0 ∷ 0 ∷ []) (Some value ∷ []) (seated (terms_of key.first.value) 0 1))
+  opens value is empty room legal start =
+      let terms : Terms = terms_of value in
+      let same : terms ≡ terms_of key.first.value = ap terms_of (sym is) in
+      let q : PairState = record {
+        terms = terms;
+        history = [];
+        given = 1;
+        place = λ _. (0, true);
+        interrupt = 0;
+        task = 0;
+        out = false;
+      } in
+      let mine : Fits q 0 (seated (terms_of key.first.value) 0 1) = record {
+        place = refl;
+        below = omega arith;
+        terms = sym same;
+        interrupt = ne_eqb 0 1 (λ e. omega arith);
+        owner = λ own. absurd (true≢false (sym own));
+        task = ne_eqb 0 1 (λ e. omega arith);
+        seen = refl;
+        made = refl;
+        hold = refl;
+        first = λ _. refl;
+        told = All-nil (IsTold q 0);
+      } in
+      record {
+        p = q;
+        terms = same;
+        words = refl;
+        home = λ _. record { value = value; slot = refl; terms = refl; list = empty };
+        owned = λ out. absurd (true≢false (sym out));
+        legal = legal;
+        start = start;
+        hold = λ core held. absurd (cc (sym (ap (option_map (λ h. h.core)) start) ∙ held));
+        interrupt_given = omega arith;
+        task_given = omega arith;
+        some_given = omega arith;
+        few_given = room;
+        not_given = λ n _. refl;
+        views = λ seat u e. one (FitsIfKept q) (seated (terms_of key.first.value) 0 1) (λ _. mine) seat u e;
+      }
+
+  pub opens_as : (value : V) (slots : List (Option V)) → slots ≡ Some value ∷ []
+      → key.first.value ≡ value → list_of value ≡ [] → 1 ≤ key.cores
+      → IsLegal (terms_of value).header (list_of value)
+      → holder_after (terms_of value).header (list_of value) ≡ None
+      → Rule (opening (0 ∷ 0 ∷ 0 ∷ []) slots (seated (terms_of key.first.value) 0 1))
+  opens_as value slots one is empty room legal unheld =
+      subst
+      (λ (xs : List (Option V)).
+      Rule (opening (0 ∷ 0 ∷ 0 ∷ []) xs (seated (terms_of key.first.value) 0 1)))
+      (sym one)
+      (opens value is empty room
+      (subst (IsLegal (terms_of value).header) empty legal)
+      (no_hold (hold_after (terms_of value).header [])
+      (subst (λ es. holder_after (terms_of value).header es ≡ None) empty unheld)))

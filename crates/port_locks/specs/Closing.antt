@@ -1,0 +1,37 @@
+-- The end of a pair.
+use Rattle.std.specs.Prelude.{◌≡◌, ℕ, ◌<◌, ◌⊎◌, List, length, slice_index_or}
+use Rattle.bench_types.specs.declared.entry.Entry.{Entry}
+use Rattle.bench_model.specs.History.{made_by, StartsWith}
+use Rattle.port_locks.specs.declared.view.Handover.{Handover}
+use Rattle.port_locks.specs.declared.view.View.{View}
+use Rattle.port_locks.specs.Seats.{SeatView}
+
+-- the view has taken in a seat of that number, with what it had seen and made, or is that seat's
+abbrev pub Knows : View → ℕ → List Entry → List Entry → Type 0
+Knows v number seen made =
+    ((v.number ≡ number) × (v.seen ≡ seen) × (v.made ≡ made))
+    ⊎ ((k : ℕ) × (t : Handover) × (k < length v.told)
+    × ((d : Handover) → slice_index_or v.told k d ≡ t) × (t.number ≡ number) × (t.seen ≡ seen)
+    × (t.made ≡ made))
+
+-- the history begins with all that such seats had seen, and has of each just its own entries
+abbrev pub IsEnd : View → List Entry → Type 0
+IsEnd v history =
+    (number : ℕ) (seen made : List Entry) → Knows v number seen made
+    → StartsWith history seen × (made_by number history ≡ made)
+
+-- the seat owns neither word
+abbrev pub IsFree : {V : Type 0} → SeatView V → Type 0
+IsFree seat = (seat.task_depth ≡ 0) × (seat.interrupt_depth ≡ 0)
+
+-- each of the numbers below the number of cores is a seat's
+abbrev pub HasAllNumbers : {V : Type 0} → ℕ → List (SeatView V) → Type 0
+HasAllNumbers {V} cores seats =
+    (number : ℕ) → number < cores
+    → (k : ℕ) × (k < length seats)
+    × ((d : SeatView V) → (slice_index_or seats k d).number ≡ number)
+
+-- the history begins with all that the seat has seen, and its entries of the seat are its own
+abbrev pub IsEndOf : {V : Type 0} → List Entry → SeatView V → Type 0
+IsEndOf history seat =
+    StartsWith history seat.seen × (made_by seat.number history ≡ seat.made)

@@ -1,0 +1,15 @@
+/// L2: the word is taken 255 times over already.
+#[derive(Clone, Copy, Debug, Drop, PartialEq, Eq, thiserror::Error)]
+#[error("L2")]
+pub struct Deep;
+
+/// Why a single try at the interrupt word did not take it.
+#[derive(Clone, Copy, Debug, Drop, PartialEq, Eq, thiserror::Error)]
+pub enum TryFault {
+    /// L1: another seat owned it.
+    #[error("L1")]
+    Busy,
+    /// L2: this seat has taken it 255 times over already.
+    #[error("L2")]
+    Deep,
+}

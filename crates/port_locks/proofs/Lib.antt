@@ -6,3 +6,4 @@ pub mod Hands
 pub mod NewSeats
 pub mod Ends
 pub mod Joined
+pub mod Tests

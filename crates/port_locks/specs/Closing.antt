@@ -1,7 +1,11 @@
 -- The end of a pair.
-use Rattle.std.specs.Prelude.{◌≡◌, ℕ, ◌<◌, ◌⊎◌, List, length, slice_index_or}
+use Rattle.std.specs.Prelude.{◌≡◌, ◌⊎◌, ℕ, ◌<◌, List, length, Bool, ◌&&◌, ◌==◌, Ok, Err, Result, ⊤, if◌then◌else◌, slice_index_or}
+use Rattle.std.specs.List.{list_all, list_any}
+use Rattle.list_orders.specs.Search.{numbers}
 use Rattle.bench_types.specs.declared.entry.Entry.{Entry}
 use Rattle.bench_model.specs.History.{made_by, StartsWith}
+use Rattle.port_locks.specs.declared.fault.CloseFault.{CloseFault}
+use Rattle.port_locks.specs.declared.fault.CloseFault.TheVariants.{WrongSeats, Owned}
 use Rattle.port_locks.specs.declared.view.Handover.{Handover}
 use Rattle.port_locks.specs.declared.view.View.{View}
 use Rattle.port_locks.specs.Seats.{SeatView}
@@ -35,3 +39,23 @@ HasAllNumbers {V} cores seats =
 abbrev pub IsEndOf : {V : Type 0} → List Entry → SeatView V → Type 0
 IsEndOf history seat =
     StartsWith history seat.seen × (made_by seat.number history ≡ seat.made)
+
+abbrev pub has_number : {V : Type 0} → ℕ → List (SeatView V) → Bool
+has_number number seats = list_any (λ seat. seat.number == number) seats
+
+-- each of the numbers below the number of cores is found
+abbrev pub has_all_numbers : {V : Type 0} → ℕ → List (SeatView V) → Bool
+has_all_numbers cores seats = list_all (λ number. has_number number seats) (numbers cores)
+
+abbrev pub is_free : {V : Type 0} → SeatView V → Bool
+is_free seat = (seat.task_depth == 0) && (seat.interrupt_depth == 0)
+
+abbrev pub are_free : {V : Type 0} → List (SeatView V) → Bool
+are_free seats = list_all is_free seats
+
+-- L4 where the seats' numbers are not those below the number of cores, each once, else L3 where a
+-- seat owns a word
+abbrev pub close_check : {V : Type 0} → ℕ → List (SeatView V) → Result ⊤ CloseFault
+close_check cores seats =
+    if (length seats == cores) && has_all_numbers cores seats
+    then (if are_free seats then Ok tt else Err Owned) else Err WrongSeats

@@ -1,14 +1,17 @@
 //! Closing a lock pair.
-ghost use Rattle.std.specs.Prelude.{◌≡◌, ◌<◌, [], false, All, length, vec_len};
+ghost use Rattle.std.specs.Prelude.{◌≡◌, ◌<◌, [], false, All, length, vec_len, Ok, Err, IfOk, OnOk};
 ghost use Rattle.bench_model.specs.History.{IsLegal};
 ghost use Rattle.port_locks.specs.Seats.{IsSeatOf};
-ghost use Rattle.port_locks.specs.Closing.{IsFree, Knows, HasAllNumbers, IsEndOf};
+ghost use Rattle.port_locks.specs.Closing.{IsFree, Knows, HasAllNumbers, IsEndOf, has_number, has_all_numbers, are_free, close_check};
+ghost use Rattle.port_locks.specs.declared.fault.CloseFault.{CloseFault};
 
+use crate::CloseFault;
 use crate::kept::Kept;
 use crate::pair::LockPair;
 use crate::rule::Gather;
 use crate::seat::Seat;
 use crate::view::View;
+use bench_types::Items;
 
 impl<V: Kept> LockPair<V> {
     // One seat of the table that was told what all of them saw and made.
@@ -49,4 +52,63 @@ impl<V: Kept> LockPair<V> {
         closed.free();
         value
     }
+
+    /// Takes the pair apart, once each of its seats is back and owns neither word: what is left is
+    /// the value. L4 before L3; a refusal hands the pair and the seats back.
+    pub fn close(self, seats: Vec<Seat<V>>) -> Result<V, PairRefused<V>>
+        requires own { All (IsSeatOf self) seats.items }
+        ensures refused { (why : CloseFault) → close_check self.cores seats.items ≡ Err why
+            → result ≡ Err (record { pair = self; seats = seats.items; why = why }) }
+        ensures closed { OnOk result (close_check self.cores seats.items ≡ Ok tt) }
+        ensures terms { IfOk result (λ value. V.terms value ≡ self.terms) }
+        ensures legal { IfOk result (λ value. IsLegal self.terms.header (V.list value)) }
+        ensures seats { IfOk result (λ value. All (IsEndOf (V.list value)) seats.items) }
+    {
+        match close_fault(self.cores, seats.as_slice()) {
+            Ok(()) => Ok(self.end(seats)),
+            Err(why) => Err(PairRefused {
+                pair: self,
+                seats: Items::new(seats),
+                why,
+            }),
+        }
+    }
+}
+
+/// A pair that was not closed, with its seats.
+#[derive(Drop)]
+pub struct PairRefused<V: Kept> {
+    pub pair: LockPair<V>,
+    pub seats: Items<Seat<V>>,
+    pub why: CloseFault,
+}
+
+fn is_there<V: Kept>(seats: &[Seat<V>], number: u32) -> bool
+    ensures { result ≡ has_number number seats.now }
+{
+    seats.iter().any(|seat| seat.number() == number)
+}
+
+fn are_all_there<V: Kept>(seats: &[Seat<V>], cores: u32) -> bool
+    ensures { result ≡ has_all_numbers cores seats.now }
+{
+    (0..cores).all(|number| is_there(seats, number))
+}
+
+fn are_all_free<V: Kept>(seats: &[Seat<V>]) -> bool
+    ensures { result ≡ are_free seats.now }
+{
+    seats.iter().all(|seat| seat.task_depth() == 0 && seat.interrupt_depth() == 0)
+}
+
+fn close_fault<V: Kept>(cores: u32, seats: &[Seat<V>]) -> Result<(), CloseFault>
+    ensures { result ≡ close_check cores seats.now }
+{
+    if seats.len() != cores as usize || !are_all_there(seats, cores) {
+        return Err(CloseFault::WrongSeats);
+    }
+    if !are_all_free(seats) {
+        return Err(CloseFault::Owned);
+    }
+    Ok(())
 }

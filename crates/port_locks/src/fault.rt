@@ -13,3 +13,14 @@ pub enum TryFault {
     #[error("L2")]
     Deep,
 }
+
+/// Why a pair was not closed.
+#[derive(Clone, Copy, Debug, Drop, PartialEq, Eq, thiserror::Error)]
+pub enum CloseFault {
+    /// L4: the seats' numbers are not those below the number of cores, each once.
+    #[error("L4")]
+    WrongSeats,
+    /// L3: a seat owns a word.
+    #[error("L3")]
+    Owned,
+}

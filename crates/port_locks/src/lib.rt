@@ -11,7 +11,8 @@ mod rule;
 mod seat;
 mod view;
 
-pub use fault::{Deep, TryFault};
+pub use closing::PairRefused;
+pub use fault::{CloseFault, Deep, TryFault};
 pub use kept::Kept;
 pub use pair::LockPair;
 pub use seat::Seat;

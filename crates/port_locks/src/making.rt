@@ -34,7 +34,7 @@ fn pair_over<V: Kept>(
     cores: u32,
 ) -> LockPair<V>
     requires { (table.shared.table_id.words ≡ 3) × (table.shared.table_id.slots ≡ 1)
-        × (table.shared.key.cores ≡ cores) }
+        × (table.shared.key.cores ≡ cores) × (0 < cores) }
     ensures { result ≡ record {
       pair = table.shared.table_id;
       terms = V.terms table.shared.key.first.value;

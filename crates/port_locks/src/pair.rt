@@ -22,7 +22,7 @@ pub struct LockPair<V: Kept> {
 }
 
 impl<V: Kept> Model for LockPair<V> {
-    ghost use Rattle.std.specs.Prelude.{◌≡◌};
+    ghost use Rattle.std.specs.Prelude.{◌≡◌, ◌<◌};
     ghost use Rattle.port_locks.specs.Seats.{PairView};
 
     ghost Value = { PairView };
@@ -34,7 +34,8 @@ impl<V: Kept> Model for LockPair<V> {
     } };
 
     ghost invariant = { λ pair. (pair.table.shared.table_id.words ≡ 3)
-        × (pair.table.shared.table_id.slots ≡ 1) × (pair.table.shared.key.cores ≡ pair.cores) };
+        × (pair.table.shared.table_id.slots ≡ 1) × (pair.table.shared.key.cores ≡ pair.cores)
+        × (0 < pair.cores) };
 }
 
 impl<V: Kept> LockPair<V> {

@@ -1,6 +1,6 @@
 -- The rule of a lock pair. Word 0 is the number of entries that are published, word 1 the owner of
--- the interrupt word, word 2 that of the task word: a seat's number and one, or 0. The value lies in
--- the one slot.
+-- the interrupt word, word 2 that of the task word: a seat's number and one, or 0. The value lies
+-- in the one slot.
 use Rattle.std.specs.Prelude.{◌≡◌, ◌≢◌, ℕ, ◌+◌, ◌<◌, ◌≤◌, List, [], ◌∷◌, length, Bool, true, false, ◌==◌, Option, Some, None}
 use Rattle.std.specs.List.{All}
 use mathlib.Core.Option as maybe

@@ -43,7 +43,8 @@ impl<V: Kept> LockPair<V> {
     fn enter(&self, seat: &mut Seat<V>) -> bool
         requires own { IsSeatOf self.now seat.old }
         requires outside { seat.old.interrupt_depth ≡ 0 }
-        ensures { MatchBool result (HasTaken V.terms V.list seat.old seat.new) (seat.new ≡ seat.old) }
+        ensures { MatchBool result (HasTaken V.terms V.list seat.old seat.new)
+            (seat.new ≡ seat.old) }
     {
         let mark = u64::from(seat.number) + 1;
         let shared = &self.table.shared;
@@ -177,8 +178,8 @@ impl<V: Kept> LockPair<V> {
         unreachable!()
     }
 
-    /// Gives the task word up once, and frees it with the last time: then the seat has no hold open,
-    /// and does not own the interrupt word.
+    /// Gives the task word up once, and frees it with the last time: then the seat has no hold
+    /// open, and does not own the interrupt word.
     pub fn free_task(&self, seat: &mut Seat<V>)
         requires own { IsSeatOf self.now seat.old }
         requires taken { 0 < seat.old.task_depth }

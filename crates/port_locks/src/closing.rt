@@ -1,9 +1,8 @@
 //! Closing a lock pair.
-ghost use Rattle.std.specs.Prelude.{◌≡◌, ◌<◌, [], false, All, length, vec_len, Ok, Err, IfOk, OnOk};
+ghost use Rattle.std.specs.Prelude.{◌≡◌, ◌<◌, [], false, All, length, vec_len, Ok, Err, IfOk, IfErr, OnOk};
 ghost use Rattle.bench_model.specs.History.{IsLegal};
 ghost use Rattle.port_locks.specs.Seats.{IsSeatOf};
 ghost use Rattle.port_locks.specs.Closing.{IsFree, Knows, HasAllNumbers, IsEndOf, has_number, has_all_numbers, are_free, close_check};
-ghost use Rattle.port_locks.specs.declared.fault.CloseFault.{CloseFault};
 
 use crate::CloseFault;
 use crate::kept::Kept;
@@ -57,8 +56,9 @@ impl<V: Kept> LockPair<V> {
     /// the value. L4 before L3; a refusal hands the pair and the seats back.
     pub fn close(self, seats: Vec<Seat<V>>) -> Result<V, PairRefused<V>>
         requires own { All (IsSeatOf self) seats.items }
-        ensures refused { (why : CloseFault) → close_check self.cores seats.items ≡ Err why
-            → result ≡ Err (record { pair = self; seats = seats.items; why = why }) }
+        ensures refused { IfErr result (λ refused. (refused.pair ≡ self)
+            × (refused.seats ≡ seats.items)
+            × (close_check self.cores seats.items ≡ Err refused.why)) }
         ensures closed { OnOk result (close_check self.cores seats.items ≡ Ok tt) }
         ensures terms { IfOk result (λ value. V.terms value ≡ self.terms) }
         ensures legal { IfOk result (λ value. IsLegal self.terms.header (V.list value)) }

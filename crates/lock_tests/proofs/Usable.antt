@@ -1,25 +1,19 @@
 -- Seats stay usable.
-use Rattle.std.proofs.Common.{◌≡◌, ℕ, List, [], ◌∷◌, All, map, option_map, None, refl, sym, ap, ◌∙◌, subst, arith}
+use Rattle.std.proofs.Common.{◌≡◌, ℕ, List, [], ◌∷◌, All, map, None, refl, sym, ap, ◌∙◌, subst, arith}
 use Rattle.std.proofs.lemmas.List.Elements.{All-map, All-nil, All-cons}
 use Rattle.list_orders.specs.Search.{numbers}
-use Rattle.bench_types.specs.declared.entry.Entry.{Entry}
 use Rattle.bench_types.specs.declared.header.Header.{Header}
 use Rattle.history_laws.proofs.KeptOut.{start_free}
 use Rattle.history_laws.proofs.Legal.{end_empty}
-use Rattle.port_locks.specs.Holds.{hold_after, holder_after, own_hold}
+use Rattle.port_locks.specs.Holds.{hold_after, own_hold}
 use Rattle.port_locks.specs.Made.{new_seat}
 use Rattle.port_locks.specs.Seats.{PairView, SeatView}
 use Rattle.recordings.specs.RecordingView.{RecordingView}
 use Rattle.lock_tests.specs.Use.{IsUsable}
 
 -- no hold is open before the first entry
-pub no_hold : (header : Header) → hold_after header [] ≡ None
+no_hold : (header : Header) → hold_after header [] ≡ None
 no_hold header = ap (λ t. t.hold) (end_empty header) ∙ start_free header
-
-pub no_holder : (header : Header) (entries : List Entry) → entries ≡ []
-    → holder_after header entries ≡ None
-no_holder header entries none =
-    ap (holder_after header) none ∙ ap (λ hold. option_map (λ h. h.core) hold) (no_hold header)
 
 new_usable : (pair : PairView) (number : ℕ) → IsUsable pair (new_seat pair number)
 new_usable pair number = record {

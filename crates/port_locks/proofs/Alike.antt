@@ -9,7 +9,7 @@ use Rattle.port_locks.specs.declared.view.View.{View}
 use Rattle.bench_model.specs.History.{made_by, StartsWith}
 use Rattle.port_locks.specs.Holds.{hold_after, own_hold}
 use Rattle.port_locks.specs.Locks.{PairState, IsTold, Fits}
-use Rattle.port_locks.proofs.Histories.{starts_trans}
+use Rattle.history_laws.proofs.Parts.{begins_through}
 
 pub record Alike (p q : PairState) (N : ℕ → Type 0) : Type 0 where
   pub terms : q.terms ≡ p.terms
@@ -33,7 +33,7 @@ module _ (p q : PairState) (N : ℕ → Type 0) (a : Alike p q N) where
     below = let less = f.below in let more = a.given in omega arith;
     interrupt = a.interrupt t.number n ∙ f.interrupt;
     task = a.task t.number n ∙ f.task;
-    seen = starts_trans t.seen p.history q.history f.seen a.history;
+    seen = begins_through q.history p.history t.seen a.history f.seen;
     made = a.made t.number n ∙ f.made;
   }
 
@@ -57,7 +57,7 @@ module _ (p q : PairState) (N : ℕ → Type 0) (a : Alike p q N) where
             let same = a.owner v.number n (f.interrupt ∙ own) in
             (known.0 ∙ sym same.0, known.1 ∙ sym same.1);
         task = a.task v.number n ∙ f.task;
-        seen = starts_trans v.seen p.history q.history f.seen a.history;
+        seen = begins_through q.history p.history v.seen a.history f.seen;
         made = a.made v.number n ∙ f.made;
         hold = held seat v n f;
         first = λ z. f.first z ∙ sym (a.first (subst N z n));

@@ -14,7 +14,7 @@ use Rattle.port_locks.specs.declared.view.Terms.{Terms}
 use Rattle.port_locks.specs.declared.view.View.{View}
 use Rattle.port_locks.specs.Closing.{Knows, IsEnd, HasAllNumbers, IsEndOf}
 use Rattle.port_locks.specs.Seats.{SeatView}
-use Rattle.port_locks.proofs.Joined.{IsKnown}
+use Rattle.port_locks.proofs.KnownSeats.{IsKnown}
 use Rattle.port_locks.specs.Locks.{PairState, IsTold, Fits, Locked}
 
 -- what is so of a seat that was joined, or is the one into which all are

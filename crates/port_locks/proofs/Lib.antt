@@ -1,9 +1,9 @@
-pub mod Histories
 pub mod Alike
 pub mod Steps
 pub mod Seats
 pub mod Hands
-pub mod NewSeats
+pub mod SeatsInOrder
 pub mod Ends
-pub mod Joined
-pub mod Tests
+pub mod KnownSeats
+pub mod EachOnce
+pub mod CloseChecks

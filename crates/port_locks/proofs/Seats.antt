@@ -7,16 +7,18 @@ use lib.ListN.{get_elem?}
 use Rattle.atomic_table.specs.Table.{State, Splits, Joins, opening}
 use Rattle.atomic_table.proofs.Lists.{at_set, set_else}
 use Rattle.bench_types.specs.declared.entry.Entry.{Entry}
+use Rattle.bench_types.specs.declared.header.Header.{Header}
 use Rattle.bench_types.specs.declared.kernel_data.Hold.{Hold}
-use Rattle.bench_model.specs.History.{IsLegal}
 use Rattle.port_locks.specs.declared.view.About.{About}
 use Rattle.port_locks.specs.declared.view.Terms.{Terms}
 use Rattle.port_locks.specs.declared.view.View.{View}
-use Rattle.port_locks.specs.Holds.{hold_after, holder_after, own_hold}
+use Rattle.port_locks.specs.Holds.{hold_after, own_hold}
 use Rattle.port_locks.specs.Locks.{PairState, IsTold, Fits, FitsIfKept, Locked}
 use Rattle.port_locks.specs.Steps.{seated, nobody, one_more, newcomer, handover, gathered}
 use Rattle.port_locks.proofs.Alike.{Alike, all_alike, fits_alike, views_stay}
-use Rattle.port_locks.proofs.Histories.{starts_itself}
+use Rattle.history_laws.proofs.KeptOut.{start_free}
+use Rattle.history_laws.proofs.Legal.{end_empty, legal_empty}
+use Rattle.history_laws.proofs.Parts.{begins_with_all}
 use Rattle.port_locks.proofs.Steps.{elsewhere, not_told, same_home}
 
 at_end : (views : List View) (w u : View) (seat : ℕ)
@@ -64,9 +66,8 @@ own_hold_beyond task given number (Some h) few is all =
     let owner : task ≡ h.core + 1 = all h.core refl in
     rw (ne_eqb h.core number (λ e. omega arith)) refl
 
-no_hold : (hold : Option Hold) → option_map (λ (h : Hold). h.core) hold ≡ None → hold ≡ None
-no_hold None none = refl
-no_hold (Some h) none = absurd (cc none)
+no_hold : (header : Header) → hold_after header [] ≡ None
+no_hold header = ap (λ table. table.hold) (end_empty header) ∙ start_free header
 
 module _ {V : Type 0} (terms_of : V → Terms) (list_of : V → List Entry) (key : About V) where
   abbrev Rule : State (Option V) View → Type 0
@@ -95,7 +96,7 @@ module _ {V : Type 0} (terms_of : V → Terms) (list_of : V → List Entry) (key
         interrupt = λ n _. refl;
         task = λ n _. refl;
         owner = λ n _ _. (refl, refl);
-        history = starts_itself r.p.history;
+        history = begins_with_all r.p.history;
         made = λ n _. refl;
         hold = λ n _. refl;
       } in
@@ -195,7 +196,7 @@ module _ {V : Type 0} (terms_of : V → Terms) (list_of : V → List Entry) (key
         interrupt = λ n _. refl;
         task = λ n _. refl;
         owner = λ n _ _. (refl, refl);
-        history = starts_itself r.p.history;
+        history = begins_with_all r.p.history;
         made = λ n _. refl;
         hold = λ n _. refl;
       } in
@@ -262,10 +263,10 @@ module _ {V : Type 0} (terms_of : V → Terms) (list_of : V → List Entry) (key
 
   -- the pair as it is made
   pub opens : (value : V) → key.first.value ≡ value → list_of value ≡ [] → 1 ≤ key.cores
-      → IsLegal (terms_of value).header [] → hold_after (terms_of value).header [] ≡ None
       → Rule (opening (0 ∷ 0 ∷ 0 ∷ []) (Some value ∷ []) (seated (terms_of key.first.value) 0 1))
-  opens value is empty room legal start =
+  opens value is empty room =
       let terms : Terms = terms_of value in
+      let start = no_hold terms.header in
       let same : terms ≡ terms_of key.first.value = ap terms_of (sym is) in
       let q : PairState = record {
         terms = terms;
@@ -295,7 +296,7 @@ module _ {V : Type 0} (terms_of : V → Terms) (list_of : V → List Entry) (key
         words = refl;
         home = λ _. record { value = value; slot = refl; terms = refl; list = empty };
         owned = λ out. absurd (true≢false (sym out));
-        legal = legal;
+        legal = legal_empty terms.header;
         start = start;
         hold = λ core held. absurd (cc (sym (ap (option_map (λ h. h.core)) start) ∙ held));
         interrupt_given = omega arith;
@@ -308,15 +309,10 @@ module _ {V : Type 0} (terms_of : V → Terms) (list_of : V → List Entry) (key
 
   pub opens_as : (value : V) (slots : List (Option V)) → slots ≡ Some value ∷ []
       → key.first.value ≡ value → list_of value ≡ [] → 1 ≤ key.cores
-      → IsLegal (terms_of value).header (list_of value)
-      → holder_after (terms_of value).header (list_of value) ≡ None
       → Rule (opening (0 ∷ 0 ∷ 0 ∷ []) slots (seated (terms_of key.first.value) 0 1))
-  opens_as value slots one is empty room legal unheld =
+  opens_as value slots one is empty room =
       subst
       (λ (xs : List (Option V)).
       Rule (opening (0 ∷ 0 ∷ 0 ∷ []) xs (seated (terms_of key.first.value) 0 1)))
       (sym one)
-      (opens value is empty room
-      (subst (IsLegal (terms_of value).header) empty legal)
-      (no_hold (hold_after (terms_of value).header [])
-      (subst (λ es. holder_after (terms_of value).header es ≡ None) empty unheld)))
+      (opens value is empty room)

@@ -21,7 +21,7 @@ use Rattle.port_locks.specs.Holds.{hold_after, holder_after, own_hold}
 use Rattle.port_locks.specs.Locks.{PairState, IsTold, Fits, FitsIfKept, IsHome, Locked}
 use Rattle.port_locks.specs.Steps.{entered, noted, Finds, MayHold, MayFollow, took_interrupt, published, freed_interrupt, took_task, freed_task}
 use Rattle.port_locks.proofs.Alike.{Alike, all_alike, fits_alike, views_stay}
-use Rattle.port_locks.proofs.Histories.{starts_itself, starts_growth, made_by_others}
+use Rattle.history_laws.proofs.Parts.{begins_with_all, growth_begins, others_stay}
 
 -- a number that lies elsewhere is another
 pub elsewhere : (p : PairState) (id seat n m : ℕ) (b c : Bool) → p.place n ≡ (id, b)
@@ -58,7 +58,7 @@ owner_moves p number next out before after = record {
   interrupt = λ n other. after n other ∙ sym (before n other);
   task = λ n _. refl;
   owner = λ n other own. absurd (true≢false (sym own ∙ before n other));
-  history = starts_itself p.history;
+  history = begins_with_all p.history;
   made = λ n _. refl;
   hold = λ n _. refl;
 }
@@ -76,7 +76,7 @@ task_moves p number next before after = record {
   interrupt = λ n _. refl;
   task = λ n other. after n other ∙ sym (before n other);
   owner = λ n _ _. (refl, refl);
-  history = starts_itself p.history;
+  history = begins_with_all p.history;
   made = λ n _. refl;
   hold = λ n _. refl;
 }
@@ -237,7 +237,7 @@ module _ {V : Type 0} (terms_of : V → Terms) (list_of : V → List Entry) (key
         task = fits.task;
         seen =
             subst (λ (es : List Entry). StartsWith r.p.history es) (sym home.list)
-            (starts_itself r.p.history);
+            (begins_with_all r.p.history);
         made = fits.made;
         hold =
             ap (λ (es : List Entry). own_hold v.number (hold_after r.p.terms.header es)) home.list;
@@ -309,8 +309,9 @@ module _ {V : Type 0} (terms_of : V → Terms) (list_of : V → List Entry) (key
         task = λ m _. refl;
         owner = λ m other is.
             absurd (true≢false (sym is ∙ (ap (λ i. i == m + 1) mine_is ∙ apart_succ m v.number other)));
-        history = starts_growth v.number r.p.history new growth;
-        made = λ m other. made_by_others m v.number r.p.history new other growth;
+        history = growth_begins v.number r.p.history new r.p.history growth
+            (begins_with_all r.p.history);
+        made = λ m other. others_stay v.number m r.p.history new growth (λ same. other (sym same));
         hold = holds.1;
       } in
       let w = noted v new in
@@ -321,7 +322,7 @@ module _ {V : Type 0} (terms_of : V → Terms) (list_of : V → List Entry) (key
         interrupt = fits.interrupt;
         owner = λ _. (refl, refl);
         task = fits.task;
-        seen = starts_itself new;
+        seen = begins_with_all new;
         made = refl;
         hold = refl;
         first = fits.first;
@@ -348,8 +349,8 @@ module _ {V : Type 0} (terms_of : V → Terms) (list_of : V → List Entry) (key
         some_given = r.some_given;
         few_given = r.few_given;
         not_given = λ m over.
-            made_by_others m v.number r.p.history new
-            (λ same. let less = fits.below in omega arith) growth
+            others_stay v.number m r.p.history new growth
+            (λ same. let less = fits.below in omega arith)
             ∙ r.not_given m over;
         views = views_stay (FitsIfKept q) s.views id w (λ _. mine) (others s r id v fits q a);
       } in (

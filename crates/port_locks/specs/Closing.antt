@@ -1,6 +1,6 @@
 -- The end of a pair.
 use Rattle.std.specs.Prelude.{◌≡◌, ◌⊎◌, ℕ, ◌<◌, List, length, Bool, ◌&&◌, ◌==◌, Ok, Err, Result, ⊤, if◌then◌else◌, slice_index_or}
-use Rattle.std.specs.List.{list_all, list_any}
+use Rattle.std.specs.List.{count_by, list_all, list_any}
 use Rattle.list_orders.specs.Search.{numbers}
 use Rattle.bench_types.specs.declared.entry.Entry.{Entry}
 use Rattle.bench_model.specs.History.{made_by, StartsWith}
@@ -34,6 +34,14 @@ HasAllNumbers {V} cores seats =
     (number : ℕ) → number < cores
     → (k : ℕ) × (k < length seats)
     × ((d : SeatView V) → (slice_index_or seats k d).number ≡ number)
+
+-- There are as many seats as cores, and each of the numbers below the number of cores is that of
+-- just one of them.
+abbrev pub HasEachOnce : {V : Type 0} → ℕ → List (SeatView V) → Type 0
+HasEachOnce cores seats =
+    (length seats ≡ cores)
+    × ((number : ℕ) → number < cores
+    → count_by (λ seat. seat.number == number) seats ≡ 1)
 
 -- the history begins with all that the seat has seen, and its entries of the seat are its own
 abbrev pub IsEndOf : {V : Type 0} → List Entry → SeatView V → Type 0

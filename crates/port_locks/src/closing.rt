@@ -1,8 +1,9 @@
 //! Closing a lock pair.
-ghost use Rattle.std.specs.Prelude.{◌≡◌, ◌<◌, [], false, All, length, vec_len, Ok, Err, IfOk, IfErr, OnOk};
+ghost use Rattle.std.specs.Prelude.{◌≡◌, ◌<◌, ◌↔◌, [], false, All, length, vec_len, Ok, Err, IfOk, IfErr, OnOk};
 ghost use Rattle.bench_model.specs.History.{IsLegal};
 ghost use Rattle.port_locks.specs.Seats.{IsSeatOf};
-ghost use Rattle.port_locks.specs.Closing.{IsFree, Knows, HasAllNumbers, IsEndOf, has_number, has_all_numbers, are_free, close_check};
+ghost use Rattle.port_locks.specs.declared.fault.CloseFault.{CloseFault};
+ghost use Rattle.port_locks.specs.Closing.{IsFree, Knows, HasAllNumbers, HasEachOnce, IsEndOf, has_number, has_all_numbers, are_free, close_check};
 
 use crate::CloseFault;
 use crate::kept::Kept;
@@ -60,6 +61,9 @@ impl<V: Kept> LockPair<V> {
             × (refused.seats ≡ seats.items)
             × (close_check self.cores seats.items ≡ Err refused.why)) }
         ensures closed { OnOk result (close_check self.cores seats.items ≡ Ok tt) }
+        ensures each_once { OnOk result (HasEachOnce self.cores seats.items) }
+        ensures wrong_seats { IfErr result (λ refused. (refused.why ≡ CloseFault.WrongSeats)
+            ↔ ¬ HasEachOnce self.cores seats.items) }
         ensures terms { IfOk result (λ value. V.terms value ≡ self.terms) }
         ensures legal { IfOk result (λ value. IsLegal self.terms.header (V.list value)) }
         ensures seats { IfOk result (λ value. All (IsEndOf (V.list value)) seats.items) }

@@ -1,7 +1,6 @@
 //! Making a lock pair with its seats.
 ghost use Rattle.std.specs.Prelude.{◌≡◌, ◌≤◌, ◌<◌, ℕ, [], IfOk, map, None};
 ghost use Rattle.list_orders.specs.Search.{numbers};
-ghost use Rattle.port_locks.specs.Holds.{holder_after};
 ghost use Rattle.port_locks.specs.Made.{new_seat};
 ghost use Rattle.port_locks.specs.Steps.{seated};
 
@@ -75,14 +74,11 @@ impl<V: Kept> LockPair<V> {
     ) -> Result<(LockPair<V>, Vec<Seat<V>>), AllocError>
         requires cores { (1 ≤ cores) × (cores ≤ 8) }
         requires empty { V.list value ≡ [] }
-        requires unheld { holder_after (V.terms value).header (V.list value) ≡ None }
         ensures pair { IfOk result
             (λ made. (made.0.terms ≡ V.terms value) × (made.0.cores ≡ cores)) }
         ensures seats { IfOk result
             (λ made. made.1.items ≡ map (new_seat made.0) (numbers cores)) }
     {
-        // Which says that a history of no entries is legal.
-        let _entries = value.entries();
         let about = About {
             first: Snapshot::of(&value),
             cores,

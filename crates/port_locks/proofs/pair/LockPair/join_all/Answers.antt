@@ -2,7 +2,7 @@ use Rattle.std.proofs.Common.{rules, ◌≡◌, ◌∙◌, [], ◌∷◌, ◌++�
 use Rattle.std.proofs.lemmas.List.Elements.{All-nil, All-cons}
 use Rattle.port_locks.specs.Closing.{IsFree}
 use Rattle.port_locks.specs.Seats.{IsSeatOf}
-use Rattle.port_locks.proofs.Joined.{IsKnown, first_known, one_more_known, all_there, moved_over, free_seat}
+use Rattle.port_locks.proofs.KnownSeats.{IsKnown, first_known, one_more_known, all_there, moved_over, free_seat}
 use Rattle.port_locks.proofs.Seats.{joins}
 use Rattle.port_locks.proofs.pair.LockPair.join_all.Goals as goal
 

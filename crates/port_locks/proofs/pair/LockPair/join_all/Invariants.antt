@@ -1,7 +1,7 @@
 use Rattle.std.proofs.Common.{◌≡◌, [], false, List, ◌++◌}
 use Rattle.std.specs.List.{All}
 use Rattle.port_locks.specs.Seats.{SeatView}
-use Rattle.port_locks.proofs.Joined.{IsKnown}
+use Rattle.port_locks.proofs.KnownSeats.{IsKnown}
 use Rattle.port_locks.proofs.pair.LockPair.join_all.Given as goal
 
 -- the seats that are not left are known to the one

@@ -5,4 +5,3 @@ use Rattle.port_locks.proofs.pair.LockPair.new.Goals as goal
 pub new-requires : goal.new-requires
 new-requires g c =
     opens_as _ _ _ c.args.value _ (search rules) (search rules) c.requires.empty c.requires.cores.0
-    c.entries-entries.ensures.legal c.requires.unheld

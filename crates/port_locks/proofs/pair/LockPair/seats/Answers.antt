@@ -1,7 +1,7 @@
 use Rattle.std.proofs.Common.{rules, ◌∙◌, ap, arith}
 use Rattle.port_locks.specs.Made.{new_seat}
 use Rattle.port_locks.specs.Steps.{one_more}
-use Rattle.port_locks.proofs.NewSeats.{same_seat, one_more_made, all_made}
+use Rattle.port_locks.proofs.SeatsInOrder.{same_seat, one_more_made, all_made}
 use Rattle.port_locks.proofs.Seats.{splits}
 use Rattle.port_locks.proofs.pair.LockPair.seats.Goals as goal
 

@@ -1,3 +1,4 @@
+pub mod Act
 pub mod Codes
 pub mod Edit
 pub mod Header

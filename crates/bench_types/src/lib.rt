@@ -2,6 +2,7 @@
 //! the checks of their limits.
 #![tactic(auto)]
 
+mod act;
 mod code;
 mod edit;
 mod entry;
@@ -17,6 +18,7 @@ mod reply;
 mod step;
 mod tally;
 
+pub use act::Act;
 pub use edit::{Edit, EditFault};
 pub use entry::Entry;
 pub use fault::Fault;

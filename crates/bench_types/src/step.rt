@@ -157,7 +157,7 @@ pub(crate) fn check_task(task: u32, header: &Header) -> Result<(), Fault>
 }
 
 // Any action will do, whatever its number.
-fn check_note(note: Note, header: &Header) -> Result<(), Fault>
+pub(crate) fn check_note(note: Note, header: &Header) -> Result<(), Fault>
     ensures value { result ≡ task_check (settings_of header.now) note.task }
     ensures words { IsActionOfWord note.action }
 {

@@ -1,3 +1,4 @@
+pub mod HoldsAlong
 pub mod KeptOut
 pub mod Legal
 pub mod OwnHolds

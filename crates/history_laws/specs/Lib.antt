@@ -1,3 +1,4 @@
 pub mod HoldLaws
 pub mod LegalLaws
 pub mod PartLaws
+pub mod SoundHistories

@@ -1,9 +1,11 @@
 -- What the fields of a recording keep, from its start and from step to step.
-use Rattle.std.proofs.Common.{◌≡◌, ℕ, ◌≤◌, false, List, [], ◌∷◌, ◌++◌, length, refl, sym, ap, subst, ◌∙◌, arith}
+use Rattle.std.proofs.Common.{Bool, true, cond, eqb, Option, Some, None, ◌≡◌, ℕ, ◌≤◌, false, List, [], ◌∷◌, ◌++◌, length, refl, sym, ap, subst, ◌∙◌, arith}
+use Rattle.std.specs.Option.{ForSome}
 use Rattle.std.specs.Prelude.{Result, Ok, Err, IsErr}
 use Rattle.std.proofs.lemmas.List.{length_push}
 use Rattle.bench_types.specs.declared.entry.Entry.{Entry}
 use Rattle.bench_types.specs.declared.header.Header.{Header}
+use Rattle.bench_types.specs.declared.kernel_data.Hold.{Hold}
 use Rattle.bench_types.specs.declared.reply.Reply.{Reply}
 use Rattle.bench_types.specs.declared.step.Step.{Step}
 use Rattle.bench_types.specs.declared.fault.Fault.{Fault}
@@ -11,11 +13,14 @@ use Rattle.bench_types.specs.Header.{header_check}
 use Rattle.bench_types.specs.Step.{settings_of, step_check}
 use Rattle.bench_model.specs.Equal.{StandsFor}
 use Rattle.bench_model.specs.History.{core_of, end_of, is_kept_out, places_of, IsByCurrent, IsLegal, IsNext}
-use Rattle.bench_model.specs.Holds.{depth_of}
+use Rattle.bench_model.specs.Holds.{depth_of, depth_by, is_held_by}
 use Rattle.bench_model.specs.Lists.{View}
 use Rattle.bench_model.specs.Session.{step_of}
+use Rattle.bench_model.specs.Sound.{IsHeldWell, IsSound}
 use Rattle.bench_model.specs.Start.{start}
 use Rattle.bench_model.specs.Table.{Table}
+use Rattle.history_laws.specs.SoundHistories.{IsSoundHistory}
+use Rattle.history_laws.proofs.HoldsAlong.{start_is_sound, sound_push}
 use Rattle.history_laws.proofs.KeptOut.{held_kept_out, start_free}
 use Rattle.history_laws.proofs.Legal.{end_empty, end-push, legal_empty, legal-push}
 use Rattle.history_laws.proofs.Room.{fits_room}
@@ -34,6 +39,7 @@ start_is_recording header entries limit capacity kernel passes stands settings n
       stands = subst (StandsFor kernel) (sym (end_empty header)) stands;
       settings = settings;
       legal = legal_empty header;
+      sound = start_is_sound header stands.sound;
       memory = memory;
       closable = omega (arith, ap (λ (table : Table). depth_of table.hold) (end_empty header), ap depth_of (start_free header));
     })
@@ -73,6 +79,19 @@ module _ (header : Header) (entries later : List Entry) (limit capacity room : �
         stands = subst (StandsFor next) (sym ends) stands;
         settings = settings ∙ kept.settings;
         legal = subst (IsLegal header) (sym longer) (legal-push header entries entry kept.legal (fit_is_next before step fit));
+        sound = subst (IsSoundHistory header) (sym longer) (sound_push header entries entry kept.sound (subst IsSound (sym (end-push header entries entry)) stands.sound));
         memory = omega (arith, kept.memory, stays);
         closable = omega (arith, ap length longer, length_push entries entry, ap (λ (t : Table). depth_of t.hold) ends, fits);
       }
+
+-- a core that holds a sound table at no depth holds nothing
+pub none_held : (core : ℕ) (table : Table) → IsSound table → depth_by core table.hold ≡ 0 → is_held_by core table.hold ≡ false
+none_held core table sound none = at table.hold sound.held none
+  where
+    at : (hold : Option Hold) → ForSome hold (IsHeldWell table) → depth_by core hold ≡ 0 → is_held_by core hold ≡ false
+    at None well none = refl
+    at (Some hold) well none = by (eqb hold.core core) none
+      where
+        by : (b : Bool) → cond b hold.depth 0 ≡ 0 → b ≡ false
+        by true none = let deep = (well hold refl).depth.0 in absurd (omega arith)
+        by false none = refl

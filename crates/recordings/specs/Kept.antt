@@ -8,6 +8,7 @@ use Rattle.bench_model.specs.Equal.{StandsFor}
 use Rattle.bench_model.specs.History.{end_of, IsLegal}
 use Rattle.bench_model.specs.Holds.{depth_of}
 use Rattle.bench_model.specs.Lists.{View}
+use Rattle.history_laws.specs.SoundHistories.{IsSoundHistory}
 
 -- the kernel of a checked header stands for the table after the entries, which are legal, and there
 -- is room for the calls that close an open hold
@@ -17,5 +18,6 @@ pub record IsRecording (header : Header) (entries : List Entry) (limit capacity 
   pub stands : StandsFor kernel (end_of header entries)
   pub settings : kernel.settings ≡ settings_of header
   pub legal : IsLegal header entries
+  pub sound : IsSoundHistory header entries
   pub memory : limit ≤ capacity
   pub closable : length entries + depth_of (end_of header entries).hold ≤ limit

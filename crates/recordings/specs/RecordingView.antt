@@ -1,5 +1,7 @@
 -- What a recording is to those who use it.
-use Rattle.std.specs.Prelude.{ℕ, List, [], ◌∷◌, ◌++◌, length, nat_lt, Option, Result, Ok, Err, if◌then◌else◌}
+use Rattle.std.specs.Prelude.{ℕ, List, [], ◌∷◌, ◌++◌, length, nat_lt, Option, Result, Ok, Err, is_ok, if◌then◌else◌}
+use Rattle.bench_types.specs.declared.act.Act.{Act}
+use Rattle.bench_types.specs.declared.act.Act.TheVariants as acts
 use Rattle.bench_types.specs.declared.entry.Entry.{Entry}
 use Rattle.bench_types.specs.declared.header.Header.{Header}
 use Rattle.bench_types.specs.declared.kernel_data.Hold.{Hold}
@@ -74,3 +76,23 @@ abbrev pub answer_to_call : ℕ → Call → RecordingView → Result Answer Rec
 answer_to_call core call view =
     if nat_lt (task_on core view) view.header.config.cores then Err IdleHere
     else answer_in_room (call_on core call view) view
+
+-- the step of what the core does: a call is made by its current task
+abbrev pub act_on : ℕ → Act → RecordingView → Step
+act_on core (acts.Call call) view = call_on core call view
+act_on core (acts.Interrupt note) view = steps.Interrupt core note
+act_on core acts.Tick view = steps.Tick
+act_on core acts.Switch view = steps.Switch core
+
+-- the answer to what the core does: G2 comes for calls alone
+abbrev pub answer_to_act : ℕ → Act → RecordingView → Result Answer RecordRefusal
+answer_to_act core (acts.Call call) view = answer_to_call core call view
+answer_to_act core (acts.Interrupt note) view = answer_in_room (steps.Interrupt core note) view
+answer_to_act core acts.Tick view = answer_in_room steps.Tick view
+answer_to_act core acts.Switch view = answer_in_room (steps.Switch core) view
+
+-- The recording after what the core does: with the step's entry, or as it was where the step is
+-- refused.
+abbrev pub after_act : ℕ → Act → RecordingView → RecordingView
+after_act core act view =
+    if is_ok (answer_to_act core act view) then with_step (act_on core act view) view else view

@@ -1,11 +1,13 @@
 ghost use Rattle.std.specs.Prelude.{◌≡◌, ◌<◌, ◌≤◌, ◌+◌, ◌↔◌, length, option_map, is_some, false, Ok, Err, IsErr, IfOk, OnOk, OnErr};
+ghost use Rattle.bench_types.specs.Act.{act_check};
 ghost use Rattle.bench_types.specs.Header.{header_check};
 ghost use Rattle.bench_types.specs.Step.{settings_of, step_check, call_check, task_check};
 ghost use Rattle.bench_model.specs.History.{core_of as made_on, is_kept_out, places_of, IsByCurrent, IsGrowthBy, IsLegal, IsNext};
-ghost use Rattle.bench_model.specs.Holds.{depth_of, is_held_elsewhere};
-ghost use Rattle.recordings.specs.RecordingView.{empty_recording, entry_of, table_of, hold_of, task_on, room_of, with_step, answer_to, answer_in_room, call_on, answer_to_call};
+ghost use Rattle.bench_model.specs.Holds.{depth_of, depth_by, is_held_by, is_held_elsewhere};
+ghost use Rattle.history_laws.specs.SoundHistories.{IsSoundHistory};
+ghost use Rattle.recordings.specs.RecordingView.{empty_recording, entry_of, table_of, hold_of, task_on, room_of, with_step, answer_to, answer_in_room, call_on, answer_to_call, act_on, answer_to_act, after_act};
 
-use bench_types::{Call, Entry, Header, Note, Reply, Settings, Step};
+use bench_types::{Act, Call, Entry, Header, Note, Reply, Settings, Step};
 use smp_kernel::{Kernel, Meter, StartFault};
 use std::alloc::Global;
 use std::marker::Model;
@@ -193,6 +195,24 @@ impl Recording {
         self.record_in_room(Step::Switch { core })
     }
 
+    /// Does what the core would do next, as [`Recording::call`], [`Recording::interrupt`],
+    /// [`Recording::tick`] or [`Recording::switch`], with their refusals.
+    pub fn act(&mut self, core: u32, act: Act) -> Result<Answer, RecordRefusal>
+        requires core { core < self.old.header.config.cores }
+        requires act { act_check (settings_of self.old.header) core act ≡ Ok tt }
+        requires unheld { is_kept_out (hold_of self.old) (act_on core act self.old) ≡ false }
+        ensures answer { result ≡ answer_to_act core act self.old }
+        ensures history { self.new ≡ after_act core act self.old }
+        ensures growth { IsGrowthBy core self.old.entries self.new.entries }
+    {
+        match act {
+            Act::Call(call) => self.call(core, call),
+            Act::Interrupt(note) => self.interrupt(core, note),
+            Act::Tick => self.tick(),
+            Act::Switch => self.switch(core),
+        }
+    }
+
     /// What was recorded, in its order.
     pub fn entries(&self) -> &[Entry]
         ensures entries { result.now ≡ self.now.entries }
@@ -209,6 +229,7 @@ impl Recording {
         ensures passes { header_check self.header ≡ Ok tt }
         ensures entries { result.1.items ≡ self.entries }
         ensures legal { IsLegal self.header self.entries }
+        ensures sound { IsSoundHistory self.header self.entries }
         ensures few { length self.entries ≤ self.limit }
     {
         let Recording {
@@ -254,6 +275,19 @@ impl Recording {
         ensures closable { length self.now.entries + result ≤ self.now.limit }
     {
         self.kernel.hold().map_or(0, |hold| hold.1)
+    }
+
+    /// How many times over the core holds the kernel.
+    pub fn depth_by(&self, core: u32) -> u32
+        ensures depth { result ≡ depth_by core (hold_of self.now) }
+        ensures none { result ≡ 0 → is_held_by core (hold_of self.now) ≡ false }
+        ensures legal { IsLegal self.now.header self.now.entries }
+        ensures sound { IsSoundHistory self.now.header self.now.entries }
+    {
+        match self.kernel.hold() {
+            Some((holder, depth)) if holder == core => depth,
+            _ => 0,
+        }
     }
 
     /// The core that holds the kernel, if there is one.

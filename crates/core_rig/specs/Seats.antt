@@ -22,6 +22,12 @@ pub record CoreView : Type 0 where
 abbrev pub IsSeatOf : PairView → CoreView → Type 0
 IsSeatOf rig seat = (seat.pair ≡ rig.pair) × (seat.terms ≡ rig.terms)
 
+-- one seat, before and after it was used
+pub record IsSameSeat (old new : CoreView) : Type 0 where
+  pub pair : new.pair ≡ old.pair
+  pub terms : new.terms ≡ old.terms
+  pub core : new.core ≡ old.core
+
 -- the seat of a core that has seen nothing
 abbrev pub new_seat : PairView → ℕ → CoreView
 new_seat rig core = record {

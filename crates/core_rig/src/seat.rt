@@ -3,7 +3,7 @@ ghost use Rattle.bench_types.specs.declared.act.Act.TheVariants as acts;
 ghost use Rattle.core_rig.specs.declared.fault.RigRefusal.TheVariants as refusals;
 ghost use Rattle.core_rig.specs.Acts.{HasActed, IsAnswered, IsAnsweredAtOnce, IsRefused};
 ghost use Rattle.core_rig.specs.Resting.{IsNew, core_view};
-ghost use Rattle.core_rig.specs.Seats.{IsSeatOf, depth_at};
+ghost use Rattle.core_rig.specs.Seats.{IsSameSeat, IsSeatOf, depth_at};
 ghost use Rattle.core_rig.specs.Stretches.{is_by_task};
 
 use crate::fault::RigRefusal;
@@ -94,7 +94,8 @@ impl CoreSeat {
     /// none, every other call one.
     pub fn call<R: Wait>(&mut self, rt: &R, rig: &Rig, call: Call) -> Result<Answer, RigRefusal>
         requires own { IsSeatOf rig.now self.old }
-        ensures { IsAnswered (acts.Call call) self.old self.new result }
+        ensures seat { IsSameSeat self.old self.new }
+        ensures answered { IsAnswered (acts.Call call) self.old self.new result }
     {
         self.act_by_task(rt, rig, Act::Call(call))
     }
@@ -105,6 +106,7 @@ impl CoreSeat {
     /// G4 where the core holds the kernel, else G1 where there is no room.
     pub fn switch<R: Wait>(&mut self, rt: &R, rig: &Rig) -> Result<Answer, RigRefusal>
         requires own { IsSeatOf rig.now self.old }
+        ensures seat { IsSameSeat self.old self.new }
         ensures holding { depth_at self.old ≢ 0
             → IsRefused refusals.Holding self.old self.new result }
         ensures acted { depth_at self.old ≡ 0
@@ -127,7 +129,8 @@ impl CoreSeat {
         note: Note,
     ) -> Result<Answer, RigRefusal>
         requires own { IsSeatOf rig.now self.old }
-        ensures { IsAnswered (acts.Interrupt note) self.old self.new result }
+        ensures seat { IsSameSeat self.old self.new }
+        ensures answered { IsAnswered (acts.Interrupt note) self.old self.new result }
     {
         self.act_by_interrupt(rt, rig, Act::Interrupt(note))
     }
@@ -137,7 +140,8 @@ impl CoreSeat {
     /// F2 of a core other than 0, else G1 where there is no room.
     pub fn tick<R: Wait>(&mut self, rt: &R, rig: &Rig) -> Result<Answer, RigRefusal>
         requires own { IsSeatOf rig.now self.old }
-        ensures { IsAnswered acts.Tick self.old self.new result }
+        ensures seat { IsSameSeat self.old self.new }
+        ensures answered { IsAnswered acts.Tick self.old self.new result }
     {
         self.act_by_interrupt(rt, rig, Act::Tick)
     }
@@ -148,7 +152,8 @@ impl CoreSeat {
     /// F3 where the task is no user task, else G3, else G1 where there is no room.
     pub fn try_interrupt(&mut self, rig: &Rig, note: Note) -> Result<Answer, RigRefusal>
         requires own { IsSeatOf rig.now self.old }
-        ensures { IsAnsweredAtOnce (acts.Interrupt note) self.old self.new result }
+        ensures seat { IsSameSeat self.old self.new }
+        ensures answered { IsAnsweredAtOnce (acts.Interrupt note) self.old self.new result }
     {
         let act = Act::Interrupt(note);
         act.check(self.core(), &rig.header)
@@ -173,7 +178,8 @@ impl CoreSeat {
     ) -> Result<Answer, RigRefusal>
         requires own { IsSeatOf rig.now self.old }
         requires kind { is_by_task act ≡ false }
-        ensures { IsAnswered act self.old self.new result }
+        ensures seat { IsSameSeat self.old self.new }
+        ensures answered { IsAnswered act self.old self.new result }
     {
         act.check(self.core(), &rig.header)
             .map_err(RigRefusal::Fault)?;
@@ -190,7 +196,8 @@ impl CoreSeat {
         requires own { IsSeatOf rig.now self.old }
         requires kind { is_by_task act ≡ true }
         requires switch { act ≡ acts.Switch → depth_at self.old ≡ 0 }
-        ensures { IsAnswered act self.old self.new result }
+        ensures seat { IsSameSeat self.old self.new }
+        ensures answered { IsAnswered act self.old self.new result }
     {
         act.check(self.core(), &rig.header)
             .map_err(RigRefusal::Fault)?;

@@ -14,8 +14,8 @@ invariant_of-self g c =
     rests_again _ _ _ _ _ _ _ _ c.self.invariant came its.legal its.depth its.none its.count (search rules) (search rules)
     (task_stays _ _ _ _ _ _ _ c.self.invariant c.enter.ensures its.seat stays)
 
-pub returns : goal.returns
-returns g c =
+pub returns-clause-answered : goal.returns-clause-answered
+returns-clause-answered g c =
     let its = c.act_and_leave-stretch.ensures in
     let checked : act_check (settings_of c.self.inside.seat.terms.header) c.self.inside.seat.number c.args.act ≡ Ok tt = search rules in
     let came =

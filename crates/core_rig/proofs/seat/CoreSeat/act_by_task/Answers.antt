@@ -15,8 +15,8 @@ invariant_of-self g c =
     came c.self.inside.seat c.args.act checked _ _ _ _ took its.seat its.answer its.legal in
     rests_with _ _ _ _ _ _ _ _ _ _ c.self.invariant came its.legal its.depth its.none its.count (search rules) (search rules) c.leave_task.ensures (one_take _ _ refl)
 
-pub returns : goal.returns
-returns g c =
+pub returns-clause-answered : goal.returns-clause-answered
+returns-clause-answered g c =
     let its = c.act_and_leave-stretch.ensures in
     let checked : act_check (settings_of c.self.inside.seat.terms.header) c.self.inside.seat.number c.args.act ≡ Ok tt = search rules in
     let took = subst (λ seat. HasTaken terms_of entries_of seat c.enter.new.seat) c.enter_task.ensures c.enter.ensures in

@@ -16,8 +16,8 @@ invariant_of-self-2 c =
     rests_again act _ _ _ _ _ _ _ c.self.invariant came its.legal its.depth its.none its.count (search rules) (search rules)
     (task_stays _ _ _ act _ _ _ c.self.invariant took its.seat stays)
 
-pub returns : goal.returns
-returns c =
+pub returns-clause-answered : goal.returns-clause-answered
+returns-clause-answered c =
     let its = c.act_and_leave-stretch.ensures in
     let act = acts.Interrupt c.args.note in
     let checked : act_check (settings_of c.self.inside.seat.terms.header) c.self.inside.seat.number act ≡ Ok tt = search rules in

@@ -1,0 +1,13 @@
+//! Tests of rigs. There is nothing else here.
+#![tactic(auto)]
+
+#[cfg(test)]
+mod alone;
+#[cfg(test)]
+mod faults;
+#[cfg(test)]
+mod many;
+#[cfg(test)]
+mod rigs;
+#[cfg(test)]
+mod together;

@@ -4,6 +4,7 @@
 mod fault;
 mod recorded;
 mod rig;
+mod room;
 mod seat;
 mod stretch;
 

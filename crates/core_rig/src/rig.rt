@@ -11,6 +11,7 @@ ghost use Rattle.core_rig.specs.Seats.{IsSeatOf, depth_at, new_seat};
 
 use crate::fault::{CloseFault, RigFault};
 use crate::recorded::Recorded;
+use crate::room::SeatRoom;
 use crate::seat::CoreSeat;
 use arrayvec::ArrayVec;
 use bench_types::{Entry, Header, Items, MAX_STEPS};
@@ -19,6 +20,7 @@ use recordings::Recording;
 use smp_kernel::Meter;
 use std::alloc::Global;
 use std::marker::Model;
+use std::sync::Mutex;
 
 /// A kernel that the threads of its cores call side by side, each with its own seat, and what they
 /// did with it.
@@ -26,12 +28,12 @@ use std::marker::Model;
 pub struct Rig {
     pub(crate) pair: LockPair<Recording>,
     pub(crate) header: Header,
-    /// Has room for the seats of the pair, so that to close the rig takes no memory.
-    seats: Vec<Seat<Recording>>,
+    /// So that to close the rig takes no memory. It is in a mutex, which is never locked, since a
+    /// rig is shared and a list of seats can't be.
+    room: Mutex<SeatRoom>,
 }
 
 impl Model for Rig {
-    ghost use Rattle.std.specs.Prelude.{vec_capacity};
     ghost use Rattle.port_locks.specs.Seats.{PairView};
     ghost use Rattle.core_rig.specs.Rigs.{IsRig};
 
@@ -39,7 +41,7 @@ impl Model for Rig {
 
     ghost view = { λ rig. rig.pair };
 
-    ghost invariant = { λ rig. IsRig rig.pair rig.header rig.seats.items (vec_capacity rig.seats) };
+    ghost invariant = { λ rig. IsRig rig.pair rig.header };
 }
 
 impl Rig {
@@ -72,13 +74,13 @@ impl Rig {
         };
         let header = header.copy(alloc)?;
         let (pair, inner) = LockPair::new(alloc, header.config.cores, recording)?;
-        let room = Vec::with_capacity(alloc, inner.len())?;
+        let room = SeatRoom::new(alloc)?;
         let seats = CoreSeat::all(alloc, inner)?;
         Ok((
             Rig {
                 pair,
                 header,
-                seats: room,
+                room: Mutex::new(room),
             },
             seats,
         ))
@@ -123,11 +125,8 @@ impl Rig {
         ensures made { result.made.items ≡ counts self.cores result.entries.items }
         ensures all_made { sum_by (λ n. n) result.made.items ≡ length result.entries.items }
     {
-        let Rig {
-            pair,
-            seats: mut inner,
-            ..
-        } = self;
+        let Rig { pair, room, .. } = self;
+        let mut inner = room.into_inner().into_list();
         move_all(seats, &mut inner);
         let Ok(recording) = pair.close(inner) else {
             unreachable!()

@@ -28,7 +28,8 @@ fn store_of(rt: &HostRuntime, recorded: Recorded) -> Result<(Store, Vec<Entry>),
 
 fn check_replies(rt: &impl Abort, store: &Store, entries: &[Entry]) {
     for (place, entry) in entries.iter().enumerate() {
-        assert_eq!(rt; store.reply(place as u32), Some(entry.reply));
+        let place = u32::try_from(place).expect(rt, "a place");
+        assert_eq!(rt; store.reply(place), Some(entry.reply));
     }
 }
 

@@ -1,5 +1,4 @@
-use Rattle.std.proofs.Common.{rules, ◌≡◌, ◌∙◌, Ok, length, map, sym, ap, subst, arith}
-use Rattle.std.proofs.lemmas.List.FromFn.{length-map-range_with_len}
+use Rattle.std.proofs.Common.{rules, ◌≡◌, ◌∙◌, Ok, map, sym, ap, subst, arith}
 use Rattle.bench_types.specs.Header.{header_check}
 use Rattle.list_orders.specs.Search.{numbers}
 use Rattle.port_locks.specs.Made as locks
@@ -23,20 +22,14 @@ all-requires c =
 pub invariant_of-result : goal.invariant_of-result
 invariant_of-result c =
     let at = (goal.at.invariant_of-result c).In_ok-room in
-    let count : length c.in_ok-pair.inner.items ≡ c.in_ok-header.header.config.cores =
-    ap length c.in_ok-pair.ensures.seats ∙ length-map-range_with_len (locks.new_seat c.in_ok-pair.pair) 0 c.in_ok-header.header.config.cores in
-    let cores = c.in_ok-pair.ensures.pair.1 in
-    let room = c.in_ok-room.ensures.capacity in
     record {
       passes = subst (λ header. header_check header ≡ Ok tt) (sym c.in_ok-header.ensures) (passes at);
       same = its_header at ∙ sym c.in_ok-header.ensures;
-      cores = cores;
+      cores = c.in_ok-pair.ensures.pair.1;
       limit =
           let limit = ap (λ terms. terms.limit) c.in_ok-pair.ensures.pair.0 ∙ ap (λ recording. recording.limit) c.in-Ok.ensures.empty in
           let few = c.if-limit-gt-MAX_STEPS.false in
           omega (arith, limit, few);
-      none = c.in_ok-room.ensures.items;
-      room = omega (arith, cores, room, count, c.len.ensures);
     }
 
 pub returns-clause-seats : goal.returns-clause-seats

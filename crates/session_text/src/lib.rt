@@ -1,4 +1,5 @@
-//! Sessions, their edits and the scripts of rigs, read from JSON texts, with the first fault and its place.
+//! Sessions, their edits and the scripts of rigs, read from JSON texts, with the first fault and
+//! its place.
 #![tactic(auto)]
 
 mod accepted;

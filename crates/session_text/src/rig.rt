@@ -228,7 +228,8 @@ fn script_accepted(
     script: &[Act],
 ) -> Result<(), ReadFault>
     ensures reading { Gives (λ done. done) result
-        (items_accepted (act_fault header.now core) (item_path (path_of place.now) core) 0 script.now) }
+        (items_accepted (act_fault header.now core) (item_path (path_of place.now) core) 0
+        script.now) }
     ensures checked { OnOk result (All (IsCheckedAct (settings_of header.now) core) script.now) }
 {
     let on = OnCore { header, core };

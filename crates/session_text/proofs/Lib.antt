@@ -3,3 +3,4 @@ pub mod Documents
 mod Lists
 mod Loops
 mod NewNames
+mod Scripts

@@ -47,9 +47,14 @@ accepted header =
     if list_all (λ task. is_name task.name) header.tasks && is_header header then Ok header
     else Err BadHeader
 
+-- the header with these settings, accepted or not
+abbrev pub header_of : Config → List ℕ → Data → Result (Result Header Fault) TextFault
+header_of config at d = do
+  tasks ← list_at task_at at (codes "tasks") d
+  Ok (accepted (record { config = config; tasks = tasks }))
+
 -- the header, accepted or not: its shape alone is judged
 unfoldable pub header_at : List ℕ → Data → Result (Result Header Fault) TextFault
 header_at at d = do
   config ← config_at at d
-  tasks ← list_at task_at at (codes "tasks") d
-  Ok (accepted (record { config = config; tasks = tasks }))
+  header_of config at d

@@ -1,4 +1,5 @@
 pub mod Accepted
+pub mod Act
 pub mod Action
 pub mod Array
 pub mod Bench
@@ -9,5 +10,6 @@ pub mod Names
 pub mod Node
 pub mod Outcome
 pub mod Path
+pub mod Rig
 pub mod Session
 pub mod Step

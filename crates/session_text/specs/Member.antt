@@ -12,6 +12,10 @@ use Rattle.session_text.specs.Path.{member_path}
 abbrev pub object_at : List ℕ → Data → Result Members TextFault
 object_at at d = found (as_object d) at
 
+-- the items of the array itself
+abbrev pub items_at : List ℕ → Data → Result Items TextFault
+items_at at d = found (as_array d) at
+
 -- a member of any type
 abbrev pub member_at : List ℕ → List ℕ → Data → Result Data TextFault
 member_at at name d = found (get name d) (member_path at name)

@@ -1,6 +1,8 @@
 -- A step: `do` says which, and after it stand the members of its kind.
 use Rattle.std.specs.Prelude.{ℕ, List, [], ◌∷◌, codes, bytes_eq, find, Option, Some, None, option_map, Result, Ok}
 use Rattle.serde_json.specs.Data.{Data}
+use Rattle.bench_types.specs.declared.act.Act.{Act}
+use Rattle.bench_types.specs.declared.act.Act.TheVariants as act
 use Rattle.bench_types.specs.declared.note.Note.{Note}
 use Rattle.bench_types.specs.declared.step.Step.{Step}
 use Rattle.bench_types.specs.declared.step.Step.TheVariants as step
@@ -74,15 +76,25 @@ arguments_of call.Finish = []
 arguments_of call.HoldOpen = []
 arguments_of call.HoldClose = []
 
+-- the members of an action
+abbrev pub members_of_act : Act → List (List ℕ)
+members_of_act act.Tick = codes "do" ∷ []
+members_of_act act.Switch = codes "do" ∷ []
+members_of_act (act.Call made) = codes "do" ∷ arguments_of made
+members_of_act (act.Interrupt note) = codes "do" ∷ note_members (action_number note.action)
+
+-- a step has `core` beside the members of its action, and a call has `by` too
 abbrev pub members_of_call : Call → List (List ℕ)
-members_of_call made = codes "do" ∷ codes "core" ∷ codes "by" ∷ arguments_of made
+members_of_call made = codes "core" ∷ codes "by" ∷ members_of_act (act.Call made)
+
+abbrev pub members_of_interrupt : Note → List (List ℕ)
+members_of_interrupt note = codes "core" ∷ members_of_act (act.Interrupt note)
 
 abbrev pub members_of : Step → List (List ℕ)
-members_of step.Tick = codes "do" ∷ []
-members_of (step.Switch core) = codes "do" ∷ codes "core" ∷ []
+members_of step.Tick = members_of_act act.Tick
+members_of (step.Switch core) = codes "core" ∷ members_of_act act.Switch
 members_of (step.Call core task made) = members_of_call made
-members_of (step.Interrupt core note) =
-    codes "do" ∷ codes "core" ∷ note_members (action_number note.action)
+members_of (step.Interrupt core note) = members_of_interrupt note
 
 -- the number of the task that a member names
 unfoldable pub task_named_at : TaskNames → List ℕ → List ℕ → Data → Result ℕ TextFault

@@ -8,22 +8,21 @@ use crate::path::Place;
 use bench_types::{Edit, Fault, Header, Step};
 use std::alloc::Global;
 
-/// What a header can find at fault.
-pub(crate) trait Judged {
+/// What can be found at fault under a header, or under what else it has to fit.
+pub(crate) trait Judged<H> {
     ghost use Rattle.std.specs.Prelude.{◌≡◌, ⊤, OnOk, Result};
     ghost use Rattle.bench_types.specs.declared.fault.Fault.{Fault};
-    ghost use Rattle.bench_types.specs.declared.header.Header.{Header};
 
-    ghost fault_of: { Header → Self → Result ⊤ Fault };
+    ghost fault_of: { H → Self → Result ⊤ Fault };
 
-    ghost IsChecked: { Header → Self → Type 0 };
+    ghost IsChecked: { H → Self → Type 0 };
 
-    fn judge(&self, header: &Header) -> Result<(), Fault>
+    fn judge(&self, header: &H) -> Result<(), Fault>
         ensures value { result ≡ fault_of header.now self.now }
         ensures checked { OnOk result (IsChecked header.now self.now) };
 }
 
-impl Judged for Step {
+impl Judged<Header> for Step {
     ghost use Rattle.bench_types.specs.Step.{settings_of, IsCheckedStep};
     ghost use Rattle.session_text.specs.Session.{step_fault};
 
@@ -36,7 +35,7 @@ impl Judged for Step {
     }
 }
 
-impl Judged for Edit {
+impl Judged<Header> for Edit {
     ghost use Rattle.bench_types.specs.Edit.{edit_check, IsCheckedEdit};
 
     ghost fault_of = { edit_check };
@@ -49,9 +48,9 @@ impl Judged for Edit {
 }
 
 /// The fault of the item at the place, if there is one.
-pub(crate) fn item_accepted<T: Judged>(
+pub(crate) fn item_accepted<H, T: Judged<H>>(
     alloc: Global,
-    header: &Header,
+    header: &H,
     place: &Place<'_>,
     item: &T,
 ) -> Result<(), ReadFault>
@@ -66,9 +65,9 @@ pub(crate) fn item_accepted<T: Judged>(
 }
 
 /// The first fault of the items of the array at the place, if there is one.
-pub(crate) fn items_accepted<T: Judged>(
+pub(crate) fn items_accepted<H, T: Judged<H>>(
     alloc: Global,
-    header: &Header,
+    header: &H,
     place: &Place<'_>,
     items: &[T],
 ) -> Result<(), ReadFault>

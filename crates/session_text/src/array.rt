@@ -29,7 +29,7 @@ pub(crate) trait ReadItem<'v> {
 }
 
 /// Reads the items of the array at the place, one after another.
-fn each<'v, R: ReadItem<'v>>(
+pub(crate) fn each<'v, R: ReadItem<'v>>(
     alloc: Global,
     reader: &R,
     place: &Place<'_>,

@@ -1,7 +1,7 @@
 ghost use Rattle.std.specs.Prelude.{◌≡◌, map};
 ghost use Rattle.session_text.specs.Node.{data_of, place_of};
 ghost use Rattle.session_text.specs.Outcome.{Gives};
-ghost use Rattle.session_text.specs.Step.{call_at, members_of_call, note_at, wait_at};
+ghost use Rattle.session_text.specs.Step.{call_at, members_of_call, members_of_interrupt, note_at, wait_at};
 
 use crate::action::{action_at, action_number};
 use crate::fault::ReadFault;
@@ -102,27 +102,37 @@ pub(crate) fn call_at(
     }
 }
 
-/// The members that a call like this one has.
+/// The members that a step of a call like this one has, those that its action lacks first.
 pub(crate) fn call_members(call: Call) -> &'static [&'static str]
     ensures { map (λ name. name.now) result.now ≡ members_of_call call }
 {
     match call {
-        Call::Yield | Call::Finish | Call::HoldOpen | Call::HoldClose => &["do", "core", "by"],
-        Call::Delay(_) => &["do", "core", "by", "ticks"],
-        Call::DelayUntil { .. } => &["do", "core", "by", "prev", "inc"],
-        Call::PrioritySet { .. } => &["do", "core", "by", "to", "priority"],
-        Call::AffinitySet { .. } => &["do", "core", "by", "to", "mask"],
+        Call::Yield | Call::Finish | Call::HoldOpen | Call::HoldClose => &["core", "by", "do"],
+        Call::Delay(_) => &["core", "by", "do", "ticks"],
+        Call::DelayUntil { .. } => &["core", "by", "do", "prev", "inc"],
+        Call::PrioritySet { .. } => &["core", "by", "do", "to", "priority"],
+        Call::AffinitySet { .. } => &["core", "by", "do", "to", "mask"],
         Call::PreemptOff(_) | Call::PreemptOn(_) | Call::StateClear(_) => {
-            &["do", "core", "by", "to"]
+            &["core", "by", "do", "to"]
         }
         Call::Notify(note) => match action_number(note.action) {
-            None => &["do", "core", "by", "to", "action"],
-            Some(_) => &["do", "core", "by", "to", "action", "value"],
+            None => &["core", "by", "do", "to", "action"],
+            Some(_) => &["core", "by", "do", "to", "action", "value"],
         },
-        Call::NotifyWait { .. } => &["do", "core", "by", "entry", "exit", "ticks"],
-        Call::NotifyTake { .. } => &["do", "core", "by", "clear", "ticks"],
-        Call::ValueClear { .. } => &["do", "core", "by", "to", "bits"],
-        Call::MutexTake { .. } => &["do", "core", "by", "mutex", "ticks"],
-        Call::MutexGive(_) => &["do", "core", "by", "mutex"],
+        Call::NotifyWait { .. } => &["core", "by", "do", "entry", "exit", "ticks"],
+        Call::NotifyTake { .. } => &["core", "by", "do", "clear", "ticks"],
+        Call::ValueClear { .. } => &["core", "by", "do", "to", "bits"],
+        Call::MutexTake { .. } => &["core", "by", "do", "mutex", "ticks"],
+        Call::MutexGive(_) => &["core", "by", "do", "mutex"],
+    }
+}
+
+/// The same for an interrupt with a notification like this one.
+pub(crate) fn interrupt_members(note: Note) -> &'static [&'static str]
+    ensures { map (λ name. name.now) result.now ≡ members_of_interrupt note }
+{
+    match action_number(note.action) {
+        None => &["core", "do", "to", "action"],
+        Some(_) => &["core", "do", "to", "action", "value"],
     }
 }

@@ -1,6 +1,6 @@
 ghost use Rattle.std.specs.Prelude.{◌≡◌, IfOk};
 ghost use Rattle.bench_types.specs.Header.{IsCheckedHeader};
-ghost use Rattle.session_text.specs.Header.{accepted, config_at, header_at, named, task_at};
+ghost use Rattle.session_text.specs.Header.{accepted, config_at, header_at, header_of, named, task_at};
 ghost use Rattle.session_text.specs.Node.{data_of, place_of};
 ghost use Rattle.session_text.specs.Outcome.{Gives};
 
@@ -42,7 +42,7 @@ impl TaskShape<'_> {
 }
 
 #[tactic(auto, unfolding(crate::specs::Header::config_at))]
-fn config_at(node: &Node<'_, '_>) -> Result<Config, ReadFault>
+pub(crate) fn config_at(node: &Node<'_, '_>) -> Result<Config, ReadFault>
     ensures { Gives (λ config. config) result (config_at (place_of node.now) (data_of node.now)) }
 {
     Ok(Config {
@@ -86,6 +86,7 @@ fn accepted(
     ensures value { IfOk result
         (λ header. header ≡ accepted (record { config = config; tasks = shapes.now })) }
     ensures valid { IfOk result (λ header. IfOk header IsCheckedHeader) }
+    ensures config { IfOk result (λ header. IfOk header (λ it. it.config ≡ config)) }
 {
     let mut tasks = Vec::with_capacity(alloc, shapes.len())?;
     for shape in shapes {
@@ -104,6 +105,20 @@ fn accepted(
     }
 }
 
+/// The header with these settings, accepted or not.
+pub(crate) fn header_of(
+    config: Config,
+    node: &Node<'_, '_>,
+) -> Result<Result<Header, Fault>, ReadFault>
+    ensures reading { Gives (λ header. header) result
+        (header_of config (place_of node.now) (data_of node.now)) }
+    ensures valid { IfOk result (λ header. IfOk header IsCheckedHeader) }
+    ensures config { IfOk result (λ header. IfOk header (λ it. it.config ≡ config)) }
+{
+    let shapes = list_at(&TaskReader, node, "tasks")?;
+    Ok(accepted(node.alloc, config, shapes.as_slice())?)
+}
+
 /// The header, accepted or not: its shape alone is judged.
 #[tactic(auto, unfolding(crate::specs::Header::header_at))]
 pub(crate) fn header_at(node: &Node<'_, '_>) -> Result<Result<Header, Fault>, ReadFault>
@@ -111,7 +126,5 @@ pub(crate) fn header_at(node: &Node<'_, '_>) -> Result<Result<Header, Fault>, Re
         (header_at (place_of node.now) (data_of node.now)) }
     ensures valid { IfOk result (λ header. IfOk header IsCheckedHeader) }
 {
-    let config = config_at(node)?;
-    let shapes = list_at(&TaskReader, node, "tasks")?;
-    Ok(accepted(node.alloc, config, shapes.as_slice())?)
+    header_of(config_at(node)?, node)
 }

@@ -1,7 +1,9 @@
-//! Sessions and their edits, read from JSON texts, with the first fault and its place.
+//! Sessions, their edits and the scripts of rigs, read from JSON texts, with the first fault and
+//! its place.
 #![tactic(auto)]
 
 mod accepted;
+mod act;
 mod action;
 mod array;
 mod bench;
@@ -13,6 +15,7 @@ mod member;
 mod names;
 mod node;
 mod path;
+mod rig;
 mod session;
 mod step;
 
@@ -20,4 +23,5 @@ pub use bench::{Bench, read_bench};
 pub use edit::read_edit;
 pub use fault::{TextFault, Why};
 pub use path::Path;
+pub use rig::{RigScript, read_rig};
 pub use session::read_session;

@@ -1,7 +1,7 @@
 ghost use Rattle.std.specs.Prelude.{◌≡◌, map};
 ghost use Rattle.json_data.specs.ObjectView.{members_view};
 ghost use Rattle.json_data.specs.View.{items_view, view};
-ghost use Rattle.session_text.specs.Member.{array_at, as_u32, flag_at, member_at, number_at, object_at, only_at, text_at};
+ghost use Rattle.session_text.specs.Member.{array_at, as_u32, flag_at, items_at, member_at, number_at, object_at, only_at, text_at};
 ghost use Rattle.session_text.specs.Node.{data_of, place_of};
 ghost use Rattle.session_text.specs.Outcome.{Gives};
 
@@ -16,6 +16,16 @@ impl<'p, 'v> Node<'p, 'v> {
     {
         match self.value.as_object() {
             Some(members) => Ok(members),
+            None => Err(self.bad_shape()),
+        }
+    }
+
+    pub(crate) fn items(&self) -> Result<Items<'p, 'v>, ReadFault>
+        ensures { Gives items_view result
+            (items_at (place_of self.now) (data_of self.now)) }
+    {
+        match self.value.as_array() {
+            Some(items) => Ok(items),
             None => Err(self.bad_shape()),
         }
     }

@@ -1,15 +1,17 @@
 ghost use Rattle.std.specs.Prelude.{◌≡◌, IfOk, Ok, codes};
+ghost use Rattle.json_data.specs.ObjectView.{members_view};
 ghost use Rattle.json_data.specs.View.{document_view};
 ghost use Rattle.std.specs.Result.{ForOk};
 ghost use Rattle.bench_types.specs.Header.{header_check, IsCheckedHeader};
 ghost use Rattle.bench_types.specs.Session.{IsSession};
 ghost use Rattle.session_text.specs.Array.{list_at};
+ghost use Rattle.session_text.specs.Member.{only_at};
 ghost use Rattle.session_text.specs.Names.{known_names};
 ghost use Rattle.session_text.specs.Node.{data_of, place_of};
 ghost use Rattle.session_text.specs.Outcome.{Gives};
 ghost use Rattle.session_text.specs.Path.{path_of};
 ghost use Rattle.session_text.specs.Step.{step_at};
-ghost use Rattle.session_text.specs.Session.{document, format_at, session, session_accepted, session_at, Answers};
+ghost use Rattle.session_text.specs.Session.{document, format_at, session, session_accepted, session_at, session_members, Answers};
 
 use crate::accepted::items_accepted;
 use crate::array::list_at;
@@ -20,7 +22,7 @@ use crate::node::Node;
 use crate::path::{Path, Place};
 use crate::step::StepReader;
 use bench_types::{Fault, Header, Step};
-use json_data::{Document, Refused, Scratch};
+use json_data::{Document, Object, Refused, Scratch};
 use std::alloc::{AllocError, Global};
 
 /// Reads a session from a JSON text.
@@ -69,7 +71,7 @@ pub(crate) fn document<'a>(
 }
 
 #[tactic(auto, unfolding(crate::specs::Session::format_at))]
-fn format_at(node: &Node<'_, '_>) -> Result<(), ReadFault>
+pub(crate) fn format_at(node: &Node<'_, '_>) -> Result<(), ReadFault>
     ensures { Gives (λ done. done) result (format_at (place_of node.now) (data_of node.now)) }
 {
     if node.number("format")? == 1 {
@@ -103,6 +105,29 @@ fn steps_at(header: &Result<Header, Fault>, node: &Node<'_, '_>) -> Result<Vec<S
     list_at(&StepReader { names: &names }, node, "steps")
 }
 
+/// H2 where the session has an unknown member.
+pub(crate) fn only_members(
+    node: &Node<'_, '_>,
+    members: &Object<'_, '_, '_>,
+) -> Result<(), ReadFault>
+    ensures { Gives (λ done. done) result
+        (only_at (place_of node.now) session_members (members_view members.now)) }
+{
+    node.only(
+        &[
+            "format",
+            "cores",
+            "priorities",
+            "slicing",
+            "tick",
+            "mutexes",
+            "tasks",
+            "steps",
+        ],
+        members,
+    )
+}
+
 /// The header, accepted or not, and the steps: shapes alone are judged.
 #[tactic(auto, unfolding(crate::specs::Session::session_at))]
 pub(crate) fn session_at(
@@ -116,19 +141,7 @@ pub(crate) fn session_at(
     format_at(node)?;
     let header = header_at(node)?;
     let steps = steps_at(&header, node)?;
-    node.only(
-        &[
-            "format",
-            "cores",
-            "priorities",
-            "slicing",
-            "tick",
-            "mutexes",
-            "tasks",
-            "steps",
-        ],
-        &members,
-    )?;
+    only_members(node, &members)?;
     Ok((header, steps))
 }
 

@@ -3,9 +3,8 @@ ghost use Rattle.session_text.specs.Node.{data_of, place_of};
 ghost use Rattle.session_text.specs.Outcome.{Gives};
 ghost use Rattle.session_text.specs.Step.{kind_at, kind_of, members_of, step_at, step_of_kind_at};
 
-use crate::action::action_number;
 use crate::array::ReadItem;
-use crate::call::{CallKind, call_at, call_members, note_at};
+use crate::call::{CallKind, call_at, call_members, interrupt_members, note_at};
 use crate::fault::ReadFault;
 use crate::names::Names;
 use crate::node::Node;
@@ -56,17 +55,14 @@ fn known_members(step: &Step) -> &'static [&'static str]
 {
     match step {
         Step::Tick => &["do"],
-        Step::Switch { .. } => &["do", "core"],
+        Step::Switch { .. } => &["core", "do"],
         Step::Call { call, .. } => call_members(*call),
-        Step::Interrupt { note, .. } => match action_number(note.action) {
-            None => &["do", "core", "to", "action"],
-            Some(_) => &["do", "core", "to", "action", "value"],
-        },
+        Step::Interrupt { note, .. } => interrupt_members(*note),
     }
 }
 
 #[tactic(auto, unfolding(crate::specs::Step::kind_at))]
-fn kind_at(node: &Node<'_, '_>) -> Result<Kind, ReadFault>
+pub(crate) fn kind_at(node: &Node<'_, '_>) -> Result<Kind, ReadFault>
     ensures { Gives (λ kind. kind) result (kind_at (place_of node.now) (data_of node.now)) }
 {
     node.found("do", Kind::of(node.text("do")?))

@@ -1,5 +1,5 @@
-//! Tests of the types of a session, and of the texts of sessions, benches and edits: as they are
-//! read, and as sessions are written.
+//! Tests of the types of a session, and of the texts of sessions, benches, edits and rigs: as they
+//! are read, and as sessions are written.
 #![tactic(auto)]
 
 #[cfg(test)]
@@ -26,6 +26,8 @@ mod names;
 mod notes;
 #[cfg(test)]
 mod outcomes;
+#[cfg(test)]
+mod rigs;
 #[cfg(test)]
 mod sessions;
 #[cfg(test)]

@@ -4,9 +4,10 @@ ghost use Rattle.bench_types.specs.Header.{header_check};
 ghost use Rattle.bench_types.specs.Session.{IsSession};
 
 use crate::benches::BENCH;
+use crate::rigs::RIG;
 use crate::sessions::{NO_JSON, SESSION};
 use bench_types::{Fault, Header, Step};
-use session_text::{TextFault, Why, read_bench, read_edit, read_session};
+use session_text::{TextFault, Why, read_bench, read_edit, read_rig, read_session};
 use std::alloc::{AllocError, Global};
 use std::process::Abort;
 use std::test::Fail;
@@ -38,6 +39,7 @@ pub enum Document {
     Bench,
     /// An edit of a session with so many mutexes.
     Edit(u32),
+    Rig,
 }
 
 /// How a row gives its text.
@@ -49,6 +51,8 @@ pub enum Base {
     Session,
     /// By changes of a bench document of it.
     Bench,
+    /// By changes of a rig document of it.
+    Rig,
     /// By changes of this text.
     Text(&'static str),
     /// As the start tick of that session.
@@ -66,6 +70,7 @@ impl Base {
             Base::Whole => whole(alloc, given),
             Base::Session => changed(alloc, SESSION, given),
             Base::Bench => changed(alloc, BENCH, given),
+            Base::Rig => changed(alloc, RIG, given),
             Base::Text(text) => changed(alloc, text, given),
             Base::Tick => {
                 let change = format!(in alloc; "\"tick\":0 => \"tick\":{given}")?;
@@ -170,6 +175,7 @@ impl Document {
                 let header = header_with(alloc, mutexes)?;
                 told(alloc, read_edit(alloc, text, &header))?
             }
+            Document::Rig => told(alloc, read_rig(alloc, text))?,
         })
     }
 

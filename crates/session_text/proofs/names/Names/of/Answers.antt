@@ -1,4 +1,4 @@
-use Rattle.std.proofs.Common.{◌≡◌, false, ◌++◌, ◌∷◌, [], map, refl, arith}
+use Rattle.std.proofs.Common.{◌≡◌, false, ◌++◌, ◌∷◌, [], map, refl}
 use Rattle.bench_types.proofs.Passes.{checked_header}
 use Rattle.bench_types.specs.Header.{repeats_name}
 use Rattle.session_text.proofs.NewNames.{are_new_all, is_new, goes_on, insert_key_new}

@@ -1,0 +1,16 @@
+use Rattle.std.proofs.Common.{◌≡◌, ◌<◌, ℕ, [], drop, get_or}
+use Rattle.std.specs.Prelude.{All}
+use Rattle.bench_types.specs.Step.{settings_of}
+use Rattle.session_text.specs.Act.{IsCheckedAct}
+use Rattle.session_text.specs.Path.{path_of}
+use Rattle.session_text.specs.Rig.{scripts_accepted}
+use Rattle.session_text.proofs.rig.scripts_accepted.Given as goal
+
+-- no script so far is at fault, so that only those from here on are left to look at
+abbrev pub invariant-loop-core : goal.invariant-loop-core
+invariant-loop-core l =
+    let at = path_of l.place in
+    record {
+      reading : scripts_accepted l.header at l.core (drop l.core l.scripts) ≡ scripts_accepted l.header at 0 l.scripts;
+      checked : (core : ℕ) → core < l.core → All (IsCheckedAct (settings_of l.header) core) (get_or l.scripts core []);
+    }

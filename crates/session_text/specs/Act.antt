@@ -1,0 +1,58 @@
+-- An action of a script: a step that doesn't say on which core, nor by which task.
+use Rattle.std.specs.Prelude.{◌≡◌, ℕ, List, Result, Ok, ⊤}
+use Rattle.serde_json.specs.Data.{Data}
+use Rattle.bench_types.specs.Act.{act_check}
+use Rattle.bench_types.specs.Step.{settings_of, IsActionOfWord, IsOfWords}
+use Rattle.bench_types.specs.declared.act.Act.{Act}
+use Rattle.bench_types.specs.declared.act.Act.TheVariants as act
+use Rattle.bench_types.specs.declared.fault.Fault.{Fault}
+use Rattle.bench_types.specs.declared.header.Header.{Header}
+use Rattle.bench_types.specs.declared.kernel_data.Settings.{Settings}
+use Rattle.session_text.specs.declared.fault.TextFault.{TextFault}
+use Rattle.session_text.specs.declared.step.Kind.{Kind}
+use Rattle.session_text.specs.declared.step.Kind.TheVariants as kind
+use Rattle.session_text.specs.Array.{each_at}
+use Rattle.session_text.specs.Member.{object_at, items_at, only_at}
+use Rattle.session_text.specs.Names.{TaskNames}
+use Rattle.session_text.specs.Outcome.{◌>>=◌}
+use Rattle.session_text.specs.Step.{call_at, kind_at, members_of_act, note_at}
+
+unfoldable pub act_of_kind_at : TaskNames → Kind → List ℕ → Data → Result Act TextFault
+act_of_kind_at names kind.Tick at d = Ok act.Tick
+act_of_kind_at names kind.Switch at d = Ok act.Switch
+act_of_kind_at names (kind.Call which) at d = do
+  made ← call_at names which at d
+  Ok (act.Call made)
+act_of_kind_at names kind.Interrupt at d = do
+  note ← note_at names at d
+  Ok (act.Interrupt note)
+
+unfoldable pub act_at : TaskNames → List ℕ → Data → Result Act TextFault
+act_at names at d = do
+  members ← object_at at d
+  which ← kind_at at d
+  made ← act_of_kind_at names which at d
+  only ← only_at at (members_of_act made) members
+  Ok made
+
+-- the actions of one core
+unfoldable pub script_at : TaskNames → List ℕ → Data → Result (List Act) TextFault
+script_at names at d = do
+  items ← items_at at d
+  each_at (act_at names) at 0 items
+
+-- the fault of what a core would do under a header
+abbrev pub act_fault : Header → ℕ → Act → Result ⊤ Fault
+act_fault header core made = act_check (settings_of header) core made
+
+-- every number of an action is one of 32 bits
+abbrev pub IsActOfWords : Act → Type 0
+IsActOfWords (act.Call made) = IsOfWords made
+IsActOfWords (act.Interrupt note) = IsActionOfWord note.action
+IsActOfWords act.Tick = ⊤
+IsActOfWords act.Switch = ⊤
+
+-- an action of a core that was checked against the settings
+pub record IsCheckedAct (settings : Settings) (core : ℕ) (made : Act) : Type 0 where
+  pub passes : act_check settings core made ≡ Ok tt
+  pub words : IsActOfWords made

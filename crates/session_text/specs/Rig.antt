@@ -1,0 +1,124 @@
+-- A rig document: a session with no steps, how many entries its recording has at most, and what
+-- each core does.
+use Rattle.std.specs.Prelude.{◌≡◌, ◌≤◌, ℕ, suc, Bool, true, ◌&&◌, ◌==◌, nat_lt, List, [], ◌∷◌, length, get_or, codes, is_some, EachIndex, Result, Ok, Err, if◌then◌else◌, ⊤, All}
+use Rattle.serde_json.specs.Data.{Data, Items, no_items, item}
+use Rattle.serde_json.specs.Events.{items_len}
+use Rattle.serde_json.specs.Find.{as_array}
+use Rattle.bench_types.specs.Header.{IsCheckedHeader}
+use Rattle.bench_types.specs.Limits.{max_steps}
+use Rattle.bench_types.specs.Step.{settings_of}
+use Rattle.bench_types.specs.declared.act.Act.{Act}
+use Rattle.bench_types.specs.declared.fault.Fault.{Fault}
+use Rattle.bench_types.specs.declared.fault.Fault.TheVariants.{BadArgument}
+use Rattle.bench_types.specs.declared.header.Header.{Header}
+use Rattle.session_text.specs.declared.fault.TextFault.{TextFault}
+use Rattle.session_text.specs.declared.fault.Why.TheVariants.{Bench}
+use Rattle.session_text.specs.declared.rig.RigScript.{RigScript}
+use Rattle.session_text.specs.Accepted.{items_accepted}
+use Rattle.session_text.specs.Act.{act_fault, script_at, IsCheckedAct}
+use Rattle.session_text.specs.Array.{list_at}
+use Rattle.session_text.specs.Header.{config_at, header_of}
+use Rattle.session_text.specs.Member.{object_at, member_at, array_at, number_at, only_at}
+use Rattle.session_text.specs.Names.{TaskNames, known_names}
+use Rattle.session_text.specs.Outcome.{◌>>=◌, bad_shape}
+use Rattle.session_text.specs.Path.{item_path, member_path, path_text}
+use Rattle.session_text.specs.Session.{document, format_at, session_members}
+
+-- `steps` has no items, or H2 there
+unfoldable pub no_steps_at : List ℕ → Data → Result ⊤ TextFault
+no_steps_at at d = do
+  items ← array_at at (codes "steps") d
+  if items_len items == 0 then Ok tt else Err (bad_shape (member_path at (codes "steps")))
+
+-- the number of cores, and the header, accepted or not, of a session with no steps
+unfoldable pub stepless_at : List ℕ → Data → Result (ℕ × Result Header Fault) TextFault
+stepless_at at d = do
+  members ← object_at at d
+  format ← format_at at d
+  config ← config_at at d
+  header ← header_of config at d
+  none ← no_steps_at at d
+  only ← only_at at session_members members
+  Ok (config.cores, header)
+
+-- each item is an array
+abbrev pub are_arrays : Items → Bool
+are_arrays no_items = true
+are_arrays (item d rest) = is_some (as_array d) && are_arrays rest
+
+-- there are so many items, and each is an array
+abbrev pub has_arrays : ℕ → Items → Bool
+has_arrays count items = (items_len items == count) && are_arrays items
+
+-- a wrong number of scripts, and one that is no array, is H2 at `scripts`
+abbrev pub one_per_core : ℕ → List ℕ → Items → Result ⊤ TextFault
+one_per_core cores at items = if has_arrays cores items then Ok tt else Err (bad_shape at)
+
+-- one script per core
+unfoldable pub scripts_at : ℕ → TaskNames → List ℕ → Data → Result (List (List Act)) TextFault
+scripts_at cores names at d = do
+  items ← array_at at (codes "scripts") d
+  done ← one_per_core cores (member_path at (codes "scripts")) items
+  list_at (script_at names) at (codes "scripts") d
+
+abbrev pub rig_members : List (List ℕ)
+rig_members = codes "session" ∷ codes "limit" ∷ codes "scripts" ∷ []
+
+-- the header, accepted or not, of the session, the limit and the scripts; shapes alone are judged
+unfoldable pub rig_shapes_at :
+    List ℕ → Data → Result (Result Header Fault × ℕ × List (List Act)) TextFault
+rig_shapes_at at d = do
+  members ← object_at at d
+  inner ← member_at at (codes "session") d
+  read ← stepless_at (member_path at (codes "session")) inner
+  limit ← number_at at (codes "limit") d
+  scripts ← scripts_at read.0 (known_names read.1) at d
+  only ← only_at at rig_members members
+  Ok (read.1, limit, scripts)
+
+-- F5 at `limit`, where it is more than the steps that a session may have
+abbrev pub limit_accepted : List ℕ → ℕ → Result ⊤ TextFault
+limit_accepted at limit =
+    if nat_lt max_steps limit
+    then Err (record { why = Bench BadArgument; path = path_text (member_path at (codes "limit")) })
+    else Ok tt
+
+-- the first fault of the scripts from a core's on, which stand in the array at a place
+abbrev pub scripts_accepted : Header → List ℕ → ℕ → List (List Act) → Result ⊤ TextFault
+scripts_accepted header at core [] = Ok tt
+scripts_accepted header at core (script ∷ rest) = do
+  done ← items_accepted (act_fault header core) (item_path at core) 0 script
+  scripts_accepted header at (suc core) rest
+
+-- F1 of the header has no place; the fault of the limit comes before those of the scripts
+unfoldable pub rig_accepted :
+    List ℕ → Result Header Fault → ℕ → List (List Act) → Result RigScript TextFault
+rig_accepted at (Err fault) limit scripts = Err (record { why = Bench fault; path = [] })
+rig_accepted at (Ok header) limit scripts = do
+  few ← limit_accepted at limit
+  done ← scripts_accepted header (member_path at (codes "scripts")) 0 scripts
+  Ok (record { header = header; limit = limit; scripts = scripts })
+
+unfoldable pub rig_at : List ℕ → Data → Result RigScript TextFault
+rig_at at d = do
+  read ← rig_shapes_at at d
+  rig_accepted at read.0 read.1 read.2
+
+-- the rig document that a text spells, or its first fault
+unfoldable pub rig_text : List ℕ → Result RigScript TextFault
+rig_text text = do
+  d ← document text
+  rig_at [] d
+
+-- each action of each script was checked as one of its core
+abbrev pub AreCheckedScripts : Header → List (List Act) → Type 0
+AreCheckedScripts header scripts =
+    EachIndex scripts
+    (λ core. All (IsCheckedAct (settings_of header) core) (get_or scripts core []))
+
+-- there is one script per core, and all was checked under the header
+pub record IsCheckedRig (rig : RigScript) : Type 0 where
+  pub header : IsCheckedHeader rig.header
+  pub few : rig.limit ≤ max_steps
+  pub one_per_core : length rig.scripts ≡ rig.header.config.cores
+  pub acts : AreCheckedScripts rig.header rig.scripts

@@ -1,0 +1,237 @@
+ghost use Rattle.std.specs.Prelude.{◌≡◌, ◌<◌, ◌≤◌, ◌^◌, length, All, IfOk, OnOk};
+ghost use Rattle.std.specs.Result.{ForOk};
+ghost use Rattle.json_data.specs.View.{items_view};
+ghost use Rattle.bench_types.specs.Header.{IsCheckedHeader};
+ghost use Rattle.bench_types.specs.Limits.{max_steps};
+ghost use Rattle.bench_types.specs.Step.{settings_of};
+ghost use Rattle.session_text.specs.Accepted.{items_accepted};
+ghost use Rattle.session_text.specs.Act.{act_fault, IsCheckedAct};
+ghost use Rattle.session_text.specs.Node.{data_of, place_of};
+ghost use Rattle.session_text.specs.Outcome.{Gives};
+ghost use Rattle.session_text.specs.Path.{item_path, path_of};
+ghost use Rattle.session_text.specs.Rig.{has_arrays, limit_accepted, no_steps_at, rig_accepted, rig_at, rig_shapes_at, rig_text, scripts_accepted, scripts_at, stepless_at, AreCheckedScripts, IsCheckedRig};
+ghost use Rattle.session_text.specs.Session.{Answers};
+
+use crate::accepted::items_accepted;
+use crate::act::{OnCore, ScriptReader};
+use crate::array::list_at;
+use crate::fault::{ReadFault, TextFault, Why};
+use crate::header::{config_at, header_of};
+use crate::names::Names;
+use crate::node::Node;
+use crate::path::{Path, Place};
+use crate::session::{document, format_at, known_names, only_members};
+use bench_types::{Act, Fault, Header, Items, MAX_STEPS};
+use json_data::Scratch;
+use std::alloc::Global;
+
+/// What the cores of a rig do, each in its own thread, once the session has started.
+#[derive(Debug, Drop)]
+pub struct RigScript {
+    pub header: Header,
+    /// How many entries the recording has at most.
+    pub limit: u32,
+    /// What each core does, one script per core.
+    pub scripts: Items<Items<Act>>,
+}
+
+/// Reads a rig document from a JSON text: an object with `session`, whose `steps` are none,
+/// `limit` and `scripts`.
+///
+/// F5 at `limit` is a limit over 100,000 entries.
+pub fn read_rig(alloc: Global, text: &[u8]) -> Result<RigScript, TextFault>
+    // The header, the limit and the scripts, or the first fault with its path, or that memory ran
+    // out.
+    ensures reading { Answers (λ rig. rig) result (rig_text text.now) }
+    // So no check of the header or of an action fails later, and each core has a script.
+    ensures checked { IfOk result IsCheckedRig }
+{
+    Ok(rig_text(alloc, text)?)
+}
+
+#[tactic(auto, unfolding(crate::specs::Rig::rig_text))]
+fn rig_text(alloc: Global, text: &[u8]) -> Result<RigScript, ReadFault>
+    ensures reading { Gives (λ rig. rig) result (rig_text text.now) }
+    ensures checked { IfOk result IsCheckedRig }
+{
+    let mut scratch = Scratch::new(alloc);
+    let document = document(alloc, text, &mut scratch)?;
+    rig_at(&Node {
+        alloc,
+        place: &Place::Top,
+        value: &document.root(),
+    })
+}
+
+#[tactic(auto, unfolding(crate::specs::Rig::rig_at))]
+fn rig_at(node: &Node<'_, '_>) -> Result<RigScript, ReadFault>
+    ensures reading { Gives (λ rig. rig) result (rig_at (place_of node.now) (data_of node.now)) }
+    ensures checked { IfOk result IsCheckedRig }
+{
+    let (header, limit, scripts) = rig_shapes_at(node)?;
+    rig_accepted(node.alloc, node.place, header, limit, scripts)
+}
+
+/// The header, accepted or not, the limit and the scripts: shapes alone are judged.
+#[tactic(auto, unfolding(crate::specs::Rig::rig_shapes_at))]
+fn rig_shapes_at(
+    node: &Node<'_, '_>,
+) -> Result<(Result<Header, Fault>, u32, Vec<Items<Act>>), ReadFault>
+    ensures reading { Gives (λ read. (read.0, read.1, read.2.items)) result
+        (rig_shapes_at (place_of node.now) (data_of node.now)) }
+    ensures valid { IfOk result (λ read. IfOk read.0 IsCheckedHeader) }
+    ensures one_per_core { IfOk result
+        (λ read. IfOk read.0 (λ header. length read.2.items ≡ header.config.cores)) }
+{
+    let members = node.object()?;
+    let (cores, header) = stepless_at(&Node {
+        alloc: node.alloc,
+        place: &Place::Member(node.place, "session"),
+        value: &node.member("session")?,
+    })?;
+    let limit = node.number("limit")?;
+    let names = known_names(node.alloc, &header)?;
+    let scripts = scripts_at(cores, &names, node)?;
+    drop(names);
+    node.only(&["session", "limit", "scripts"], &members)?;
+    Ok((header, limit, scripts))
+}
+
+/// The number of cores, and the header, accepted or not, of the session, which has no steps.
+#[tactic(auto, unfolding(crate::specs::Rig::stepless_at))]
+fn stepless_at(node: &Node<'_, '_>) -> Result<(u32, Result<Header, Fault>), ReadFault>
+    ensures reading { Gives (λ read. read) result
+        (stepless_at (place_of node.now) (data_of node.now)) }
+    ensures valid { IfOk result (λ read. IfOk read.1 IsCheckedHeader) }
+    ensures cores { IfOk result
+        (λ read. IfOk read.1 (λ header. read.0 ≡ header.config.cores)) }
+{
+    let members = node.object()?;
+    format_at(node)?;
+    let config = config_at(node)?;
+    let header = header_of(config, node)?;
+    no_steps_at(node)?;
+    only_members(node, &members)?;
+    Ok((config.cores, header))
+}
+
+#[tactic(auto, unfolding(crate::specs::Rig::no_steps_at))]
+fn no_steps_at(node: &Node<'_, '_>) -> Result<(), ReadFault>
+    ensures { Gives (λ done. done) result (no_steps_at (place_of node.now) (data_of node.now)) }
+{
+    match node.array("steps")?.next() {
+        None => Ok(()),
+        Some(_) => Err(node.bad_member("steps")),
+    }
+}
+
+/// Whether there are so many items, and each is an array.
+fn has_arrays(count: u32, items: &mut json_data::Items<'_, '_>) -> bool
+    ensures { result ≡ has_arrays count (items_view items.old) }
+{
+    let mut left = count;
+    while let Some(item) = items.next() {
+        if left == 0 || item.as_array().is_none() {
+            return false;
+        }
+        left -= 1;
+    }
+    left == 0
+}
+
+/// One script per core.
+#[tactic(auto, unfolding(crate::specs::Rig::scripts_at))]
+fn scripts_at(
+    cores: u32,
+    names: &Names<'_>,
+    node: &Node<'_, '_>,
+) -> Result<Vec<Items<Act>>, ReadFault>
+    ensures reading { Gives (λ scripts. scripts.items) result
+        (scripts_at cores names.now (place_of node.now) (data_of node.now)) }
+    ensures one_per_core { IfOk result (λ scripts. length scripts.items ≡ cores) }
+{
+    if !has_arrays(cores, &mut node.array("scripts")?) {
+        return Err(node.bad_member("scripts"));
+    }
+    list_at(&ScriptReader { names }, node, "scripts")
+}
+
+/// The rig, or the fault of its header, or of its limit, or else of its first action at fault.
+#[tactic(auto, unfolding(crate::specs::Rig::rig_accepted))]
+fn rig_accepted(
+    alloc: Global,
+    place: &Place<'_>,
+    header: Result<Header, Fault>,
+    limit: u32,
+    scripts: Vec<Items<Act>>,
+) -> Result<RigScript, ReadFault>
+    requires valid { ForOk header IsCheckedHeader }
+    requires one_per_core { ForOk header (λ it. length scripts.items ≡ it.config.cores) }
+    ensures reading { Gives (λ rig. rig) result
+        (rig_accepted (path_of place.now) header limit scripts.items) }
+    ensures checked { IfOk result IsCheckedRig }
+{
+    match header {
+        Err(fault) => Err(ReadFault::Fault(TextFault {
+            why: Why::Bench(fault),
+            path: Path::empty(),
+        })),
+        Ok(header) => {
+            limit_accepted(alloc, place, limit)?;
+            let inner = Place::Member(place, "scripts");
+            scripts_accepted(alloc, &header, &inner, scripts.as_slice())?;
+            Ok(RigScript {
+                header,
+                limit,
+                scripts: Items::new(scripts),
+            })
+        }
+    }
+}
+
+fn limit_accepted(alloc: Global, place: &Place<'_>, limit: u32) -> Result<(), ReadFault>
+    ensures reading { Gives (λ done. done) result (limit_accepted (path_of place.now) limit) }
+    ensures few { OnOk result (limit ≤ max_steps) }
+{
+    if limit > MAX_STEPS {
+        let place = Place::Member(place, "limit");
+        Err(ReadFault::at(alloc, &place, Why::Bench(Fault::BadArgument)))
+    } else {
+        Ok(())
+    }
+}
+
+/// The first fault of the scripts, which stand in the array at the place, if there is one.
+fn scripts_accepted(
+    alloc: Global,
+    header: &Header,
+    place: &Place<'_>,
+    scripts: &[Items<Act>],
+) -> Result<(), ReadFault>
+    requires { length scripts.now < 2 ^ 32 }
+    ensures reading { Gives (λ done. done) result
+        (scripts_accepted header.now (path_of place.now) 0 scripts.now) }
+    ensures checked { OnOk result (AreCheckedScripts header.now scripts.now) }
+{
+    for (core, script) in scripts.iter().enumerate() {
+        script_accepted(alloc, header, place, core as u32, script.as_slice())?;
+    }
+    Ok(())
+}
+
+/// The first fault of the core's script, which is an item of the array at the place.
+fn script_accepted(
+    alloc: Global,
+    header: &Header,
+    place: &Place<'_>,
+    core: u32,
+    script: &[Act],
+) -> Result<(), ReadFault>
+    ensures reading { Gives (λ done. done) result
+        (items_accepted (act_fault header.now core) (item_path (path_of place.now) core) 0
+        script.now) }
+    ensures checked { OnOk result (All (IsCheckedAct (settings_of header.now) core) script.now) }
+{
+    let on = OnCore { header, core };
+    items_accepted(alloc, &on, &Place::Item(place, core as usize), script)
+}

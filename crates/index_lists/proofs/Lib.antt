@@ -1,0 +1,5 @@
+mod Fields
+mod Looks
+mod Moves
+mod Paths
+mod Places

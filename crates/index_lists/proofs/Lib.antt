@@ -1,5 +1,6 @@
 mod Fields
+pub mod Frees
 mod Looks
 mod Moves
-mod Paths
+pub mod Paths
 mod Places

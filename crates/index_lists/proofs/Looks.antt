@@ -96,7 +96,7 @@ module _ (items : ℕ) (named named_back : List ℕ) (homes : List (Option Home)
       at (Some home) is = absurd (cc (list_of_home item home is, free))
 
   -- ---- who is first, who is next
-  item_or_none : (l : ℕ) (row : List Listed) → ((m : ℕ) → has_item m row ≡ true → m < items) → cond (ltb (first_or (items + l) (items_of row)) items) (Some (first_or (items + l) (items_of row))) None ≡ first_of row
+  pub item_or_none : (l : ℕ) (row : List Listed) → ((m : ℕ) → has_item m row ≡ true → m < items) → cond (ltb (first_or (items + l) (items_of row)) items) (Some (first_or (items + l) (items_of row))) None ≡ first_of row
   item_or_none l [] low = ap (λ b. cond b (Some (items + l)) None) (let past : ltb (items + l) items ≡ false = grind (arith, nat_tests) in past)
   item_or_none l (e ∷ row) low =
       ap (λ b. cond b (Some e.item) None) (let within : ltb e.item items ≡ true = let less : e.item < items = low e.item (grind (arith, nat_tests)) in grind (arith, nat_tests, less) in within)

@@ -1,17 +1,18 @@
 -- The place of an item among the keys of a list, found from the front.
-use Rattle.std.proofs.Common.{◌≡◌, ℕ, ◌+◌, ◌<◌, ◌≤◌, Bool, true, false, cond, List, ◌∷◌, ◌++◌, length, get_or, take, drop, Option, Some, None, sym, ap, subst, ◌∙◌, arith}
+use Rattle.std.proofs.Common.{◌≡◌, ℕ, ◌+◌, ◌<◌, ◌≤◌, Bool, true, false, cond, ltb, List, ◌∷◌, ◌++◌, length, get_or, take, drop, Option, Some, None, sym, ap, subst, ◌∙◌, arith}
 use Rattle.std.specs.List.{prefix_len}
-use Rattle.std.proofs.lemmas.List.{drop_more, drop_all, get_or_past, get_or_read, take-append-drop}
+use Rattle.std.proofs.lemmas.List.{drop_more, drop_all, get_or_past, get_or_read, get_or-map, take_all, take_more_same, take-append-drop}
 use Rattle.std.proofs.lemmas.List.Elements.{All-from_recursion}
 use Rattle.std.proofs.lemmas.Bool.Decides.{nat_tests}
 use Rattle.list_orders.proofs.Ranks.{IsRank}
 use Rattle.index_lists.specs.declared.links.Home.{Home}
-use Rattle.index_lists.specs.Listed.{Listed, items_of, lowest_first}
+use Rattle.index_lists.specs.Listed.{Listed, items_of, has_item, first_of, lowest_first}
 use Rattle.index_lists.specs.Rings.{IsRing, first_or}
 use Rattle.index_lists.specs.Shape.{home_at, StandFor}
 use Rattle.index_lists.proofs.Paths.{ring_next}
-use Rattle.index_lists.proofs.Fields.{row_at, lens_at, lens_length}
-use Rattle.index_lists.proofs.Moves.{items_of-append}
+use Rattle.index_lists.proofs.Fields.{row_at, item_low, lens_at, lens_length}
+use Rattle.index_lists.proofs.Looks.{item_or_none}
+use Rattle.index_lists.proofs.Moves.{items_of-append, has-parts}
 
 abbrev pub none : Listed
 none = record { item = 0; key = 0 }
@@ -70,3 +71,38 @@ module _ (items : ℕ) (named named_back : List ℕ) (homes : List (Option Home)
 
 pub lowest_first-IsRank : IsRank lowest_first
 lowest_first-IsRank = record { total = λ a b h. grind (arith, nat_tests, h); chain = λ a b c h k. grind (arith, nat_tests, h, k) }
+
+module _ (items : ℕ) (named named_back : List ℕ) (homes : List (Option Home)) (lens : List ℕ) (lists : List (List Listed)) (stand : StandFor items named named_back homes lens lists)
+    (l i item : ℕ) (low : l < length lists) (within : i < length (row_at lists l)) (is : get_or (items_of (row_at lists l)) i 0 ≡ item) where
+  item_here : (get_or (row_at lists l) i none).item ≡ item
+  item_here = sym (get_or-map (λ (e : Listed). e.item) (row_at lists l) i none 0 within) ∙ is
+
+  -- an item at a place of a list has a home, and the one after it stands at the next place
+  pub placed_home : home_at homes item ≡ Some (record { list = l; key = (get_or (row_at lists l) i none).key })
+  placed_home = ap (home_at homes) (sym item_here) ∙ home_here items named named_back homes lens lists stand l i low within
+
+  pub placed_next : cond (ltb (get_or named item 0) items) (Some (get_or named item 0)) None ≡ first_of (drop (i + 1) (row_at lists l))
+  placed_next =
+      let rest = drop (i + 1) (row_at lists l) in
+      let key = (get_or (row_at lists l) i none).key in
+      ap (λ n. cond (ltb n items) (Some n) None) (ap (λ n. get_or named n 0) (sym item_here) ∙ node_next items named named_back homes lens lists stand l i low within)
+      ∙ item_or_none items named named_back homes lens lists stand l rest
+      (λ m there. item_low items named named_back homes lens lists stand l m low (later m there))
+    where
+      later : (m : ℕ) → has_item m (drop (i + 1) (row_at lists l)) ≡ true → has_item m (row_at lists l) ≡ true
+      later m there =
+          ap (has_item m) (parts items named named_back homes lens lists stand l i low within)
+          ∙ grind (arith, there, has-parts m (take i (row_at lists l)) (get_or (row_at lists l) i none ∷ drop (i + 1) (row_at lists l)))
+
+-- two lists are equal where they have one length and were equal so far to the end
+pub all_equal : (xs ys : List ℕ) (i : ℕ) → length xs ≡ length ys → length xs ≤ i → take i xs ≡ take i ys → xs ≡ ys
+all_equal xs ys i sized past same = sym (take_all i xs past) ∙ same ∙ take_all i ys (omega (arith, sized, past))
+
+pub one_more_equal : (xs ys : List ℕ) (i : ℕ) → i < length xs → i < length ys → take i xs ≡ take i ys → get_or xs i 0 ≡ get_or ys i 0 → take (i + 1) xs ≡ take (i + 1) ys
+one_more_equal xs ys i low low_too same here = take_more_same xs ys i 0 low low_too same here
+
+module _ (items : ℕ) (named named_back : List ℕ) (homes : List (Option Home)) (lens : List ℕ) (lists : List (List Listed)) (stand : StandFor items named named_back homes lens lists)
+    (l i : ℕ) (low : l < length lists) (within : i < length (row_at lists l)) where
+  -- the node of a place is the item there
+  pub node_item : first_or (items + l) (items_of (drop i (row_at lists l))) ≡ get_or (items_of (row_at lists l)) i 0
+  node_item = node_here items named named_back homes lens lists stand l i low within ∙ sym (get_or-map (λ (e : Listed). e.item) (row_at lists l) i none 0 within)

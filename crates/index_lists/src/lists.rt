@@ -1,4 +1,4 @@
-ghost use Rattle.std.specs.Prelude.{◌≡◌, ℕ, ◌+◌, ◌<◌, ◌≤◌, ◌^◌, ◌∷◌, ◌++◌, [], Some, None, nat_lt, if◌then◌else◌, length, map, drop, slice_set, IfOk, IfSome, nat_le};
+ghost use Rattle.std.specs.Prelude.{◌≡◌, ◌↔◌, ℕ, ◌+◌, ◌<◌, ◌≤◌, ◌^◌, ◌∷◌, ◌++◌, [], Some, None, nat_lt, if◌then◌else◌, length, map, drop, slice_index, IsTrue, IfOk, IfSome, nat_le};
 ghost use Rattle.std.specs.List.{prefix_len, insert};
 ghost use Rattle.list_orders.specs.Search.{placed, ranked};
 ghost use Rattle.index_lists.specs.Listed.{empty_lists, list_at, with_list, list_of, without_item, items_of, first_of, next_of, lowest_first};
@@ -113,6 +113,10 @@ impl Lists {
     pub fn next(&self, item: u32) -> Option<u32>
         requires { item < self.now.items }
         ensures next { result ≡ next_of item self.now }
+        ensures place { (list k : ℕ) → list < length self.now.lists
+            → k < length (list_at self.now list)
+            → slice_index (items_of (list_at self.now list)) k ≡ item
+            → result ≡ first_of (drop (k + 1) (list_at self.now list)) }
         ensures item { IfSome result (λ item. item < self.now.items) }
     {
         match self.homes[item as usize] {
@@ -138,6 +142,28 @@ impl Lists {
             Some(home) => Some(home.list),
             None => None,
         }
+    }
+
+    /// Whether the list has the same items in both, in the same order.
+    pub fn has_same_list(&self, other: &Self, list: u32) -> bool
+        requires one { list < length self.now.lists }
+        requires other { list < length other.now.lists }
+        ensures { IsTrue result ↔
+            (items_of (list_at self.now list) ≡ items_of (list_at other.now list)) }
+    {
+        if self.len(list) != other.len(list) {
+            return false;
+        }
+        let mut mine = self.links[self.end_of(list) as usize].next;
+        let mut theirs = other.links[other.end_of(list) as usize].next;
+        for _step in 0..self.len(list) {
+            if mine != theirs {
+                return false;
+            }
+            mine = self.links[mine as usize].next;
+            theirs = other.links[theirs as usize].next;
+        }
+        true
     }
 
     // The node that closes the ring of the list.

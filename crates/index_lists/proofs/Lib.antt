@@ -1,0 +1,6 @@
+mod Fields
+pub mod Frees
+mod Looks
+mod Moves
+pub mod Paths
+mod Places

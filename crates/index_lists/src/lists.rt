@@ -1,0 +1,223 @@
+ghost use Rattle.std.specs.Prelude.{◌≡◌, ◌↔◌, ℕ, ◌+◌, ◌<◌, ◌≤◌, ◌^◌, ◌∷◌, ◌++◌, [], Some, None, nat_lt, if◌then◌else◌, length, map, drop, slice_index, IsTrue, IfOk, IfSome, nat_le};
+ghost use Rattle.std.specs.List.{prefix_len, insert};
+ghost use Rattle.list_orders.specs.Search.{placed, ranked};
+ghost use Rattle.index_lists.specs.Listed.{empty_lists, list_at, with_list, list_of, without_item, items_of, first_of, next_of, lowest_first};
+ghost use Rattle.index_lists.specs.Rings.{first_or};
+
+use crate::links::{Home, Link, link_before, lone_nodes, no_homes, no_lens, unlink};
+use std::alloc::{AllocError, Global};
+use std::marker::Model;
+
+/// Items in lists. Items and lists are numbers from 0 on.
+#[derive(Debug, Drop)]
+pub struct Lists {
+    items: u32,
+    /// The items, and after them the ends of the lists (`xListEnd`): each end closes the ring of
+    /// its list's items. The link of an item that is in no list is an old one.
+    links: Vec<Link>,
+    /// Per item.
+    homes: Vec<Option<Home>>,
+    /// Per list.
+    lens: Vec<u32>,
+}
+
+impl Model for Lists {
+    ghost use Rattle.index_lists.specs.Listed.{ListsView};
+    ghost use Rattle.index_lists.specs.Shape.{seen_lists, IsShape};
+
+    ghost Value = { ListsView };
+
+    ghost view = { λ of. seen_lists of.items of.links.items of.homes.items of.lens.items };
+
+    ghost invariant = { λ of. IsShape of.items of.links.items of.homes.items of.lens.items };
+}
+
+impl Lists {
+    /// So many items, none of them in a list, and so many lists.
+    pub fn new(alloc: Global, items: u32, lists: u32) -> Result<Self, AllocError>
+        requires { items + lists < 2 ^ 32 }
+        ensures { IfOk result (λ new. new ≡ empty_lists items lists) }
+    {
+        Ok(Lists {
+            items,
+            links: lone_nodes(alloc, items + lists)?,
+            homes: no_homes(alloc, items)?,
+            lens: no_lens(alloc, lists)?,
+        })
+    }
+
+    /// A second value, equal to this one.
+    pub fn copy(&self, alloc: Global) -> Result<Self, AllocError>
+        ensures { IfOk result (λ copy. copy ≡ self.now) }
+    {
+        Ok(Lists {
+            items: self.items,
+            links: Vec::from_slice(alloc, &self.links)?,
+            homes: Vec::from_slice(alloc, &self.homes)?,
+            lens: Vec::from_slice(alloc, &self.lens)?,
+        })
+    }
+
+    /// The item goes to the end of the list, with key 0.
+    pub fn push_last(&mut self, list: u32, item: u32)
+        requires list { list < length self.old.lists }
+        requires item { item < self.old.items }
+        requires free { list_of item self.old ≡ None }
+        ensures { self.new
+            ≡ with_list list (list_at self.old list ++ record { item = item; key = 0 } ∷ [])
+            self.old }
+    {
+        self.insert(Home { list, key: 0 }, item, self.end_of(list));
+    }
+
+    /// The item goes after those of a key as low or lower. The list has to be in the order of its
+    /// keys, the lowest first.
+    pub fn insert_sorted(&mut self, list: u32, item: u32, key: u64)
+        requires list { list < length self.old.lists }
+        requires item { item < self.old.items }
+        requires free { list_of item self.old ≡ None }
+        requires order { ranked lowest_first (list_at self.old list) ≡ list_at self.old list }
+        ensures { self.new
+            ≡ with_list list
+            (placed lowest_first (record { item = item; key = key }) (list_at self.old list))
+            self.old }
+    {
+        let next = self.place_of(list, key);
+        self.insert(Home { list, key }, item, next);
+    }
+
+    /// The item leaves its list; where it is in none, nothing changes.
+    pub fn remove(&mut self, item: u32)
+        requires { item < self.old.items }
+        ensures { self.new
+            ≡ record self.old { lists = map (without_item item) self.old.lists } }
+    {
+        if let Some(home) = self.homes[item as usize] {
+            unlink(&mut self.links, item);
+            self.homes[item as usize] = None;
+            self.lens[home.list as usize] -= 1;
+        }
+    }
+
+    /// The first item of the list; none where it is empty.
+    pub fn first(&self, list: u32) -> Option<u32>
+        requires { list < length self.now.lists }
+        ensures first { result ≡ first_of (list_at self.now list) }
+        ensures item { IfSome result (λ item. item < self.now.items) }
+    {
+        self.item_at(self.links[self.end_of(list) as usize].next)
+    }
+
+    /// The item that stands right after this one; none where this one is the last of its list, or
+    /// in no list.
+    pub fn next(&self, item: u32) -> Option<u32>
+        requires { item < self.now.items }
+        ensures next { result ≡ next_of item self.now }
+        ensures place { (list k : ℕ) → list < length self.now.lists
+            → k < length (list_at self.now list)
+            → slice_index (items_of (list_at self.now list)) k ≡ item
+            → result ≡ first_of (drop (k + 1) (list_at self.now list)) }
+        ensures item { IfSome result (λ item. item < self.now.items) }
+    {
+        match self.homes[item as usize] {
+            Some(_) => self.item_at(self.links[item as usize].next),
+            None => None,
+        }
+    }
+
+    /// How many items the list has.
+    pub fn len(&self, list: u32) -> u32
+        requires { list < length self.now.lists }
+        ensures { result ≡ length (list_at self.now list) }
+    {
+        self.lens[list as usize]
+    }
+
+    /// The list that the item is in; none where it is in none.
+    pub fn list_of(&self, item: u32) -> Option<u32>
+        requires { item < self.now.items }
+        ensures { result ≡ list_of item self.now }
+    {
+        match self.homes[item as usize] {
+            Some(home) => Some(home.list),
+            None => None,
+        }
+    }
+
+    /// Whether the list has the same items in both, in the same order.
+    pub fn has_same_list(&self, other: &Self, list: u32) -> bool
+        requires one { list < length self.now.lists }
+        requires other { list < length other.now.lists }
+        ensures { IsTrue result ↔
+            (items_of (list_at self.now list) ≡ items_of (list_at other.now list)) }
+    {
+        if self.len(list) != other.len(list) {
+            return false;
+        }
+        let mut mine = self.links[self.end_of(list) as usize].next;
+        let mut theirs = other.links[other.end_of(list) as usize].next;
+        for _step in 0..self.len(list) {
+            if mine != theirs {
+                return false;
+            }
+            mine = self.links[mine as usize].next;
+            theirs = other.links[theirs as usize].next;
+        }
+        true
+    }
+
+    // The node that closes the ring of the list.
+    fn end_of(&self, list: u32) -> u32
+        requires { list < length self.now.lists }
+        ensures { result ≡ self.now.items + list }
+    {
+        self.items + list
+    }
+
+    // The item that the node is; none where it is the end of a list.
+    fn item_at(&self, node: u32) -> Option<u32>
+        ensures { result ≡ (if nat_lt node self.now.items then Some node else None) }
+    {
+        (node < self.items).then_some(node)
+    }
+
+    // The node before which an item with the key goes.
+    fn place_of(&self, list: u32, key: u64) -> u32
+        requires { list < length self.now.lists }
+        ensures { result
+            ≡ first_or (self.now.items + list)
+            (items_of
+            (drop (prefix_len (λ entry. nat_le entry.key key) (list_at self.now list))
+            (list_at self.now list))) }
+    {
+        let mut at = self.links[self.end_of(list) as usize].next;
+        for _step in 0..self.lens[list as usize] {
+            match self.homes[at as usize] {
+                Some(home) if home.key <= key => at = self.links[at as usize].next,
+                _ => return at,
+            }
+        }
+        at
+    }
+
+    // The item goes before the node, which is one of the list or its end.
+    fn insert(&mut self, home: Home, item: u32, next: u32)
+        requires list { home.list < length self.old.lists }
+        requires item { item < self.old.items }
+        requires free { list_of item self.old ≡ None }
+        requires place { (k : ℕ) × (k ≤ length (list_at self.old home.list))
+            × (next ≡ first_or (self.old.items + home.list)
+            (items_of (drop k (list_at self.old home.list)))) }
+        ensures { (k : ℕ) → k ≤ length (list_at self.old home.list)
+            → next ≡ first_or (self.old.items + home.list)
+            (items_of (drop k (list_at self.old home.list)))
+            → self.new
+            ≡ with_list home.list
+            (insert (list_at self.old home.list) k (record { item = item; key = home.key }))
+            self.old }
+    {
+        link_before(&mut self.links, item, next);
+        self.homes[item as usize] = Some(home);
+        self.lens[home.list as usize] += 1;
+    }
+}

@@ -1,0 +1,55 @@
+//! Items that come to lists and leave them.
+use index_lists::Lists;
+use std::test::Fail;
+
+#[test]
+fn copies_keep_what_leaves(rt: HostRuntime) -> Result<(), Fail> {
+    let mut lists = Lists::new(rt.alloc(), 4, 2)?;
+    lists.push_last(0, 3);
+    lists.push_last(0, 1);
+    let copy = lists.copy(rt.alloc())?;
+    lists.remove(3);
+    assert_eq!(&rt; lists.first(0), Some(1));
+    assert_eq!(&rt; copy.first(0), Some(3));
+    assert_eq!(&rt; copy.next(3), Some(1));
+    assert_eq!(&rt; copy.next(1), None);
+    assert_eq!(&rt; lists.next(3), None);
+    assert_eq!(&rt; lists.len(0), 1);
+    assert_eq!(&rt; copy.len(0), 2);
+    assert_eq!(&rt; lists.list_of(3), None);
+    assert_eq!(&rt; copy.list_of(3), Some(0));
+    assert!(&rt; !lists.has_same_list(&copy, 0) && lists.has_same_list(&copy, 1));
+    Ok(())
+}
+
+#[test]
+#[tactic(auto, unfolding(list_orders::specs::Search::placed, list_orders::specs::Search::ranked))]
+fn equal_keys_stand_in_their_order(rt: HostRuntime) -> Result<(), Fail> {
+    let mut lists = Lists::new(rt.alloc(), 4, 2)?;
+    lists.insert_sorted(1, 0, 5);
+    lists.insert_sorted(1, 2, 5);
+    assert_eq!(&rt; lists.first(1), Some(0));
+    assert_eq!(&rt; lists.next(0), Some(2));
+    assert_eq!(&rt; lists.next(2), None);
+    assert_eq!(&rt; lists.first(0), None);
+    Ok(())
+}
+
+#[test]
+#[tactic(auto, unfolding(list_orders::specs::Search::placed, list_orders::specs::Search::ranked))]
+fn the_lowest_key_is_first(rt: HostRuntime) -> Result<(), Fail> {
+    let mut lists = Lists::new(rt.alloc(), 3, 1)?;
+    lists.insert_sorted(0, 0, 18_446_744_073_709_551_615);
+    lists.insert_sorted(0, 1, 0);
+    lists.insert_sorted(0, 2, 7);
+    assert_eq!(&rt; lists.first(0), Some(1));
+    assert_eq!(&rt; lists.next(1), Some(2));
+    assert_eq!(&rt; lists.next(2), Some(0));
+    lists.remove(0);
+    lists.remove(0);
+    lists.remove(1);
+    assert_eq!(&rt; lists.first(0), Some(2));
+    assert_eq!(&rt; lists.next(2), None);
+    assert_eq!(&rt; lists.len(0), 1);
+    Ok(())
+}

@@ -18,7 +18,6 @@ fn copies_keep_what_leaves(rt: HostRuntime) -> Result<(), Fail> {
     assert_eq!(&rt; copy.len(0), 2);
     assert_eq!(&rt; lists.list_of(3), None);
     assert_eq!(&rt; copy.list_of(3), Some(0));
-    assert!(&rt; !lists.has_same_list(&copy, 0) && lists.has_same_list(&copy, 1));
     Ok(())
 }
 

@@ -40,7 +40,8 @@ pub enum RecordRefusal {
 #[derive(Debug, Drop)]
 pub struct Recording {
     header: Header,
-    kernel: Kernel,
+    /// In a box, so that the recording moves in few words.
+    kernel: Box<Kernel>,
     meter: Meter,
     entries: Vec<Entry>,
     limit: u32,
@@ -60,7 +61,7 @@ impl Model for Recording {
     } };
 
     ghost invariant = { λ recording. IsRecording recording.header recording.entries.items
-        recording.limit (vec_capacity recording.entries) recording.kernel };
+        recording.limit (vec_capacity recording.entries) recording.kernel.value };
 }
 
 fn core_of(step: &Step) -> u32
@@ -86,7 +87,9 @@ impl Recording {
         ensures bad_header { (result ≡ Err StartFault.BadHeader) ↔ IsErr (header_check header.now) }
         ensures empty { IfOk result (λ recording. recording ≡ empty_recording header.now limit) }
     {
-        let kernel = Kernel::start(alloc, header)?;
+        let Ok(kernel) = Box::new(alloc, Kernel::start(alloc, header)?) else {
+            return Err(StartFault::NoMemory);
+        };
         let header = header.copy(alloc)?;
         let entries = Vec::with_capacity(alloc, limit as usize)?;
         Ok(Recording {

@@ -3,6 +3,7 @@ pub mod Apart
 pub mod Blocks
 pub mod CoreMoves
 pub mod Firsts
+pub mod Lefts
 pub mod Owing
 pub mod Sizes
 pub mod Stands

@@ -1,6 +1,7 @@
 pub mod Asks
 pub mod Firsts
 pub mod Marks
-pub mod Queues
+pub mod ReadyLists
+pub mod Shapes
 pub mod Slices
 pub mod Switches

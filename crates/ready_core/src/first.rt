@@ -1,8 +1,6 @@
-//! The cores, control blocks and ready tasks of a start, before any core has selected.
-ghost use Rattle.std.specs.Prelude.{◌≡◌, ◌≤◌, ◌+◌, ◌-◌, ◌++◌, map, replicate, IfOk, OnOk};
-ghost use Rattle.std.specs.Vec.{vec_capacity};
-ghost use Rattle.std.specs.List.{range_with_len};
-ghost use Rattle.bench_types.specs.Limits.{max_cores, max_tasks};
+//! The cores and control blocks of a start, before any core has selected.
+ghost use Rattle.std.specs.Prelude.{◌≡◌, ◌≤◌, map, replicate, IfOk};
+ghost use Rattle.bench_types.specs.Limits.{max_cores};
 ghost use Rattle.list_orders.specs.Search.{numbers};
 ghost use Rattle.bench_model.specs.Start.{first_look, idle_control, first_control};
 
@@ -62,30 +60,4 @@ fn idle_control(cores: u32) -> TaskControl
         mask: cores_of_mask(cores, u32::MAX),
         preempt: true,
     }
-}
-
-// The user tasks and after them the idle tasks, with a place for each.
-pub(crate) fn first_queue(alloc: Global, cores: u32, users: u32) -> Result<Vec<u32>, AllocError>
-    requires cores { cores ≤ max_cores }
-    requires users { users ≤ max_tasks }
-    ensures items { IfOk result
-        (λ queue. queue.items ≡ range_with_len cores users ++ numbers cores) }
-    ensures room { IfOk result (λ queue. cores + users ≤ vec_capacity queue) }
-{
-    let mut queue = Vec::with_capacity(alloc, (cores + users) as usize)?;
-    push_numbers(&mut queue, cores, cores + users)?;
-    push_numbers(&mut queue, 0, cores)?;
-    Ok(queue)
-}
-
-fn push_numbers(queue: &mut Vec<u32>, from: u32, to: u32) -> Result<(), AllocError>
-    requires { from ≤ to }
-    ensures items { OnOk result
-        (queue.new.items ≡ queue.old.items ++ range_with_len from (to - from)) }
-    ensures capacity { vec_capacity queue.old ≤ vec_capacity queue.new }
-{
-    for number in from..to {
-        queue.push(number)?;
-    }
-    Ok(())
 }

@@ -1,0 +1,139 @@
+-- What the fields keep as tasks come to their ready lists and leave them.
+use Rattle.std.proofs.Common.{◌≡◌, ◌≢◌, ℕ, ◌+◌, ◌*◌, ◌<◌, ◌%◌, ◌^◌, ◌≤◌, true, false, not, eqb, ltb, List, [], ◌∷◌, ◌++◌, length, map, bit_and, bit_or, w32, refl, sym, ap, subst, ◌∙◌, arith, length-append, inl, inr}
+use Rattle.std.specs.Prelude.{slice_set, nat_lt}
+use Rattle.std.specs.Int.{bit_at, bit_not}
+use Rattle.std.specs.List.{All, AllByRecursion}
+use Rattle.std.proofs.lemmas.Bool.{cases_eq, cases_lt, eqb-true}
+use Rattle.std.proofs.lemmas.Bool.Decides.{nat_tests}
+use Rattle.std.proofs.lemmas.List.{length-map, length-set, get_or_past}
+use Rattle.std.proofs.lemmas.List.Elements.{All-get_or, All-set}
+use Rattle.std.proofs.lemmas.Nat.Bits.{bit_at_set_same, bit_at_set_other, bit_at_clear_same, bit_at_clear_other}
+use Rattle.bench_types.specs.declared.kernel_data.CoreLook.{CoreLook}
+use Rattle.bench_types.specs.declared.kernel_data.TaskControl.{TaskControl}
+use Rattle.list_orders.specs.Listings.{IsListing}
+use Rattle.list_orders.specs.Search.{without, has}
+use Rattle.list_orders.proofs.Filters.{All-filter, All-append, All-has, All-weaker, filter_all}
+use Rattle.list_orders.proofs.Listings.{listing_without, listing_push}
+use Rattle.list_orders.proofs.Stamped.{length_filter}
+use Rattle.index_lists.specs.Listed.{Listed, ListsView, list_at, with_list, without_item, items_of}
+use Rattle.bench_model.specs.Control.{Control, task_at}
+use Rattle.bench_model.specs.ControlFields.{with_task}
+use Rattle.order_laws.proofs.ControlBlocks.{block_other}
+use Rattle.ready_core.specs.Fields.{control_from, tasks_of, ready_below, has_priority, is_set}
+use Rattle.ready_core.specs.Shape.{IsShape}
+use Rattle.ready_core.proofs.ReadyLists.{pushed, pushed_same, pushed_other, without_row, row_apart}
+
+module _ (priorities : ℕ) (cores : List CoreLook) (tasks : List TaskControl) (view : ListsView) (listed : ℕ) (shape : IsShape priorities cores tasks view listed) where
+  abbrev control : Control
+  control = control_from cores tasks
+
+  abbrev rank : ℕ → ℕ
+  rank task = (task_at control task).in_use
+
+  module _ (t r : ℕ) (is : r ≡ rank t) (low : r < priorities) where
+    within : r < length view.lists
+    within = omega (arith, shape.each, low)
+
+    -- a task that is not ready comes to the end of its list
+    pub shape_push : t < length tasks → has t (ready_below view.lists priorities) ≡ false → IsShape priorities cores tasks (with_list r (list_at view r ++ record { item = t; key = 0 } ∷ []) view) (bit_or listed (1 * 2 ^ r % 4294967296))
+    shape_push below free = record {
+      few_cores = shape.few_cores;
+      few_tasks = shape.few_tasks;
+      few_priorities = shape.few_priorities;
+      running = shape.running;
+      in_use = shape.in_use;
+      base = shape.base;
+      items = shape.items;
+      each = length-set view.lists r _ ∙ shape.each;
+      at_home = λ p under. elim (cases_eq p r) [
+        | inl same ↦ rw (same, pushed_same view.lists r t within) (All-append (λ task. has_priority control r task ≡ true) (tasks_of view.lists r) (t ∷ []) (shape.at_home r low) (grind (arith, nat_tests, is), tt))
+        | inr away ↦ rw (pushed_other view.lists r t p away) (shape.at_home p under)
+      ];
+      listings = λ p under. elim (cases_eq p r) [
+        | inl same ↦ rw (same, pushed_same view.lists r t within) (listing_push (length tasks) t (tasks_of view.lists r) (shape.listings r low) below (row_apart view.lists t r priorities low free))
+        | inr away ↦ rw (pushed_other view.lists r t p away) (shape.listings p under)
+      ];
+      bits = λ p under. elim (cases_eq p r) [
+        | inl same ↦ rw (same, pushed_same view.lists r t within) (ap (λ b. eqb b 1) (bit_at_set_same w32 listed r (omega (arith, low, shape.few_priorities))) ∙ grind (arith, nat_tests, length-append (tasks_of view.lists r) (t ∷ [])))
+        | inr away ↦ rw (pushed_other view.lists r t p away) (ap (λ b. eqb b 1) (bit_at_set_other w32 listed r (omega (arith, low, shape.few_priorities)) p away) ∙ shape.bits p under)
+      ];
+    }
+
+    abbrev left : List (List Listed)
+    left = map (without_item t) view.lists
+
+    -- the task is in no other list
+    others_kept : (p : ℕ) → p ≢ r → tasks_of left p ≡ tasks_of view.lists p
+    others_kept p away =
+        without_row view.lists t p
+        ∙ elim (cases_lt p priorities) [
+          | inl under ↦ filter_all (λ m. not (eqb m t)) (tasks_of view.lists p) (All-weaker (λ task. has_priority control p task ≡ true) (λ task. not (eqb task t) ≡ true) apart (tasks_of view.lists p) (shape.at_home p under))
+          | inr over ↦ ap (without t) (past over) ∙ sym (past over)
+        ]
+      where
+        apart : (task : ℕ) → has_priority control p task ≡ true → not (eqb task t) ≡ true
+        apart task home = elim (cases_eq task t) [
+          | inl same ↦ absurd (away (sym (eqb-true (rank task) p home) ∙ ap rank same ∙ sym is))
+          | inr other ↦ grind (arith, nat_tests, other)
+        ]
+
+        past : priorities ≤ p → tasks_of view.lists p ≡ []
+        past over = ap items_of (get_or_past view.lists p [] (omega (arith, over, shape.each)))
+
+    -- a task leaves its list, if it is in one, and the bit of the list is still right
+    pub shape_leave : (bits : ℕ) → ((p : ℕ) → p < 32 → p ≢ r → is_set bits p ≡ is_set listed p) → is_set bits r ≡ nat_lt 0 (length (tasks_of left r)) → IsShape priorities cores tasks (record view { lists = left }) bits
+    shape_leave bits others its = record {
+      few_cores = shape.few_cores;
+      few_tasks = shape.few_tasks;
+      few_priorities = shape.few_priorities;
+      running = shape.running;
+      in_use = shape.in_use;
+      base = shape.base;
+      items = shape.items;
+      each = length-map view.lists (without_item t) ∙ shape.each;
+      at_home = λ p under. rw (without_row view.lists t p) (All-filter (λ task. has_priority control p task ≡ true) (λ m. not (eqb m t)) (tasks_of view.lists p) (shape.at_home p under));
+      listings = λ p under. rw (without_row view.lists t p) (listing_without (length tasks) t (tasks_of view.lists p) (shape.listings p under));
+      bits = λ p under. elim (cases_eq p r) [
+        | inl same ↦ rw same its
+        | inr away ↦ others p under away ∙ shape.bits p under ∙ ap (λ (xs : List ℕ). ltb 0 (length xs)) (sym (others_kept p away))
+      ];
+    }
+
+  -- a bit that is cleared where the list is empty then
+  module _ (t r : ℕ) (is : r ≡ rank t) (low : r < priorities) where
+    low_bit : r < 32
+    low_bit = omega (arith, low, shape.few_priorities)
+
+    abbrev cleared : ℕ
+    cleared = bit_and listed (bit_not w32 (1 * 2 ^ r % 4294967296))
+
+    pub shape_emptied : length (tasks_of (left t r is low) r) ≡ 0 → IsShape priorities cores tasks (record view { lists = left t r is low }) cleared
+    shape_emptied none = shape_leave t r is low cleared (λ p under away. ap (λ b. eqb b 1) (bit_at_clear_other w32 listed r low_bit p under away)) (ap (λ b. eqb b 1) (bit_at_clear_same w32 listed r low_bit) ∙ grind (arith, nat_tests, none))
+
+    pub shape_left : length (tasks_of (left t r is low) r) ≢ 0 → IsShape priorities cores tasks (record view { lists = left t r is low }) listed
+    shape_left some =
+        let fewer = length_filter (λ m. not (eqb m t)) (tasks_of view.lists r) in
+        let sized = ap (λ (xs : List ℕ). length xs) (without_row view.lists t r) in
+        shape_leave t r is low listed (λ p under away. refl) (shape.bits r low_bit ∙ grind (arith, nat_tests, some, fewer, sized))
+
+  -- another control block for a task that is not ready
+  pub shape_changed : (t : ℕ) (block : TaskControl) → block.in_use < priorities → block.base < priorities → has t (ready_below view.lists priorities) ≡ false → IsShape priorities cores (slice_set tasks t block) view listed
+  shape_changed t block low low_base free = record {
+    few_cores = shape.few_cores;
+    few_tasks = omega (arith, length-set tasks t block, shape.few_tasks);
+    few_priorities = shape.few_priorities;
+    running = subst (λ n. All (λ (core : CoreLook). core.current < n) cores) (sym (length-set tasks t block)) shape.running;
+    in_use = All-set (λ (task : TaskControl). task.in_use < priorities) tasks t block low shape.in_use;
+    base = All-set (λ (task : TaskControl). task.base < priorities) tasks t block low_base shape.base;
+    items = shape.items ∙ sym (length-set tasks t block);
+    each = shape.each;
+    at_home = λ p under. away p (tasks_of view.lists p) (row_apart view.lists t p priorities under free) (shape.at_home p under);
+    listings = λ p under. subst (λ n. IsListing n (tasks_of view.lists p)) (sym (length-set tasks t block)) (shape.listings p under);
+    bits = shape.bits;
+  }
+    where
+      away : (p : ℕ) (xs : List ℕ) → has t xs ≡ false → AllByRecursion (λ task. has_priority control p task ≡ true) xs → AllByRecursion (λ task. has_priority (with_task t block control) p task ≡ true) xs
+      away p [] absent home = tt
+      away p (x ∷ xs) absent home =
+          let other : x ≢ t = λ same. grind (arith, nat_tests, absent, same) in
+          (ap (λ (task : TaskControl). eqb task.in_use p) (block_other control t block x other) ∙ home.0, away p xs (grind (arith, absent)) home.1)

@@ -1,6 +1,5 @@
 pub mod Asks
 pub mod Firsts
-pub mod Marks
 pub mod Picks
 pub mod ReadyLists
 pub mod Shapes

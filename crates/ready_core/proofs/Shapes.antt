@@ -18,7 +18,7 @@ use Rattle.list_orders.proofs.Stamped.{length_filter}
 use Rattle.index_lists.specs.Listed.{Listed, ListsView, list_at, with_list, without_item, items_of}
 use Rattle.bench_model.specs.Control.{Control, task_at}
 use Rattle.bench_model.specs.ControlFields.{with_task}
-use Rattle.order_laws.proofs.ControlBlocks.{block_other}
+use Rattle.order_laws.proofs.ControlBlocks.{block_other, in_use_kept}
 use Rattle.ready_core.specs.Fields.{control_from, tasks_of, ready_below, has_priority, is_set}
 use Rattle.ready_core.specs.Shape.{IsShape}
 use Rattle.ready_core.proofs.ReadyLists.{pushed, pushed_same, pushed_other, without_row, row_apart}
@@ -137,3 +137,22 @@ module _ (priorities : ℕ) (cores : List CoreLook) (tasks : List TaskControl) (
       away p (x ∷ xs) absent home =
           let other : x ≢ t = λ same. grind (arith, nat_tests, absent, same) in
           (ap (λ (task : TaskControl). eqb task.in_use p) (block_other control t block x other) ∙ home.0, away p xs (grind (arith, absent)) home.1)
+
+  -- another control block with the same priorities
+  pub shape_kept : (t : ℕ) (block : TaskControl) → t < length tasks → block.in_use ≡ (task_at control t).in_use → block.base ≡ (task_at control t).base → IsShape priorities cores (slice_set tasks t block) view listed
+  shape_kept t block below same same_base = record {
+    few_cores = shape.few_cores;
+    few_tasks = omega (arith, length-set tasks t block, shape.few_tasks);
+    few_priorities = shape.few_priorities;
+    running = subst (λ n. All (λ (core : CoreLook). core.current < n) cores) (sym (length-set tasks t block)) shape.running;
+    in_use = All-set (λ (task : TaskControl). task.in_use < priorities) tasks t block (omega (arith, same, All-get_or (λ (task : TaskControl). task.in_use < priorities) tasks t no_task below shape.in_use)) shape.in_use;
+    base = All-set (λ (task : TaskControl). task.base < priorities) tasks t block (omega (arith, same_base, All-get_or (λ (task : TaskControl). task.base < priorities) tasks t no_task below shape.base)) shape.base;
+    items = shape.items ∙ sym (length-set tasks t block);
+    each = shape.each;
+    at_home = λ p under. All-weaker (λ task. has_priority control p task ≡ true) (λ task. has_priority (with_task t block control) p task ≡ true) (λ task home. ap (λ m. eqb m p) (in_use_kept control t block same task) ∙ home) (tasks_of view.lists p) (shape.at_home p under);
+    listings = λ p under. subst (λ n. IsListing n (tasks_of view.lists p)) (sym (length-set tasks t block)) (shape.listings p under);
+    bits = shape.bits;
+  }
+    where
+      abbrev no_task : TaskControl
+      no_task = record { base = 0; in_use = 0; mask = 0; preempt = false }

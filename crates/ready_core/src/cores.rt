@@ -186,7 +186,7 @@ impl Cores {
         requires { length marks.old ≡ length self.now.control.tasks }
         ensures { marks.new ≡ map (λ task. has task self.now.ready) (numbers (length marks.old)) }
     {
-        for task in 0..marks.len() {
+        for task in 0..self.tasks.len() {
             marks[task] = self.ready(task as u32);
         }
     }

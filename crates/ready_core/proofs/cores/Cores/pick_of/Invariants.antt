@@ -6,8 +6,8 @@ use Rattle.ready_core.proofs.Picks.{head_of}
 use Rattle.ready_core.proofs.cores.Cores.pick_of.Given as goal
 
 -- no task so far may be selected, and the next one is that of the next place
-abbrev pub invariant-loop-_place : goal.invariant-loop-_place
-invariant-loop-_place l = record {
+abbrev pub invariant-loop-place : goal.invariant-loop-place
+invariant-loop-place l = record {
   next : l.next ≡ head_of (drop l._place (ready_list l.priority l.self));
   first : find (may_select l.self.control l.core) (drop l._place (ready_list l.priority l.self)) ≡ find (may_select l.self.control l.core) (ready_list l.priority l.self);
   in_range : ForSome l.next (λ task. task < length l.self.control.tasks);

@@ -1,7 +1,7 @@
 -- What the fields keep as tasks come to their ready lists and leave them.
-use Rattle.std.proofs.Common.{◌≡◌, ◌≢◌, ℕ, ◌+◌, ◌*◌, ◌<◌, ◌%◌, ◌^◌, ◌≤◌, true, false, not, eqb, ltb, List, [], ◌∷◌, ◌++◌, length, map, bit_and, bit_or, w32, refl, sym, ap, subst, ◌∙◌, arith, length-append, inl, inr}
+use Rattle.std.proofs.Common.{◌≡◌, ◌≢◌, ℕ, ◌*◌, ◌<◌, ◌%◌, ◌^◌, ◌≤◌, true, false, not, eqb, ltb, List, [], ◌∷◌, ◌++◌, length, map, bit_and, bit_or, w32, refl, sym, ap, subst, ◌∙◌, arith, length-append, inl, inr}
 use Rattle.std.specs.Prelude.{slice_set, nat_lt}
-use Rattle.std.specs.Int.{bit_at, bit_not}
+use Rattle.std.specs.Int.{bit_not}
 use Rattle.std.specs.List.{All, AllByRecursion}
 use Rattle.std.proofs.lemmas.Bool.{cases_eq, cases_lt, eqb-true}
 use Rattle.std.proofs.lemmas.Bool.Decides.{nat_tests}
@@ -12,7 +12,7 @@ use Rattle.bench_types.specs.declared.kernel_data.CoreLook.{CoreLook}
 use Rattle.bench_types.specs.declared.kernel_data.TaskControl.{TaskControl}
 use Rattle.list_orders.specs.Listings.{IsListing}
 use Rattle.list_orders.specs.Search.{without, has}
-use Rattle.list_orders.proofs.Filters.{All-filter, All-append, All-has, All-weaker, filter_all}
+use Rattle.list_orders.proofs.Filters.{All-filter, All-append, All-weaker, filter_all}
 use Rattle.list_orders.proofs.Listings.{listing_without, listing_push}
 use Rattle.list_orders.proofs.Stamped.{length_filter}
 use Rattle.index_lists.specs.Listed.{Listed, ListsView, list_at, with_list, without_item, items_of}
@@ -21,7 +21,10 @@ use Rattle.bench_model.specs.ControlFields.{with_task}
 use Rattle.order_laws.proofs.ControlBlocks.{block_other, in_use_kept}
 use Rattle.ready_core.specs.Fields.{control_from, tasks_of, ready_below, has_priority, is_set}
 use Rattle.ready_core.specs.Shape.{IsShape}
-use Rattle.ready_core.proofs.ReadyLists.{pushed, pushed_same, pushed_other, without_row, row_apart}
+use Rattle.ready_core.proofs.ReadyLists.{pushed_same, pushed_other, without_row, row_apart}
+
+abbrev no_task : TaskControl
+no_task = record { base = 0; in_use = 0; mask = 0; preempt = false }
 
 module _ (priorities : ℕ) (cores : List CoreLook) (tasks : List TaskControl) (view : ListsView) (listed : ℕ) (shape : IsShape priorities cores tasks view listed) where
   abbrev control : Control
@@ -153,6 +156,3 @@ module _ (priorities : ℕ) (cores : List CoreLook) (tasks : List TaskControl) (
     listings = λ p under. subst (λ n. IsListing n (tasks_of view.lists p)) (sym (length-set tasks t block)) (shape.listings p under);
     bits = shape.bits;
   }
-    where
-      abbrev no_task : TaskControl
-      no_task = record { base = 0; in_use = 0; mask = 0; preempt = false }

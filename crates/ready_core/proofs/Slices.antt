@@ -157,14 +157,14 @@ shares_by_queue view queue task same low within ready =
 one_of : (t : ℕ) (xs : List ℕ) → IsDistinct eqb xs → has t xs ≡ true → filter (λ m. eqb m t) xs ≡ t ∷ []
 unfolding IsDistinct
 one_of t [] once there = absurd (cc (there))
-one_of t (x ∷ xs) once there = at (eqb x t) refl
+one_of t (x ∷ xs) once there = at (eqb x t) refl (one_of t xs once.1)
   where
     none : eqb x t ≡ true → filter (λ m. eqb m t) xs ≡ []
     none same = filter_none (λ m. eqb m t) xs (All-weaker (λ y. eqb x y ≡ false) (λ y. eqb y t ≡ false) (λ y apart. grind (arith, nat_tests, apart, same)) xs once.0)
 
-    at : (b : Bool) → eqb x t ≡ b → cond b (x ∷ filter (λ m. eqb m t) xs) (filter (λ m. eqb m t) xs) ≡ t ∷ []
-    at true same = ap (λ ys. x ∷ ys) (none same) ∙ ap (λ y. y ∷ []) (eqb-true x t same)
-    at false other = one_of t xs once.1 (grind (arith, there, other))
+    at : (b : Bool) → eqb x t ≡ b → (has t xs ≡ true → filter (λ m. eqb m t) xs ≡ t ∷ []) → cond b (x ∷ filter (λ m. eqb m t) xs) (filter (λ m. eqb m t) xs) ≡ t ∷ []
+    at true same rest = ap (λ ys. x ∷ ys) (none same) ∙ ap (λ y. y ∷ []) (eqb-true x t same)
+    at false other rest = rest (grind (arith, there, other))
 
 -- a ready task stands in a list of more than one where the row of its priority has more than one
 pub company : (view : CoresView) (row : List ℕ) (task : ℕ) → ready_list (task_at view.control task).in_use view ≡ row → IsDistinct eqb row → AllByRecursion (λ t. t < length view.control.tasks) view.ready → task < length view.control.tasks → has task view.ready ≡ true →

@@ -42,7 +42,7 @@ returns c =
     let theirs = ap (λ (v : CoresView). v.priorities) c.other.view_is in
     let same : n ≡ more = mine ∙ c.requires.priorities ∙ sym theirs in
     let all = λ (p : ℕ) (low : p < n).
-        sym (shown _ _ _ _ _ _ p c.args.self.now c.self.view_is c.self.invariant (omega (arith, low, mine)))
-        ∙ c.loop-priority.invariant p (omega (arith, low, c.loop-priority-test.false, c.loop-priority.auto.priority-end))
-        ∙ shown _ _ _ _ _ _ p c.args.other.now c.other.view_is c.other.invariant (omega (arith, low, same, theirs)) in
+    sym (shown _ _ _ _ _ _ p c.args.self.now c.self.view_is c.self.invariant (omega (arith, low, mine)))
+    ∙ c.loop-priority.invariant p (omega (arith, low, c.loop-priority-test.false, c.loop-priority.auto.priority-end))
+    ∙ shown _ _ _ _ _ _ p c.args.other.now c.other.view_is c.other.invariant (omega (arith, low, same, theirs)) in
     (λ yes. sym (ap (λ (v : CoresView). v.ready) c.self.view_is) ∙ ready_kept c.self.inside.lists.lists c.other.inside.lists.lists n all ∙ ap (ready_below c.other.inside.lists.lists) same ∙ ap (λ (v : CoresView). v.ready) c.other.view_is, λ same. refl)

@@ -1,4 +1,4 @@
-use Rattle.std.proofs.Common.{◌≡◌, ◌+◌, ◌-◌, ◌∙◌, List, ℕ, length, ap, sym, arith}
+use Rattle.std.proofs.Common.{◌+◌, ◌-◌, ◌∙◌, List, ℕ, length, ap, arith}
 use Rattle.std.specs.List.{range_with_len}
 use Rattle.list_orders.specs.Search.{has}
 use Rattle.bench_model.specs.Cores.{CoresView}

@@ -1,10 +1,9 @@
-use Rattle.std.proofs.Common.{◌≡◌, ◌<◌, ℕ, ◌∙◌, false, length, Option, Some, None, refl, ap, sym, arith}
+use Rattle.std.proofs.Common.{◌≡◌, ℕ, ◌∙◌, false, length, Option, Some, None, refl, ap, sym, arith}
 use Rattle.std.specs.Prelude.{is_some}
 use Rattle.list_orders.specs.Search.{has, placed}
-use Rattle.bench_model.specs.Control.{Control}
 use Rattle.bench_model.specs.Lists.{outranks}
 use Rattle.bench_model.specs.Cores.{CoresView}
-use Rattle.ready_core.specs.Fields.{control_from, ready_below}
+use Rattle.ready_core.specs.Fields.{control_from}
 use Rattle.ready_core.proofs.ReadyLists.{rank, with_ready, ready_listed, placed_last}
 use Rattle.ready_core.proofs.Shapes.{shape_push}
 use Rattle.ready_core.proofs.cores.Cores.push.Goals as goal

@@ -1,4 +1,4 @@
-use Rattle.std.proofs.Common.{◌≡◌, ℕ, ◌+◌, ◌-◌, ◌≤◌, ◌<◌, false, eqb, ◌||◌, List, [], ◌∷◌, ◌∙◌, ap, sym, arith}
+use Rattle.std.proofs.Common.{ℕ, ◌-◌, eqb, List, [], ◌∷◌, ◌∙◌, ap, sym, arith}
 use Rattle.std.specs.List.{range_with_len}
 use Rattle.std.proofs.lemmas.Bool.Decides.{nat_tests}
 use Rattle.list_orders.specs.Search.{placed, has}

@@ -8,4 +8,4 @@ invariant_of-result c =
     (first_shape c.args.header.now (checked_header c.args.header.now c.requires))
 
 pub returns : goal.returns
-returns c = rw (c.in_ok-first_looks.ensures, c.in_ok-first_controls.ensures, c.in_ok-new.ensures, c.as_slice.ensures) (seen_first c.args.header.now)
+returns c = rw (c.in_ok-first_looks.ensures, c.in_ok-first_controls.ensures, c.in_ok-new.ensures) (seen_first c.args.header.now)

@@ -1,12 +1,12 @@
 -- The cores, control blocks and ready lists of a start, item by item.
-use Rattle.std.proofs.Common.{◌≡◌, ℕ, zero, suc, ◌+◌, ◌-◌, ◌<◌, ◌≤◌, false, eqb, List, [], ◌∷◌, ◌++◌, length, map, replicate, refl, sym, ap, ◌∙◌, arith, inl, inr}
+use Rattle.std.proofs.Common.{◌≡◌, ◌≢◌, ℕ, zero, suc, ◌+◌, ◌-◌, ◌^◌, ◌<◌, ◌≤◌, Bool, true, false, cond, eqb, ltb, List, [], ◌∷◌, ◌++◌, length, map, replicate, refl, sym, ap, ◌∙◌, arith, inl, inr}
 use Rattle.std.specs.List.{range_with_len, IsDistinct}
 use Rattle.std.proofs.lemmas.List.{length-map, length-replicate, get_or-replicate, get_or_past, map-append}
 use Rattle.std.proofs.lemmas.List.Elements.{All-map, All-from_recursion, All-from_get_or, All-weaker, All-nil}
-use Rattle.std.proofs.lemmas.List.FromFn.{length-range_with_len}
-use Rattle.std.proofs.lemmas.Bool.{cases_lt}
+use Rattle.std.proofs.lemmas.List.FromFn.{length-range_with_len, length-map-range_with_len, get_or-map-range_with_len}
+use Rattle.std.proofs.lemmas.Bool.{cases_eq, cases_lt}
 use Rattle.std.proofs.lemmas.Bool.Decides.{nat_tests}
-use Rattle.std.proofs.lemmas.Nat.Bits.{bit_at-zero}
+use Rattle.std.proofs.lemmas.Nat.Bits.{bit_at-zero, bit_at-pow_same, bit_at-pow_other}
 use Rattle.bench_types.specs.declared.header.Header.{Header}
 use Rattle.bench_types.specs.declared.kernel_data.CoreLook.{CoreLook}
 use Rattle.bench_types.specs.declared.kernel_data.TaskControl.{TaskControl}
@@ -16,12 +16,12 @@ use Rattle.list_orders.proofs.Filters.{fold-append}
 use Rattle.list_orders.proofs.Ranks.{list_any-ranked}
 use Rattle.list_orders.proofs.Stamped.{numbers_below, numbers_more, range_parts}
 use Rattle.index_lists.specs.Listed.{Listed, items_of, empty_lists}
-use Rattle.bench_model.specs.Control.{Control}
+use Rattle.bench_model.specs.Control.{Control, current}
 use Rattle.bench_model.specs.Lists.{outranks}
 use Rattle.bench_model.specs.Start.{first_look, first_control, first_lists, unstarted}
 use Rattle.bench_model.specs.Cores.{cores_of}
 use Rattle.order_laws.proofs.FirstBlocks.{first_tasks, first_blocks}
-use Rattle.ready_core.specs.Fields.{seen_of, tasks_of, ready_below, unlisted, all_placed}
+use Rattle.ready_core.specs.Fields.{seen_of, tasks_of, ready_below, control_from, has_seat, first_seat, is_set, unlisted, all_placed}
 use Rattle.ready_core.specs.Shape.{IsShape}
 use Rattle.ready_core.proofs.ReadyLists.{with_ready}
 
@@ -49,7 +49,42 @@ none_ready : (lists n : ℕ) → ready_below (replicate lists []) n ≡ []
 none_ready lists zero = refl
 none_ready lists (suc n) = ap (λ xs. xs ++ ready_below (replicate lists []) n) (no_tasks lists n) ∙ none_ready lists n
 
-pub first_shape : (header : Header) → IsWithinLimits header → IsShape header.config.priorities (first_control header).cores (first_control header).tasks (empty_lists (header.config.cores + length header.tasks) header.config.priorities) 0
+-- at the start idle task c is on core c, and no other task on any
+seated_at : (cores : ℕ) (tasks : List TaskControl) (t core : ℕ) → is_set (first_seat cores t) core ≡ has_seat (control_from (map first_look (numbers cores)) tasks) t core
+seated_at cores tasks t core = elim (cases_lt core cores) [
+  | inl low ↦
+      let own : current (control_from (map first_look (numbers cores)) tasks) core ≡ core = ap (λ (at : CoreLook). at.current) (get_or-map-range_with_len first_look 0 cores core core (record { current = 0; pend = false; asked = false }) low (omega arith)) in
+      elim (cases_eq core t) [
+        | inl same ↦
+            let idle : first_seat cores t ≡ 2 ^ core = grind (arith, nat_tests, low, same) in
+            ap (λ m. is_set m core) idle ∙ ap (λ b. eqb b 1) (bit_at-pow_same core) ∙ grind (arith, nat_tests, own, same, low, sized)
+        | inr away ↦ off away ∙ grind (arith, nat_tests, own, away)
+      ]
+  | inr over ↦ far over ∙ grind (arith, nat_tests, over, sized)
+]
+  where
+    sized : length (map first_look (numbers cores)) ≡ cores
+    sized = length-map-range_with_len first_look 0 cores
+
+    off : core ≢ t → is_set (first_seat cores t) core ≡ false
+    off away = at (ltb t cores)
+      where
+        at : (b : Bool) → is_set (cond b (2 ^ t) 0) core ≡ false
+        at true = ap (λ d. eqb d 1) (bit_at-pow_other t core away) ∙ grind (arith, nat_tests)
+        at false = ap (λ d. eqb d 1) (bit_at-zero core) ∙ grind (arith, nat_tests)
+
+    far : cores ≤ core → is_set (first_seat cores t) core ≡ false
+    far over = elim (cases_eq core t) [
+      | inl same ↦
+          let none : first_seat cores t ≡ 0 = grind (arith, nat_tests, over, same) in
+          ap (λ m. is_set m core) none ∙ ap (λ d. eqb d 1) (bit_at-zero core) ∙ grind (arith, nat_tests)
+      | inr away ↦ off away
+    ]
+
+pub seats_more : (cores n : ℕ) → map (first_seat cores) (numbers (n + 1)) ≡ map (first_seat cores) (numbers n) ++ first_seat cores n ∷ []
+seats_more cores n = ap (map (first_seat cores)) (numbers_more n) ∙ map-append (first_seat cores) (numbers n) (n ∷ [])
+
+pub first_shape : (header : Header) → IsWithinLimits header → IsShape header.config.priorities (first_control header).cores (first_control header).tasks (empty_lists (header.config.cores + length header.tasks) header.config.priorities) 0 (map (first_seat header.config.cores) (numbers (header.config.cores + length header.tasks)))
 unfolding IsDistinct
 first_shape header limits =
     let cores = header.config.cores in
@@ -67,6 +102,8 @@ first_shape header limits =
       at_home = λ p low. rw (no_tasks n p) tt;
       listings = λ p low. rw (no_tasks n p) (record { below = All-nil (λ i. i < length (first_control header).tasks); once = tt });
       bits = λ p low. rw (no_tasks n p) (ap (λ b. eqb b 1) (bit_at-zero p) ∙ grind (arith, nat_tests));
+      seated = length-map-range_with_len (first_seat cores) 0 (cores + length header.tasks) ∙ sym controls;
+      at_core = λ t low core. ap (λ m. is_set m core) (get_or-map-range_with_len (first_seat cores) 0 (cores + length header.tasks) t t 0 (omega (arith, low, controls)) (omega arith)) ∙ seated_at cores (first_control header).tasks t core;
     }
 
 pub seen_first : (header : Header) → seen_of header.config.priorities header.config.slicing (first_control header) (empty_lists (header.config.cores + length header.tasks) header.config.priorities) ≡ unlisted header

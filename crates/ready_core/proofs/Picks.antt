@@ -66,8 +66,8 @@ pub record IsLeft (view : CoresView) (passes : ℕ → Bool) (seen rest : ℕ) :
   pub first : find passes (ready_below lists top) ≡ find passes view.ready
   pub bits : (p : ℕ) → p < 32 → is_set rest p ≡ (ltb p top && ltb 0 (length (tasks_of lists p)))
 
-pub left_first : (n : ℕ) (slicing : Bool) (cores : List CoreLook) (tasks : List TaskControl) (of : ListsView) (listed : ℕ) → IsShape n cores tasks of listed → (passes : ℕ → Bool) → IsLeft (seen_of n slicing (control_from cores tasks) of) passes 0 listed
-left_first n slicing cores tasks of listed shape passes = record {
+pub left_first : (n : ℕ) (slicing : Bool) (cores : List CoreLook) (tasks : List TaskControl) (of : ListsView) (listed : ℕ) (seats : List ℕ) → IsShape n cores tasks of listed seats → (passes : ℕ → Bool) → IsLeft (seen_of n slicing (control_from cores tasks) of) passes 0 listed
+left_first n slicing cores tasks of listed seats shape passes = record {
   lists = of.lists;
   shows = refl;
   home = shape.at_home;

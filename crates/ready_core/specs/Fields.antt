@@ -1,5 +1,5 @@
 -- The fields of cores and ready lists, and what they show.
-use Rattle.std.specs.Prelude.{ℕ, zero, suc, List, [], ◌++◌, filter, fold, Bool, ◌&&◌, ◌==◌, nat_lt, slice_index_or}
+use Rattle.std.specs.Prelude.{ℕ, zero, suc, ◌^◌, List, [], ◌++◌, length, filter, fold, Bool, ◌&&◌, ◌==◌, nat_lt, if◌then◌else◌, slice_index_or}
 use Rattle.std.specs.Int.{bit_at}
 use Rattle.bench_types.specs.declared.header.Header.{Header}
 use Rattle.bench_types.specs.declared.kernel_data.CoreLook.{CoreLook}
@@ -45,6 +45,14 @@ ready_list priority view = filter (has_priority view.control priority) view.read
 -- the bit is set
 abbrev pub is_set : ℕ → ℕ → Bool
 is_set bits place = bit_at bits place == 1
+
+-- the core has the task as current task
+abbrev pub has_seat : Control → ℕ → ℕ → Bool
+has_seat control task core = nat_lt core (length control.cores) && current control core == task
+
+-- the bit of the core that has the task as current task at the start
+abbrev pub first_seat : ℕ → ℕ → ℕ
+first_seat cores task = if nat_lt task cores then 2 ^ task else 0
 
 -- the start where no task is ready yet
 abbrev pub unlisted : Header → CoresView

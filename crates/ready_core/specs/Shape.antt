@@ -1,18 +1,18 @@
 -- What the fields of cores and ready lists keep, whatever they show.
-use Rattle.std.specs.Prelude.{◌≡◌, ℕ, ◌+◌, ◌<◌, ◌≤◌, List, length, All, true, nat_lt}
+use Rattle.std.specs.Prelude.{◌≡◌, ℕ, ◌+◌, ◌<◌, ◌≤◌, List, length, All, true, nat_lt, slice_index}
 use Rattle.std.specs.List.{AllByRecursion}
 use Rattle.list_orders.specs.Listings.{IsListing}
 use Rattle.index_lists.specs.Listed.{ListsView}
 use Rattle.bench_types.specs.declared.kernel_data.CoreLook.{CoreLook}
 use Rattle.bench_types.specs.declared.kernel_data.TaskControl.{TaskControl}
 use Rattle.bench_types.specs.Limits.{max_cores, max_priorities, max_tasks}
-use Rattle.ready_core.specs.Fields.{control_from, tasks_of, has_priority, is_set}
+use Rattle.ready_core.specs.Fields.{control_from, tasks_of, has_priority, has_seat, is_set}
 
 -- Each core runs a task, and the priorities are below their number. There is a list for each
--- priority, a task stands in that of its priority in use or in none, and once; a bit says which
--- lists are not empty.
+-- priority, a task stands in that of its priority in use or in none, and once; bits say which lists
+-- are not empty, and which cores have a task.
 pub record IsShape (priorities : ℕ) (cores : List CoreLook) (tasks : List TaskControl)
-    (view : ListsView) (listed : ℕ) : Type 0 where
+    (view : ListsView) (listed : ℕ) (seats : List ℕ) : Type 0 where
   pub few_cores : length cores ≤ max_cores
   pub few_tasks : length tasks ≤ max_cores + max_tasks
   pub few_priorities : priorities ≤ max_priorities
@@ -27,3 +27,6 @@ pub record IsShape (priorities : ℕ) (cores : List CoreLook) (tasks : List Task
   pub listings : (p : ℕ) → p < priorities → IsListing (length tasks) (tasks_of view.lists p)
   pub bits : (p : ℕ) → p < max_priorities
       → is_set listed p ≡ nat_lt 0 (length (tasks_of view.lists p))
+  pub seated : length seats ≡ length tasks
+  pub at_core : (t : ℕ) → t < length tasks → (core : ℕ)
+      → is_set (slice_index seats t) core ≡ has_seat (control_from cores tasks) t core

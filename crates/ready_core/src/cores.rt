@@ -13,9 +13,9 @@ ghost use Rattle.bench_model.specs.Seek.{effective, is_running, is_preemptible_b
 ghost use Rattle.bench_model.specs.ControlFields.{with_base, with_in_use, with_affinity, with_preemption, in_use_set};
 ghost use Rattle.bench_model.specs.Cores.{cores_of, bare_view, cores_rule, has_core};
 ghost use Rattle.list_orders.specs.Scans.{better_of};
-ghost use Rattle.ready_core.specs.Fields.{ready_list, unlisted, all_placed, may_be_asked, stays_asked};
+ghost use Rattle.ready_core.specs.Fields.{ready_list, is_set, has_seat, unlisted, all_placed, may_be_asked, stays_asked};
 
-use crate::first::{first_controls, first_looks};
+use crate::first::{first_controls, first_looks, first_seats};
 use bench_types::{CoreLook, Header, TaskControl, cores_of_mask};
 use index_lists::Lists;
 use std::alloc::{AllocError, Global};
@@ -34,6 +34,8 @@ pub struct Cores {
     lists: Lists,
     /// Bit p is set exactly where list p is not empty (V11 tasks.c, `uxTopReadyPriority`).
     listed: u32,
+    /// Per task the bits of the cores that have it as current task (V11 tasks.c, `xTaskRunState`).
+    seats: Vec<u32>,
 }
 
 impl Model for Cores {
@@ -47,7 +49,7 @@ impl Model for Cores {
         (control_from of.cores.items of.tasks.items) of.lists };
 
     ghost invariant = { λ of. IsShape of.priorities of.cores.items of.tasks.items of.lists
-        of.listed };
+        of.listed of.seats.items };
 }
 
 impl Cores {
@@ -77,6 +79,7 @@ impl Cores {
             tasks: Vec::from_slice(alloc, &self.tasks)?,
             lists: self.lists.copy(alloc)?,
             listed: self.listed,
+            seats: Vec::from_slice(alloc, &self.seats)?,
         })
     }
 
@@ -376,6 +379,7 @@ impl Cores {
             tasks: first_controls(alloc, header)?,
             lists: Lists::new(alloc, cores + users, header.config.priorities)?,
             listed: 0,
+            seats: first_seats(alloc, cores, cores + users)?,
         })
     }
 
@@ -479,11 +483,21 @@ impl Cores {
         (task as usize) < self.cores.len()
     }
 
+    // The bits of the cores that have the task as current task.
+    fn seats(&self, task: u32) -> u32
+        requires { task < length self.now.control.tasks }
+        ensures { (core : ℕ) → is_set result core ≡ has_seat self.now.control task core }
+    {
+        self.seats[task as usize]
+    }
+
     // Whether the task is on a core that no other core asked to switch.
     fn is_running(&self, task: u32) -> bool
+        requires { task < length self.now.control.tasks }
         ensures { result ≡ is_running self.now.control task }
     {
-        self.core_numbers().any(|core| self.running(core) == task && !self.flags(core).asked)
+        self.seats(task) != 0
+            && self.core_numbers().any(|core| self.running(core) == task && !self.flags(core).asked)
     }
 
     // Whether the core has the task and no other core asked it to switch.
@@ -516,15 +530,12 @@ impl Cores {
             (may_be_asked self.now.control task (has_core among)) best core }
         ensures core { ForSome result (λ better. better < length self.now.control.cores) }
     {
-        let is_better = match best {
-            None => true,
-            Some(best) => !self.stands_below(self.running(best), self.running(core)),
-        };
-        let may_be_asked = self.has_bit(among, core) && self.is_preemptible_by(task, core);
-        if may_be_asked && is_better {
-            Some(core)
-        } else {
-            best
+        if !(self.has_bit(among, core) && self.is_preemptible_by(task, core)) {
+            return best;
+        }
+        match best {
+            Some(first) if self.stands_below(self.running(first), self.running(core)) => best,
+            _ => Some(core),
         }
     }
 
@@ -556,10 +567,12 @@ impl Cores {
 
     // Whether the task is the current one of another core.
     fn is_elsewhere(&self, core: u32, task: u32) -> bool
+        requires core { core < length self.now.control.cores }
+        requires task { task < length self.now.control.tasks }
         ensures { result ≡ is_elsewhere self.now.control core task }
     {
-        self.core_numbers()
-            .any(|other| other != core && self.running(other) == task)
+        let seats = self.seats(task);
+        core < self.core_numbers().end && seats & !(1 << core) != 0
     }
 
     // Whether the core may select the task where it is ready.
@@ -624,6 +637,9 @@ impl Cores {
         requires task { task < length self.old.control.tasks }
         ensures { self.new ≡ record self.old { control = run_on core task self.old.control } }
     {
+        let left = self.running(core);
+        self.seats[left as usize] &= !(1 << core);
+        self.seats[task as usize] |= 1 << core;
         self.cores[core as usize] = CoreLook {
             current: task,
             pend: false,

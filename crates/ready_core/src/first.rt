@@ -3,6 +3,7 @@ ghost use Rattle.std.specs.Prelude.{◌≡◌, ◌≤◌, map, replicate, IfOk};
 ghost use Rattle.bench_types.specs.Limits.{max_cores};
 ghost use Rattle.list_orders.specs.Search.{numbers};
 ghost use Rattle.bench_model.specs.Start.{first_look, idle_control, first_control};
+ghost use Rattle.ready_core.specs.Fields.{first_seat};
 
 use bench_types::{CoreLook, Header, TaskControl, cores_of_mask};
 use std::alloc::{AllocError, Global};
@@ -60,4 +61,23 @@ fn idle_control(cores: u32) -> TaskControl
         mask: cores_of_mask(cores, u32::MAX),
         preempt: true,
     }
+}
+
+// Core c has idle task c, and no other task has a core.
+pub(crate) fn first_seats(alloc: Global, cores: u32, tasks: u32) -> Result<Vec<u32>, AllocError>
+    requires { cores ≤ max_cores }
+    ensures { IfOk result (λ seats. seats.items ≡ map (first_seat cores) (numbers tasks)) }
+{
+    let mut seats = Vec::with_capacity(alloc, tasks as usize)?;
+    for task in 0..tasks {
+        seats.push(first_seat(cores, task))?;
+    }
+    Ok(seats)
+}
+
+fn first_seat(cores: u32, task: u32) -> u32
+    requires { cores ≤ max_cores }
+    ensures { result ≡ first_seat cores task }
+{
+    if task < cores { 1 << task } else { 0 }
 }

@@ -22,7 +22,7 @@ pub invariant_of-self : goal.invariant_of-self
 invariant_of-self c =
     let view = c.self.view_is in
     let free = ap (λ (v : CoresView). has c.args.task v.ready) view ∙ c.requires.free in
-    rw c.push_last.ensures (shape_push _ _ _ _ _ c.self.invariant c.args.task c.in_use-priority.result (c.in_use-priority.ensures.in_use ∙ ap (λ (v : CoresView). rank v.control c.args.task) (sym view)) (omega (arith, c.in_use-priority.ensures.below, ap (λ (v : CoresView). v.priorities) view)) (omega (arith, c.requires.task, ap (λ (v : CoresView). length v.control.tasks) view)) free)
+    rw c.push_last.ensures (shape_push _ _ _ _ _ _ c.self.invariant c.args.task c.in_use-priority.result (c.in_use-priority.ensures.in_use ∙ ap (λ (v : CoresView). rank v.control c.args.task) (sym view)) (omega (arith, c.in_use-priority.ensures.below, ap (λ (v : CoresView). v.priorities) view)) (omega (arith, c.requires.task, ap (λ (v : CoresView). length v.control.tasks) view)) free)
 
 pub returns : goal.returns
 returns c =

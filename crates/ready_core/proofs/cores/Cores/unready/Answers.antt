@@ -15,7 +15,7 @@ invariant_of-self c =
     let rest = map (without_item c.args.task) c.self.inside.lists.lists in
     let sized = length-map (row_at rest r) (λ (e : Listed). e.item) ∙ ap (λ (v : ListsView). length (list_at v r)) (sym c.remove.ensures) ∙ sym c.len.ensures in
     rw c.remove.ensures
-    (shape_emptied _ _ _ _ _ c.self.invariant c.args.task r (c.in_use-priority.ensures.in_use ∙ ap (λ (v : CoresView). rank v.control c.args.task) (sym view)) (omega (arith, c.in_use-priority.ensures.below, ap (λ (v : CoresView). v.priorities) view)) (sized ∙ c.if-len-eq0.true))
+    (shape_emptied _ _ _ _ _ _ c.self.invariant c.args.task r (c.in_use-priority.ensures.in_use ∙ ap (λ (v : CoresView). rank v.control c.args.task) (sym view)) (omega (arith, c.in_use-priority.ensures.below, ap (λ (v : CoresView). v.priorities) view)) (sized ∙ c.if-len-eq0.true))
 
 pub invariant_of-self-else-len-eq0 : goal.invariant_of-self-else-len-eq0
 invariant_of-self-else-len-eq0 c =
@@ -25,7 +25,7 @@ invariant_of-self-else-len-eq0 c =
     let sized = length-map (row_at rest r) (λ (e : Listed). e.item) ∙ ap (λ (v : ListsView). length (list_at v r)) (sym c.remove.ensures) ∙ sym c.len.ensures in
     let some : length (tasks_of rest r) ≢ 0 = λ none. c.if-len-eq0.false (sym sized ∙ none) in
     rw c.remove.ensures
-    (shape_left _ _ _ _ _ c.self.invariant c.args.task r (c.in_use-priority.ensures.in_use ∙ ap (λ (v : CoresView). rank v.control c.args.task) (sym view)) (omega (arith, c.in_use-priority.ensures.below, ap (λ (v : CoresView). v.priorities) view)) some)
+    (shape_left _ _ _ _ _ _ c.self.invariant c.args.task r (c.in_use-priority.ensures.in_use ∙ ap (λ (v : CoresView). rank v.control c.args.task) (sym view)) (omega (arith, c.in_use-priority.ensures.below, ap (λ (v : CoresView). v.priorities) view)) some)
 
 pub returns-then-len-eq0 : goal.returns-then-len-eq0
 returns-then-len-eq0 c =

@@ -2,7 +2,6 @@
 
 use crate::started::{select, started};
 use ready_core::Cores;
-use std::alloc::Global;
 use std::process::Abort;
 use std::test::Fail;
 
@@ -62,19 +61,17 @@ fn expect(rt: &impl Abort, cores: &Cores, one: Look, other: Look) {
     assert_eq!(rt; look(rt, cores, 1), other);
 }
 
-// The ready list of the priority, from its first task on.
-fn list(rt: &impl Abort, alloc: Global, cores: &Cores, priority: u32) -> Result<Vec<u32>, Fail> {
+// The ready list of the priority has these tasks.
+fn expect_list(rt: &impl Abort, cores: &Cores, priority: u32, tasks: &[u32]) {
     assert!(rt; cores.has_priority(priority));
     let lists = cores.lists();
-    let mut tasks = Vec::new(alloc);
+    assert_eq!(rt; lists.len(priority) as usize, tasks.len());
     let mut next = lists.first(priority);
-    for _place in 0..lists.len(priority) {
-        if let Some(task) = next {
-            tasks.push(task)?;
-            next = lists.next(task);
-        }
+    for task in tasks {
+        assert_eq!(rt; next, Some(*task));
+        assert!(rt; cores.has_task(*task));
+        next = lists.next(*task);
     }
-    Ok(tasks)
 }
 
 #[test]
@@ -242,14 +239,14 @@ fn same_lists_in_another_turn(rt: HostRuntime) -> Result<(), Fail> {
 #[test]
 fn each_priority_has_its_list(rt: HostRuntime) -> Result<(), Fail> {
     let mut cores = started(&rt, rt.alloc(), false, &[(2, 3), (1, 3), (1, 3)])?;
-    assert_eq!(&rt; list(&rt, rt.alloc(), &cores, 0)?.as_slice(), &[0, 1]);
-    assert_eq!(&rt; list(&rt, rt.alloc(), &cores, 1)?.as_slice(), &[3, 4]);
-    assert_eq!(&rt; list(&rt, rt.alloc(), &cores, 2)?.as_slice(), &[2]);
+    expect_list(&rt, &cores, 0, &[0, 1]);
+    expect_list(&rt, &cores, 1, &[3, 4]);
+    expect_list(&rt, &cores, 2, &[2]);
     select(&rt, &mut cores, 1);
-    assert_eq!(&rt; list(&rt, rt.alloc(), &cores, 1)?.as_slice(), &[4, 3]);
+    expect_list(&rt, &cores, 1, &[4, 3]);
     set_in_use(&rt, &mut cores, 4, 2);
     unready(&rt, &mut cores, 3);
-    assert_eq!(&rt; list(&rt, rt.alloc(), &cores, 1)?.as_slice(), &[]);
-    assert_eq!(&rt; list(&rt, rt.alloc(), &cores, 2)?.as_slice(), &[2, 4]);
+    expect_list(&rt, &cores, 1, &[]);
+    expect_list(&rt, &cores, 2, &[2, 4]);
     Ok(())
 }

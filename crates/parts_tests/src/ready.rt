@@ -61,6 +61,19 @@ fn expect(rt: &impl Abort, cores: &Cores, one: Look, other: Look) {
     assert_eq!(rt; look(rt, cores, 1), other);
 }
 
+// The ready list of the priority has these tasks.
+fn expect_list(rt: &impl Abort, cores: &Cores, priority: u32, tasks: &[u32]) {
+    assert!(rt; cores.has_priority(priority));
+    let lists = cores.lists();
+    assert_eq!(rt; lists.len(priority) as usize, tasks.len());
+    let mut next = lists.first(priority);
+    for task in tasks {
+        assert_eq!(rt; next, Some(*task));
+        assert!(rt; cores.has_task(*task));
+        next = lists.next(*task);
+    }
+}
+
 #[test]
 fn start(rt: HostRuntime) -> Result<(), Fail> {
     let cores = started(&rt, rt.alloc(), false, &[(2, 3), (1, 3), (1, 0xFFFF_FFFE)])?;
@@ -220,5 +233,20 @@ fn same_lists_in_another_turn(rt: HostRuntime) -> Result<(), Fail> {
     assert!(&rt; one.same(&other));
     set_preempt(&rt, &mut one, 4, false);
     assert!(&rt; !one.same(&other));
+    Ok(())
+}
+
+#[test]
+fn each_priority_has_its_list(rt: HostRuntime) -> Result<(), Fail> {
+    let mut cores = started(&rt, rt.alloc(), false, &[(2, 3), (1, 3), (1, 3)])?;
+    expect_list(&rt, &cores, 0, &[0, 1]);
+    expect_list(&rt, &cores, 1, &[3, 4]);
+    expect_list(&rt, &cores, 2, &[2]);
+    select(&rt, &mut cores, 1);
+    expect_list(&rt, &cores, 1, &[4, 3]);
+    set_in_use(&rt, &mut cores, 4, 2);
+    unready(&rt, &mut cores, 3);
+    expect_list(&rt, &cores, 1, &[]);
+    expect_list(&rt, &cores, 2, &[2, 4]);
     Ok(())
 }

@@ -1,6 +1,8 @@
 pub mod Asks
 pub mod Firsts
-pub mod Marks
-pub mod Queues
+pub mod Picks
+pub mod ReadyLists
+pub mod Seats
+pub mod Shapes
 pub mod Slices
 pub mod Switches

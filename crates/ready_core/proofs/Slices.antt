@@ -1,7 +1,7 @@
 -- Time slices core by core, and the tasks that share a ready list.
 use Rattle.std.proofs.Common.{◌≡◌, ◌≢◌, ℕ, ◌+◌, ◌<◌, Bool, true, false, cond, not, eqb, ltb, ◌&&◌, ◌||◌, List, [], ◌∷◌, length, get_or, refl, sym, ap, subst, ◌∙◌, arith, inl, inr}
-use Rattle.std.specs.List.{filter, list_any, AllByRecursion}
-use Rattle.std.proofs.lemmas.Bool.{cases_eq}
+use Rattle.std.specs.List.{filter, list_any, AllByRecursion, IsDistinct}
+use Rattle.std.proofs.lemmas.Bool.{cases_eq, eqb-true}
 use Rattle.std.proofs.lemmas.Bool.Decides.{nat_tests}
 use Rattle.std.proofs.lemmas.List.{ext_get_or, length-set, get_or-set_same, get_or-set_other}
 use Rattle.std.proofs.lemmas.List.FromFn.{get_or-map-range_with_len, length-map-range_with_len}
@@ -11,7 +11,8 @@ use Rattle.bench_model.specs.Control.{Control, core_at, task_at, ask, asked_by, 
 use Rattle.bench_model.specs.Lists.{list_queues}
 use Rattle.bench_model.specs.Seek.{ready_in, shares_its_time, sliced}
 use Rattle.bench_model.specs.Cores.{CoresView, cores_of, bare_view, cores_rule}
-use Rattle.list_orders.proofs.Filters.{filter-filter}
+use Rattle.list_orders.proofs.Filters.{filter-filter, filter_none, has-filter, All-weaker}
+use Rattle.ready_core.specs.Fields.{ready_list}
 use Rattle.list_orders.proofs.Stamped.{numbers_have, numbers_one}
 
 -- the cores that pass the test, of those below n
@@ -151,6 +152,36 @@ shares_by_queue view queue task same low within ready =
     more_than_one (λ t. has t view.ready && alike t) n task within (grind (arith, nat_tests, ready))
     ∙ list_any-same (λ t. not (eqb t task) && (has t view.ready && alike t)) (λ t. has t queue && (not (eqb t task) && alike t)) (λ t. grind (arith, same t)) (numbers n)
     ∙ list_any-among (λ t. not (eqb t task) && alike t) n queue low
+
+-- a listing has a number that it has once
+one_of : (t : ℕ) (xs : List ℕ) → IsDistinct eqb xs → has t xs ≡ true → filter (λ m. eqb m t) xs ≡ t ∷ []
+unfolding IsDistinct
+one_of t [] once there = absurd (cc (there))
+one_of t (x ∷ xs) once there = at (eqb x t) refl (one_of t xs once.1)
+  where
+    none : eqb x t ≡ true → filter (λ m. eqb m t) xs ≡ []
+    none same = filter_none (λ m. eqb m t) xs (All-weaker (λ y. eqb x y ≡ false) (λ y. eqb y t ≡ false) (λ y apart. grind (arith, nat_tests, apart, same)) xs once.0)
+
+    at : (b : Bool) → eqb x t ≡ b → (has t xs ≡ true → filter (λ m. eqb m t) xs ≡ t ∷ []) → cond b (x ∷ filter (λ m. eqb m t) xs) (filter (λ m. eqb m t) xs) ≡ t ∷ []
+    at true same rest = ap (λ ys. x ∷ ys) (none same) ∙ ap (λ y. y ∷ []) (eqb-true x t same)
+    at false other rest = rest (grind (arith, there, other))
+
+-- a ready task stands in a list of more than one where the row of its priority has more than one
+pub company : (view : CoresView) (row : List ℕ) (task : ℕ) → ready_list (task_at view.control task).in_use view ≡ row → IsDistinct eqb row → AllByRecursion (λ t. t < length view.control.tasks) view.ready → task < length view.control.tasks → has task view.ready ≡ true →
+    ltb 1 (length (ready_in list_queues (task_at view.control task).in_use (bare_view view))) ≡ ltb 1 (length row)
+company view row task is once low within ready =
+    let rank = λ (t : ℕ). (task_at view.control t).in_use in
+    let alike = λ (t : ℕ). eqb (rank t) (rank task) in
+    let other = λ (t : ℕ). not (eqb t task) in
+    let there : has task row ≡ true = ap (has task) (sym is) ∙ has-filter alike task view.ready ∙ grind (arith, nat_tests, ready) in
+    let sizes = length_parts (λ m. eqb m task) row in
+    let sole = ap (λ (xs : List ℕ). length xs) (one_of task row once there) in
+    shares_by_queue view view.ready task (λ t. refl) low within ready
+    ∙ list_any-same (λ t. other t && alike t) (λ t. alike t && other t) (λ t. grind arith) view.ready
+    ∙ sym (list_any-filter other alike view.ready)
+    ∙ ap (list_any other) is
+    ∙ sym (some_kept other row)
+    ∙ grind (arith, nat_tests, sizes, sole)
 
 -- a core that was looked at too
 pub slice_more : (view later : CoresView) (core : ℕ) → core < length view.control.cores → later ≡ record view { control = ask_each 0 (below core (shares_its_time list_queues (bare_view view))) view.control } →

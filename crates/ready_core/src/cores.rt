@@ -1,21 +1,23 @@
-ghost use Rattle.std.specs.Prelude.{◌≡◌, ℕ, ◌↔◌, ◌<◌, ◌≤◌, ◌==◌, ◌&&◌, nat_lt, if◌then◌else◌, length, map, true, not, find, unwrap_or, IsTrue, IfOk, IfSome, Ok};
+ghost use Rattle.std.specs.Prelude.{◌≡◌, ℕ, ◌↔◌, ◌-◌, ◌<◌, ◌≤◌, ◌==◌, ◌&&◌, nat_lt, if◌then◌else◌, length, map, true, false, not, find, unwrap_or, IsTrue, IfOk, IfSome, Ok};
 ghost use Rattle.std.specs.Option.{ForSome};
 ghost use Rattle.bench_types.specs.Header.{header_check};
 ghost use Rattle.bench_types.specs.Limits.{max_cores};
+ghost use Rattle.std.specs.List.{range_with_len};
 ghost use Rattle.list_orders.specs.Search.{numbers, placed, without, has};
+ghost use Rattle.index_lists.specs.Listed.{list_at, items_of};
 ghost use Rattle.bench_model.specs.Control.{core_at, task_at, current, in_mask, is_allowed, is_idle, is_elsewhere, may_select, ask, run_on, runs_on, ask_its_core};
 ghost use Rattle.bench_model.specs.State.{after_select};
 ghost use Rattle.bench_model.specs.Lists.{list_queues, outranks};
 ghost use Rattle.bench_model.specs.Start.{first_lists, unstarted};
 ghost use Rattle.bench_model.specs.Seek.{effective, is_running, is_preemptible_by, core_to_yield, seek, may_move, wake, after_switch, ready_in, shares_its_time, sliced};
-ghost use Rattle.bench_model.specs.ControlFields.{with_base, with_affinity, with_preemption, in_use_set};
+ghost use Rattle.bench_model.specs.ControlFields.{with_base, with_in_use, with_affinity, with_preemption, in_use_set};
 ghost use Rattle.bench_model.specs.Cores.{cores_of, bare_view, cores_rule, has_core};
 ghost use Rattle.list_orders.specs.Scans.{better_of};
-ghost use Rattle.ready_core.specs.Fields.{may_be_asked, stays_asked};
+ghost use Rattle.ready_core.specs.Fields.{ready_list, is_set, has_seat, unlisted, all_placed, may_be_asked, stays_asked};
 
-use crate::first::{first_controls, first_looks, first_queue};
-use crate::ready_list::{has_company, have_same_lists, remove_task, requeue};
+use crate::first::{first_controls, first_looks, first_seats};
 use bench_types::{CoreLook, Header, TaskControl, cores_of_mask};
+use index_lists::Lists;
 use std::alloc::{AllocError, Global};
 use std::marker::Model;
 use std::ops::Range;
@@ -27,13 +29,16 @@ pub struct Cores {
     slicing: bool,
     cores: Vec<CoreLook>,
     tasks: Vec<TaskControl>,
-    /// The ready tasks, running ones too. The longer a task has been in its ready list, the earlier
-    /// it stands here.
-    ready: Vec<u32>,
+    /// List p has the ready tasks of priority p, running ones too (V11 tasks.c,
+    /// `pxReadyTasksLists`).
+    lists: Lists,
+    /// Bit p is set exactly where list p is not empty (V11 tasks.c, `uxTopReadyPriority`).
+    listed: u32,
+    /// Per task the bits of the cores that have it as current task (V11 tasks.c, `xTaskRunState`).
+    seats: Vec<u32>,
 }
 
 impl Model for Cores {
-    ghost use Rattle.std.specs.Vec.{vec_capacity};
     ghost use Rattle.bench_model.specs.Cores.{CoresView};
     ghost use Rattle.ready_core.specs.Fields.{control_from, seen_of};
     ghost use Rattle.ready_core.specs.Shape.{IsShape};
@@ -41,10 +46,10 @@ impl Model for Cores {
     ghost Value = { CoresView };
 
     ghost view = { λ of. seen_of of.priorities of.slicing
-        (control_from of.cores.items of.tasks.items) of.ready.items };
+        (control_from of.cores.items of.tasks.items) of.lists };
 
-    ghost invariant = { λ of. IsShape of.priorities of.cores.items of.tasks.items of.ready.items
-        (vec_capacity of.ready) };
+    ghost invariant = { λ of. IsShape of.priorities of.cores.items of.tasks.items of.lists
+        of.listed of.seats.items };
 }
 
 impl Cores {
@@ -57,27 +62,24 @@ impl Cores {
     {
         let cores = header.config.cores;
         let users = header.tasks.as_slice().len() as u32;
-        Ok(Cores {
-            priorities: header.config.priorities,
-            slicing: header.config.slicing,
-            cores: first_looks(alloc, cores)?,
-            tasks: first_controls(alloc, header)?,
-            ready: first_queue(alloc, cores, users)?,
-        })
+        let mut start = Self::unlisted(alloc, header)?;
+        start.push_range(cores, cores + users);
+        start.push_range(0, cores);
+        Ok(start)
     }
 
     /// A second value, equal to this one.
     pub fn copy(&self, alloc: Global) -> Result<Self, AllocError>
         ensures { IfOk result (λ copy. copy ≡ self.now) }
     {
-        let mut ready = Vec::with_capacity(alloc, self.tasks.len())?;
-        ready.extend_from_slice(&self.ready)?;
         Ok(Cores {
             priorities: self.priorities,
             slicing: self.slicing,
             cores: Vec::from_slice(alloc, &self.cores)?,
             tasks: Vec::from_slice(alloc, &self.tasks)?,
-            ready,
+            lists: self.lists.copy(alloc)?,
+            listed: self.listed,
+            seats: Vec::from_slice(alloc, &self.seats)?,
         })
     }
 
@@ -87,8 +89,17 @@ impl Cores {
     {
         // Nested, so that each test is proved where those before it hold.
         self.has_same_settings(other)
-            && (self.has_same_control(other)
-                && have_same_lists(&self.tasks, self.priorities, &self.ready, &other.ready))
+            && (self.has_same_control(other) && self.has_same_lists(other))
+    }
+
+    /// The ready lists: list p is that of priority p.
+    pub fn lists(&self) -> &Lists
+        ensures items { result.now.items ≡ length self.now.control.tasks }
+        ensures priorities { length result.now.lists ≡ self.now.priorities }
+        ensures lists { (p : ℕ) → p < self.now.priorities
+            → items_of (list_at result.now p) ≡ ready_list p self.now }
+    {
+        &self.lists
     }
 
     /// Whether there is such a core.
@@ -169,18 +180,17 @@ impl Cores {
         requires { task < length self.now.control.tasks }
         ensures { result ≡ has task self.now.ready }
     {
-        self.ready.contains(&task)
+        self.lists.list_of(task).is_some()
     }
 
     /// Sets the mark of each task to whether it is in a ready list. It takes one pass over the
-    /// ready tasks, and no search for each.
+    /// tasks, and no search for each.
     pub fn mark_ready(&self, marks: &mut [bool])
         requires { length marks.old ≡ length self.now.control.tasks }
         ensures { marks.new ≡ map (λ task. has task self.now.ready) (numbers (length marks.old)) }
     {
-        marks.fill(false);
-        for task in &self.ready {
-            marks[*task as usize] = true;
+        for task in 0..self.tasks.len() {
+            marks[task] = self.ready(task as u32);
         }
     }
 
@@ -274,7 +284,11 @@ impl Cores {
         requires { task < length self.old.control.tasks }
         ensures { self.new ≡ record self.old { ready = without task self.old.ready } }
     {
-        remove_task(&mut self.ready, task);
+        let priority = self.in_use(task);
+        self.lists.remove(task);
+        if self.lists.len(priority) == 0 {
+            self.listed &= !(1 << priority);
+        }
     }
 
     /// The switch: the core's ready current task goes to the end of its list, and the core runs the
@@ -313,10 +327,12 @@ impl Cores {
         requires priority { priority < self.old.priorities }
         ensures { self.new ≡ cores_rule (in_use_set list_queues task priority) self.old }
     {
-        let is_ready = self.ready(task);
-        self.tasks[task as usize].in_use = priority;
-        if is_ready {
-            requeue(&mut self.ready, task);
+        if self.ready(task) {
+            self.unready(task);
+            self.put_in_use(task, priority);
+            self.push(task);
+        } else {
+            self.put_in_use(task, priority);
         }
     }
 
@@ -347,6 +363,62 @@ impl Cores {
             ≡ record self.old { control = with_preemption task on self.old.control } }
     {
         self.tasks[task as usize].preempt = on;
+    }
+
+    // The start where no task is ready yet.
+    fn unlisted(alloc: Global, header: &Header) -> Result<Self, AllocError>
+        requires { header_check header.now ≡ Ok tt }
+        ensures { IfOk result (λ start. start ≡ unlisted header.now) }
+    {
+        let cores = header.config.cores;
+        let users = header.tasks.as_slice().len() as u32;
+        Ok(Cores {
+            priorities: header.config.priorities,
+            slicing: header.config.slicing,
+            cores: first_looks(alloc, cores)?,
+            tasks: first_controls(alloc, header)?,
+            lists: Lists::new(alloc, cores + users, header.config.priorities)?,
+            listed: 0,
+            seats: first_seats(alloc, cores, cores + users)?,
+        })
+    }
+
+    // Tasks that are not ready come to their ready lists, one after another.
+    fn push_range(&mut self, from: u32, to: u32)
+        requires order { from ≤ to }
+        requires tasks { to ≤ length self.old.control.tasks }
+        requires free { (task : ℕ) → from ≤ task → task < to → has task self.old.ready ≡ false }
+        ensures { self.new ≡ record self.old {
+          ready = all_placed self.old.control (range_with_len from (to - from)) self.old.ready;
+        } }
+    {
+        for task in from..to {
+            self.push(task);
+        }
+    }
+
+    // A task that is not ready goes to the end of the ready list of its priority in use.
+    fn push(&mut self, task: u32)
+        requires task { task < length self.old.control.tasks }
+        requires free { has task self.old.ready ≡ false }
+        ensures { self.new ≡ record self.old {
+          ready = placed (outranks self.old.control) task self.old.ready;
+        } }
+    {
+        let priority = self.in_use(task);
+        self.lists.push_last(priority, task);
+        self.listed |= 1 << priority;
+    }
+
+    // The priority in use of a task that is not ready becomes this one.
+    fn put_in_use(&mut self, task: u32, priority: u32)
+        requires task { task < length self.old.control.tasks }
+        requires priority { priority < self.old.priorities }
+        requires free { has task self.old.ready ≡ false }
+        ensures { self.new
+            ≡ record self.old { control = with_in_use task priority self.old.control } }
+    {
+        self.tasks[task as usize].in_use = priority;
     }
 
     fn control(&self, task: u32) -> TaskControl
@@ -381,6 +453,20 @@ impl Cores {
         self.cores == other.cores && self.tasks == other.tasks
     }
 
+    // Whether the ready list of each priority has the same tasks in both, in the same order.
+    fn has_same_lists(&self, other: &Self) -> bool
+        requires priorities { self.now.priorities ≡ other.now.priorities }
+        requires control { self.now.control ≡ other.now.control }
+        ensures { IsTrue result ↔ (self.now.ready ≡ other.now.ready) }
+    {
+        for priority in 0..self.priorities {
+            if !self.lists.has_same_list(&other.lists, priority) {
+                return false;
+            }
+        }
+        true
+    }
+
     // Whether the bit of the core is set. The first test always holds: it shows that there are
     // fewer cores than bits.
     fn has_bit(&self, mask: u32, core: u32) -> bool
@@ -397,11 +483,21 @@ impl Cores {
         (task as usize) < self.cores.len()
     }
 
+    // The bits of the cores that have the task as current task.
+    fn seats(&self, task: u32) -> u32
+        requires { task < length self.now.control.tasks }
+        ensures { (core : ℕ) → is_set result core ≡ has_seat self.now.control task core }
+    {
+        self.seats[task as usize]
+    }
+
     // Whether the task is on a core that no other core asked to switch.
     fn is_running(&self, task: u32) -> bool
+        requires { task < length self.now.control.tasks }
         ensures { result ≡ is_running self.now.control task }
     {
-        self.core_numbers().any(|core| self.running(core) == task && !self.flags(core).asked)
+        self.seats(task) != 0
+            && self.core_numbers().any(|core| self.running(core) == task && !self.flags(core).asked)
     }
 
     // Whether the core has the task and no other core asked it to switch.
@@ -434,15 +530,12 @@ impl Cores {
             (may_be_asked self.now.control task (has_core among)) best core }
         ensures core { ForSome result (λ better. better < length self.now.control.cores) }
     {
-        let is_better = match best {
-            None => true,
-            Some(best) => !self.stands_below(self.running(best), self.running(core)),
-        };
-        let may_be_asked = self.has_bit(among, core) && self.is_preemptible_by(task, core);
-        if may_be_asked && is_better {
-            Some(core)
-        } else {
-            best
+        if !(self.has_bit(among, core) && self.is_preemptible_by(task, core)) {
+            return best;
+        }
+        match best {
+            Some(first) if self.stands_below(self.running(first), self.running(core)) => best,
+            _ => Some(core),
         }
     }
 
@@ -474,10 +567,12 @@ impl Cores {
 
     // Whether the task is the current one of another core.
     fn is_elsewhere(&self, core: u32, task: u32) -> bool
+        requires core { core < length self.now.control.cores }
+        requires task { task < length self.now.control.tasks }
         ensures { result ≡ is_elsewhere self.now.control core task }
     {
-        self.core_numbers()
-            .any(|other| other != core && self.running(other) == task)
+        let seats = self.seats(task);
+        core < self.core_numbers().end && seats & !(1 << core) != 0
     }
 
     // Whether the core may select the task where it is ready.
@@ -489,25 +584,22 @@ impl Cores {
         self.is_allowed(core, task) && !self.is_elsewhere(core, task)
     }
 
-    // The best task so far, or one that came to its ready list after it, where the core may select
-    // it and it is better.
-    fn better_task(&self, core: u32, best: Option<u32>, task: u32) -> Option<u32>
+    // The first task of the ready list of the priority that the core may select.
+    fn pick_of(&self, core: u32, priority: u32) -> Option<u32>
         requires core { core < length self.now.control.cores }
-        requires best { ForSome best (λ b. b < length self.now.control.tasks) }
-        requires task { task < length self.now.control.tasks }
-        ensures better { result
-            ≡ better_of (outranks self.now.control) (may_select self.now.control core) best task }
-        ensures task { ForSome result (λ better. better < length self.now.control.tasks) }
+        requires priority { priority < self.now.priorities }
+        ensures first { result
+            ≡ find (may_select self.now.control core) (ready_list priority self.now) }
+        ensures task { IfSome result (λ task. task < length self.now.control.tasks) }
     {
-        let is_better = match best {
-            None => true,
-            Some(best) => self.in_use(best) < self.in_use(task),
-        };
-        if is_better && self.is_selectable(core, task) {
-            Some(task)
-        } else {
-            best
+        let mut next = self.lists.first(priority);
+        for _place in 0..self.lists.len(priority) {
+            match next {
+                Some(task) if !self.is_selectable(core, task) => next = self.lists.next(task),
+                _ => return next,
+            }
         }
+        None
     }
 
     // The first task of the ready lists that the core may select, from the greatest priority in use
@@ -517,11 +609,16 @@ impl Cores {
         ensures first { result ≡ find (may_select self.now.control core) self.now.ready }
         ensures task { IfSome result (λ task. task < length self.now.control.tasks) }
     {
-        let mut best = None;
-        for task in &self.ready {
-            best = self.better_task(core, best, *task);
+        let mut rest = self.listed;
+        for _list in 0..self.priorities {
+            let priority = rest.checked_ilog2()?;
+            let first = self.pick_of(core, priority);
+            if first.is_some() {
+                return first;
+            }
+            rest &= !(1 << priority);
         }
-        best
+        None
     }
 
     // The task goes to the end of the ready list of its priority in use.
@@ -531,7 +628,8 @@ impl Cores {
           ready = placed (outranks self.old.control) task (without task self.old.ready);
         } }
     {
-        requeue(&mut self.ready, task);
+        self.unready(task);
+        self.push(task);
     }
 
     fn run(&mut self, core: u32, task: u32)
@@ -539,6 +637,9 @@ impl Cores {
         requires task { task < length self.old.control.tasks }
         ensures { self.new ≡ record self.old { control = run_on core task self.old.control } }
     {
+        let left = self.running(core);
+        self.seats[left as usize] &= !(1 << core);
+        self.seats[task as usize] |= 1 << core;
         self.cores[core as usize] = CoreLook {
             current: task,
             pend: false,
@@ -588,7 +689,7 @@ impl Cores {
             (length
             (ready_in list_queues (task_at self.now.control task).in_use (bare_view self.now)))) }
     {
-        self.ready(task) && has_company(&self.tasks, &self.ready, task)
+        self.ready(task) && self.lists.len(self.in_use(task)) > 1
     }
 
     // Whether the core's task has to share its time with another of its priority.

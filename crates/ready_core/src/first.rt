@@ -1,10 +1,9 @@
-//! The cores, control blocks and ready tasks of a start, before any core has selected.
-ghost use Rattle.std.specs.Prelude.{◌≡◌, ◌≤◌, ◌+◌, ◌-◌, ◌++◌, map, replicate, IfOk, OnOk};
-ghost use Rattle.std.specs.Vec.{vec_capacity};
-ghost use Rattle.std.specs.List.{range_with_len};
-ghost use Rattle.bench_types.specs.Limits.{max_cores, max_tasks};
+//! The cores and control blocks of a start, before any core has selected.
+ghost use Rattle.std.specs.Prelude.{◌≡◌, ◌≤◌, map, replicate, IfOk};
+ghost use Rattle.bench_types.specs.Limits.{max_cores};
 ghost use Rattle.list_orders.specs.Search.{numbers};
 ghost use Rattle.bench_model.specs.Start.{first_look, idle_control, first_control};
+ghost use Rattle.ready_core.specs.Fields.{first_seat};
 
 use bench_types::{CoreLook, Header, TaskControl, cores_of_mask};
 use std::alloc::{AllocError, Global};
@@ -64,28 +63,21 @@ fn idle_control(cores: u32) -> TaskControl
     }
 }
 
-// The user tasks and after them the idle tasks, with a place for each.
-pub(crate) fn first_queue(alloc: Global, cores: u32, users: u32) -> Result<Vec<u32>, AllocError>
-    requires cores { cores ≤ max_cores }
-    requires users { users ≤ max_tasks }
-    ensures items { IfOk result
-        (λ queue. queue.items ≡ range_with_len cores users ++ numbers cores) }
-    ensures room { IfOk result (λ queue. cores + users ≤ vec_capacity queue) }
+// Core c has idle task c, and no other task has a core.
+pub(crate) fn first_seats(alloc: Global, cores: u32, tasks: u32) -> Result<Vec<u32>, AllocError>
+    requires { cores ≤ max_cores }
+    ensures { IfOk result (λ seats. seats.items ≡ map (first_seat cores) (numbers tasks)) }
 {
-    let mut queue = Vec::with_capacity(alloc, (cores + users) as usize)?;
-    push_numbers(&mut queue, cores, cores + users)?;
-    push_numbers(&mut queue, 0, cores)?;
-    Ok(queue)
+    let mut seats = Vec::with_capacity(alloc, tasks as usize)?;
+    for task in 0..tasks {
+        seats.push(first_seat(cores, task))?;
+    }
+    Ok(seats)
 }
 
-fn push_numbers(queue: &mut Vec<u32>, from: u32, to: u32) -> Result<(), AllocError>
-    requires { from ≤ to }
-    ensures items { OnOk result
-        (queue.new.items ≡ queue.old.items ++ range_with_len from (to - from)) }
-    ensures capacity { vec_capacity queue.old ≤ vec_capacity queue.new }
+fn first_seat(cores: u32, task: u32) -> u32
+    requires { cores ≤ max_cores }
+    ensures { result ≡ first_seat cores task }
 {
-    for number in from..to {
-        queue.push(number)?;
-    }
-    Ok(())
+    if task < cores { 1 << task } else { 0 }
 }

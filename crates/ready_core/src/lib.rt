@@ -4,6 +4,5 @@
 
 mod cores;
 mod first;
-mod ready_list;
 
 pub use cores::Cores;

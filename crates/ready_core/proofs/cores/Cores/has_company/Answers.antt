@@ -1,28 +1,31 @@
-use Rattle.std.proofs.Common.{◌≡◌, ◌<◌, ltb, ◌&&◌, true, length, ◌∙◌, ap, sym, arith}
-use Rattle.std.specs.List.{list_any}
-use Rattle.std.proofs.lemmas.List.Elements.{recursion_from_All}
+use Rattle.std.proofs.Common.{◌≡◌, ◌<◌, ltb, ◌&&◌, true, length, ◌∙◌, ap, sym, subst, arith}
+use Rattle.std.specs.List.{AllByRecursion}
+use Rattle.std.proofs.lemmas.List.{length-map}
 use Rattle.list_orders.specs.Search.{has}
+use Rattle.index_lists.specs.Listed.{Listed}
 use Rattle.bench_model.specs.Control.{task_at}
 use Rattle.bench_model.specs.Lists.{list_queues}
 use Rattle.bench_model.specs.Seek.{ready_in}
 use Rattle.bench_model.specs.Cores.{CoresView, bare_view}
-use Rattle.ready_core.specs.Fields.{control_from, seen_of, shares_list}
-use Rattle.ready_core.proofs.Queues.{ready-has}
-use Rattle.ready_core.proofs.Slices.{shares_by_queue}
+use Rattle.ready_core.specs.Fields.{control_from, tasks_of, ready_list}
+use Rattle.ready_core.proofs.ReadyLists.{row_at, rank, ready_of, tasks_low}
+use Rattle.ready_core.proofs.Slices.{company}
 use Rattle.ready_core.proofs.cores.Cores.has_company.Goals as goal
 
 pub returns-then-ready : goal.returns-then-ready
 returns-then-ready c =
-    let tasks = c.self.inside.tasks.items in
-    let queue = c.self.inside.ready.items in
+    let now = c.args.self.now in
     let task = c.args.task in
-    let control = control_from c.self.inside.cores.items tasks in
-    let view = seen_of c.self.inside.priorities c.self.inside.slicing control queue in
-    let low : task < length tasks = omega (arith, ap (λ (v : CoresView). length v.control.tasks) c.self.view_is, c.requires) in
-    let ready : has task view.ready ≡ true = ap (λ (v : CoresView). has task v.ready) c.self.view_is ∙ sym c.ready.ensures ∙ c.if-ready.true in
-    c.has_company.ensures
-    ∙ ap (λ blocks. list_any (shares_list blocks task) c.deref-then-ready.result.now) c.deref.ensures.value
-    ∙ ap (list_any (shares_list tasks task)) c.deref-then-ready.ensures.value
-    ∙ sym (shares_by_queue view queue task (λ t. ready-has control t queue) (recursion_from_All (λ t. t < length tasks) queue c.self.invariant.ready.below) low ready)
-    ∙ ap (λ b. b && ltb 1 (length (ready_in list_queues (task_at view.control task).in_use (bare_view view)))) (sym ready)
-    ∙ ap (λ (v : CoresView). has task v.ready && ltb 1 (length (ready_in list_queues (task_at v.control task).in_use (bare_view v)))) c.self.view_is
+    let view = c.self.view_is in
+    let lists = c.self.inside.lists.lists in
+    let n = c.self.inside.priorities in
+    let control = control_from c.self.inside.cores.items c.self.inside.tasks.items in
+    let r = c.in_use.result in
+    let is : r ≡ rank now.control task = c.in_use.ensures.in_use in
+    let low : r < n = omega (arith, c.in_use.ensures.below, ap (λ (v : CoresView). v.priorities) view) in
+    let shown : ready_list (rank now.control task) now ≡ tasks_of lists r = ap (λ p. ready_list p now) (sym is) ∙ ap (ready_list r) (sym view) ∙ ready_of control lists r n c.self.invariant.at_home low in
+    let within = subst (λ (v : CoresView). AllByRecursion (λ t. t < length v.control.tasks) v.ready) view (tasks_low (length c.self.inside.tasks.items) lists n c.self.invariant.listings) in
+    let ready : has task now.ready ≡ true = sym c.ready.ensures ∙ c.if-ready.true in
+    ap (ltb 1) (c.len.ensures ∙ sym (length-map (row_at lists r) (λ (e : Listed). e.item)))
+    ∙ sym (company now (tasks_of lists r) task shown (c.self.invariant.listings r low).once within c.requires ready)
+    ∙ ap (λ b. b && ltb 1 (length (ready_in list_queues (task_at now.control task).in_use (bare_view now)))) (sym ready)

@@ -1,7 +1,11 @@
-use Rattle.std.proofs.Common.{◌∙◌, ap}
+use Rattle.std.proofs.Common.{◌∙◌, ap, sym}
+use Rattle.std.specs.Prelude.{is_some}
 use Rattle.list_orders.specs.Search.{has}
-use Rattle.ready_core.proofs.Queues.{seen_has}
+use Rattle.bench_model.specs.Cores.{CoresView}
+use Rattle.ready_core.proofs.ReadyLists.{ready_listed}
 use Rattle.ready_core.proofs.cores.Cores.ready.Goals as goal
 
 pub returns : goal.returns
-returns c = c.contains.ensures.value ∙ ap (has c.args.task) c.deref.ensures.value ∙ seen_has _ _ _ _ c.args.task _ c.self.view_is
+returns c =
+    c.is_some.ensures ∙ ap is_some c.list_of.ensures ∙ sym (ready_listed c.self.inside.lists c.args.task c.self.inside.priorities c.self.invariant.each)
+    ∙ ap (λ (v : CoresView). has c.args.task v.ready) c.self.view_is

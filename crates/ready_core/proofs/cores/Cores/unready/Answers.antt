@@ -1,17 +1,42 @@
-use Rattle.std.proofs.Common.{arith}
-use Rattle.ready_core.proofs.Queues.{seen_leave}
-use Rattle.list_orders.proofs.Listings.{listing_without}
+use Rattle.std.proofs.Common.{◌≢◌, ◌∙◌, length, map, ap, sym, arith}
+use Rattle.std.proofs.lemmas.List.{length-map}
+use Rattle.list_orders.specs.Search.{without}
+use Rattle.index_lists.specs.Listed.{Listed, ListsView, list_at, without_item}
+use Rattle.bench_model.specs.Cores.{CoresView}
+use Rattle.ready_core.specs.Fields.{control_from, tasks_of}
+use Rattle.ready_core.proofs.ReadyLists.{rank, with_ready, row_at, ready_without}
+use Rattle.ready_core.proofs.Shapes.{shape_emptied, shape_left}
 use Rattle.ready_core.proofs.cores.Cores.unready.Goals as goal
 
 pub invariant_of-self : goal.invariant_of-self
-invariant_of-self c = record {
-  few_cores = c.self.invariant.few_cores;
-  running = c.self.invariant.running;
-  in_use = c.self.invariant.in_use;
-  base = c.self.invariant.base;
-  ready = rw c.remove_task.ensures.items (listing_without _ c.args.task _ c.self.invariant.ready);
-  room = omega (arith, c.remove_task.ensures.capacity);
-}
+invariant_of-self c =
+    let view = c.self.view_is in
+    let r = c.in_use-priority.result in
+    let rest = map (without_item c.args.task) c.self.inside.lists.lists in
+    let sized = length-map (row_at rest r) (λ (e : Listed). e.item) ∙ ap (λ (v : ListsView). length (list_at v r)) (sym c.remove.ensures) ∙ sym c.len.ensures in
+    rw c.remove.ensures
+    (shape_emptied _ _ _ _ _ _ c.self.invariant c.args.task r (c.in_use-priority.ensures.in_use ∙ ap (λ (v : CoresView). rank v.control c.args.task) (sym view)) (omega (arith, c.in_use-priority.ensures.below, ap (λ (v : CoresView). v.priorities) view)) (sized ∙ c.if-len-eq0.true))
 
-pub returns : goal.returns
-returns c = rw c.remove_task.ensures.items (seen_leave _ _ _ _ c.args.task _ c.self.view_is)
+pub invariant_of-self-else-len-eq0 : goal.invariant_of-self-else-len-eq0
+invariant_of-self-else-len-eq0 c =
+    let view = c.self.view_is in
+    let r = c.in_use-priority.result in
+    let rest = map (without_item c.args.task) c.self.inside.lists.lists in
+    let sized = length-map (row_at rest r) (λ (e : Listed). e.item) ∙ ap (λ (v : ListsView). length (list_at v r)) (sym c.remove.ensures) ∙ sym c.len.ensures in
+    let some : length (tasks_of rest r) ≢ 0 = λ none. c.if-len-eq0.false (sym sized ∙ none) in
+    rw c.remove.ensures
+    (shape_left _ _ _ _ _ _ c.self.invariant c.args.task r (c.in_use-priority.ensures.in_use ∙ ap (λ (v : CoresView). rank v.control c.args.task) (sym view)) (omega (arith, c.in_use-priority.ensures.below, ap (λ (v : CoresView). v.priorities) view)) some)
+
+pub returns-then-len-eq0 : goal.returns-then-len-eq0
+returns-then-len-eq0 c =
+    let control = control_from c.self.inside.cores.items c.self.inside.tasks.items in
+    rw c.remove.ensures
+    (ap (with_ready c.self.inside.priorities c.self.inside.slicing control) (ready_without c.self.inside.lists.lists c.args.task c.self.inside.priorities)
+    ∙ ap (λ (v : CoresView). record v { ready = without c.args.task v.ready }) c.self.view_is)
+
+pub returns-else-len-eq0 : goal.returns-else-len-eq0
+returns-else-len-eq0 c =
+    let control = control_from c.self.inside.cores.items c.self.inside.tasks.items in
+    rw c.remove.ensures
+    (ap (with_ready c.self.inside.priorities c.self.inside.slicing control) (ready_without c.self.inside.lists.lists c.args.task c.self.inside.priorities)
+    ∙ ap (λ (v : CoresView). record v { ready = without c.args.task v.ready }) c.self.view_is)

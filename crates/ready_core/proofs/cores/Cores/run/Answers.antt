@@ -1,0 +1,26 @@
+use Rattle.std.proofs.Common.{◌≡◌, ◌*◌, ◌%◌, ◌^◌, ◌<◌, ◌∙◌, bit_and, w32, length, get_or, ap, sym, arith}
+use Rattle.std.specs.Prelude.{slice_set}
+use Rattle.std.specs.Int.{bit_not}
+use Rattle.std.proofs.lemmas.List.{get_or_read, length-set}
+use Rattle.bench_model.specs.Control.{current}
+use Rattle.bench_model.specs.Cores.{CoresView}
+use Rattle.ready_core.specs.Fields.{control_from}
+use Rattle.ready_core.proofs.Shapes.{shape_run}
+use Rattle.ready_core.proofs.cores.Cores.run.Goals as goal
+
+pub invariant_of-self : goal.invariant_of-self
+invariant_of-self c =
+    let view = c.self.view_is in
+    let seats = c.self.inside.seats.items in
+    let core = c.args.core in
+    let task = c.args.task in
+    let control = control_from c.self.inside.cores.items c.self.inside.tasks.items in
+    let left : c.running-left.result ≡ current control core = c.running-left.ensures.current ∙ ap (λ (v : CoresView). current v.control core) (sym view) in
+    let cleared = bit_and c.index_mut.result.now (bit_not w32 (1 * 2 ^ core % 4294967296)) in
+    let tasks = ap (λ (v : CoresView). length v.control.tasks) view in
+    let low : core < length c.self.inside.cores.items = omega (arith, c.requires.core, ap (λ (v : CoresView). length v.control.cores) view) in
+    let below : task < length c.self.inside.tasks.items = omega (arith, c.requires.task, tasks) in
+    let one = get_or_read seats c.running-left.result c.index_mut.result.now (omega (arith, c.running-left.ensures.task, tasks, c.self.invariant.seated)) c.index_mut.ensures.value 0 in
+    let other = get_or_read (slice_set seats c.running-left.result cleared) task c.index_mut-2.result.now (omega (arith, below, c.self.invariant.seated, length-set seats c.running-left.result cleared)) c.index_mut-2.ensures.value 0 in
+    rw left
+    (shape_run _ _ _ _ _ _ c.self.invariant core task low below c.index_mut.result.now c.index_mut-2.result.now (one ∙ ap (λ t. get_or seats t 0) left) (other ∙ ap (λ t. get_or (slice_set seats t cleared) task 0) left))

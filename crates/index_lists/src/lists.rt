@@ -168,7 +168,7 @@ impl Lists {
         let mut mine = self.links[self.end_of(list) as usize].next;
         let mut theirs = other.links[other.end_of(other_list) as usize].next;
         for _step in 0..self.len(list) {
-            if mine != theirs {
+            if theirs != mine {
                 return false;
             }
             if self.key_of(mine) != other.key_of(theirs) {

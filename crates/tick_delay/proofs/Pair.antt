@@ -1,6 +1,6 @@
 -- A pair of lists, of which one is this turn's: what comes of them when a task comes to one, or leaves.
-use Rattle.std.proofs.Common.{◌≡◌, ◌≢◌, ℕ, zero, suc, ◌+◌, ◌-◌, ◌<◌, ◌≤◌, ◌%◌, ◌^◌, ◌||◌, Bool, true, false, cond, eqb, List, [], ◌∷◌, ◌++◌, length, map, get_or, Option, Some, None, option_map, unwrap_or, refl, sym, ap, subst, ◌∙◌, get_or-set_other, get_or-set_same, length-set, arith}
-use Rattle.std.specs.List.{find, list_any, AllByRecursion, IsDistinct}
+use Rattle.std.proofs.Common.{◌≡◌, ◌≢◌, ℕ, zero, suc, ◌+◌, ◌-◌, ◌<◌, ◌≤◌, ◌%◌, ◌^◌, ◌||◌, Bool, true, false, cond, eqb, List, [], ◌∷◌, ◌++◌, length, map, get_or, Some, None, option_map, unwrap_or, refl, sym, ap, subst, ◌∙◌, get_or-set_other, get_or-set_same, length-set, arith}
+use Rattle.std.specs.List.{find, AllByRecursion, IsDistinct}
 use Rattle.std.proofs.lemmas.List.{get_or-map, length-map}
 use Rattle.std.proofs.lemmas.List.Elements.{All-nil}
 use Rattle.std.proofs.lemmas.Bool.{eqb-true}
@@ -266,10 +266,11 @@ empty_shape tasks tick low = record {
 pub same_pairs : (tasks tick turn others tick2 turn2 : ℕ) (lists lists2 : ListsView) → IsDelayShape tasks tick turn lists → IsDelayShape others tick2 turn2 lists2 → tick ≡ tick2
     → (list_at lists turn ≡ list_at lists2 turn2 → list_at lists (1 - turn) ≡ list_at lists2 (1 - turn2) → map (delayed_at tick) (from_list turn lists) ≡ map (delayed_at tick2) (from_list turn2 lists2))
     × (map (delayed_at tick) (from_list turn lists) ≡ map (delayed_at tick2) (from_list turn2 lists2) → (list_at lists turn ≡ list_at lists2 turn2) × (list_at lists (1 - turn) ≡ list_at lists2 (1 - turn2)))
-same_pairs tasks tick turn others tick2 turn2 lists lists2 shape shape2 now =
-    (λ one two. ap (λ n. map (delayed_at n) (from_list turn lists)) now ∙ ap (λ xs. map (delayed_at tick2) (xs ++ list_at lists (1 - turn))) one ∙ ap (λ xs. map (delayed_at tick2) (list_at lists2 turn2 ++ xs)) two,
-     λ same. same_turns tasks others tick2 (list_at lists turn) (list_at lists (1 - turn)) (list_at lists2 turn2) (list_at lists2 (1 - turn2)) shape2.tick_low
-     (subst (λ n. IsTwoTurns tasks n (list_at lists turn) (list_at lists (1 - turn))) now shape.turns) shape2.turns (ap (λ n. map (delayed_at n) (from_list turn lists)) (sym now) ∙ same))
+same_pairs tasks tick turn others tick2 turn2 lists lists2 shape shape2 now = (
+  λ one two. ap (λ n. map (delayed_at n) (from_list turn lists)) now ∙ ap (λ xs. map (delayed_at tick2) (xs ++ list_at lists (1 - turn))) one ∙ ap (λ xs. map (delayed_at tick2) (list_at lists2 turn2 ++ xs)) two,
+  λ same. same_turns tasks others tick2 (list_at lists turn) (list_at lists (1 - turn)) (list_at lists2 turn2) (list_at lists2 (1 - turn2)) shape2.tick_low
+      (subst (λ n. IsTwoTurns tasks n (list_at lists turn) (list_at lists (1 - turn))) now shape.turns) shape2.turns (ap (λ n. map (delayed_at n) (from_list turn lists)) (sym now) ∙ same),
+)
 
 module _ (tasks tick turn : ℕ) (lists : ListsView) (shape : IsDelayShape tasks tick turn lists) (task ticks : ℕ) (low : task < tasks) (free : is_waiting task (map (delayed_at tick) (from_list turn lists)) ≡ false) (few : ticks < 2 ^ 32) where
   abbrev wake : ℕ

@@ -1,19 +1,18 @@
 -- What two lists by wakes keep, this turn's and the next one's, and the delays that they stand for.
-use Rattle.std.proofs.Common.{◌≡◌, ◌≢◌, ℕ, zero, suc, ◌+◌, ◌-◌, ◌<◌, ◌≤◌, ◌%◌, ◌^◌, ◌||◌, Bool, true, false, cond, not, eqb, ltb, leb, List, [], ◌∷◌, ◌++◌, length, map, get_or, Option, Some, None, option_map, refl, sym, ap, subst, ◌∙◌, append_assoc, arith}
-use Rattle.std.specs.List.{filter, find, insert, prefix_len, list_any, AllByRecursion, IsDistinct}
-use Rattle.std.specs.List.Sorted.{IsPermutation}
+use Rattle.std.proofs.Common.{◌≡◌, ◌≢◌, ℕ, ◌+◌, ◌-◌, ◌<◌, ◌≤◌, ◌%◌, ◌^◌, ◌||◌, Bool, true, false, cond, not, eqb, ltb, leb, List, [], ◌∷◌, ◌++◌, map, Some, None, option_map, refl, sym, ap, subst, ◌∙◌, append_assoc, arith}
+use Rattle.std.specs.List.{filter, find, insert, prefix_len, AllByRecursion, IsDistinct}
 use Rattle.std.proofs.lemmas.List.{map-append, append-nil}
 use Rattle.std.proofs.lemmas.List.Elements.{filter-append}
 use Rattle.std.proofs.lemmas.List.Sorted.{IsPermutation-map, IsPermutation-insert, IsPermutation-append_left, IsPermutation-append_comm}
 use Rattle.std.proofs.lemmas.Bool.Decides.{nat_tests}
 use Rattle.std.proofs.lemmas.Option.{same_Some}
 use Rattle.bench_types.specs.declared.kernel_data.Delayed.{Delayed}
-use Rattle.list_orders.specs.Search.{placed, ranked, without, has}
+use Rattle.list_orders.specs.Search.{placed, ranked, has}
 use Rattle.list_orders.specs.Listings.{IsListing}
 use Rattle.list_orders.proofs.Filters.{filter_none, filter_all, filter-map, All-filter, All-weaker, All-both, All-append, All-map, list_any-append}
 use Rattle.list_orders.proofs.Listings.{listing_without}
 use Rattle.list_orders.proofs.Placements.{placed_at, ranked-placed, first_in_order}
-use Rattle.list_orders.proofs.Ranks.{IsRank, ranked-push, map-ranked, filter-ranked, All-placed}
+use Rattle.list_orders.proofs.Ranks.{ranked-push, map-ranked, filter-ranked, All-placed}
 use Rattle.index_lists.specs.Listed.{Listed, items_of, without_item, first_of, lowest_first}
 use Rattle.index_lists.proofs.Places.{lowest_first-IsRank}
 use Rattle.bench_model.specs.Lists.{wakes_first, without_delay, one_tick_less, due_tasks}
@@ -150,8 +149,8 @@ module _ (tasks tick : ℕ) (this next : List Listed) (tick_low : tick < 2 ^ 32)
       let entry : Listed = record { item = task; key = tick + ticks } in
       let left : ticks_to tick (tick + ticks) ≡ ticks = omega (arith, soon) in
       let later : AllByRecursion (λ y. wakes_first y (record { task = task; left = ticks }) ≡ false) (map (delayed_at tick) next) =
-          All-map (λ y. wakes_first y (record { task = task; left = ticks }) ≡ false) (delayed_at tick) next
-          (All-weaker (InNext tick) (λ e. wakes_first (delayed_at tick e) (record { task = task; left = ticks }) ≡ false) (λ e h. ap (λ n. leb n ticks) (next_left tick e.key tick_low h) ∙ grind (arith, nat_tests, soon, h, tick_low)) next turns.next_turn) in
+      All-map (λ y. wakes_first y (record { task = task; left = ticks }) ≡ false) (delayed_at tick) next
+      (All-weaker (InNext tick) (λ e. wakes_first (delayed_at tick e) (record { task = task; left = ticks }) ≡ false) (λ e h. ap (λ n. leb n ticks) (next_left tick e.key tick_low h) ∙ grind (arith, nat_tests, soon, h, tick_low)) next turns.next_turn) in
       map-append (delayed_at tick) (placed lowest_first entry this) next
       ∙ ap (λ xs. xs ++ map (delayed_at tick) next) (map-placed_in_order tick (InThis tick) (this_order_kept tick) entry this (omega arith, soon) turns.this_turn turns.this_order)
       ∙ ap (λ n. placed wakes_first (record { task = task; left = n }) (map (delayed_at tick) this) ++ map (delayed_at tick) next) left
@@ -173,8 +172,8 @@ module _ (tasks tick : ℕ) (this next : List Listed) (tick_low : tick < 2 ^ 32)
       let entry : Listed = record { item = task; key = tick + ticks - 2 ^ 32 } in
       let left : ticks_to tick (tick + ticks - 2 ^ 32) ≡ ticks = omega (arith, few, late, tick_low) in
       let sooner : AllByRecursion (λ y. wakes_first y (record { task = task; left = ticks }) ≡ true) (map (delayed_at tick) this) =
-          All-map (λ y. wakes_first y (record { task = task; left = ticks }) ≡ true) (delayed_at tick) this
-          (All-weaker (InThis tick) (λ e. wakes_first (delayed_at tick e) (record { task = task; left = ticks }) ≡ true) (λ e h. ap (λ n. leb n ticks) (this_left tick e.key h.0 h.1) ∙ grind (arith, nat_tests, late, h.0, h.1)) this turns.this_turn) in
+      All-map (λ y. wakes_first y (record { task = task; left = ticks }) ≡ true) (delayed_at tick) this
+      (All-weaker (InThis tick) (λ e. wakes_first (delayed_at tick e) (record { task = task; left = ticks }) ≡ true) (λ e h. ap (λ n. leb n ticks) (this_left tick e.key h.0 h.1) ∙ grind (arith, nat_tests, late, h.0, h.1)) this turns.this_turn) in
       map-append (delayed_at tick) this (placed lowest_first entry next)
       ∙ ap (λ xs. map (delayed_at tick) this ++ xs) (map-placed_in_order tick (InNext tick) (next_order_kept tick tick_low) entry next (omega (arith, few, late)) turns.next_turn turns.next_order)
       ∙ ap (λ n. map (delayed_at tick) this ++ placed wakes_first (record { task = task; left = n }) (map (delayed_at tick) next)) left
@@ -318,6 +317,7 @@ module _ (tasks tick : ℕ) (this next : List Listed) (tick_low : tick < 2 ^ 32)
 
 -- two pairs of lists are equal where they stand for the same delays
 pub same_turns : (tasks others tick : ℕ) (this next this2 next2 : List Listed) → tick < 2 ^ 32 → IsTwoTurns tasks tick this next → IsTwoTurns others tick this2 next2 → map (delayed_at tick) (this ++ next) ≡ map (delayed_at tick) (this2 ++ next2) → (this ≡ this2) × (next ≡ next2)
-same_turns tasks others tick this next this2 next2 low turns turns2 same =
-    (sym (this_is tasks tick this next low turns) ∙ ap (λ ds. map (listed_at tick) (filter (wakes_this_turn tick) ds)) same ∙ this_is others tick this2 next2 low turns2,
-     sym (next_is tasks tick this next low turns) ∙ ap (λ ds. map (listed_at tick) (filter (λ d. not (wakes_this_turn tick d)) ds)) same ∙ next_is others tick this2 next2 low turns2)
+same_turns tasks others tick this next this2 next2 low turns turns2 same = (
+  sym (this_is tasks tick this next low turns) ∙ ap (λ ds. map (listed_at tick) (filter (wakes_this_turn tick) ds)) same ∙ this_is others tick this2 next2 low turns2,
+  sym (next_is tasks tick this next low turns) ∙ ap (λ ds. map (listed_at tick) (filter (λ d. not (wakes_this_turn tick d)) ds)) same ∙ next_is others tick this2 next2 low turns2,
+)

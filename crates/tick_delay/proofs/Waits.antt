@@ -1,24 +1,17 @@
 -- What a list of waiting tasks in the order of their wakes keeps when one comes, one goes, or a tick passes, and who is due.
-use Rattle.std.proofs.Common.{◌≡◌, ◌≢◌, ℕ, ◌+◌, ◌<◌, ◌%◌, ◌^◌, Bool, true, false, cond, not, eqb, ltb, List, [], ◌∷◌, length, map, Option, Some, None, refl, sym, ap, subst, ◌∙◌, arith}
-use Rattle.std.specs.List.{filter, insert, slice_get, position_or_len, prefix_len, IsDistinct, AllByRecursion}
+use Rattle.std.proofs.Common.{◌≡◌, ℕ, ◌+◌, ◌<◌, ◌%◌, ◌^◌, Bool, true, false, cond, not, eqb, List, [], ◌∷◌, map, refl, sym, arith}
+use Rattle.std.specs.List.{filter, IsDistinct, AllByRecursion}
 use Rattle.std.specs.List.Sorted.{IsPermutation}
-use Rattle.std.proofs.lemmas.List.{length-map}
-use Rattle.std.proofs.lemmas.List.Elements.{All-nil, All-cons}
-use Rattle.std.proofs.lemmas.List.Sorted.{IsPermutation-map, IsPermutation-insert, All-permutation}
+use Rattle.std.proofs.lemmas.List.Elements.{All-cons}
+use Rattle.std.proofs.lemmas.List.Sorted.{All-permutation}
 use Rattle.std.proofs.lemmas.Map.Keys.{IsDistinct-head, IsDistinct-cons, IsDistinct-IsPermutation}
 use Rattle.std.proofs.lemmas.Bool.Decides.{nat_tests}
-use Rattle.std.proofs.lemmas.Option.{same_Some}
 use Rattle.bench_types.specs.declared.kernel_data.Delayed.{Delayed}
-use Rattle.list_orders.specs.Search.{placed, ranked, without, has}
-use Rattle.bench_model.specs.Lists.{wakes_first, without_delay, one_tick_less, due_tasks}
-use Rattle.list_orders.proofs.Filters.{filter-map, filter_none, All-weaker}
-use Rattle.list_orders.proofs.Ranks.{filter-ranked, map-ranked}
-use Rattle.bench_model.proofs.Ranks.{wakes_first-IsRank}
+use Rattle.list_orders.specs.Search.{without, has}
+use Rattle.bench_model.specs.Lists.{without_delay, one_tick_less, due_tasks}
+use Rattle.list_orders.proofs.Filters.{filter-map}
 use Rattle.tick_delay.specs.Parts.{DelayView, is_waiting, advanced}
-use Rattle.tick_delay.specs.Shape.{IsDelayShape}
-use Rattle.list_orders.proofs.Placements.{placed_at, first_in_order}
 use Rattle.list_orders.specs.Listings.{IsListing}
-use Rattle.list_orders.proofs.Listings.{listing_room}
 
 abbrev task_of : Delayed → ℕ
 task_of entry = entry.task

@@ -1,5 +1,5 @@
 -- What can be seen of the tick count and the tasks that wait, and what each call makes of it.
-use Rattle.std.specs.Prelude.{◌==◌, ◌+◌, ◌-◌, ◌%◌, ◌^◌, ◌++◌, nat_lt, map, ℕ, List, [], Bool, true, false, if◌then◌else◌}
+use Rattle.std.specs.Prelude.{◌≡◌, ◌==◌, ◌+◌, ◌-◌, ◌<◌, ◌%◌, ◌^◌, ◌++◌, nat_lt, map, filter, ℕ, List, [], Bool, true, false, if◌then◌else◌}
 use Rattle.std.specs.List.{list_any}
 use Rattle.bench_types.specs.declared.kernel_data.Delayed.{Delayed}
 use Rattle.index_lists.specs.Listed.{Listed, ListsView, list_at}
@@ -49,3 +49,12 @@ wakes_this_turn tick entry = nat_lt (tick + entry.left) (2 ^ 32)
 -- what stands in one of two lists, and after it what stands in the other
 abbrev pub from_list : ℕ → ListsView → List Listed
 from_list turn lists = list_at lists turn ++ list_at lists (1 - turn)
+
+-- The list is that of this turn: it has the tasks that wake before the tick count wraps, each with
+-- its wake. With the other list after it, all stand by ticks left and then in the order in which
+-- they began to wait.
+pub record IsInTurn (turn : ℕ) (lists : ListsView) (view : DelayView) : Type 0 where
+  pub first_or_second : turn < 2
+  pub this_turn : list_at lists turn
+      ≡ map (listed_at view.tick) (filter (wakes_this_turn view.tick) view.delayed)
+  pub in_order : from_list turn lists ≡ map (listed_at view.tick) view.delayed

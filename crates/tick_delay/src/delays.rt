@@ -1,8 +1,7 @@
-ghost use Rattle.std.specs.Prelude.{◌≡◌, ◌↔◌, ℕ, ◌+◌, ◌-◌, ◌^◌, ◌<◌, [], ◌∷◌, map, filter, not, false, MatchOption, IfSome, IfOk, IsTrue};
-ghost use Rattle.index_lists.specs.Listed.{list_at};
+ghost use Rattle.std.specs.Prelude.{◌≡◌, ◌↔◌, ℕ, ◌+◌, ◌^◌, ◌<◌, [], ◌∷◌, false, MatchOption, IfSome, IfOk, IsTrue};
 ghost use Rattle.bench_model.specs.Lists.{without_delay, due_tasks};
 ghost use Rattle.bench_model.specs.Looks.{left_in};
-ghost use Rattle.tick_delay.specs.Parts.{no_delays, is_waiting, delayed_for, until_delayed, advanced, listed_at, wakes_this_turn, from_list};
+ghost use Rattle.tick_delay.specs.Parts.{no_delays, is_waiting, delayed_for, until_delayed, advanced, IsInTurn};
 
 use bench_model::until::{is_ahead, next_wake};
 use index_lists::Lists;
@@ -76,22 +75,28 @@ impl Delays {
         self.tick
     }
 
-    /// The list of this turn of the tick count, 0 or 1.
+    /// The list of this turn of the tick count, 0 or 1: that of `in_turn`.
     pub fn turn(&self) -> u32
         ensures { result < 2 }
     {
-        self.turn
+        self.in_turn().0
     }
 
-    /// The waiting tasks in two lists, each task with its wake as its key: one of the two holds
-    /// those that wake before the tick count wraps, and the other those that wake after it has.
-    /// One after the other they hold the tasks by ticks left and then in the order in which they
-    /// began to wait.
+    /// The waiting tasks in two lists by wakes, those of `in_turn`.
     pub fn lists(&self) -> &Lists
-        ensures { (turn : ℕ) × (turn < 2)
-            × (from_list turn result.now ≡ map (listed_at self.now.tick) self.now.delayed) }
+        ensures { (turn : ℕ) × IsInTurn turn result.now self.now }
     {
-        &self.lists
+        self.in_turn().1
+    }
+
+    /// The list of this turn of the tick count, 0 or 1, and the waiting tasks in two lists, each
+    /// task with its wake as its key. The list of this turn has those that wake before the tick
+    /// count wraps; with the other one after it, all stand by ticks left and then in the order in
+    /// which they began to wait.
+    pub fn in_turn(&self) -> (u32, &Lists)
+        ensures { IsInTurn result.0 result.1.now self.now }
+    {
+        (self.turn, &self.lists)
     }
 
     /// The ticks that are left to the wake of the task; none where it doesn't wait.
@@ -189,8 +194,12 @@ impl Delays {
         requires { self.now.tick ≡ other.now.tick }
         ensures { IsTrue result ↔ (self.now.delayed ≡ other.now.delayed) }
     {
-        let this = self.lists.has_same_entries(self.turn, &other.lists, other.turn);
-        let next = self.lists.has_same_entries(1 - self.turn, &other.lists, 1 - other.turn);
+        let this = self
+            .lists
+            .has_same_entries(self.turn, &other.lists, other.turn);
+        let next = self
+            .lists
+            .has_same_entries(1 - self.turn, &other.lists, 1 - other.turn);
         this && next
     }
 }

@@ -7,8 +7,8 @@ use Rattle.index_lists.proofs.Looks.{seen_stand, next_read, nodes_are}
 use Rattle.index_lists.proofs.Places.{none, node_here, node_low, node_next, key_here, same_entry, same_keys}
 use Rattle.index_lists.proofs.lists.Lists.has_same_entries.Goals as goal
 
-pub returns-then-mine-theirs : goal.returns-then-mine-theirs
-returns-then-mine-theirs c =
+pub returns-then-theirs-mine : goal.returns-then-theirs-mine
+returns-then-theirs-mine c =
     let l = c.args.list in
     let o = c.args.other_list in
     let i = c.loop-step._step in
@@ -22,7 +22,7 @@ returns-then-mine-theirs c =
     let within_too : i < length theirs = omega (arith, within, c.len.ensures, c.len-2.ensures, c.if-len.false) in
     let item = c.loop-step.invariant.mine ∙ node_here _ _ _ _ _ _ stand l i c.requires.one within in
     let item_too = c.loop-step.invariant.theirs ∙ node_here _ _ _ _ _ _ stand_too o i c.requires.other within_too in
-    (λ no. absurd (cc (no)), λ same. absurd (c.if-mine-theirs.true (item ∙ ap (λ (es : List Listed). (get_or es i none).item) same ∙ sym item_too)))
+    (λ no. absurd (cc (no)), λ same. absurd (c.if-theirs-mine.true (item_too ∙ ap (λ (es : List Listed). (get_or es i none).item) (sym same) ∙ sym item)))
 
 pub key_of-requires : goal.key_of-requires
 key_of-requires c =
@@ -138,7 +138,7 @@ loop-step-preserved c =
     let compared = same_keys _ _ _ _ (c.key_of.ensures ∙ key) (c.key_of-in-loop-step.ensures ∙ key_too) in
     let linked : c.loop-step.mine < length links = omega (arith, item, low, nodes_are _ links _ _ _ stand) in
     let linked_too : c.loop-step.theirs < length others = omega (arith, item_too, low_too, nodes_are _ others _ _ _ stand_too) in
-    let here = same_entry _ _ (sym item ∙ c.if-mine-theirs.false ∙ item_too) (let tied : (get_or mine i none).key ≡ (get_or theirs i none).key = grind (arith, nat_tests, compared, c.ne.ensures, c.if-ne.false) in ap Some tied) in
+    let here = same_entry _ _ (sym item ∙ sym c.if-theirs-mine.false ∙ item_too) (let tied : (get_or mine i none).key ≡ (get_or theirs i none).key = grind (arith, nat_tests, compared, c.ne.ensures, c.if-ne.false) in ap Some tied) in
     record {
       same = take_more_same mine theirs i none within within_too c.loop-step.invariant.same here;
       mine = next_read links c.loop-step.mine c.index-in-loop-step.result.now linked c.index-in-loop-step.ensures ∙ ap (λ (n : ℕ). get_or (nexts links) n 0) item ∙ node_next _ _ _ _ _ _ stand l i c.requires.one within;

@@ -1,5 +1,4 @@
-use Rattle.std.proofs.Common.{◌≡◌, ◌++◌, List, ap, sym, ◌∙◌}
-use Rattle.index_lists.specs.Listed.{Listed}
+use Rattle.std.proofs.Common.{ap, sym, ◌∙◌}
 use Rattle.tick_delay.specs.Parts.{DelayView}
 use Rattle.tick_delay.proofs.Pair.{same_pairs}
 use Rattle.tick_delay.proofs.delays.Delays.has_same_entries.Goals as goal

@@ -1,4 +1,4 @@
-use Rattle.std.proofs.Common.{refl, arith}
+use Rattle.std.proofs.Common.{arith}
 use Rattle.tick_delay.proofs.Pair.{empty_shape}
 use Rattle.tick_delay.proofs.delays.Delays.new.Goals as goal
 

@@ -1,5 +1,5 @@
 -- What can be seen of the tick count and the tasks that wait, and what each call makes of it.
-use Rattle.std.specs.Prelude.{◌≡◌, ◌==◌, ◌+◌, ◌-◌, ◌<◌, ◌%◌, ◌^◌, ◌++◌, nat_lt, map, filter, ℕ, List, [], Bool, true, false, if◌then◌else◌}
+use Rattle.std.specs.Prelude.{◌≡◌, ◌==◌, ◌+◌, ◌-◌, ◌<◌, ◌%◌, ◌^◌, ◌++◌, nat_lt, length, map, filter, ℕ, List, [], Bool, true, false, if◌then◌else◌}
 use Rattle.std.specs.List.{list_any}
 use Rattle.bench_types.specs.declared.kernel_data.Delayed.{Delayed}
 use Rattle.index_lists.specs.Listed.{Listed, ListsView, list_at}
@@ -55,6 +55,8 @@ from_list turn lists = list_at lists turn ++ list_at lists (1 - turn)
 -- they began to wait.
 pub record IsInTurn (turn : ℕ) (lists : ListsView) (view : DelayView) : Type 0 where
   pub first_or_second : turn < 2
+  pub both : length lists.lists ≡ 2
+  pub items : lists.items ≡ view.tasks
   pub this_turn : list_at lists turn
       ≡ map (listed_at view.tick) (filter (wakes_this_turn view.tick) view.delayed)
   pub in_order : from_list turn lists ≡ map (listed_at view.tick) view.delayed

@@ -52,3 +52,21 @@ fn the_lowest_key_is_first(rt: HostRuntime) -> Result<(), Fail> {
     assert_eq!(&rt; lists.len(0), 1);
     Ok(())
 }
+
+#[test]
+#[tactic(auto, unfolding(list_orders::specs::Search::placed, list_orders::specs::Search::ranked))]
+fn lists_of_other_keys_differ(rt: HostRuntime) -> Result<(), Fail> {
+    let mut lists = Lists::new(rt.alloc(), 2, 2)?;
+    lists.insert_sorted(0, 1, 7);
+    let copy = lists.copy(rt.alloc())?;
+    assert_eq!(&rt; (lists.key_of(1), lists.key_of(0)), (Some(7), None));
+    assert!(&rt; lists.has_same_entries(0, &copy, 0));
+    assert!(&rt; !lists.has_same_entries(0, &copy, 1));
+    lists.remove(1);
+    lists.insert_sorted(1, 1, 7);
+    assert!(&rt; lists.has_same_entries(1, &copy, 0));
+    lists.remove(1);
+    lists.insert_sorted(1, 1, 8);
+    assert!(&rt; !lists.has_same_entries(1, &copy, 0));
+    Ok(())
+}

@@ -52,6 +52,39 @@ fn delays(rt: HostRuntime) -> Result<(), Fail> {
 }
 
 #[test]
+#[tactic(auto, unfolding(list_orders::specs::Search::placed))]
+fn lists_change_places_where_the_tick_count_wraps(rt: HostRuntime) -> Result<(), Fail> {
+    let mut delays = Delays::new(rt.alloc(), 4_294_967_294, 2)?;
+    delays.delay(0, 1);
+    delays.delay(1, 3);
+    let lists = delays.lists();
+    let keys = (lists.key_of(0), lists.key_of(1));
+    assert_eq!(&rt; keys, (Some(4_294_967_295), Some(1)));
+    let (turn, lists) = delays.in_turn();
+    assert_eq!(&rt; (lists.first(turn), lists.first(1 - turn)), (Some(0), Some(1)));
+    assert_eq!(&rt; delays.turn(), turn);
+    let due = pop_due(&mut delays);
+    assert!(&rt; due.is_none());
+    advance(&mut delays);
+    assert_eq!(&rt; pop_due(&mut delays), Some(0));
+    assert_eq!(&rt; delays.left(1), Some(2));
+    let due = pop_due(&mut delays);
+    assert!(&rt; due.is_none());
+    advance(&mut delays);
+    let due = pop_due(&mut delays);
+    assert!(&rt; due.is_none());
+    assert_eq!(&rt; delays.left(1), Some(1));
+    let (after_wrap, lists) = delays.in_turn();
+    assert_eq!(&rt; (after_wrap, lists.first(after_wrap)), (1 - turn, Some(1)));
+    assert_eq!(&rt; lists.first(turn), None);
+    assert_eq!(&rt; delays.turn(), after_wrap);
+    advance(&mut delays);
+    assert_eq!(&rt; pop_due(&mut delays), Some(1));
+    assert_eq!(&rt; (delays.tick(), delays.left(1)), (1, None));
+    Ok(())
+}
+
+#[test]
 fn delays_until_a_tick_count(rt: HostRuntime) -> Result<(), Fail> {
     assert_eq!(&rt; next_wake(4_294_967_290, 10), 4);
     assert!(&rt; is_ahead(3, 4_294_967_290, 4) && !is_ahead(4, 4_294_967_290, 4));

@@ -1,1 +1,3 @@
-pub mod Waits
+mod Pair
+mod Turns
+mod Waits

@@ -1,7 +1,8 @@
 -- What can be seen of the tick count and the tasks that wait, and what each call makes of it.
-use Rattle.std.specs.Prelude.{◌==◌, map, ℕ, List, [], Bool, true, false, if◌then◌else◌}
+use Rattle.std.specs.Prelude.{◌≡◌, ◌==◌, ◌+◌, ◌-◌, ◌<◌, ◌%◌, ◌^◌, ◌++◌, nat_lt, length, map, filter, ℕ, List, [], Bool, true, false, if◌then◌else◌}
 use Rattle.std.specs.List.{list_any}
 use Rattle.bench_types.specs.declared.kernel_data.Delayed.{Delayed}
+use Rattle.index_lists.specs.Listed.{Listed, ListsView, list_at}
 use Rattle.bench_model.specs.Lists.{with_delay, one_tick_less, next_tick}
 use Rattle.bench_model.specs.Until.{next_wake, is_ahead, ticks_to}
 
@@ -36,3 +37,26 @@ until_delayed task prev inc view = let wake = next_wake prev inc in
 -- one tick later
 unfoldable pub advanced : DelayView → DelayView
 advanced view = record view { tick = next_tick view.tick; delayed = map one_tick_less view.delayed }
+
+-- a task that waits, and its wake, a tick count
+abbrev pub listed_at : ℕ → Delayed → Listed
+listed_at tick entry = record { item = entry.task; key = (tick + entry.left) % 2 ^ 32 }
+
+-- the wake comes before the tick count wraps
+abbrev pub wakes_this_turn : ℕ → Delayed → Bool
+wakes_this_turn tick entry = nat_lt (tick + entry.left) (2 ^ 32)
+
+-- what stands in one of two lists, and after it what stands in the other
+abbrev pub from_list : ℕ → ListsView → List Listed
+from_list turn lists = list_at lists turn ++ list_at lists (1 - turn)
+
+-- The list is that of this turn: it has the tasks that wake before the tick count wraps, each with
+-- its wake. With the other list after it, all stand by ticks left and then in the order in which
+-- they began to wait.
+pub record IsInTurn (turn : ℕ) (lists : ListsView) (view : DelayView) : Type 0 where
+  pub first_or_second : turn < 2
+  pub both : length lists.lists ≡ 2
+  pub items : lists.items ≡ view.tasks
+  pub this_turn : list_at lists turn
+      ≡ map (listed_at view.tick) (filter (wakes_this_turn view.tick) view.delayed)
+  pub in_order : from_list turn lists ≡ map (listed_at view.tick) view.delayed

@@ -1,14 +1,10 @@
-ghost use Rattle.std.specs.Prelude.{◌≡◌, ◌↔◌, ◌^◌, ◌<◌, ◌≤◌, nat_lt, [], ◌∷◌, map, length, find, false, MatchOption, IfSome, IfOk, IsTrue};
-ghost use Rattle.std.specs.List.{position_or_len};
-ghost use Rattle.std.specs.Vec.{vec_capacity};
-ghost use Rattle.bench_types.specs.declared.kernel_data.Delayed.{Delayed};
-ghost use Rattle.list_orders.specs.Search.{placed, ranked};
-ghost use Rattle.bench_model.specs.Lists.{wakes_first, without_delay, one_tick_less, due_tasks};
+ghost use Rattle.std.specs.Prelude.{◌≡◌, ◌↔◌, ℕ, ◌+◌, ◌^◌, ◌<◌, [], ◌∷◌, false, MatchOption, IfSome, IfOk, IsTrue};
+ghost use Rattle.bench_model.specs.Lists.{without_delay, due_tasks};
 ghost use Rattle.bench_model.specs.Looks.{left_in};
-ghost use Rattle.tick_delay.specs.Parts.{no_delays, is_waiting, delayed_for, until_delayed, advanced};
+ghost use Rattle.tick_delay.specs.Parts.{no_delays, is_waiting, delayed_for, until_delayed, advanced, IsInTurn};
 
 use bench_model::until::{is_ahead, next_wake};
-use bench_types::Delayed;
+use index_lists::Lists;
 use std::alloc::{AllocError, Global};
 use std::marker::Model;
 
@@ -18,35 +14,37 @@ pub struct Delays {
     tasks: u32,
     /// In ticks.
     tick: u32,
-    /// The fewer ticks are left to a task, the earlier it stands here; of tasks with one number,
-    /// the longer it has been waiting.
-    waiting: Vec<Delayed>,
+    /// The list of the tasks that wake before the tick count wraps; those of the other wake after
+    /// it has.
+    turn: u32,
+    /// The waiting tasks, in each list by wakes, which are tick counts; of tasks with one wake,
+    /// the longer one has been waiting, the earlier it stands.
+    lists: Lists,
 }
 
 impl Model for Delays {
-    ghost use Rattle.std.specs.Vec.{vec_capacity};
     ghost use Rattle.tick_delay.specs.Parts.{DelayView};
-    ghost use Rattle.tick_delay.specs.Shape.{IsDelayShape};
+    ghost use Rattle.tick_delay.specs.Shape.{seen_delays, IsDelayShape};
 
     ghost Value = { DelayView };
 
-    ghost view = { λ part.
-        record { tasks = part.tasks; tick = part.tick; delayed = part.waiting.items } };
+    ghost view = { λ part. seen_delays part.tasks part.tick part.turn part.lists };
 
-    ghost invariant = { λ part. IsDelayShape part.tasks part.waiting.items
-        (vec_capacity part.waiting) };
+    ghost invariant = { λ part. IsDelayShape part.tasks part.tick part.turn part.lists };
 }
 
 impl Delays {
     /// No task waits. There is room for so many tasks to wait.
     pub fn new(alloc: Global, tick: u32, tasks: u32) -> Result<Self, AllocError>
+        requires { tasks + 2 < 2 ^ 32 }
         ensures none { IfOk result (λ part. part ≡ no_delays tick tasks) }
         ensures word { IfOk result (λ part. part.tick < 2 ^ 32) }
     {
         Ok(Delays {
             tasks,
             tick,
-            waiting: Vec::with_capacity(alloc, tasks as usize)?,
+            turn: 0,
+            lists: Lists::new(alloc, tasks, 2)?,
         })
     }
 
@@ -54,12 +52,11 @@ impl Delays {
     pub fn copy(&self, alloc: Global) -> Result<Self, AllocError>
         ensures { IfOk result (λ copy. copy ≡ self.now) }
     {
-        let mut waiting = Vec::with_capacity(alloc, self.tasks as usize)?;
-        waiting.extend_from_slice(&self.waiting)?;
         Ok(Delays {
             tasks: self.tasks,
             tick: self.tick,
-            waiting,
+            turn: self.turn,
+            lists: self.lists.copy(alloc)?,
         })
     }
 
@@ -78,12 +75,39 @@ impl Delays {
         self.tick
     }
 
+    /// The list of this turn of the tick count, 0 or 1: that of `in_turn`.
+    pub fn turn(&self) -> u32
+        ensures { result < 2 }
+    {
+        self.in_turn().0
+    }
+
+    /// The waiting tasks in two lists by wakes, those of `in_turn`.
+    pub fn lists(&self) -> &Lists
+        ensures { (turn : ℕ) × IsInTurn turn result.now self.now }
+    {
+        self.in_turn().1
+    }
+
+    /// The list of this turn of the tick count, 0 or 1, and the waiting tasks in two lists, each
+    /// task with its wake as its key. The list of this turn has those that wake before the tick
+    /// count wraps; with the other one after it, all stand by ticks left and then in the order in
+    /// which they began to wait.
+    pub fn in_turn(&self) -> (u32, &Lists)
+        ensures { IsInTurn result.0 result.1.now self.now }
+    {
+        (self.turn, &self.lists)
+    }
+
     /// The ticks that are left to the wake of the task; none where it doesn't wait.
     pub fn left(&self, task: u32) -> Option<u32>
         requires { task < self.now.tasks }
         ensures { result ≡ left_in task self.now.delayed }
     {
-        left_of(&self.waiting, task)
+        match self.lists.key_of(task) {
+            Some(wake) => Some((wake as u32).wrapping_sub(self.tick)),
+            None => None,
+        }
     }
 
     /// The task waits for so many ticks, after those that wait as long or shorter.
@@ -93,9 +117,14 @@ impl Delays {
         requires some { 0 < ticks }
         ensures { self.new ≡ delayed_for task ticks self.old }
     {
-        place(&mut self.waiting, Delayed { task, left: ticks });
+        let wake = self.tick.wrapping_add(ticks);
+        let list = if wake < self.tick {
+            1 - self.turn
+        } else {
+            self.turn
+        };
+        self.lists.insert_sorted(list, task, wake as u64);
     }
-
     /// The task waits until its wake, which is `inc` ticks after the last one, where that lies
     /// ahead of the tick count. Returns whether it does, and the wake, a tick count. Where it
     /// doesn't, nothing changes.
@@ -118,16 +147,19 @@ impl Delays {
         requires { task < self.old.tasks }
         ensures { self.new ≡ record self.old { delayed = without_delay task self.old.delayed } }
     {
-        cancel_entry(&mut self.waiting, task);
+        self.lists.remove(task);
     }
 
-    /// One tick passes, when no task has waited long enough before. The tick count wraps.
+    /// One tick passes, when no task has waited long enough before. The tick count wraps, and the
+    /// lists change places where it does.
     pub fn advance(&mut self)
         requires { due_tasks self.old.delayed ≡ [] }
         ensures { self.new ≡ advanced self.old }
     {
         self.tick = self.tick.wrapping_add(1);
-        age(self.waiting.as_mut_slice());
+        if self.tick == 0 {
+            self.turn = 1 - self.turn;
+        }
     }
 
     /// The first of the tasks that have waited long enough, which waits no more; none where there
@@ -144,68 +176,30 @@ impl Delays {
         Some(task)
     }
 
+    // No task of the other list is due, and in this one none before the first.
     fn first_due(&self) -> Option<u32>
         ensures first { MatchOption result (due_tasks self.now.delayed ≡ [])
             (λ task. due_tasks self.now.delayed
             ≡ task ∷ due_tasks (without_delay task self.now.delayed)) }
         ensures task { IfSome result (λ task. task < self.now.tasks) }
     {
-        match self.waiting.first() {
-            Some(entry) if entry.left == 0 => Some(entry.task),
+        let task = self.lists.first(self.turn)?;
+        match self.left(task) {
+            Some(0) => Some(task),
             _ => None,
         }
     }
 
     fn has_same_entries(&self, other: &Self) -> bool
+        requires { self.now.tick ≡ other.now.tick }
         ensures { IsTrue result ↔ (self.now.delayed ≡ other.now.delayed) }
     {
-        self.waiting == other.waiting
+        let this = self
+            .lists
+            .has_same_entries(self.turn, &other.lists, other.turn);
+        let next = self
+            .lists
+            .has_same_entries(1 - self.turn, &other.lists, 1 - other.turn);
+        this && next
     }
-}
-
-// The entry goes after those with as many ticks left or fewer.
-fn place(waiting: &mut Vec<Delayed>, entry: Delayed)
-    requires order { ranked wakes_first waiting.old.items ≡ waiting.old.items }
-    requires room { length waiting.old.items < vec_capacity waiting.old }
-    ensures items { waiting.new.items ≡ placed wakes_first entry waiting.old.items }
-    ensures capacity { vec_capacity waiting.old ≤ vec_capacity waiting.new }
-{
-    let index = place_of(waiting, entry.left);
-    waiting.insert(index, entry).unwrap();
-}
-
-// The place of the first that waits longer than so many ticks, or the end.
-fn place_of(waiting: &[Delayed], ticks: u32) -> usize
-    ensures { result ≡ position_or_len (λ entry. nat_lt ticks entry.left) waiting.now }
-{
-    waiting
-        .iter()
-        .position(|entry| ticks < entry.left)
-        .unwrap_or(waiting.len())
-}
-
-fn cancel_entry(waiting: &mut Vec<Delayed>, task: u32)
-    ensures items { waiting.new.items ≡ without_delay task waiting.old.items }
-    ensures capacity { vec_capacity waiting.new ≡ vec_capacity waiting.old }
-{
-    waiting.retain(|entry| entry.task != task);
-}
-
-// One tick less is left for each.
-fn age(waiting: &mut [Delayed])
-    ensures { waiting.new ≡ map one_tick_less waiting.old }
-{
-    for entry in waiting {
-        entry.left = entry.left.saturating_sub(1);
-    }
-}
-
-// The ticks that are left in the entry of the task.
-fn left_of(waiting: &[Delayed], task: u32) -> Option<u32>
-    ensures { result ≡ left_in task waiting.now }
-{
-    waiting
-        .iter()
-        .find(|entry| entry.task == task)
-        .map(|entry| entry.left)
 }

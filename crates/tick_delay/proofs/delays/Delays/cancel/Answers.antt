@@ -1,11 +1,16 @@
-use Rattle.std.proofs.Common.{arith}
-use Rattle.list_orders.proofs.Listings.{listing_without}
-use Rattle.tick_delay.proofs.Waits.{map-cancelled, cancelled_in_order}
+use Rattle.std.proofs.Common.{ap, ◌∙◌}
+use Rattle.bench_types.specs.declared.kernel_data.Delayed.{Delayed}
+use Rattle.std.proofs.Common.{List}
+use Rattle.bench_model.specs.Lists.{without_delay}
+use Rattle.tick_delay.specs.Parts.{DelayView}
+use Rattle.tick_delay.proofs.Pair.{shape_gone, seen_gone}
 use Rattle.tick_delay.proofs.delays.Delays.cancel.Goals as goal
 
 pub invariant_of-self : goal.invariant_of-self
-invariant_of-self c = record {
-  waiting_tasks = rw (c.cancel_entry.ensures.items, map-cancelled c.args.task c.self.inside.waiting.items) (listing_without _ c.args.task _ c.self.invariant.waiting_tasks);
-  in_order = rw c.cancel_entry.ensures.items (cancelled_in_order c.args.task _ c.self.invariant.in_order);
-  room = omega (arith, c.self.invariant.room, c.cancel_entry.ensures.capacity);
-}
+invariant_of-self c = rw c.remove.ensures (shape_gone _ _ _ _ c.self.invariant c.args.task)
+
+pub returns : goal.returns
+returns c =
+    rw c.remove.ensures
+    (ap (λ (ds : List Delayed). record { tasks = c.self.inside.tasks; tick = c.self.inside.tick; delayed = ds }) (seen_gone _ _ _ _ c.self.invariant c.args.task)
+    ∙ ap (λ (view : DelayView). record view { delayed = without_delay c.args.task view.delayed }) c.self.view_is)

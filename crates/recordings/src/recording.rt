@@ -39,12 +39,17 @@ pub enum RecordRefusal {
 /// place free, for the call that closes it: so it can always be closed.
 #[derive(Debug, Drop)]
 pub struct Recording {
+    /// In a box, so that the recording is moved in two words.
+    parts: Box<Parts>,
+    limit: u32,
+}
+
+#[derive(Debug, Drop)]
+struct Parts {
     header: Header,
-    /// In a box, so that the recording moves in few words.
-    kernel: Box<Kernel>,
+    kernel: Kernel,
     meter: Meter,
     entries: Vec<Entry>,
-    limit: u32,
 }
 
 impl Model for Recording {
@@ -55,13 +60,14 @@ impl Model for Recording {
     ghost Value = { RecordingView };
 
     ghost view = { λ recording. record {
-      header = recording.header;
-      entries = recording.entries.items;
+      header = recording.parts.value.header;
+      entries = recording.parts.value.entries.items;
       limit = recording.limit;
     } };
 
-    ghost invariant = { λ recording. IsRecording recording.header recording.entries.items
-        recording.limit (vec_capacity recording.entries) recording.kernel.value };
+    ghost invariant = { λ recording. IsRecording recording.parts.value.header
+        recording.parts.value.entries.items recording.limit
+        (vec_capacity recording.parts.value.entries) recording.parts.value.kernel };
 }
 
 fn core_of(step: &Step) -> u32
@@ -87,18 +93,19 @@ impl Recording {
         ensures bad_header { (result ≡ Err StartFault.BadHeader) ↔ IsErr (header_check header.now) }
         ensures empty { IfOk result (λ recording. recording ≡ empty_recording header.now limit) }
     {
-        let Ok(kernel) = Box::new(alloc, Kernel::start(alloc, header)?) else {
-            return Err(StartFault::NoMemory);
-        };
+        let kernel = Kernel::start(alloc, header)?;
         let header = header.copy(alloc)?;
         let entries = Vec::with_capacity(alloc, limit as usize)?;
-        Ok(Recording {
+        let parts = Parts {
             header,
             kernel,
             meter,
             entries,
-            limit,
-        })
+        };
+        match Box::new(alloc, parts) {
+            Ok(parts) => Ok(Recording { parts, limit }),
+            Err(_) => Err(StartFault::NoMemory),
+        }
     }
 
     /// Makes the step on the kernel and records it. It takes no memory.
@@ -115,9 +122,10 @@ impl Recording {
         ensures history { self.new ≡ with_step step self.old }
         ensures next { IsNext self.old.header self.old.entries (entry_of step self.old) }
     {
-        let place = self.entries.len() as u32;
-        let reply = self.kernel.step(&mut self.meter, &step);
-        self.entries.push_reserved(Entry {
+        let place = self.parts.entries.len() as u32;
+        let parts = &mut *self.parts;
+        let reply = parts.kernel.step(&mut parts.meter, &step);
+        parts.entries.push_reserved(Entry {
             core: core_of(&step),
             step,
             reply,
@@ -223,7 +231,7 @@ impl Recording {
         ensures closable { length self.now.entries + depth_of (hold_of self.now)
             ≤ self.now.limit }
     {
-        self.entries.as_slice()
+        self.parts.entries.as_slice()
     }
 
     /// Ends the recording, and gives its header and what was recorded.
@@ -235,11 +243,11 @@ impl Recording {
         ensures sound { IsSoundHistory self.header self.entries }
         ensures few { length self.entries ≤ self.limit }
     {
-        let Recording {
+        let Parts {
             header,
             entries,
             ..
-        } = self;
+        } = Box::into_inner(self.parts);
         (header, entries)
     }
 
@@ -248,14 +256,14 @@ impl Recording {
         ensures header { result.now ≡ self.now.header }
         ensures passes { header_check self.now.header ≡ Ok tt }
     {
-        &self.header
+        &self.parts.header
     }
 
     /// The settings that the kernel keeps of the header.
     pub fn settings(&self) -> Settings
         ensures { result ≡ settings_of self.now.header }
     {
-        self.kernel.settings()
+        self.parts.kernel.settings()
     }
 
     /// How many entries there may be.
@@ -269,7 +277,7 @@ impl Recording {
     pub fn room(&self) -> u32
         ensures { result ≡ room_of self.now }
     {
-        self.limit - self.entries.len() as u32 - self.depth()
+        self.limit - self.parts.entries.len() as u32 - self.depth()
     }
 
     /// How many times over the kernel is held (`uxCriticalNesting`); 0 where no hold is open.
@@ -277,7 +285,7 @@ impl Recording {
         ensures depth { result ≡ depth_of (hold_of self.now) }
         ensures closable { length self.now.entries + result ≤ self.now.limit }
     {
-        self.kernel.hold().map_or(0, |hold| hold.1)
+        self.parts.kernel.hold().map_or(0, |hold| hold.1)
     }
 
     /// How many times over the core holds the kernel.
@@ -287,7 +295,7 @@ impl Recording {
         ensures legal { IsLegal self.now.header self.now.entries }
         ensures sound { IsSoundHistory self.now.header self.now.entries }
     {
-        match self.kernel.hold() {
+        match self.parts.kernel.hold() {
             Some((holder, depth)) if holder == core => depth,
             _ => 0,
         }
@@ -297,7 +305,7 @@ impl Recording {
     pub fn holder(&self) -> Option<u32>
         ensures { result ≡ option_map (λ hold. hold.core) (hold_of self.now) }
     {
-        self.kernel.hold().map(|hold| hold.0)
+        self.parts.kernel.hold().map(|hold| hold.0)
     }
 
     /// How many places the step needs: to open a hold takes two, of which one is kept for the call
@@ -332,6 +340,6 @@ impl Recording {
         ensures current { result ≡ task_on core self.now }
         ensures task { result < (settings_of self.now.header).tasks }
     {
-        self.kernel.running(core)
+        self.parts.kernel.running(core)
     }
 }

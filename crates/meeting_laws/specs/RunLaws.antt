@@ -1,0 +1,42 @@
+-- The laws of lists of steps from equal states. Each is a clause of a public function.
+use Rattle.std.specs.Prelude.{◌≡◌, ℕ, ◌+◌, ◌≤◌, List, take, drop, All}
+use Rattle.bench_types.specs.declared.step.Step.{Step}
+use Rattle.bench_types.specs.Session.{Session, IsSession}
+use Rattle.bench_types.specs.Step.{IsCheckedStep}
+use Rattle.bench_model.specs.Equal.{Same}
+use Rattle.bench_model.specs.Meeting.{last_place}
+use Rattle.bench_model.specs.Session.{state_after, trace, state_at, reply_at, running_at}
+use Rattle.bench_model.specs.Sound.{IsSound}
+use Rattle.bench_model.specs.Table.{Table}
+use Rattle.bench_model.specs.Tallied.{part_tallies}
+
+-- from both tables the steps have the same replies, the same running tasks after each and the same
+-- tallies, and lead to equal states at each place
+pub record RunAlike (a b : Table) (steps : List Step) : Type 0 where
+  pub outcomes : trace a steps ≡ trace b steps
+  pub tallies : part_tallies a.settings a steps ≡ part_tallies a.settings b steps
+  pub states :
+      (place : ℕ) → Same (state_after a (take place steps)) (state_after b (take place steps))
+
+-- from equal tables checked steps run alike
+abbrev pub EqualRunAlike : Type 0
+EqualRunAlike =
+    (a b : Table) (steps : List Step) → IsSound a → IsSound b → Same a b
+    → All (IsCheckedStep a.settings) steps → RunAlike a b steps
+
+-- from these places on the sessions have equal states, equal replies and the same running tasks
+pub record GoOnAlike (old new : Session) (p q : ℕ) : Type 0 where
+  pub states :
+      (k : ℕ) → Same (state_at old.header old.steps (p + k)) (state_at new.header new.steps (q + k))
+  pub replies :
+      (k : ℕ) → reply_at old.header old.steps (p + k) ≡ reply_at new.header new.steps (q + k)
+  pub rows :
+      (k : ℕ) → running_at old.header old.steps (p + k) ≡ running_at new.header new.steps (q + k)
+
+-- two sessions whose states at two places are equal, and whose steps after them are the same, go on
+-- alike
+abbrev pub EqualGoOnAlike : Type 0
+EqualGoOnAlike =
+    (old new : Session) (p q : ℕ) → IsSession old → IsSession new → p ≤ last_place old
+    → q ≤ last_place new → Same (state_at old.header old.steps p) (state_at new.header new.steps q)
+    → drop p old.steps ≡ drop q new.steps → GoOnAlike old new p q

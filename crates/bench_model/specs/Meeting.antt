@@ -36,6 +36,11 @@ abbrev pub first_kept : ℕ → Session → CheckpointedSession
 first_kept span session =
     record { session = session; span = span; checkpoints = first_checkpoints span session }
 
+-- the last checkpoint that is not after a place
+unfoldable pub checkpoint_before : List ℕ → ℕ → ℕ
+checkpoint_before checkpoints place =
+    greatest (filter (λ checkpoint. nat_le checkpoint place) checkpoints)
+
 -- the place before the step that is edited; a task is changed at the start
 abbrev pub place_of : Edit → ℕ
 place_of (Insert at step) = at
@@ -67,7 +72,7 @@ is_same_after session edit place =
 
 -- Where the replay begins: at the last checkpoint that is not after the edit.
 abbrev pub replayed_from : CheckpointedSession → Edit → ℕ
-replayed_from kept edit = greatest (filter (λ place. nat_le place (place_of edit)) kept.checkpoints)
+replayed_from kept edit = checkpoint_before kept.checkpoints (place_of edit)
 
 -- the checkpoints where both sessions are compared and have equal states
 abbrev pub meetings : CheckpointedSession → Edit → List ℕ

@@ -1,32 +1,23 @@
 -- Lists of steps from equal states: equal replies, running tasks, tallies and states.
-use Rattle.std.proofs.Common.{◌≡◌, ℕ, zero, suc, ◌+◌, ◌-◌, ◌<◌, ◌≤◌, Bool, true, false, cond, leb, List, [], ◌∷◌, ◌++◌, length, take, drop, Option, Some, None, refl, sym, ap, ap₂, subst, ◌∙◌, arith, take-add, length-drop, get_or-drop}
-use Rattle.std.specs.Prelude.{All, fold, option_map, slice_get, map, nat_le}
-use Rattle.std.proofs.lemmas.List.Sums.{fold-append}
-use Rattle.std.proofs.lemmas.List.Elements.{All-head, All-tail, All-take, All-drop}
-use Rattle.std.proofs.lemmas.Bool.Decides.{nat_tests}
-use Rattle.bench_types.specs.declared.header.Header.{Header}
+use Rattle.std.proofs.Common.{◌≡◌, ℕ, ◌≤◌, List, [], ◌∷◌, length, take, refl, sym, ap, ap₂, subst, ◌∙◌, arith}
+use Rattle.std.specs.Prelude.{All}
+use Rattle.std.proofs.lemmas.List.Elements.{All-head, All-tail, All-take}
 use Rattle.bench_types.specs.declared.kernel_data.Settings.{Settings}
 use Rattle.bench_types.specs.declared.reply.Reply.{Reply}
 use Rattle.bench_types.specs.declared.step.Step.{Step}
-use Rattle.bench_types.specs.Session.{Session, IsSession}
-use Rattle.bench_types.specs.Step.{settings_of, IsCheckedStep}
-use Rattle.list_orders.specs.Search.{numbers}
+use Rattle.bench_types.specs.Step.{IsCheckedStep}
 use Rattle.bench_model.specs.Control.{Control, running}
 use Rattle.bench_model.specs.Equal.{Same}
-use Rattle.bench_model.specs.Lists.{View, view_of, list_queues}
-use Rattle.bench_model.specs.Meeting.{last_place}
-use Rattle.bench_model.specs.Session.{step_of, state_after, trace, state_at, reply_at, running_at}
+use Rattle.bench_model.specs.Lists.{View, list_queues}
+use Rattle.bench_model.specs.Session.{step_of, state_after, trace}
 use Rattle.bench_model.specs.Sound.{IsSound}
-use Rattle.bench_model.specs.Start.{start}
 use Rattle.bench_model.specs.Table.{Table, stamp_queues}
 use Rattle.bench_model.specs.Tallied.{tallied, moment_of, tallied_after, first_tallies, first_tally, part_tallies}
 use Rattle.bench_model.specs.Tally.{TaskTally}
-use Rattle.session_laws.proofs.Shapes.{tallied_shape}
 use Rattle.session_laws.proofs.Tallies.{tallied_seen, length_each}
 use Rattle.step_laws.proofs.Nears.{after_near}
-use Rattle.step_laws.proofs.Starts.{start_sound}
 use Rattle.step_laws.proofs.Steps.{after_sound, equal_after}
-use Rattle.meeting_laws.specs.RunLaws.{RunAlike, GoOnAlike}
+use Rattle.meeting_laws.specs.RunLaws.{RunAlike}
 
 -- ---- one step
 

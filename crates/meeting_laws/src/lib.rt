@@ -2,6 +2,7 @@
 //! alike. Each function does nothing: its contract is the laws, one a clause.
 #![tactic(auto)]
 
+ghost use Rattle.meeting_laws.specs.MeetingLaws.{StepsBeforeStay, StepsAfterMove, BeforeIsUntouched, MeetingLasts, MetIsFirstEnd};
 ghost use Rattle.meeting_laws.specs.RunLaws.{EqualRunAlike, EqualGoOnAlike};
 
 /// Lists of steps.
@@ -12,4 +13,17 @@ pub fn laws_of_runs()
     // Two sessions that have equal states at two places and the same steps after them have equal
     // states, replies and running tasks from there on.
     ensures equal_go_on_alike { EqualGoOnAlike }
+{}
+
+/// Edits of a session: what stays before them, and what is as it was after a meeting.
+pub fn laws_of_meetings()
+    // The steps before an edit stay, and those after it are the same steps.
+    ensures steps_before_stay { StepsBeforeStay }
+    ensures steps_after_move { StepsAfterMove }
+    // Where no task is changed, states, replies and running tasks before the edit stay.
+    ensures before_is_untouched { BeforeIsUntouched }
+    // From a meeting on, states, replies and running tasks are as they were, at moved places.
+    ensures meeting_lasts { MeetingLasts }
+    // The replay ends at the first place where a meeting lies, or else at the end.
+    ensures met_is_first_end { MetIsFirstEnd }
 {}

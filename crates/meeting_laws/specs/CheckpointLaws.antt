@@ -1,0 +1,57 @@
+-- The laws of checkpoints. Each is a clause of a public function.
+use Rattle.std.specs.Prelude.{◌≡◌, ℕ, ◌+◌, ◌*◌, ◌<◌, ◌≤◌, List, true, All, Some, Ok, slice_get}
+use Rattle.std.specs.List.Sorted.{IsStrictlyIncreasing}
+use Rattle.bench_types.specs.declared.edit.Edit.{Edit}
+use Rattle.bench_types.specs.Session.{Session}
+use Rattle.list_orders.specs.Search.{has}
+use Rattle.bench_model.specs.Edits.{accepted, edited}
+use Rattle.bench_model.specs.Meeting.{CheckpointedSession, last_place, checkpoint_before, first_checkpoints, place_of, moved_place, is_compared, replayed_from, met, next_checkpoints}
+
+-- they begin with the start and ascend to the last place at most, and each place is fewer than two
+-- spans after one
+pub record AreCheckpoints (span last : ℕ) (checkpoints : List ℕ) : Type 0 where
+  pub start : slice_get checkpoints 0 ≡ Some 0
+  pub ascend : IsStrictlyIncreasing checkpoints
+  pub within : All (λ checkpoint. checkpoint ≤ last) checkpoints
+  pub near : (place : ℕ) → place ≤ last → place < checkpoint_before checkpoints place + 2 * span
+
+-- those of a session that is opened
+abbrev pub FirstCheckpointsFit : Type 0
+FirstCheckpointsFit =
+    (span : ℕ) (session : Session) → 1 ≤ span
+    → AreCheckpoints span (last_place session) (first_checkpoints span session)
+
+-- and those after an edit
+abbrev pub NextCheckpointsFit : Type 0
+NextCheckpointsFit =
+    (kept : CheckpointedSession) (edit : Edit) → 1 ≤ kept.span
+    → accepted kept.session edit ≡ Ok tt
+    → AreCheckpoints kept.span (last_place kept.session) kept.checkpoints
+    → AreCheckpoints kept.span (last_place (edited edit kept.session)) (next_checkpoints kept edit)
+
+-- the last of the checkpoints that are not after the place
+pub record IsLastBefore (checkpoints : List ℕ) (place checkpoint : ℕ) : Type 0 where
+  pub listed : has checkpoint checkpoints ≡ true
+  pub before : checkpoint ≤ place
+  pub last : (other : ℕ) → has other checkpoints ≡ true → other ≤ place → other ≤ checkpoint
+
+-- where one of the checkpoints is the start, there is a last one before each place
+abbrev pub CheckpointBeforeIsLast : Type 0
+CheckpointBeforeIsLast =
+    (checkpoints : List ℕ) (place : ℕ) → has 0 checkpoints ≡ true
+    → IsLastBefore checkpoints place (checkpoint_before checkpoints place)
+
+-- the replay ends after it begins, and within the edited session
+abbrev pub ReplayIsWithin : Type 0
+ReplayIsWithin =
+    (kept : CheckpointedSession) (edit : Edit) → accepted kept.session edit ≡ Ok tt
+    → (replayed_from kept edit ≤ met kept edit)
+    × (met kept edit ≤ last_place (edited edit kept.session))
+
+-- a place where both sessions are compared lies in the edited session after the edit, or on it
+abbrev pub MovedPlacesAreWithin : Type 0
+MovedPlacesAreWithin =
+    (session : Session) (edit : Edit) (place : ℕ) → accepted session edit ≡ Ok tt
+    → place ≤ last_place session → is_compared edit place ≡ true →
+    (place_of edit ≤ moved_place edit place)
+    × (moved_place edit place ≤ last_place (edited edit session))

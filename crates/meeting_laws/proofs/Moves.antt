@@ -61,6 +61,24 @@ inserted_after at place step past = if_after at place (place + 1) past
 pub removed_after : (at place : ℕ) → at < place → moved_place (Remove at) place ≡ place - 1
 removed_after at place past = if_after at place (place - 1) past
 
+-- an inserted step moves a place by one at most
+pub insert_bounds : (at : ℕ) (step : Step) (place : ℕ) → (place ≤ moved_place (Insert at step) place) × (moved_place (Insert at step) place ≤ place + 1)
+insert_bounds at step place = at_test (ltb at place)
+  where
+    at_test : (b : Bool) → (place ≤ cond b (place + 1) place) × (cond b (place + 1) place ≤ place + 1)
+    at_test true = (omega arith, omega arith)
+    at_test false = (omega arith, omega arith)
+
+-- a place before a later one is still not after it where a step before that is removed
+pub remove_bounds : (at place later : ℕ) → place ≤ later → at + 1 < later → (moved_place (Remove at) place ≤ later - 1) × (place ≤ moved_place (Remove at) place + 1)
+remove_bounds at place later within past = at_test (ltb at place) refl
+  where
+    at_test : (b : Bool) → ltb at place ≡ b → (cond b (place - 1) place ≤ later - 1) × (place ≤ cond b (place - 1) place + 1)
+    at_test true is = (omega (arith, within), omega arith)
+    at_test false is =
+        let before : place ≤ at = grind (arith, nat_tests, is) in
+        (omega (arith, before, past), omega arith)
+
 -- later places stay as far after a compared one as they were
 pub moved_later : (edit : Edit) (place later : ℕ) → is_compared edit place ≡ true → place ≤ later → moved_place edit later ≡ moved_place edit place + (later - place)
 moved_later (Insert at step) place later compared within =

@@ -2,6 +2,7 @@
 //! alike. Each function does nothing: its contract is the laws, one a clause.
 #![tactic(auto)]
 
+ghost use Rattle.meeting_laws.specs.CheckpointLaws.{FirstCheckpointsFit, NextCheckpointsFit, CheckpointBeforeIsLast, MovedPlacesAreWithin, ReplayIsWithin};
 ghost use Rattle.meeting_laws.specs.MeetingLaws.{StepsBeforeStay, StepsAfterMove, BeforeIsUntouched, MeetingLasts, MetIsFirstEnd};
 ghost use Rattle.meeting_laws.specs.RunLaws.{EqualRunAlike, EqualGoOnAlike};
 
@@ -26,4 +27,19 @@ pub fn laws_of_meetings()
     ensures meeting_lasts { MeetingLasts }
     // The replay ends at the first place where a meeting lies, or else at the end.
     ensures met_is_first_end { MetIsFirstEnd }
+{}
+
+/// Checkpoints, and how much of a session lies between them.
+pub fn laws_of_checkpoints()
+    // Those at the opening begin with the start and ascend, and each place is fewer than two spans
+    // after one.
+    ensures first_checkpoints_fit { FirstCheckpointsFit }
+    // An accepted edit leaves them so.
+    ensures next_checkpoints_fit { NextCheckpointsFit }
+    // The last checkpoint before a place is one, and no other lies between the two.
+    ensures checkpoint_before_is_last { CheckpointBeforeIsLast }
+    // A place where two sessions are compared lies in the edited one after the edit, or on it.
+    ensures moved_places_are_within { MovedPlacesAreWithin }
+    // A replay ends after it begins, and within the edited session.
+    ensures replay_is_within { ReplayIsWithin }
 {}

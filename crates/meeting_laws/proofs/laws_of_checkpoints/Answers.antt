@@ -1,0 +1,18 @@
+use Rattle.meeting_laws.proofs.Checkpoints.{before_is_last, first_fit, next_fit, replay_is_within}
+use Rattle.meeting_laws.proofs.Moves.{moved_from, moved_within}
+use Rattle.meeting_laws.proofs.laws_of_checkpoints.Goals as goal
+
+pub returns-clause-first_checkpoints_fit : goal.returns-clause-first_checkpoints_fit
+returns-clause-first_checkpoints_fit c = first_fit
+
+pub returns-clause-next_checkpoints_fit : goal.returns-clause-next_checkpoints_fit
+returns-clause-next_checkpoints_fit c = next_fit
+
+pub returns-clause-checkpoint_before_is_last : goal.returns-clause-checkpoint_before_is_last
+returns-clause-checkpoint_before_is_last c = before_is_last
+
+pub returns-clause-moved_places_are_within : goal.returns-clause-moved_places_are_within
+returns-clause-moved_places_are_within c = λ session edit place accepts within compared. (moved_from edit place compared, moved_within session edit place accepts within)
+
+pub returns-clause-replay_is_within : goal.returns-clause-replay_is_within
+returns-clause-replay_is_within c = replay_is_within

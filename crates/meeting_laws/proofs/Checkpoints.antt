@@ -12,16 +12,16 @@ use Rattle.bench_types.specs.declared.edit.Edit.TheVariants.{Insert, Remove, Rep
 use Rattle.bench_types.specs.declared.step.Step.{Step}
 use Rattle.bench_types.specs.Session.{Session}
 use Rattle.list_orders.specs.Search.{numbers, has}
-use Rattle.list_orders.proofs.Filters.{All-has, All-weaker, has-filter}
+use Rattle.list_orders.proofs.Filters.{All-has, All-weaker, All-filter, has-filter}
 use Rattle.list_orders.proofs.Stamped.{range_all, numbers_below, numbers_have}
 use Rattle.order_laws.proofs.Selects.{list_any_at}
 use Rattle.bench_model.specs.Edits.{accepted, edited}
-use Rattle.bench_model.specs.Meeting.{CheckpointedSession, last_place, least, checkpoint_before, first_checkpoints, place_of, moved_place, replayed_from, met, moved_checkpoints, segment_end, is_added, with_added, next_checkpoints}
+use Rattle.bench_model.specs.Meeting.{CheckpointedSession, last_place, least, checkpoint_before, first_checkpoints, place_of, moved_place, is_compared, replayed_from, met, moved_checkpoints, segment_end, is_added, with_added, next_checkpoints}
 use Rattle.bench_model.specs.Tally.{greatest}
 use Rattle.meeting_laws.specs.CheckpointLaws.{AreCheckpoints, IsLastBefore}
-use Rattle.meeting_laws.proofs.Meetings.{met_within, met_from}
-use Rattle.meeting_laws.proofs.Moves.{last_after_insert, last_after_remove, stays_before, inserted_after, removed_after, moved_within, edit_there, insert_bounds, remove_bounds}
-use Rattle.meeting_laws.proofs.Places.{has_first, has_rest, has_later, least_from}
+use Rattle.meeting_laws.proofs.Meetings.{met_within, met_after, met_from}
+use Rattle.meeting_laws.proofs.Moves.{is_after, last_after_insert, last_after_remove, stays_before, inserted_after, removed_after, moved_within, edit_there, insert_bounds, remove_bounds}
+use Rattle.meeting_laws.proofs.Places.{has_first, has_rest, has_later, any_found, least_within, least_from, least_each}
 
 -- ---- the greatest of some places
 
@@ -89,6 +89,52 @@ module _ (checkpoints : List ℕ) (place : ℕ) where
   pub near_by : (checkpoint far : ℕ) → has 0 checkpoints ≡ true → has checkpoint checkpoints ≡ true → checkpoint ≤ place → place < checkpoint + far → place < checkpoint_before checkpoints place + far
   near_by checkpoint far start listed before near = omega (arith, near, (before_is_last start).last checkpoint listed before)
 
+-- where each place but the start has a checkpoint before it and near it, each segment is short
+module _ (span last : ℕ) (checkpoints : List ℕ) where
+  abbrev NearOne : ℕ → Type 0
+  NearOne place = (checkpoint : ℕ) × (has checkpoint checkpoints ≡ true) × (checkpoint < place) × (place < checkpoint + 2 * span)
+
+  segment_first : (checkpoint next : ℕ) → has next checkpoints ≡ true → checkpoint < next → segment_end last checkpoints checkpoint ≤ next
+  segment_first checkpoint next listed past =
+      let so : ltb checkpoint next ≡ true = grind (arith, nat_tests, past) in
+      least_each last next (filter (λ next. ltb checkpoint next) checkpoints) (has-filter (λ next. ltb checkpoint next) next checkpoints ∙ ap₂ (λ a b. a && b) so listed)
+
+  segment_from : (bound checkpoint : ℕ) → bound ≤ last → ((next : ℕ) → has next checkpoints ≡ true → checkpoint < next → bound ≤ next) → bound ≤ segment_end last checkpoints checkpoint
+  segment_from bound checkpoint within each =
+      least_from bound last (filter (λ next. ltb checkpoint next) checkpoints) within (λ next found.
+      let parts = and_parts (ltb checkpoint next) (has next checkpoints) (sym (has-filter (λ next. ltb checkpoint next) next checkpoints) ∙ found) in
+      let past : checkpoint < next = grind (arith, nat_tests, parts.0) in
+      each next parts.1 past)
+
+  segment_within : (checkpoint : ℕ) → segment_end last checkpoints checkpoint ≤ last
+  segment_within checkpoint = least_within last (filter (λ next. ltb checkpoint next) checkpoints)
+
+  short_by : 1 ≤ span → ((place : ℕ) → 0 < place → place ≤ last → NearOne place) → (checkpoint : ℕ) → segment_end last checkpoints checkpoint < checkpoint + 2 * span
+  short_by some near checkpoint = at (ltb checkpoint end) refl
+    where
+      end : ℕ
+      end = segment_end last checkpoints checkpoint
+
+      at : (b : Bool) → ltb checkpoint end ≡ b → end < checkpoint + 2 * span
+      at false is =
+          let low : end ≤ checkpoint = grind (arith, nat_tests, is) in
+          omega (arith, low, some)
+      at true is =
+          let past : checkpoint < end = grind (arith, nat_tests, is) in
+          let one = near end (omega (arith, past)) (segment_within checkpoint) in
+          before one.0 one.2 one.3 (segment_first checkpoint one.0 one.1)
+        where
+          before : (q : ℕ) → q < end → end < q + 2 * span → (checkpoint < q → end ≤ q) → end < checkpoint + 2 * span
+          before q low close later = by (ltb checkpoint q) refl
+            where
+              by : (b : Bool) → ltb checkpoint q ≡ b → end < checkpoint + 2 * span
+              by true is =
+                  let past : checkpoint < q = grind (arith, nat_tests, is) in
+                  absurd (omega (arith, later past, low))
+              by false is =
+                  let not : q ≤ checkpoint = grind (arith, nat_tests, is) in
+                  omega (arith, not, close)
+
 -- ---- places that pass a test, in order
 
 cons_ascends : (a : ℕ) (ys : List ℕ) → AllByRecursion (λ y. a < y) ys → IsStrictlyIncreasing ys → IsStrictlyIncreasing (a ∷ ys)
@@ -99,14 +145,6 @@ cons_ascends a (y ∷ ys) all ascends (suc k) low =
     let below : k + 1 < length (y ∷ ys) = omega (arith, low) in
     subst (λ n. slice_index (y ∷ ys) k < slice_index (a ∷ y ∷ ys) n) same (ascends k below)
 
-kept_all : (P : ℕ → Type 0) (test : ℕ → Bool) (ns : List ℕ) → AllByRecursion P ns → AllByRecursion P (filter test ns)
-kept_all P test [] all = tt
-kept_all P test (n ∷ ns) all = at (test n) (kept_all P test ns all.1)
-  where
-    at : (b : Bool) → AllByRecursion P (filter test ns) → AllByRecursion P (cond b (n ∷ filter test ns) (filter test ns))
-    at true rest = (all.0, rest)
-    at false rest = rest
-
 ascends : (test : ℕ → Bool) (a n : ℕ) → IsStrictlyIncreasing (filter test (range_with_len a n))
 ascends test a zero = λ k low. absurd (omega (arith, low))
 ascends test a (suc n) = at (test a) (ascends test (a + 1) n)
@@ -115,7 +153,7 @@ ascends test a (suc n) = at (test a) (ascends test (a + 1) n)
     rest = filter test (range_with_len (a + 1) n)
 
     later : AllByRecursion (λ y. a < y) rest
-    later = All-weaker (λ i. (a + 1 ≤ i) × (i < a + 1 + n)) (λ y. a < y) (λ y h. omega (arith, h.0)) rest (kept_all (λ i. (a + 1 ≤ i) × (i < a + 1 + n)) test (range_with_len (a + 1) n) (range_all (a + 1) n))
+    later = All-weaker (λ i. (a + 1 ≤ i) × (i < a + 1 + n)) (λ y. a < y) (λ y h. omega (arith, h.0)) rest (All-filter (λ i. (a + 1 ≤ i) × (i < a + 1 + n)) test (range_with_len (a + 1) n) (range_all (a + 1) n))
 
     at : (b : Bool) → IsStrictlyIncreasing rest → IsStrictlyIncreasing (cond b (a ∷ rest) rest)
     at true up = cons_ascends a rest later up
@@ -132,29 +170,30 @@ module _ (test : ℕ → Bool) (top : ℕ) where
   starts_passing passes = ap (λ b. slice_get (cond b (0 ∷ filter test (range_with_len 1 top)) (filter test (range_with_len 1 top))) 0) passes
 
   within_passing : (last : ℕ) → top ≤ last → All (λ n. n ≤ last) passing
-  within_passing last high = All-from_recursion (λ n. n ≤ last) passing (All-weaker (λ n. n < suc top) (λ n. n ≤ last) (λ n low. omega (arith, low, high)) passing (kept_all (λ n. n < suc top) test (numbers (suc top)) (numbers_below (suc top))))
+  within_passing last high = All-from_recursion (λ n. n ≤ last) passing (All-weaker (λ n. n < suc top) (λ n. n ≤ last) (λ n low. omega (arith, low, high)) passing (All-filter (λ n. n < suc top) test (numbers (suc top)) (numbers_below (suc top))))
 
-  pub passing_fit : (span last : ℕ) → top ≤ last → test 0 ≡ true → ((place : ℕ) → place ≤ last → (n : ℕ) × (n ≤ top) × (test n ≡ true) × (n ≤ place) × (place < n + 2 * span)) → AreCheckpoints span last passing
-  passing_fit span last high passes near = record {
+  pub passing_fit : (span last : ℕ) → 1 ≤ span → top ≤ last → test 0 ≡ true → ((place : ℕ) → 0 < place → place ≤ last → (n : ℕ) × (n ≤ top) × (test n ≡ true) × (n < place) × (place < n + 2 * span)) → AreCheckpoints span last passing
+  passing_fit span last some high passes near = record {
     start = starts_passing passes;
     ascend = ascends test 0 (suc top);
     within = within_passing last high;
-    near = λ place within.
-        let by = near place within in
-        near_by passing place by.0 (2 * span) (is_passing 0 (omega arith) passes) (is_passing by.0 by.1 by.2) by.3 by.4;
+    short = λ checkpoint listed.
+        short_by span last passing some
+        (λ place late within. let by = near place late within in (by.0, is_passing by.0 by.1 by.2, by.3, by.4))
+        checkpoint;
   }
 
 -- ---- at the opening
 
-first_near : (span n place : ℕ) → 1 ≤ span → place ≤ n → (c : ℕ) × (c ≤ n - 1) × (eqb (c % span) 0 ≡ true) × (c ≤ place) × (place < c + 2 * span)
-first_near span n place some within =
+first_near : (span n place : ℕ) → 1 ≤ span → 0 < place → place ≤ n → (c : ℕ) × (c ≤ n - 1) × (eqb (c % span) 0 ≡ true) × (c < place) × (place < c + 2 * span)
+first_near span n place some late within =
     let c : ℕ = (place - 1) / span * span in
     let low = div-mul-le_self (place - 1) span in
     let left = div-add-mod' (place - 1) span in
     let below = mod-lt (place - 1) some in
     let multiple : c % span ≡ 0 = mul-mod_left ((place - 1) / span) span in
     let so : eqb (c % span) 0 ≡ true = grind (arith, nat_tests, multiple) in
-    (c, omega (arith, low, within), so, omega (arith, low), omega (arith, left, below, some))
+    (c, omega (arith, low, within), so, omega (arith, low, late), omega (arith, left, below, some))
 
 pub first_fit : (span : ℕ) (session : Session) → 1 ≤ span → AreCheckpoints span (last_place session) (first_checkpoints span session)
 first_fit span session some =
@@ -163,7 +202,7 @@ first_fit span session some =
     let none : 0 % span ≡ 0 = mod-eq_of_lt some in
     let so : eqb (0 % span) 0 ≡ true = grind (arith, nat_tests, none) in
     subst (λ count. AreCheckpoints span n (filter (λ place. eqb (place % span) 0) (numbers count))) same
-    (passing_fit (λ place. eqb (place % span) 0) (n - 1) span n (omega arith) so (λ place within. first_near span n place some within))
+    (passing_fit (λ place. eqb (place % span) 0) (n - 1) span n some (omega arith) so (λ place late within. first_near span n place some late within))
 
 -- ---- after an edit
 
@@ -181,64 +220,110 @@ module _ (span last : ℕ) (checkpoints : List ℕ) (fit : AreCheckpoints span l
   listed_within : (checkpoint : ℕ) → has checkpoint checkpoints ≡ true → checkpoint ≤ last
   listed_within checkpoint listed = All-has (λ n. n ≤ last) checkpoint checkpoints (recursion_from_All (λ n. n ≤ last) checkpoints fit.within) listed
 
-  -- the last checkpoint before a place is near it
-  abbrev NearOne : ℕ → Type 0
-  NearOne place = (checkpoint : ℕ) × (has checkpoint checkpoints ≡ true) × (checkpoint ≤ place) × (place < checkpoint + 2 * span)
+  -- each place but the start has a checkpoint before it and near it
+  near_one : (place : ℕ) → 0 < place → place ≤ last → NearOne span last checkpoints place
+  near_one place late within =
+      let is = before_is_last checkpoints (place - 1) has_start in
+      let q = checkpoint_before checkpoints (place - 1) in
+      let far = segment_from span last checkpoints place q within (λ next listed past. not_before next place late (λ before. is.last next listed before) past) in
+      (q, is.listed, omega (arith, late, is.before), omega (arith, far, fit.short q is.listed))
+    where
+      not_before : {q : ℕ} (next place : ℕ) → 0 < place → (next ≤ place - 1 → next ≤ q) → q < next → place ≤ next
+      not_before {q} next place late none past = at (leb place next) refl
+        where
+          at : (b : Bool) → leb place next ≡ b → place ≤ next
+          at true is = grind (arith, nat_tests, is)
+          at false is =
+              let before : next < place = grind (arith, nat_tests, is) in
+              let early : next ≤ place - 1 = omega (arith, before) in
+              absurd (omega (arith, none early, past))
 
-  near_one : (place : ℕ) → place ≤ last → NearOne place
-  near_one place within =
-      let is = before_is_last checkpoints place has_start in
-      (checkpoint_before checkpoints place, is.listed, is.before, fit.near place within)
+pub places_near : (span last : ℕ) (checkpoints : List ℕ) (place : ℕ) → 1 ≤ span → AreCheckpoints span last checkpoints → place ≤ last → place < checkpoint_before checkpoints place + 2 * span
+places_near span last checkpoints zero some fit within = omega (arith, some)
+places_near span last checkpoints (suc place) some fit within =
+    let near = near_one span last checkpoints fit (suc place) (omega arith) within in
+    near_by checkpoints (suc place) near.0 (2 * span) (has_start span last checkpoints fit) near.1 (omega (arith, near.2)) near.3
 
--- a place is not far after one that a checkpoint has moved to
+-- a place of the edited session is fewer than two spans after a checkpoint that has moved; or it is
+-- just two spans after one, as an inserted step lies between them
+abbrev IsLonger : CheckpointedSession → Edit → ℕ → ℕ → Type 0
+IsLonger kept edit checkpoint place =
+    (place ≡ checkpoint + 2 * kept.span) × (checkpoint ≤ place_of edit) × (place_of edit < place)
+    × ((other : ℕ) → is_compared edit other ≡ true → checkpoint < moved_place edit other)
+
 abbrev NearMoved : CheckpointedSession → Edit → ℕ → Type 0
-NearMoved kept edit place = (checkpoint : ℕ) × (has checkpoint kept.checkpoints ≡ true) × (moved_place edit checkpoint ≤ place) × (place ≤ moved_place edit checkpoint + 2 * kept.span)
+NearMoved kept edit place =
+    (checkpoint : ℕ) × (has checkpoint kept.checkpoints ≡ true) × (moved_place edit checkpoint < place)
+    × ((place < moved_place edit checkpoint + 2 * kept.span) ⊎ IsLonger kept edit checkpoint place)
 
-module _ (kept : CheckpointedSession) (fit : AreCheckpoints kept.span (last_place kept.session) kept.checkpoints) where
-  near_inserted : (at : ℕ) (step : Step) (place : ℕ) → accepted kept.session (Insert at step) ≡ Ok tt → place ≤ last_place (edited (Insert at step) kept.session) → NearMoved kept (Insert at step) place
-  near_inserted at step place accepts within = by (leb place at) refl
+module _ (kept : CheckpointedSession) (some : 1 ≤ kept.span) (fit : AreCheckpoints kept.span (last_place kept.session) kept.checkpoints) where
+  abbrev near_old : (place : ℕ) → 0 < place → place ≤ last_place kept.session → NearOne kept.span (last_place kept.session) kept.checkpoints place
+  near_old = near_one kept.span (last_place kept.session) kept.checkpoints fit
+
+  near_before : (edit : Edit) (place : ℕ) → 0 < place → place ≤ last_place kept.session → place ≤ place_of edit → NearMoved kept edit place
+  near_before edit place late within before =
+      let near = near_old place late within in
+      let stays = stays_before edit near.0 (omega (arith, before, near.2)) in
+      (near.0, near.1, omega (arith, stays, near.2), inl (omega (arith, stays, near.3)))
+
+  near_inserted : (at : ℕ) (step : Step) (place : ℕ) → accepted kept.session (Insert at step) ≡ Ok tt → at < place → place ≤ last_place (edited (Insert at step) kept.session) → NearMoved kept (Insert at step) place
+  near_inserted at step place accepts past within = by (ltb 1 place) refl
     where
       edit : Edit
       edit = Insert at step
 
+      fits : (q : ℕ) → q < place - 1 → place - 1 < q + 2 * kept.span → (b : Bool) → ltb at q ≡ b → (c : Bool) → ltb place (q + 2 * kept.span) ≡ c → (place < moved_place (Insert at step) q + 2 * kept.span) ⊎ IsLonger kept (Insert at step) q place
+      fits q low close true is c short =
+          let later : at < q = grind (arith, nat_tests, is) in
+          inl (omega (arith, close, inserted_after at q step later))
+      fits q low close false is true short =
+          let near : place < q + 2 * kept.span = grind (arith, nat_tests, short) in
+          inl (omega (arith, near, (insert_bounds at step q).0))
+      fits q low close false is false short =
+          let before : q ≤ at = grind (arith, nat_tests, is) in
+          let far : q + 2 * kept.span ≤ place = grind (arith, nat_tests, short) in
+          inr (omega (arith, far, close), before, past, λ other compared.
+          let after = is_after at other compared in
+          omega (arith, before, after, inserted_after at other step after))
+
+      by : (b : Bool) → ltb 1 place ≡ b → NearMoved kept (Insert at step) place
+      by true is =
+          let late : 1 < place = grind (arith, nat_tests, is) in
+          let near = near_old (place - 1) (omega (arith, late)) (omega (arith, within, last_after_insert kept.session at step accepts)) in
+          let moved = insert_bounds at step near.0 in
+          (near.0, near.1, omega (arith, late, moved.1, near.2), fits near.0 near.2 near.3 (ltb at near.0) refl (ltb place (near.0 + 2 * kept.span)) refl)
+      by false is =
+          let early : place ≤ 1 = grind (arith, nat_tests, is) in
+          let stays = stays_before (Insert at step) 0 (omega arith) in
+          (0, has_start kept.span (last_place kept.session) kept.checkpoints fit, omega (arith, stays, past), inl (omega (arith, stays, early, some)))
+
+  near_removed : (at place : ℕ) → accepted kept.session (Remove at) ≡ Ok tt → at < place → place ≤ last_place (edited (Remove at) kept.session) → NearMoved kept (Remove at) place
+  near_removed at place accepts past within =
+      let near = near_old (place + 1) (omega arith) (omega (arith, within, last_after_remove kept.session at accepts)) in
+      let moved = remove_bounds at near.0 place (omega (arith, near.2)) past in
+      (near.0, near.1, moved.0, inl (omega (arith, near.3, moved.1)))
+
+  near_moved : (edit : Edit) (place : ℕ) → accepted kept.session edit ≡ Ok tt → 0 < place → place ≤ last_place (edited edit kept.session) → NearMoved kept edit place
+  near_moved (Insert at step) place accepts late within = by (leb place at) refl
+    where
       by : (b : Bool) → leb place at ≡ b → NearMoved kept (Insert at step) place
       by true is =
           let before : place ≤ at = grind (arith, nat_tests, is) in
-          let near = near_one kept.span (last_place kept.session) kept.checkpoints fit place (omega (arith, before, edit_there kept.session (Insert at step) accepts)) in
-          let stays = stays_before (Insert at step) near.0 (omega (arith, before, near.2)) in
-          (near.0, near.1, omega (arith, stays, near.2), omega (arith, stays, near.3))
-      by false is =
-          let past : at < place = grind (arith, nat_tests, is) in
-          let near = near_one kept.span (last_place kept.session) kept.checkpoints fit (place - 1) (omega (arith, within, last_after_insert kept.session at step accepts)) in
-          let moved = insert_bounds at step near.0 in
-          (near.0, near.1, omega (arith, past, moved.1, near.2), omega (arith, past, moved.0, near.3))
-
-  near_removed : (at place : ℕ) → accepted kept.session (Remove at) ≡ Ok tt → place ≤ last_place (edited (Remove at) kept.session) → NearMoved kept (Remove at) place
-  near_removed at place accepts within = by (leb place at) refl
+          near_before (Insert at step) place late (omega (arith, before, edit_there kept.session (Insert at step) accepts)) before
+      by false is = near_inserted at step place accepts (grind (arith, nat_tests, is)) within
+  near_moved (Remove at) place accepts late within = by (leb place at) refl
     where
       by : (b : Bool) → leb place at ≡ b → NearMoved kept (Remove at) place
-      by true is =
-          let before : place ≤ at = grind (arith, nat_tests, is) in
-          let near = near_one kept.span (last_place kept.session) kept.checkpoints fit place (omega (arith, within, last_after_remove kept.session at accepts)) in
-          let stays = stays_before (Remove at) near.0 (omega (arith, before, near.2)) in
-          (near.0, near.1, omega (arith, stays, near.2), omega (arith, stays, near.3))
-      by false is =
-          let past : at < place = grind (arith, nat_tests, is) in
-          let near = near_one kept.span (last_place kept.session) kept.checkpoints fit (place + 1) (omega (arith, within, last_after_remove kept.session at accepts)) in
-          let moved = remove_bounds at near.0 (place + 1) near.2 (omega (arith, past)) in
-          (near.0, near.1, omega (arith, moved.0), omega (arith, near.3, moved.1))
+      by true is = near_before (Remove at) place late (omega (arith, within, last_after_remove kept.session at accepts)) (grind (arith, nat_tests, is))
+      by false is = near_removed at place accepts (grind (arith, nat_tests, is)) within
+  near_moved (Replace at step) place accepts late within =
+      let near = near_old place late (omega (arith, within, length-set kept.session.steps at step)) in
+      (near.0, near.1, near.2, inl near.3)
+  near_moved (ChangeTask task priority mask) place accepts late within =
+      let near = near_old place late within in
+      (near.0, near.1, near.2, inl near.3)
 
-  near_moved : (edit : Edit) (place : ℕ) → accepted kept.session edit ≡ Ok tt → place ≤ last_place (edited edit kept.session) → NearMoved kept edit place
-  near_moved (Insert at step) place accepts within = near_inserted at step place accepts within
-  near_moved (Remove at) place accepts within = near_removed at place accepts within
-  near_moved (Replace at step) place accepts within =
-      let near = near_one kept.span (last_place kept.session) kept.checkpoints fit place (omega (arith, within, length-set kept.session.steps at step)) in
-      (near.0, near.1, near.2, omega (arith, near.3))
-  near_moved (ChangeTask task priority mask) place accepts within =
-      let near = near_one kept.span (last_place kept.session) kept.checkpoints fit place within in
-      (near.0, near.1, near.2, omega (arith, near.3))
-
--- where a place is at most two spans after one of the places, it is fewer after one of them or of
+-- where each place is at most two spans after one of the places, it is fewer after one of them or of
 -- those that are added
 module _ (span last : ℕ) (places : List ℕ) (some : 1 ≤ span) (start : has 0 places ≡ true) where
   kept_one : (n : ℕ) → has n places ≡ true → (has n places || is_added span last places n) ≡ true
@@ -252,45 +337,42 @@ module _ (span last : ℕ) (places : List ℕ) (some : 1 ≤ span) (start : has 
       at false = added
 
   -- a checkpoint whose segment has two spans
-  added_after : (place : ℕ) → place ≤ last → place ≡ checkpoint_before places place + 2 * span → is_added span last places (checkpoint_before places place + span) ≡ true
-  added_after place within far =
-      let c = checkpoint_before places place in
-      let is = before_is_last places place start in
-      let long = least_from (c + 2 * span) last (filter (λ next. ltb c next) places) (omega (arith, far, within)) (λ next found.
-      let parts = and_parts (ltb c next) (has next places) (sym (has-filter (λ next. ltb c next) next places) ∙ found) in
-      let past : c < next = grind (arith, nat_tests, parts.0) in
-      not_before c next place far past (is.last next parts.1)) in
+  added_after : (c place : ℕ) → IsLastBefore places (place - 1) c → 0 < place → place ≤ last → place ≡ c + 2 * span → is_added span last places (c + span) ≡ true
+  added_after c place is late within far =
+      let long = segment_from span last places (c + 2 * span) c (omega (arith, far, within)) (λ next listed past. not_before next past (is.last next listed)) in
       let here : eqb (c + span) (c + span) ≡ true = grind (arith, nat_tests) in
       let so : leb (c + 2 * span) (segment_end last places c) ≡ true = grind (arith, nat_tests, long) in
       list_any_at (λ checkpoint. eqb (checkpoint + span) (c + span) && leb (checkpoint + 2 * span) (segment_end last places checkpoint)) c places is.listed (ap₂ (λ a b. a && b) here so)
     where
-      not_before : (c next place : ℕ) → place ≡ c + 2 * span → c < next → (next ≤ place → next ≤ c) → c + 2 * span ≤ next
-      not_before c next place far past none = at (leb next place) refl
+      not_before : (next : ℕ) → c < next → (next ≤ place - 1 → next ≤ c) → c + 2 * span ≤ next
+      not_before next past none = at (leb next (place - 1)) refl
         where
-          at : (b : Bool) → leb next place ≡ b → c + 2 * span ≤ next
+          at : (b : Bool) → leb next (place - 1) ≡ b → c + 2 * span ≤ next
           at true is =
-              let before : next ≤ place = grind (arith, nat_tests, is) in
+              let before : next ≤ place - 1 = grind (arith, nat_tests, is) in
               absurd (omega (arith, none before, past))
           at false is =
-              let later : place < next = grind (arith, nat_tests, is) in
+              let later : place - 1 < next = grind (arith, nat_tests, is) in
               omega (arith, later, far)
 
-  near_added : (place near : ℕ) → place ≤ last → has near places ≡ true → near ≤ place → place ≤ near + 2 * span → (n : ℕ) × (n ≤ last) × ((has n places || is_added span last places n) ≡ true) × (n ≤ place) × (place < n + 2 * span)
-  near_added place near within listed before close =
-      by (ltb place (checkpoint_before places place + 2 * span)) refl
+  near_added : (place near : ℕ) → 0 < place → place ≤ last → has near places ≡ true → near < place → place ≤ near + 2 * span → (n : ℕ) × (n ≤ last) × ((has n places || is_added span last places n) ≡ true) × (n < place) × (place < n + 2 * span)
+  near_added place near late within listed before close = by (ltb place (c + 2 * span)) refl
     where
-      is : IsLastBefore places place (checkpoint_before places place)
-      is = before_is_last places place start
+      c : ℕ
+      c = checkpoint_before places (place - 1)
 
-      by : (b : Bool) → ltb place (checkpoint_before places place + 2 * span) ≡ b → (n : ℕ) × (n ≤ last) × ((has n places || is_added span last places n) ≡ true) × (n ≤ place) × (place < n + 2 * span)
+      is : IsLastBefore places (place - 1) (checkpoint_before places (place - 1))
+      is = before_is_last places (place - 1) start
+
+      by : (b : Bool) → ltb place (c + 2 * span) ≡ b → (n : ℕ) × (n ≤ last) × ((has n places || is_added span last places n) ≡ true) × (n < place) × (place < n + 2 * span)
       by true so =
-          let short : place < checkpoint_before places place + 2 * span = grind (arith, nat_tests, so) in
-          (checkpoint_before places place, omega (arith, is.before, within), kept_one (checkpoint_before places place) is.listed, is.before, short)
+          let short : place < c + 2 * span = grind (arith, nat_tests, so) in
+          (c, omega (arith, is.before, within), kept_one c is.listed, omega (arith, is.before, late), short)
       by false so =
-          let long : checkpoint_before places place + 2 * span ≤ place = grind (arith, nat_tests, so) in
-          let far : place ≡ checkpoint_before places place + 2 * span = omega (arith, long, close, is.last near listed before) in
-          let n : ℕ = checkpoint_before places place + span in
-          (n, omega (arith, far, within), added_one n (added_after place within far), omega (arith, far), omega (arith, far, some))
+          let long : c + 2 * span ≤ place = grind (arith, nat_tests, so) in
+          let nearer : near ≤ c = is.last near listed (omega (arith, before)) in
+          let far : place ≡ c + 2 * span = omega (arith, long, close, nearer) in
+          (c + span, omega (arith, far, within), added_one (c + span) (added_after c place is late within far), omega (arith, far, some), omega (arith, far, some))
 
 -- a checkpoint of the session lies where it has moved to
 module _ (kept : CheckpointedSession) (edit : Edit) (accepts : accepted kept.session edit ≡ Ok tt) (fit : AreCheckpoints kept.span (last_place kept.session) kept.checkpoints) where
@@ -306,15 +388,81 @@ module _ (kept : CheckpointedSession) (edit : Edit) (accepts : accepted kept.ses
       sym (ap (λ n. has n (moved_checkpoints kept edit)) (stays_before edit 0 (omega arith)))
       ∙ moved_listed 0 (has_start kept.span (last_place kept.session) kept.checkpoints fit)
 
+-- at most two spans in either case
+moved_close : (kept : CheckpointedSession) (edit : Edit) (checkpoint place : ℕ) → (place < moved_place edit checkpoint + 2 * kept.span) ⊎ IsLonger kept edit checkpoint place → place ≤ moved_place edit checkpoint + 2 * kept.span
+moved_close kept edit checkpoint place (inl near) = omega (arith, near)
+moved_close kept edit checkpoint place (inr longer) = omega (arith, longer.0, stays_before edit checkpoint longer.1)
+
 pub next_fit : (kept : CheckpointedSession) (edit : Edit) → 1 ≤ kept.span → accepted kept.session edit ≡ Ok tt → AreCheckpoints kept.span (last_place kept.session) kept.checkpoints → AreCheckpoints kept.span (last_place (edited edit kept.session)) (next_checkpoints kept edit)
 next_fit kept edit some accepts fit =
     let last = last_place (edited edit kept.session) in
     let places = moved_checkpoints kept edit in
     let start = start_moved kept edit accepts fit in
-    passing_fit (λ place. has place places || is_added kept.span last places place) last kept.span last (omega arith) (kept_one kept.span last places some start 0 start)
-    (λ place within.
-    let near = near_moved kept fit edit place accepts within in
-    near_added kept.span last places some start place (moved_place edit near.0) within (moved_listed kept edit accepts fit near.0 near.1) near.2 near.3)
+    passing_fit (λ place. has place places || is_added kept.span last places place) last kept.span last some (omega arith) (kept_one kept.span last places some start 0 start)
+    (λ place late within.
+    let near = near_moved kept some fit edit place accepts late within in
+    near_added kept.span last places some start place (moved_place edit near.0) late within (moved_listed kept edit accepts fit near.0 near.1) near.2 (moved_close kept edit near.0 place near.3))
+
+-- ---- the checkpoint that is added
+
+module _ (kept : CheckpointedSession) (edit : Edit) (some : 1 ≤ kept.span) (accepts : accepted kept.session edit ≡ Ok tt) (fit : AreCheckpoints kept.span (last_place kept.session) kept.checkpoints) where
+  -- no checkpoint lies between c and two spans after it
+  module _ (c : ℕ) (long : c + 2 * kept.span ≤ segment_end (last_place (edited edit kept.session)) (moved_checkpoints kept edit) c) where
+    not_between : (checkpoint : ℕ) → has checkpoint kept.checkpoints ≡ true → c < moved_place edit checkpoint → c + 2 * kept.span ≤ moved_place edit checkpoint
+    not_between checkpoint listed past =
+        omega (arith, long, segment_first kept.span (last_place (edited edit kept.session)) (moved_checkpoints kept edit) c (moved_place edit checkpoint) (moved_listed kept edit accepts fit checkpoint listed) past)
+
+    not_past : (checkpoint : ℕ) → has checkpoint kept.checkpoints ≡ true → moved_place edit checkpoint < c + 2 * kept.span → moved_place edit checkpoint ≤ c
+    not_past checkpoint listed low = at (ltb c (moved_place edit checkpoint)) refl
+      where
+        at : (b : Bool) → ltb c (moved_place edit checkpoint) ≡ b → moved_place edit checkpoint ≤ c
+        at true is =
+            let past : c < moved_place edit checkpoint = grind (arith, nat_tests, is) in
+            absurd (omega (arith, not_between checkpoint listed past, low))
+        at false is = grind (arith, nat_tests, is)
+
+    begins_there : (q : ℕ) → has q kept.checkpoints ≡ true → q ≡ c → q ≤ place_of edit → place_of edit < c + 2 * kept.span → c ≡ replayed_from kept edit
+    begins_there q listed same before past =
+        let is = before_is_last kept.checkpoints (place_of edit) (has_start kept.span (last_place kept.session) kept.checkpoints fit) in
+        let from = replayed_from kept edit in
+        let stays = stays_before edit from is.before in
+        let low = not_past from is.listed (omega (arith, stays, is.before, past)) in
+        omega (arith, same, stays, low, is.last q listed before)
+
+    longer_there : (q : ℕ) → has q kept.checkpoints ≡ true → moved_place edit q < c + 2 * kept.span → (c + 2 * kept.span < moved_place edit q + 2 * kept.span) ⊎ IsLonger kept edit q (c + 2 * kept.span) → (c ≡ replayed_from kept edit) × (c + 2 * kept.span ≤ met kept edit)
+    longer_there q listed low (inl near) = absurd (omega (arith, near, not_past q listed low))
+    longer_there q listed low (inr longer) =
+        let same : q ≡ c = omega (arith, longer.0) in
+        let within = segment_within kept.span (last_place (edited edit kept.session)) (moved_checkpoints kept edit) c in
+        (begins_there q listed same longer.1 longer.2, met_after kept edit (c + 2 * kept.span) (omega (arith, long, within)) (λ other there compared. not_between other there (omega (arith, same, longer.3 other compared))))
+
+  added_between : (c place : ℕ) → c + kept.span ≡ place → c + 2 * kept.span ≤ segment_end (last_place (edited edit kept.session)) (moved_checkpoints kept edit) c → (place ≡ replayed_from kept edit + kept.span) × (place + kept.span ≤ met kept edit)
+  added_between c place here long =
+      let within = segment_within kept.span (last_place (edited edit kept.session)) (moved_checkpoints kept edit) c in
+      let near = near_moved kept some fit edit (c + 2 * kept.span) accepts (omega (arith, some)) (omega (arith, long, within)) in
+      let there = longer_there c long near.0 near.1 near.2 near.3 in
+      (omega (arith, here, there.0), omega (arith, here, there.1))
+
+  pub added_is_replayed : (place : ℕ) → has place (next_checkpoints kept edit) ≡ true → (has place (moved_checkpoints kept edit) ≡ true) ⊎ ((place ≡ replayed_from kept edit + kept.span) × (place + kept.span ≤ met kept edit))
+  added_is_replayed place listed = at (has place places) refl (and_parts (test place) (has place (numbers (suc last))) (sym (has-filter test place (numbers (suc last))) ∙ listed)).0
+    where
+      last : ℕ
+      last = last_place (edited edit kept.session)
+
+      places : List ℕ
+      places = moved_checkpoints kept edit
+
+      test : ℕ → Bool
+      test place = has place places || is_added kept.span last places place
+
+      at : (b : Bool) → has place places ≡ b → (b || is_added kept.span last places place) ≡ true → (has place (moved_checkpoints kept edit) ≡ true) ⊎ ((place ≡ replayed_from kept edit + kept.span) × (place + kept.span ≤ met kept edit))
+      at true is added = inl is
+      at false is added =
+          let found = any_found (λ checkpoint. eqb (checkpoint + kept.span) place && leb (checkpoint + 2 * kept.span) (segment_end last places checkpoint)) places added in
+          let parts = and_parts (eqb (found.0 + kept.span) place) (leb (found.0 + 2 * kept.span) (segment_end last places found.0)) found.2 in
+          let here : found.0 + kept.span ≡ place = grind (arith, nat_tests, parts.0) in
+          let long : found.0 + 2 * kept.span ≤ segment_end last places found.0 = grind (arith, nat_tests, parts.1) in
+          inr (added_between found.0 place here long)
 
 -- ---- the replay between its two ends
 

@@ -102,14 +102,19 @@ pub met_within : (kept : CheckpointedSession) (edit : Edit) → met kept edit �
 unfolding met
 met_within kept edit = least_within (last_place (edited edit kept.session)) (moved_meetings kept edit)
 
-pub met_from : (kept : CheckpointedSession) (edit : Edit) → accepted kept.session edit ≡ Ok tt → place_of edit ≤ met kept edit
+-- it is not before a place that no meeting lies before
+pub met_after : (kept : CheckpointedSession) (edit : Edit) (place : ℕ) → place ≤ last_place (edited edit kept.session) → ((checkpoint : ℕ) → has checkpoint kept.checkpoints ≡ true → is_compared edit checkpoint ≡ true → place ≤ moved_place edit checkpoint) → place ≤ met kept edit
 unfolding met
-met_from kept edit accepts =
-    least_from (place_of edit) (last_place (edited edit kept.session)) (moved_meetings kept edit) (edit_within kept.session edit accepts)
-    (λ place found.
-    let from = moved_found (moved_place edit) (is_meeting kept edit) kept.checkpoints place found in
+met_after kept edit place within each =
+    least_from place (last_place (edited edit kept.session)) (moved_meetings kept edit) within
+    (λ moved found.
+    let from = moved_found (moved_place edit) (is_meeting kept edit) kept.checkpoints moved found in
     let compared = (and_parts (is_compared edit from.0) (is_same_after kept.session edit from.0) from.2).0 in
-    subst (λ n. place_of edit ≤ n) from.3 (moved_from edit from.0 compared))
+    subst (λ n. place ≤ n) from.3 (each from.0 from.1 compared))
+
+pub met_from : (kept : CheckpointedSession) (edit : Edit) → accepted kept.session edit ≡ Ok tt → place_of edit ≤ met kept edit
+met_from kept edit accepts =
+    met_after kept edit (place_of edit) (edit_within kept.session edit accepts) (λ checkpoint listed compared. moved_from edit checkpoint compared)
 
 may_end : (kept : CheckpointedSession) (edit : Edit) (place : ℕ) → has place (moved_meetings kept edit) ≡ true → MayEnd kept edit place
 may_end kept edit place found =

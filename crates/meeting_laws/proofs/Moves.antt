@@ -69,12 +69,12 @@ insert_bounds at step place = at_test (ltb at place)
     at_test true = (omega arith, omega arith)
     at_test false = (omega arith, omega arith)
 
--- a place before a later one is still not after it where a step before that is removed
-pub remove_bounds : (at place later : ℕ) → place ≤ later → at + 1 < later → (moved_place (Remove at) place ≤ later - 1) × (place ≤ moved_place (Remove at) place + 1)
+-- a removed step moves a place by one at most, and to before a place after the edit
+pub remove_bounds : (at place later : ℕ) → place ≤ later → at < later → (moved_place (Remove at) place < later) × (place ≤ moved_place (Remove at) place + 1)
 remove_bounds at place later within past = at_test (ltb at place) refl
   where
-    at_test : (b : Bool) → ltb at place ≡ b → (cond b (place - 1) place ≤ later - 1) × (place ≤ cond b (place - 1) place + 1)
-    at_test true is = (omega (arith, within), omega arith)
+    at_test : (b : Bool) → ltb at place ≡ b → (cond b (place - 1) place < later) × (place ≤ cond b (place - 1) place + 1)
+    at_test true is = (omega (arith, within, past), omega arith)
     at_test false is =
         let before : place ≤ at = grind (arith, nat_tests, is) in
         (omega (arith, before, past), omega arith)

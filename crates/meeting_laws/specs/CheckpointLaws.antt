@@ -1,19 +1,21 @@
 -- The laws of checkpoints. Each is a clause of a public function.
-use Rattle.std.specs.Prelude.{◌≡◌, ℕ, ◌+◌, ◌*◌, ◌<◌, ◌≤◌, List, true, All, Some, Ok, slice_get}
+use Rattle.std.specs.Prelude.{◌≡◌, ◌⊎◌, ℕ, ◌+◌, ◌-◌, ◌*◌, ◌<◌, ◌≤◌, List, true, All, Some, Ok, slice_get}
 use Rattle.std.specs.List.Sorted.{IsStrictlyIncreasing}
 use Rattle.bench_types.specs.declared.edit.Edit.{Edit}
 use Rattle.bench_types.specs.Session.{Session}
 use Rattle.list_orders.specs.Search.{has}
 use Rattle.bench_model.specs.Edits.{accepted, edited}
-use Rattle.bench_model.specs.Meeting.{CheckpointedSession, last_place, checkpoint_before, first_checkpoints, place_of, moved_place, is_compared, replayed_from, met, next_checkpoints}
+use Rattle.bench_model.specs.Meeting.{CheckpointedSession, last_place, checkpoint_before, first_checkpoints, place_of, moved_place, is_compared, replayed_from, met, moved_checkpoints, segment_end, next_checkpoints}
 
--- they begin with the start and ascend to the last place at most, and each place is fewer than two
--- spans after one
+-- they begin with the start and ascend to the last place at most, and each segment is shorter than
+-- two spans
 pub record AreCheckpoints (span last : ℕ) (checkpoints : List ℕ) : Type 0 where
   pub start : slice_get checkpoints 0 ≡ Some 0
   pub ascend : IsStrictlyIncreasing checkpoints
   pub within : All (λ checkpoint. checkpoint ≤ last) checkpoints
-  pub near : (place : ℕ) → place ≤ last → place < checkpoint_before checkpoints place + 2 * span
+  pub short :
+      (checkpoint : ℕ) → has checkpoint checkpoints ≡ true
+      → segment_end last checkpoints checkpoint < checkpoint + 2 * span
 
 -- those of a session that is opened
 abbrev pub FirstCheckpointsFit : Type 0
@@ -29,6 +31,24 @@ NextCheckpointsFit =
     → AreCheckpoints kept.span (last_place kept.session) kept.checkpoints
     → AreCheckpoints kept.span (last_place (edited edit kept.session)) (next_checkpoints kept edit)
 
+-- so each place is fewer than two spans after the last checkpoint before it
+abbrev pub PlacesAreNear : Type 0
+PlacesAreNear =
+    (span last : ℕ) (checkpoints : List ℕ) (place : ℕ) → 1 ≤ span
+    → AreCheckpoints span last checkpoints → place ≤ last →
+    place < checkpoint_before checkpoints place + 2 * span
+
+-- a checkpoint that is added lies a span after the begin of the replay, and a span or more before
+-- its end
+abbrev pub AddedIsReplayed : Type 0
+AddedIsReplayed =
+    (kept : CheckpointedSession) (edit : Edit) (place : ℕ) → 1 ≤ kept.span
+    → accepted kept.session edit ≡ Ok tt
+    → AreCheckpoints kept.span (last_place kept.session) kept.checkpoints
+    → has place (next_checkpoints kept edit) ≡ true →
+    (has place (moved_checkpoints kept edit) ≡ true)
+    ⊎ ((place ≡ replayed_from kept edit + kept.span) × (place + kept.span ≤ met kept edit))
+
 -- the last of the checkpoints that are not after the place
 pub record IsLastBefore (checkpoints : List ℕ) (place checkpoint : ℕ) : Type 0 where
   pub listed : has checkpoint checkpoints ≡ true
@@ -40,6 +60,12 @@ abbrev pub CheckpointBeforeIsLast : Type 0
 CheckpointBeforeIsLast =
     (checkpoints : List ℕ) (place : ℕ) → has 0 checkpoints ≡ true
     → IsLastBefore checkpoints place (checkpoint_before checkpoints place)
+
+-- later places stay as far after a compared one as they were
+abbrev pub LaterPlacesMoveAlike : Type 0
+LaterPlacesMoveAlike =
+    (edit : Edit) (place later : ℕ) → is_compared edit place ≡ true → place ≤ later
+    → moved_place edit later ≡ moved_place edit place + (later - place)
 
 -- the replay ends after it begins, and within the edited session
 abbrev pub ReplayIsWithin : Type 0

@@ -2,7 +2,7 @@
 //! alike. Each function does nothing: its contract is the laws, one a clause.
 #![tactic(auto)]
 
-ghost use Rattle.meeting_laws.specs.CheckpointLaws.{FirstCheckpointsFit, NextCheckpointsFit, CheckpointBeforeIsLast, MovedPlacesAreWithin, ReplayIsWithin};
+ghost use Rattle.meeting_laws.specs.CheckpointLaws.{FirstCheckpointsFit, NextCheckpointsFit, PlacesAreNear, AddedIsReplayed, CheckpointBeforeIsLast, MovedPlacesAreWithin, LaterPlacesMoveAlike, ReplayIsWithin};
 ghost use Rattle.meeting_laws.specs.MeetingLaws.{StepsBeforeStay, StepsAfterMove, BeforeIsUntouched, MeetingLasts, MetIsFirstEnd};
 ghost use Rattle.meeting_laws.specs.RunLaws.{EqualRunAlike, EqualGoOnAlike};
 
@@ -31,15 +31,20 @@ pub fn laws_of_meetings()
 
 /// Checkpoints, and how much of a session lies between them.
 pub fn laws_of_checkpoints()
-    // Those at the opening begin with the start and ascend, and each place is fewer than two spans
-    // after one.
+    // Those at the opening begin with the start and ascend, and no segment has two spans.
     ensures first_checkpoints_fit { FirstCheckpointsFit }
     // An accepted edit leaves them so.
     ensures next_checkpoints_fit { NextCheckpointsFit }
-    // The last checkpoint before a place is one, and no other lies between the two.
+    // So each place is fewer than two spans after the last checkpoint before it.
+    ensures places_are_near { PlacesAreNear }
+    // That checkpoint is one, and no other lies between the two.
     ensures checkpoint_before_is_last { CheckpointBeforeIsLast }
-    // A place where two sessions are compared lies in the edited one after the edit, or on it.
+    // A checkpoint that is added lies among the steps that are replayed.
+    ensures added_is_replayed { AddedIsReplayed }
+    // A place where two sessions are compared lies in the edited one after the edit, or on it, and
+    // later places lie as far after it as they did.
     ensures moved_places_are_within { MovedPlacesAreWithin }
+    ensures later_places_move_alike { LaterPlacesMoveAlike }
     // A replay ends after it begins, and within the edited session.
     ensures replay_is_within { ReplayIsWithin }
 {}

@@ -1,5 +1,5 @@
 -- Checkpoints: they begin with the start, ascend, and each place is fewer than two spans after one.
-use Rattle.std.proofs.Common.{◌≡◌, ◌⊎◌, inl, inr, ⊎_elim, ℕ, zero, suc, ◌+◌, ◌-◌, ◌*◌, ◌/◌, ◌%◌, ◌<◌, ◌≤◌, min, max, Bool, true, false, cond, eqb, ◌&&◌, ◌||◌, leb, ltb, List, [], ◌∷◌, length, map, Some, Ok, slice_get, slice_index, refl, sym, ap, ap₂, subst, ◌∙◌, arith, length-set, mod-lt, mod-eq_of_lt, div-mul-le_self, div-add-mod'}
+use Rattle.std.proofs.Common.{◌≡◌, ◌⊎◌, inl, inr, ⊎_elim, ℕ, zero, suc, ◌+◌, ◌-◌, ◌*◌, ◌/◌, ◌%◌, ◌<◌, ◌≤◌, max, Bool, true, false, cond, eqb, ◌&&◌, ◌||◌, leb, ltb, List, [], ◌∷◌, length, Some, Ok, slice_get, slice_index, refl, sym, ap, ap₂, subst, ◌∙◌, arith, length-set, mod-lt, mod-eq_of_lt, div-mul-le_self, div-add-mod'}
 use Rattle.std.specs.Prelude.{All, filter}
 use Rattle.std.specs.List.{AllByRecursion, list_any, range_with_len}
 use Rattle.std.specs.List.Sorted.{IsStrictlyIncreasing}
@@ -16,11 +16,11 @@ use Rattle.list_orders.proofs.Filters.{All-has, All-weaker, All-filter, has-filt
 use Rattle.list_orders.proofs.Stamped.{range_all, numbers_below, numbers_have}
 use Rattle.order_laws.proofs.Selects.{list_any_at}
 use Rattle.bench_model.specs.Edits.{accepted, edited}
-use Rattle.bench_model.specs.Meeting.{CheckpointedSession, last_place, least, checkpoint_before, first_checkpoints, place_of, moved_place, is_compared, replayed_from, met, moved_checkpoints, segment_end, is_added, with_added, next_checkpoints}
+use Rattle.bench_model.specs.Meeting.{CheckpointedSession, last_place, checkpoint_before, first_checkpoints, place_of, moved_place, is_compared, replayed_from, met, moved_checkpoints, segment_end, is_added, next_checkpoints}
 use Rattle.bench_model.specs.Tally.{greatest}
 use Rattle.meeting_laws.specs.CheckpointLaws.{AreCheckpoints, IsLastBefore}
 use Rattle.meeting_laws.proofs.Meetings.{met_within, met_after, met_from}
-use Rattle.meeting_laws.proofs.Moves.{is_after, last_after_insert, last_after_remove, stays_before, inserted_after, removed_after, moved_within, edit_there, insert_bounds, remove_bounds}
+use Rattle.meeting_laws.proofs.Moves.{is_after, last_after_insert, last_after_remove, stays_before, inserted_after, moved_within, edit_there, insert_bounds, remove_bounds}
 use Rattle.meeting_laws.proofs.Places.{has_first, has_rest, has_later, any_found, least_within, least_from, least_each}
 
 -- ---- the greatest of some places
@@ -282,9 +282,14 @@ module _ (kept : CheckpointedSession) (some : 1 ≤ kept.span) (fit : AreCheckpo
       fits q low close false is false short =
           let before : q ≤ at = grind (arith, nat_tests, is) in
           let far : q + 2 * kept.span ≤ place = grind (arith, nat_tests, short) in
-          inr (omega (arith, far, close), before, past, λ other compared.
-          let after = is_after at other compared in
-          omega (arith, before, after, inserted_after at other step after))
+          inr (
+            omega (arith, far, close),
+            before,
+            past,
+            λ other compared.
+                let after = is_after at other compared in
+                omega (arith, before, after, inserted_after at other step after),
+          )
 
       by : (b : Bool) → ltb 1 place ≡ b → NearMoved kept (Insert at step) place
       by true is =

@@ -12,7 +12,7 @@ use Rattle.bench_types.specs.Session.{Session, IsSession}
 use Rattle.bench_types.specs.Step.{settings_of, IsCheckedStep}
 use Rattle.list_orders.specs.Search.{numbers}
 use Rattle.bench_model.specs.Control.{Control, running}
-use Rattle.bench_model.specs.Equal.{Same}
+use Rattle.bench_model.specs.Equal.{Same, StandsFor}
 use Rattle.bench_model.specs.Lists.{View}
 use Rattle.bench_model.specs.Meeting.{last_place}
 use Rattle.bench_model.specs.Seek.{after_switch}
@@ -56,7 +56,7 @@ checked_from session place is =
     subst (λ settings. All (IsCheckedStep settings) (drop place session.steps)) (sym (later_settings session place is)) (All-drop (IsCheckedStep (start session.header).settings) place session.steps (checked_from_start session is))
 
 -- the state at a later place is that after the steps between
-state_later : (header : Header) (steps : List Step) (place k : ℕ) → state_at header steps (place + k) ≡ state_after (state_at header steps place) (take k (drop place steps))
+pub state_later : (header : Header) (steps : List Step) (place k : ℕ) → state_at header steps (place + k) ≡ state_after (state_at header steps place) (take k (drop place steps))
 unfolding state_at
 state_later header steps place k =
     ap (state_after (start header)) (take-add place k steps)
@@ -125,3 +125,6 @@ go_on_alike old new p q first second within there same rest = record {
   replies = replies old new p q first second same rest;
   rows = rows old new p q first second same rest within there;
 }
+
+pub stand_alike : (view : View) (a b : Table) → StandsFor view a → Same a b → IsSound b → StandsFor view b
+stand_alike view a b stands same sound = record { sound = sound; shows = sym same ∙ stands.shows }

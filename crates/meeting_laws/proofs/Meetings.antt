@@ -1,6 +1,6 @@
 -- What is untouched before an edit, what is as it was after a meeting, and the first meeting.
-use Rattle.std.proofs.Common.{◌≡◌, ◌⊎◌, inl, inr, ⊎_elim, ℕ, zero, suc, ◌+◌, ◌-◌, ◌<◌, ◌≤◌, min, Bool, true, false, cond, eqb, ◌&&◌, leb, List, [], ◌∷◌, length, map, take, drop, Option, Some, None, Ok, refl, sym, ap, ap₂, subst, ◌∙◌, arith}
-use Rattle.std.specs.Prelude.{fold, filter, option_map, slice_get, nat_le, if◌then◌else◌}
+use Rattle.std.proofs.Common.{◌≡◌, inl, inr, ⊎_elim, ℕ, suc, ◌+◌, ◌-◌, ◌<◌, ◌≤◌, Bool, true, ◌&&◌, List, length, map, take, Some, None, Ok, sym, ap, ap₂, subst, ◌∙◌, arith}
+use Rattle.std.specs.Prelude.{filter, option_map, slice_get, nat_le, if◌then◌else◌}
 use Rattle.std.proofs.lemmas.Bool.{and_parts}
 use Rattle.std.proofs.lemmas.Bool.Decides.{nat_tests}
 use Rattle.bench_types.specs.declared.edit.Edit.{Edit}
@@ -12,8 +12,7 @@ use Rattle.list_orders.specs.Search.{has}
 use Rattle.bench_model.specs.Control.{running}
 use Rattle.bench_model.specs.Edits.{accepted, edited}
 use Rattle.bench_model.specs.Equal.{Same}
-use Rattle.bench_model.specs.Meeting.{CheckpointedSession, last_place, least, place_of, moved_place, is_compared, is_same_after, met, replayed_from, checkpoint_before}
-use Rattle.bench_model.specs.SameTest.{is_same}
+use Rattle.bench_model.specs.Meeting.{CheckpointedSession, last_place, least, place_of, moved_place, is_compared, is_same_after, met}
 use Rattle.bench_model.specs.Session.{step_of, state_after, state_at, reply_at, running_at}
 use Rattle.bench_model.specs.Start.{start}
 use Rattle.session_laws.proofs.EditedSessions.{edited_session}
@@ -132,3 +131,8 @@ met_is_first kept edit =
           (λ same. omega (arith, same, least_within last places))
           (λ found. omega (arith, found.2, least_each last (moved_place edit found.0) places (moved_has (moved_place edit) (is_meeting kept edit) kept.checkpoints found.0 found.1.listed (passes_meeting kept edit found.0 found.1))));
     }
+
+pub first_end_is_met : (kept : CheckpointedSession) (edit : Edit) (place : ℕ) → IsFirstEnd kept edit place → place ≡ met kept edit
+first_end_is_met kept edit place first =
+    let own = met_is_first kept edit in
+    omega (arith, first.first (met kept edit) own.ends, own.first place first.ends)

@@ -1,6 +1,6 @@
 -- Where places and steps lie after an edit.
-use Rattle.std.proofs.Common.{◌≡◌, ℕ, zero, suc, ◌+◌, ◌-◌, ◌<◌, ◌≤◌, Bool, true, false, cond, leb, ltb, List, [], ◌∷◌, ◌++◌, length, take, drop, set, Ok, refl, sym, ap, subst, ◌∙◌, arith, take-take, drop-drop, length-take-le, length-drop, length-set, drop-set-lt, lt→ltb}
-use Rattle.std.specs.Prelude.{insert, remove, nat_lt, if◌then◌else◌}
+use Rattle.std.proofs.Common.{◌≡◌, ℕ, suc, ◌+◌, ◌-◌, ◌<◌, ◌≤◌, Bool, true, false, cond, ltb, List, [], ◌∷◌, ◌++◌, length, take, drop, set, Ok, refl, sym, ap, ◌∙◌, arith, take-take, drop-drop, length-take-le, length-set, drop-set-lt}
+use Rattle.std.specs.Prelude.{insert, remove, nat_lt}
 use Rattle.std.proofs.lemmas.Bool.Decides.{nat_tests}
 use Rattle.std.proofs.lemmas.List.{take-append-le, take-set}
 use Rattle.bench_types.specs.declared.edit.Edit.{Edit}
@@ -9,7 +9,7 @@ use Rattle.bench_types.specs.declared.step.Step.{Step}
 use Rattle.bench_types.specs.Session.{Session}
 use Rattle.bench_model.specs.Edits.{accepted, edited}
 use Rattle.bench_model.specs.Meeting.{last_place, place_of, moved_place, is_compared}
-use Rattle.session_laws.proofs.EditedSessions.{passed, IsPassed, length-insert, length-remove}
+use Rattle.session_laws.proofs.EditedSessions.{passed, length-insert, length-remove}
 
 -- ---- places
 

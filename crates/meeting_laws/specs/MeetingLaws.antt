@@ -86,3 +86,9 @@ pub record IsFirstEnd (kept : CheckpointedSession) (edit : Edit) (place : ℕ) :
 
 abbrev pub MetIsFirstEnd : Type 0
 MetIsFirstEnd = (kept : CheckpointedSession) (edit : Edit) → IsFirstEnd kept edit (met kept edit)
+
+-- and no other place is so
+abbrev pub FirstEndIsMet : Type 0
+FirstEndIsMet =
+    (kept : CheckpointedSession) (edit : Edit) (place : ℕ) → IsFirstEnd kept edit place
+    → place ≡ met kept edit

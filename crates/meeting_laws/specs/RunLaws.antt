@@ -1,9 +1,11 @@
 -- The laws of lists of steps from equal states. Each is a clause of a public function.
 use Rattle.std.specs.Prelude.{◌≡◌, ℕ, ◌+◌, ◌≤◌, List, take, drop, All}
+use Rattle.bench_types.specs.declared.header.Header.{Header}
 use Rattle.bench_types.specs.declared.step.Step.{Step}
 use Rattle.bench_types.specs.Session.{Session, IsSession}
 use Rattle.bench_types.specs.Step.{IsCheckedStep}
-use Rattle.bench_model.specs.Equal.{Same}
+use Rattle.bench_model.specs.Equal.{Same, StandsFor}
+use Rattle.bench_model.specs.Lists.{View}
 use Rattle.bench_model.specs.Meeting.{last_place}
 use Rattle.bench_model.specs.Session.{state_after, trace, state_at, reply_at, running_at}
 use Rattle.bench_model.specs.Sound.{IsSound}
@@ -23,6 +25,24 @@ abbrev pub EqualRunAlike : Type 0
 EqualRunAlike =
     (a b : Table) (steps : List Step) → IsSound a → IsSound b → Same a b
     → All (IsCheckedStep a.settings) steps → RunAlike a b steps
+
+-- every state of a session is sound
+abbrev pub StatesAreSound : Type 0
+StatesAreSound =
+    (session : Session) (place : ℕ) → IsSession session
+    → IsSound (state_at session.header session.steps place)
+
+-- the state at a later place is that after the steps between the two
+abbrev pub StatesGoOn : Type 0
+StatesGoOn =
+    (header : Header) (steps : List Step) (place k : ℕ)
+    → state_at header steps (place + k)
+    ≡ state_after (state_at header steps place) (take k (drop place steps))
+
+-- a kernel that stands for a table stands for each sound table that is equal
+abbrev pub EqualStandAlike : Type 0
+EqualStandAlike =
+    (view : View) (a b : Table) → StandsFor view a → Same a b → IsSound b → StandsFor view b
 
 -- from these places on the sessions have equal states, equal replies and the same running tasks
 pub record GoOnAlike (old new : Session) (p q : ℕ) : Type 0 where

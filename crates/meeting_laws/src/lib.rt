@@ -3,14 +3,19 @@
 #![tactic(auto)]
 
 ghost use Rattle.meeting_laws.specs.CheckpointLaws.{FirstCheckpointsFit, NextCheckpointsFit, PlacesAreNear, AddedIsReplayed, CheckpointBeforeIsLast, MovedPlacesAreWithin, LaterPlacesMoveAlike, ReplayIsWithin};
-ghost use Rattle.meeting_laws.specs.MeetingLaws.{StepsBeforeStay, StepsAfterMove, BeforeIsUntouched, MeetingLasts, MetIsFirstEnd};
-ghost use Rattle.meeting_laws.specs.RunLaws.{EqualRunAlike, EqualGoOnAlike};
+ghost use Rattle.meeting_laws.specs.MeetingLaws.{StepsBeforeStay, StepsAfterMove, BeforeIsUntouched, MeetingLasts, MetIsFirstEnd, FirstEndIsMet};
+ghost use Rattle.meeting_laws.specs.RunLaws.{EqualRunAlike, StatesAreSound, StatesGoOn, EqualStandAlike, EqualGoOnAlike};
 
 /// Lists of steps.
 pub fn laws_of_runs()
     // From equal tables checked steps have equal replies, running tasks and tallies, and lead to
     // equal states at each place.
     ensures equal_run_alike { EqualRunAlike }
+    // Every state of a session is sound, and a later one is that after the steps between.
+    ensures states_are_sound { StatesAreSound }
+    ensures states_go_on { StatesGoOn }
+    // A kernel stands for each sound table that is equal to one that it stands for.
+    ensures equal_stand_alike { EqualStandAlike }
     // Two sessions that have equal states at two places and the same steps after them have equal
     // states, replies and running tasks from there on.
     ensures equal_go_on_alike { EqualGoOnAlike }
@@ -27,6 +32,7 @@ pub fn laws_of_meetings()
     ensures meeting_lasts { MeetingLasts }
     // The replay ends at the first place where a meeting lies, or else at the end.
     ensures met_is_first_end { MetIsFirstEnd }
+    ensures first_end_is_met { FirstEndIsMet }
 {}
 
 /// Checkpoints, and how much of a session lies between them.

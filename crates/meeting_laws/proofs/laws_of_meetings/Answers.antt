@@ -1,4 +1,4 @@
-use Rattle.meeting_laws.proofs.Meetings.{before_is_untouched, meeting_lasts, met_is_first}
+use Rattle.meeting_laws.proofs.Meetings.{before_is_untouched, first_end_is_met, meeting_lasts, met_is_first}
 use Rattle.meeting_laws.proofs.Moves.{steps_before_stay, steps_after_move}
 use Rattle.meeting_laws.proofs.laws_of_meetings.Goals as goal
 
@@ -16,3 +16,6 @@ returns-clause-meeting_lasts c = meeting_lasts
 
 pub returns-clause-met_is_first_end : goal.returns-clause-met_is_first_end
 returns-clause-met_is_first_end c = met_is_first
+
+pub returns-clause-first_end_is_met : goal.returns-clause-first_end_is_met
+returns-clause-first_end_is_met c = first_end_is_met

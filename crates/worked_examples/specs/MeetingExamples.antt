@@ -1,5 +1,5 @@
--- Worked edits of sessions with checkpoints: where the replay of each begins and ends, and where the
--- checkpoints lie after it.
+-- Worked edits of sessions with checkpoints: where the replay of each begins and ends, and where
+-- the checkpoints lie after it.
 use Rattle.std.specs.Prelude.{◌≡◌, ℕ, List, [], ◌∷◌, fold, replicate}
 use Rattle.bench_types.specs.declared.edit.Edit.{Edit}
 use Rattle.bench_types.specs.declared.edit.Edit.TheVariants.{Insert, Remove, Replace, ChangeTask}
@@ -73,10 +73,12 @@ pub record WorkedMeetings : Type 0 where
 
 -- Where checkpoints lie after edits.
 pub record WorkedCheckpoints : Type 0 where
+  pub not_yet : checkpoints_after yields (Insert 6 Tick ∷ []) ≡ 0 ∷ 2 ∷ 4 ∷ []
   pub one_is_added :
+      checkpoints_after yields (Insert 6 Tick ∷ Insert 7 Tick ∷ []) ≡ 0 ∷ 2 ∷ 4 ∷ 6 ∷ []
+  pub no_more :
       checkpoints_after yields (Insert 6 Tick ∷ Insert 7 Tick ∷ Insert 8 Tick ∷ [])
       ≡ 0 ∷ 2 ∷ 4 ∷ 6 ∷ []
-  pub not_yet : checkpoints_after yields (Insert 6 Tick ∷ []) ≡ 0 ∷ 2 ∷ 4 ∷ []
   pub moved : checkpoints_after yields (Insert 1 Tick ∷ []) ≡ 0 ∷ 3 ∷ 5 ∷ []
   pub moved_back : checkpoints_after yields (Remove 2 ∷ []) ≡ 0 ∷ 2 ∷ 3 ∷ []
   pub two_become_one : checkpoints_after yields (Remove 2 ∷ Remove 2 ∷ []) ≡ 0 ∷ 2 ∷ []

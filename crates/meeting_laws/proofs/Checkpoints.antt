@@ -1,11 +1,13 @@
 -- Checkpoints: they begin with the start, ascend, and each place is fewer than two spans after one.
 use Rattle.std.proofs.Common.{◌≡◌, ◌⊎◌, inl, inr, ⊎_elim, ℕ, zero, suc, ◌+◌, ◌-◌, ◌*◌, ◌/◌, ◌%◌, ◌<◌, ◌≤◌, max, Bool, true, false, cond, eqb, ◌&&◌, ◌||◌, leb, ltb, List, [], ◌∷◌, length, Some, Ok, slice_get, slice_index, refl, sym, ap, ap₂, subst, ◌∙◌, arith, length-set, mod-lt, mod-eq_of_lt, div-mul-le_self, div-add-mod'}
-use Rattle.std.specs.Prelude.{All, filter}
+use Rattle.std.specs.Prelude.{◌↔◌, All, AllPairs, filter}
 use Rattle.std.specs.List.{AllByRecursion, list_any, range_with_len}
 use Rattle.std.specs.List.Sorted.{IsStrictlyIncreasing}
 use Rattle.std.proofs.Math.Nat.{mul-mod_left}
 use Rattle.std.proofs.lemmas.Bool.{and_parts}
 use Rattle.std.proofs.lemmas.Bool.Decides.{nat_tests}
+use Rattle.std.proofs.lemmas.List.FromFn.{length-range_with_len, get_or-range_with_len}
+use Rattle.std.proofs.lemmas.List.Kept.{AllPairs-from_increasing, IsStrictlyIncreasing-filter}
 use Rattle.std.proofs.lemmas.List.Elements.{All-from_recursion, recursion_from_All}
 use Rattle.bench_types.specs.declared.edit.Edit.{Edit}
 use Rattle.bench_types.specs.declared.edit.Edit.TheVariants.{Insert, Remove, Replace, ChangeTask}
@@ -18,7 +20,7 @@ use Rattle.order_laws.proofs.Selects.{list_any_at}
 use Rattle.bench_model.specs.Edits.{accepted, edited}
 use Rattle.bench_model.specs.Meeting.{CheckpointedSession, last_place, checkpoint_before, first_checkpoints, place_of, moved_place, is_compared, replayed_from, met, moved_checkpoints, segment_end, is_added, next_checkpoints}
 use Rattle.bench_model.specs.Tally.{greatest}
-use Rattle.meeting_laws.specs.CheckpointLaws.{AreCheckpoints, IsLastBefore}
+use Rattle.meeting_laws.specs.CheckpointLaws.{AreCheckpoints, IsLastBefore, IsMoved, IsAdded}
 use Rattle.meeting_laws.proofs.Meetings.{met_within, met_after, met_from}
 use Rattle.meeting_laws.proofs.Moves.{is_after, last_after_insert, last_after_remove, stays_before, inserted_after, moved_within, edit_there, insert_bounds, remove_bounds}
 use Rattle.meeting_laws.proofs.Places.{has_first, has_rest, has_later, any_found, least_within, least_from, least_each}
@@ -137,27 +139,10 @@ module _ (span last : ℕ) (checkpoints : List ℕ) where
 
 -- ---- places that pass a test, in order
 
-cons_ascends : (a : ℕ) (ys : List ℕ) → AllByRecursion (λ y. a < y) ys → IsStrictlyIncreasing ys → IsStrictlyIncreasing (a ∷ ys)
-cons_ascends a [] all ascends k low = absurd (omega (arith, low))
-cons_ascends a (y ∷ ys) all ascends zero low = all.0
-cons_ascends a (y ∷ ys) all ascends (suc k) low =
-    let same : suc (k + 1) ≡ suc k + 1 = omega arith in
-    let below : k + 1 < length (y ∷ ys) = omega (arith, low) in
-    subst (λ n. slice_index (y ∷ ys) k < slice_index (a ∷ y ∷ ys) n) same (ascends k below)
-
-ascends : (test : ℕ → Bool) (a n : ℕ) → IsStrictlyIncreasing (filter test (range_with_len a n))
-ascends test a zero = λ k low. absurd (omega (arith, low))
-ascends test a (suc n) = at (test a) (ascends test (a + 1) n)
-  where
-    rest : List ℕ
-    rest = filter test (range_with_len (a + 1) n)
-
-    later : AllByRecursion (λ y. a < y) rest
-    later = All-weaker (λ i. (a + 1 ≤ i) × (i < a + 1 + n)) (λ y. a < y) (λ y h. omega (arith, h.0)) rest (All-filter (λ i. (a + 1 ≤ i) × (i < a + 1 + n)) test (range_with_len (a + 1) n) (range_all (a + 1) n))
-
-    at : (b : Bool) → IsStrictlyIncreasing rest → IsStrictlyIncreasing (cond b (a ∷ rest) rest)
-    at true up = cons_ascends a rest later up
-    at false up = up
+numbers_ascend : (n : ℕ) → IsStrictlyIncreasing (numbers n)
+numbers_ascend n k within =
+    let long = length-range_with_len 0 n in
+    omega (arith, within, long, get_or-range_with_len 0 n k 0 (omega (arith, within, long)), get_or-range_with_len 0 n (k + 1) 0 (omega (arith, within, long)))
 
 module _ (test : ℕ → Bool) (top : ℕ) where
   abbrev passing : List ℕ
@@ -175,7 +160,7 @@ module _ (test : ℕ → Bool) (top : ℕ) where
   pub passing_fit : (span last : ℕ) → 1 ≤ span → top ≤ last → test 0 ≡ true → ((place : ℕ) → 0 < place → place ≤ last → (n : ℕ) × (n ≤ top) × (test n ≡ true) × (n < place) × (place < n + 2 * span)) → AreCheckpoints span last passing
   passing_fit span last some high passes near = record {
     start = starts_passing passes;
-    ascend = ascends test 0 (suc top);
+    ascend = IsStrictlyIncreasing-filter test (numbers (suc top)) (numbers_ascend (suc top));
     within = within_passing last high;
     short = λ checkpoint listed.
         short_by span last passing some
@@ -441,33 +426,112 @@ module _ (kept : CheckpointedSession) (edit : Edit) (some : 1 ≤ kept.span) (ac
         let within = segment_within kept.span (last_place (edited edit kept.session)) (moved_checkpoints kept edit) c in
         (begins_there q listed same longer.1 longer.2, met_after kept edit (c + 2 * kept.span) (omega (arith, long, within)) (λ other there compared. not_between other there (omega (arith, same, longer.3 other compared))))
 
-  added_between : (c place : ℕ) → c + kept.span ≡ place → c + 2 * kept.span ≤ segment_end (last_place (edited edit kept.session)) (moved_checkpoints kept edit) c → (place ≡ replayed_from kept edit + kept.span) × (place + kept.span ≤ met kept edit)
-  added_between c place here long =
+  -- so a checkpoint that has no other for two spans is where the replay begins
+  long_is_first : (c : ℕ) → c + 2 * kept.span ≤ segment_end (last_place (edited edit kept.session)) (moved_checkpoints kept edit) c → (c ≡ replayed_from kept edit) × (c + 2 * kept.span ≤ met kept edit)
+  long_is_first c long =
       let within = segment_within kept.span (last_place (edited edit kept.session)) (moved_checkpoints kept edit) c in
       let near = near_moved kept some fit edit (c + 2 * kept.span) accepts (omega (arith, some)) (omega (arith, long, within)) in
-      let there = longer_there c long near.0 near.1 near.2 near.3 in
-      (omega (arith, here, there.0), omega (arith, here, there.1))
+      longer_there c long near.0 near.1 near.2 near.3
 
-  pub added_is_replayed : (place : ℕ) → has place (next_checkpoints kept edit) ≡ true → (has place (moved_checkpoints kept edit) ≡ true) ⊎ ((place ≡ replayed_from kept edit + kept.span) × (place + kept.span ≤ met kept edit))
-  added_is_replayed place listed = at (has place places) refl (and_parts (test place) (has place (numbers (suc last))) (sym (has-filter test place (numbers (suc last))) ∙ listed)).0
+  pub added_is_replayed : (place : ℕ) → IsAdded kept edit place → place + kept.span ≤ met kept edit
+  added_is_replayed place added = omega (arith, added.0, (long_is_first (replayed_from kept edit) added.1).1)
+
+  -- ---- which places are checkpoints of the edited session
+
+  abbrev next_test : ℕ → Bool
+  next_test place = has place (moved_checkpoints kept edit) || is_added kept.span (last_place (edited edit kept.session)) (moved_checkpoints kept edit) place
+
+  from_listed : has (replayed_from kept edit) (moved_checkpoints kept edit) ≡ true
+  from_listed =
+      let is = before_is_last kept.checkpoints (place_of edit) (has_start kept.span (last_place kept.session) kept.checkpoints fit) in
+      sym (ap (λ n. has n (moved_checkpoints kept edit)) (stays_before edit (replayed_from kept edit) is.before)) ∙ moved_listed kept edit accepts fit (replayed_from kept edit) is.listed
+
+  moved_to : (place : ℕ) → has place (moved_checkpoints kept edit) ≡ true → IsMoved kept edit place
+  moved_to place listed =
+      let test = λ (place : ℕ). list_any (λ checkpoint. eqb (moved_place edit checkpoint) place) kept.checkpoints in
+      let all = numbers (suc (last_place (edited edit kept.session))) in
+      let parts = and_parts (test place) (has place all) (sym (has-filter test place all) ∙ listed) in
+      let found = any_found (λ checkpoint. eqb (moved_place edit checkpoint) place) kept.checkpoints parts.0 in
+      let same : moved_place edit found.0 ≡ place = grind (arith, nat_tests, found.2) in
+      (found.0, found.1, same)
+
+  added_to : (place : ℕ) → is_added kept.span (last_place (edited edit kept.session)) (moved_checkpoints kept edit) place ≡ true → IsAdded kept edit place
+  added_to place added =
+      let last = last_place (edited edit kept.session) in
+      let places = moved_checkpoints kept edit in
+      let found = any_found (λ checkpoint. eqb (checkpoint + kept.span) place && leb (checkpoint + 2 * kept.span) (segment_end last places checkpoint)) places added in
+      let parts = and_parts (eqb (found.0 + kept.span) place) (leb (found.0 + 2 * kept.span) (segment_end last places found.0)) found.2 in
+      let here : found.0 + kept.span ≡ place = grind (arith, nat_tests, parts.0) in
+      let long : found.0 + 2 * kept.span ≤ segment_end last places found.0 = grind (arith, nat_tests, parts.1) in
+      let first = (long_is_first found.0 long).0 in
+      (omega (arith, here, first), subst (λ c. c + 2 * kept.span ≤ segment_end last places c) first long)
+
+  one_of_these : (place : ℕ) → has place (next_checkpoints kept edit) ≡ true → IsMoved kept edit place ⊎ IsAdded kept edit place
+  one_of_these place listed = at (has place (moved_checkpoints kept edit)) refl (and_parts (next_test place) (has place all) (sym (has-filter next_test place all) ∙ listed)).0
     where
-      last : ℕ
-      last = last_place (edited edit kept.session)
+      all : List ℕ
+      all = numbers (suc (last_place (edited edit kept.session)))
 
-      places : List ℕ
-      places = moved_checkpoints kept edit
+      at : (b : Bool) → has place (moved_checkpoints kept edit) ≡ b → (b || is_added kept.span (last_place (edited edit kept.session)) (moved_checkpoints kept edit) place) ≡ true → IsMoved kept edit place ⊎ IsAdded kept edit place
+      at true is passes = inl (moved_to place is)
+      at false is passes = inr (added_to place passes)
 
-      test : ℕ → Bool
-      test place = has place places || is_added kept.span last places place
+  these_are_listed : (place : ℕ) → IsMoved kept edit place ⊎ IsAdded kept edit place → has place (next_checkpoints kept edit) ≡ true
+  these_are_listed place (inl moved) =
+      let last = last_place (edited edit kept.session) in
+      let places = moved_checkpoints kept edit in
+      let within = moved_within kept.session edit moved.0 accepts (listed_within kept.span (last_place kept.session) kept.checkpoints fit moved.0 moved.1) in
+      let listed = ap (λ n. has n places) (sym moved.2) ∙ moved_listed kept edit accepts fit moved.0 moved.1 in
+      is_passing next_test last place (omega (arith, moved.2, within)) (kept_one kept.span last places some (start_moved kept edit accepts fit) place listed)
+  these_are_listed place (inr added) =
+      let last = last_place (edited edit kept.session) in
+      let places = moved_checkpoints kept edit in
+      let from = replayed_from kept edit in
+      let within = segment_within kept.span last places from in
+      let here : eqb (from + kept.span) place ≡ true = grind (arith, nat_tests, added.0) in
+      let so : leb (from + 2 * kept.span) (segment_end last places from) ≡ true = grind (arith, nat_tests, added.1) in
+      let is = list_any_at (λ checkpoint. eqb (checkpoint + kept.span) place && leb (checkpoint + 2 * kept.span) (segment_end last places checkpoint)) from places from_listed (ap₂ (λ a b. a && b) here so) in
+      is_passing next_test last place (omega (arith, added.0, added.1, within)) (added_one kept.span last places some (start_moved kept edit accepts fit) place is)
 
-      at : (b : Bool) → has place places ≡ b → (b || is_added kept.span last places place) ≡ true → (has place (moved_checkpoints kept edit) ≡ true) ⊎ ((place ≡ replayed_from kept edit + kept.span) × (place + kept.span ≤ met kept edit))
-      at true is added = inl is
-      at false is added =
-          let found = any_found (λ checkpoint. eqb (checkpoint + kept.span) place && leb (checkpoint + 2 * kept.span) (segment_end last places checkpoint)) places added in
-          let parts = and_parts (eqb (found.0 + kept.span) place) (leb (found.0 + 2 * kept.span) (segment_end last places found.0)) found.2 in
-          let here : found.0 + kept.span ≡ place = grind (arith, nat_tests, parts.0) in
-          let long : found.0 + 2 * kept.span ≤ segment_end last places found.0 = grind (arith, nat_tests, parts.1) in
-          inr (added_between found.0 place here long)
+  pub next_are_these : (place : ℕ) → (has place (next_checkpoints kept edit) ≡ true) ↔ (IsMoved kept edit place ⊎ IsAdded kept edit place)
+  next_are_these place = (one_of_these place, these_are_listed place)
+
+-- ---- ascending places
+
+rest_pairs : (x : ℕ) (xs : List ℕ) → AllPairs (λ a b. a < b) (x ∷ xs) → AllPairs (λ a b. a < b) xs
+rest_pairs x xs pairs i j d low within = pairs (suc i) (suc j) d (omega (arith, low)) (omega (arith, within))
+
+first_below : (x place : ℕ) (xs : List ℕ) → AllPairs (λ a b. a < b) (x ∷ xs) → has place xs ≡ true → x < place
+first_below x place xs pairs listed =
+    let all : All (λ b. x < b) xs = λ k d within. pairs zero (suc k) d (omega arith) (omega (arith, within)) in
+    All-has (λ b. x < b) place xs (recursion_from_All (λ b. x < b) xs all) listed
+
+first_or_rest : (first place : ℕ) (places : List ℕ) → has place (first ∷ places) ≡ true → (first ≡ place) ⊎ (has place places ≡ true)
+first_or_rest first place places found = at (eqb first place) refl
+  where
+    at : (b : Bool) → eqb first place ≡ b → (first ≡ place) ⊎ (has place places ≡ true)
+    at true is = inl (grind (arith, nat_tests, is))
+    at false is = inr (has_later first place places is found)
+
+same_first : (x y : ℕ) (xs ys : List ℕ) → AllPairs (λ a b. a < b) (x ∷ xs) → AllPairs (λ a b. a < b) (y ∷ ys) → has x (y ∷ ys) ≡ true → has y (x ∷ xs) ≡ true → x ≡ y
+same_first x y xs ys up upward one other =
+    ⊎_elim (λ same. sym same) (λ later. ⊎_elim (λ same. same) (λ earlier. absurd (omega (arith, first_below x y xs up earlier, first_below y x ys upward later))) (first_or_rest x y xs other)) (first_or_rest y x ys one)
+
+same_rest : (x y place : ℕ) (xs ys : List ℕ) → x ≡ y → AllPairs (λ a b. a < b) (x ∷ xs) → (has place (x ∷ xs) ≡ true → has place (y ∷ ys) ≡ true) → has place xs ≡ true → has place ys ≡ true
+same_rest x y place xs ys same up over listed =
+    ⊎_elim (λ here. absurd (omega (arith, here, same, first_below x place xs up listed))) (λ later. later) (first_or_rest y place ys (over (has_rest x place xs listed)))
+
+same_pairs : (xs ys : List ℕ) → AllPairs (λ a b. a < b) xs → AllPairs (λ a b. a < b) ys → ((place : ℕ) → (has place xs ≡ true) ↔ (has place ys ≡ true)) → xs ≡ ys
+same_pairs [] [] up upward same = refl
+same_pairs [] (y ∷ ys) up upward same = absurd (cc ((same y).1 (has_first y ys)))
+same_pairs (x ∷ xs) [] up upward same = absurd (cc ((same x).0 (has_first x xs)))
+same_pairs (x ∷ xs) (y ∷ ys) up upward same =
+    let first = same_first x y xs ys up upward ((same x).0 (has_first x xs)) ((same y).1 (has_first y ys)) in
+    let rest = same_pairs xs ys (rest_pairs x xs up) (rest_pairs y ys upward) (λ place. (same_rest x y place xs ys first up (same place).0, same_rest y x place ys xs (sym first) upward (same place).1)) in
+    ap₂ (λ z zs. z ∷ zs) first rest
+
+pub ascending_are_one : (xs ys : List ℕ) → IsStrictlyIncreasing xs → IsStrictlyIncreasing ys → ((place : ℕ) → (has place xs ≡ true) ↔ (has place ys ≡ true)) → xs ≡ ys
+ascending_are_one xs ys up upward same = same_pairs xs ys (AllPairs-from_increasing xs up) (AllPairs-from_increasing ys upward) same
 
 -- ---- the replay between its two ends
 

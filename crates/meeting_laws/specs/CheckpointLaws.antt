@@ -1,5 +1,5 @@
 -- The laws of checkpoints. Each is a clause of a public function.
-use Rattle.std.specs.Prelude.{◌≡◌, ◌⊎◌, ℕ, ◌+◌, ◌-◌, ◌*◌, ◌<◌, ◌≤◌, List, true, All, Some, Ok, slice_get}
+use Rattle.std.specs.Prelude.{◌≡◌, ◌⊎◌, ◌↔◌, ℕ, ◌+◌, ◌-◌, ◌*◌, ◌<◌, ◌≤◌, List, true, All, Some, Ok, slice_get}
 use Rattle.std.specs.List.Sorted.{IsStrictlyIncreasing}
 use Rattle.bench_types.specs.declared.edit.Edit.{Edit}
 use Rattle.bench_types.specs.Session.{Session}
@@ -38,16 +38,41 @@ PlacesAreNear =
     → AreCheckpoints span last checkpoints → place ≤ last →
     place < checkpoint_before checkpoints place + 2 * span
 
--- a checkpoint that is added lies a span after the begin of the replay, and a span or more before
--- its end
+-- a checkpoint of the session has moved to the place
+abbrev pub IsMoved : CheckpointedSession → Edit → ℕ → Type 0
+IsMoved kept edit place =
+    (checkpoint : ℕ) × (has checkpoint kept.checkpoints ≡ true)
+    × (moved_place edit checkpoint ≡ place)
+
+-- the place is a span after the begin of the replay, whose segment has come to two spans
+abbrev pub IsAdded : CheckpointedSession → Edit → ℕ → Type 0
+IsAdded kept edit place = let from = replayed_from kept edit in
+    (place ≡ from + kept.span)
+    × (from + 2 * kept.span
+    ≤ segment_end (last_place (edited edit kept.session)) (moved_checkpoints kept edit) from)
+
+-- the checkpoints of the edited session are just these
+abbrev pub NextAreThese : Type 0
+NextAreThese =
+    (kept : CheckpointedSession) (edit : Edit) (place : ℕ) → 1 ≤ kept.span
+    → accepted kept.session edit ≡ Ok tt
+    → AreCheckpoints kept.span (last_place kept.session) kept.checkpoints →
+    (has place (next_checkpoints kept edit) ≡ true)
+    ↔ (IsMoved kept edit place ⊎ IsAdded kept edit place)
+
+-- a checkpoint that is added lies a span or more before the end of the replay
 abbrev pub AddedIsReplayed : Type 0
 AddedIsReplayed =
     (kept : CheckpointedSession) (edit : Edit) (place : ℕ) → 1 ≤ kept.span
     → accepted kept.session edit ≡ Ok tt
     → AreCheckpoints kept.span (last_place kept.session) kept.checkpoints
-    → has place (next_checkpoints kept edit) ≡ true →
-    (has place (moved_checkpoints kept edit) ≡ true)
-    ⊎ ((place ≡ replayed_from kept edit + kept.span) × (place + kept.span ≤ met kept edit))
+    → IsAdded kept edit place → place + kept.span ≤ met kept edit
+
+-- two lists of ascending places that have the same places are one
+abbrev pub AscendingAreOne : Type 0
+AscendingAreOne =
+    (xs ys : List ℕ) → IsStrictlyIncreasing xs → IsStrictlyIncreasing ys
+    → ((place : ℕ) → (has place xs ≡ true) ↔ (has place ys ≡ true)) → xs ≡ ys
 
 -- the last of the checkpoints that are not after the place
 pub record IsLastBefore (checkpoints : List ℕ) (place checkpoint : ℕ) : Type 0 where

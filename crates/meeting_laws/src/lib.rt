@@ -2,7 +2,7 @@
 //! alike. Each function does nothing: its contract is the laws, one a clause.
 #![tactic(auto)]
 
-ghost use Rattle.meeting_laws.specs.CheckpointLaws.{FirstCheckpointsFit, NextCheckpointsFit, PlacesAreNear, AddedIsReplayed, CheckpointBeforeIsLast, MovedPlacesAreWithin, LaterPlacesMoveAlike, ReplayIsWithin};
+ghost use Rattle.meeting_laws.specs.CheckpointLaws.{FirstCheckpointsFit, NextCheckpointsFit, PlacesAreNear, NextAreThese, AddedIsReplayed, AscendingAreOne, CheckpointBeforeIsLast, MovedPlacesAreWithin, LaterPlacesMoveAlike, ReplayIsWithin};
 ghost use Rattle.meeting_laws.specs.MeetingLaws.{StepsBeforeStay, StepsAfterMove, BeforeIsUntouched, MeetingLasts, MetIsFirstEnd, FirstEndIsMet};
 ghost use Rattle.meeting_laws.specs.RunLaws.{EqualRunAlike, StatesAreSound, StatesGoOn, EqualStandAlike, EqualGoOnAlike};
 
@@ -45,8 +45,12 @@ pub fn laws_of_checkpoints()
     ensures places_are_near { PlacesAreNear }
     // That checkpoint is one, and no other lies between the two.
     ensures checkpoint_before_is_last { CheckpointBeforeIsLast }
-    // A checkpoint that is added lies among the steps that are replayed.
+    // Those after an edit are the places where checkpoints have moved to, and at most one that is
+    // added, which lies among the steps that are replayed.
+    ensures next_are_these { NextAreThese }
     ensures added_is_replayed { AddedIsReplayed }
+    // A list of ascending places is told by which places it has.
+    ensures ascending_are_one { AscendingAreOne }
     // A place where two sessions are compared lies in the edited one after the edit, or on it, and
     // later places lie as far after it as they did.
     ensures moved_places_are_within { MovedPlacesAreWithin }

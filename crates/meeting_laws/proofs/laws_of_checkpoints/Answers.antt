@@ -1,4 +1,4 @@
-use Rattle.meeting_laws.proofs.Checkpoints.{added_is_replayed, before_is_last, first_fit, next_fit, places_near, replay_is_within}
+use Rattle.meeting_laws.proofs.Checkpoints.{added_is_replayed, ascending_are_one, before_is_last, first_fit, next_are_these, next_fit, places_near, replay_is_within}
 use Rattle.meeting_laws.proofs.Moves.{moved_from, moved_later, moved_within}
 use Rattle.meeting_laws.proofs.laws_of_checkpoints.Goals as goal
 
@@ -25,3 +25,9 @@ returns-clause-later_places_move_alike c = moved_later
 
 pub returns-clause-replay_is_within : goal.returns-clause-replay_is_within
 returns-clause-replay_is_within c = replay_is_within
+
+pub returns-clause-next_are_these : goal.returns-clause-next_are_these
+returns-clause-next_are_these c = λ kept edit place some accepts fit. next_are_these kept edit some accepts fit place
+
+pub returns-clause-ascending_are_one : goal.returns-clause-ascending_are_one
+returns-clause-ascending_are_one c = ascending_are_one

@@ -1,7 +1,7 @@
 -- Checkpoints: they begin with the start, ascend, and each place is fewer than two spans after one.
-use Rattle.std.proofs.Common.{◌≡◌, ◌⊎◌, inl, inr, ⊎_elim, ℕ, zero, suc, ◌+◌, ◌-◌, ◌*◌, ◌/◌, ◌%◌, ◌<◌, ◌≤◌, max, Bool, true, false, cond, eqb, ◌&&◌, ◌||◌, leb, ltb, List, [], ◌∷◌, length, Some, Ok, slice_get, slice_index, refl, sym, ap, ap₂, subst, ◌∙◌, arith, length-set, mod-lt, mod-eq_of_lt, div-mul-le_self, div-add-mod'}
+use Rattle.std.proofs.Common.{◌≡◌, ◌⊎◌, inl, inr, ⊎_elim, ℕ, zero, suc, ◌+◌, ◌-◌, ◌*◌, ◌/◌, ◌%◌, ◌<◌, ◌≤◌, max, Bool, true, false, cond, eqb, ◌&&◌, ◌||◌, leb, ltb, List, [], ◌∷◌, Some, Ok, slice_get, refl, sym, ap, ap₂, subst, ◌∙◌, arith, length-set, mod-lt, mod-eq_of_lt, div-mul-le_self, div-add-mod'}
 use Rattle.std.specs.Prelude.{◌↔◌, All, AllPairs, filter}
-use Rattle.std.specs.List.{AllByRecursion, list_any, range_with_len}
+use Rattle.std.specs.List.{list_any, range_with_len}
 use Rattle.std.specs.List.Sorted.{IsStrictlyIncreasing}
 use Rattle.std.proofs.Math.Nat.{mul-mod_left}
 use Rattle.std.proofs.lemmas.Bool.{and_parts}
@@ -15,7 +15,7 @@ use Rattle.bench_types.specs.declared.step.Step.{Step}
 use Rattle.bench_types.specs.Session.{Session}
 use Rattle.list_orders.specs.Search.{numbers, has}
 use Rattle.list_orders.proofs.Filters.{All-has, All-weaker, All-filter, has-filter}
-use Rattle.list_orders.proofs.Stamped.{range_all, numbers_below, numbers_have}
+use Rattle.list_orders.proofs.Stamped.{numbers_below, numbers_have}
 use Rattle.order_laws.proofs.Selects.{list_any_at}
 use Rattle.bench_model.specs.Edits.{accepted, edited}
 use Rattle.bench_model.specs.Meeting.{CheckpointedSession, last_place, checkpoint_before, first_checkpoints, place_of, moved_place, is_compared, replayed_from, met, moved_checkpoints, segment_end, is_added, next_checkpoints}

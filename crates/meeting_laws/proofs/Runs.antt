@@ -1,6 +1,7 @@
 -- Lists of steps from equal states: equal replies, running tasks, tallies and states.
-use Rattle.std.proofs.Common.{◌≡◌, ℕ, ◌≤◌, List, [], ◌∷◌, length, take, refl, sym, ap, ap₂, subst, ◌∙◌, arith}
-use Rattle.std.specs.Prelude.{All}
+use Rattle.std.proofs.Common.{◌≡◌, ℕ, ◌≤◌, List, [], ◌∷◌, ◌++◌, length, take, refl, sym, ap, ap₂, subst, ◌∙◌, arith}
+use Rattle.std.specs.Prelude.{All, fold}
+use Rattle.std.proofs.lemmas.List.Sums.{fold-append}
 use Rattle.std.proofs.lemmas.List.Elements.{All-head, All-tail, All-take}
 use Rattle.bench_types.specs.declared.kernel_data.Settings.{Settings}
 use Rattle.bench_types.specs.declared.reply.Reply.{Reply}
@@ -12,12 +13,12 @@ use Rattle.bench_model.specs.Lists.{View, list_queues}
 use Rattle.bench_model.specs.Session.{step_of, state_after, trace}
 use Rattle.bench_model.specs.Sound.{IsSound}
 use Rattle.bench_model.specs.Table.{Table, stamp_queues}
-use Rattle.bench_model.specs.Tallied.{tallied, moment_of, tallied_after, first_tallies, first_tally, part_tallies}
+use Rattle.bench_model.specs.Tallied.{tallied, moment_of, tallied_after, first_tallies, first_tally, part_tallies, added}
 use Rattle.bench_model.specs.Tally.{TaskTally}
-use Rattle.session_laws.proofs.Tallies.{tallied_seen, length_each}
+use Rattle.session_laws.proofs.Tallies.{tallied_seen, length_each, parts_added}
 use Rattle.step_laws.proofs.Nears.{after_near}
 use Rattle.step_laws.proofs.Steps.{after_sound, equal_after}
-use Rattle.meeting_laws.specs.RunLaws.{RunAlike}
+use Rattle.meeting_laws.specs.RunLaws.{RunAlike, tallies_in_turn}
 
 -- ---- one step
 
@@ -122,3 +123,17 @@ run_alike a b steps first second same all =
       tallies = parts_alike steps a b alike all;
       states = λ place. states_alike (take place steps) a b alike (All-take (IsCheckedStep a.settings) place steps all);
     }
+
+-- ---- steps that follow others
+
+pub traces_follow : (table : Table) (first second : List Step) → trace table (first ++ second) ≡ trace table first ++ trace (state_after table first) second
+traces_follow table [] second = refl
+traces_follow table (step ∷ first) second = let outcome = step_of step table in ap (λ rest. (outcome.0, running outcome.1.control) ∷ rest) (traces_follow outcome.1 first second)
+
+pub segments_add_up : (settings : Settings) (table : Table) (first : List Step) (segments : List (List Step)) → part_tallies settings table (fold (λ steps segment. steps ++ segment) first segments) ≡ fold added (part_tallies settings table first) (tallies_in_turn settings (state_after table first) segments)
+segments_add_up settings table first [] = refl
+segments_add_up settings table first (second ∷ segments) =
+    let after_both = fold-append (λ table step. (step_of step table).1) table first second in
+    segments_add_up settings table (first ++ second) segments
+    ∙ ap (λ counted. fold added counted (tallies_in_turn settings (state_after table (first ++ second)) segments)) (parts_added settings table first second)
+    ∙ ap (λ left. fold added (added (part_tallies settings table first) (part_tallies settings (state_after table first) second)) (tallies_in_turn settings left segments)) after_both

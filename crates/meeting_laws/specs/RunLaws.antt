@@ -1,5 +1,6 @@
 -- The laws of lists of steps from equal states. Each is a clause of a public function.
-use Rattle.std.specs.Prelude.{◌≡◌, ℕ, ◌+◌, ◌≤◌, List, take, drop, All}
+use Rattle.std.specs.Prelude.{◌≡◌, ℕ, ◌+◌, ◌≤◌, List, [], ◌∷◌, ◌++◌, fold, take, drop, All}
+use Rattle.bench_types.specs.declared.kernel_data.Settings.{Settings}
 use Rattle.bench_types.specs.declared.header.Header.{Header}
 use Rattle.bench_types.specs.declared.step.Step.{Step}
 use Rattle.bench_types.specs.Session.{Session, IsSession}
@@ -10,7 +11,8 @@ use Rattle.bench_model.specs.Meeting.{last_place}
 use Rattle.bench_model.specs.Session.{state_after, trace, state_at, reply_at, running_at}
 use Rattle.bench_model.specs.Sound.{IsSound}
 use Rattle.bench_model.specs.Table.{Table}
-use Rattle.bench_model.specs.Tallied.{part_tallies}
+use Rattle.bench_model.specs.Tallied.{part_tallies, added}
+use Rattle.bench_model.specs.Tally.{TaskTally}
 
 -- from both tables the steps have the same replies, the same running tasks after each and the same
 -- tallies, and lead to equal states at each place
@@ -25,6 +27,27 @@ abbrev pub EqualRunAlike : Type 0
 EqualRunAlike =
     (a b : Table) (steps : List Step) → IsSound a → IsSound b → Same a b
     → All (IsCheckedStep a.settings) steps → RunAlike a b steps
+
+-- the outcomes of steps that follow others are those from the state that these left
+abbrev pub TracesFollow : Type 0
+TracesFollow =
+    (table : Table) (first second : List Step)
+    → trace table (first ++ second) ≡ trace table first ++ trace (state_after table first) second
+
+-- the tallies of segments, each from the state that the one before it left
+abbrev pub tallies_in_turn : Settings → Table → List (List Step) → List (List TaskTally)
+tallies_in_turn settings table [] = []
+tallies_in_turn settings table (segment ∷ segments) =
+    part_tallies settings table segment
+    ∷ tallies_in_turn settings (state_after table segment) segments
+
+-- the tallies of a session are those of its first segment, with each later one's added to them
+abbrev pub SegmentsAddUp : Type 0
+SegmentsAddUp =
+    (settings : Settings) (table : Table) (first : List Step) (segments : List (List Step)) →
+    part_tallies settings table (fold (λ steps segment. steps ++ segment) first segments)
+    ≡ fold added (part_tallies settings table first)
+    (tallies_in_turn settings (state_after table first) segments)
 
 -- every state of a session is sound
 abbrev pub StatesAreSound : Type 0

@@ -4,13 +4,17 @@
 
 ghost use Rattle.meeting_laws.specs.CheckpointLaws.{FirstCheckpointsFit, NextCheckpointsFit, PlacesAreNear, NextAreThese, AddedIsReplayed, AscendingAreOne, CheckpointBeforeIsLast, MovedPlacesAreWithin, LaterPlacesMoveAlike, ReplayIsWithin};
 ghost use Rattle.meeting_laws.specs.MeetingLaws.{StepsBeforeStay, StepsAfterMove, BeforeIsUntouched, MeetingLasts, MetIsFirstEnd, FirstEndIsMet};
-ghost use Rattle.meeting_laws.specs.RunLaws.{EqualRunAlike, StatesAreSound, StatesGoOn, EqualStandAlike, EqualGoOnAlike};
+ghost use Rattle.meeting_laws.specs.RunLaws.{EqualRunAlike, TracesFollow, SegmentsAddUp, StatesAreSound, StatesGoOn, EqualStandAlike, EqualGoOnAlike};
 
 /// Lists of steps.
 pub fn laws_of_runs()
     // From equal tables checked steps have equal replies, running tasks and tallies, and lead to
     // equal states at each place.
     ensures equal_run_alike { EqualRunAlike }
+    // Replies and running tasks of steps that follow others are those from the state that these
+    // left, and the tallies of segments add up to those of all.
+    ensures traces_follow { TracesFollow }
+    ensures segments_add_up { SegmentsAddUp }
     // Every state of a session is sound, and a later one is that after the steps between.
     ensures states_are_sound { StatesAreSound }
     ensures states_go_on { StatesGoOn }

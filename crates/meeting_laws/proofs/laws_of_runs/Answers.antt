@@ -1,5 +1,5 @@
 use Rattle.meeting_laws.proofs.Going.{go_on_alike, sound_at, stand_alike, state_later}
-use Rattle.meeting_laws.proofs.Runs.{run_alike}
+use Rattle.meeting_laws.proofs.Runs.{run_alike, segments_add_up, traces_follow}
 use Rattle.meeting_laws.proofs.laws_of_runs.Goals as goal
 
 pub returns-clause-equal_run_alike : goal.returns-clause-equal_run_alike
@@ -16,3 +16,9 @@ returns-clause-states_go_on c = state_later
 
 pub returns-clause-equal_stand_alike : goal.returns-clause-equal_stand_alike
 returns-clause-equal_stand_alike c = stand_alike
+
+pub returns-clause-traces_follow : goal.returns-clause-traces_follow
+returns-clause-traces_follow c = traces_follow
+
+pub returns-clause-segments_add_up : goal.returns-clause-segments_add_up
+returns-clause-segments_add_up c = segments_add_up

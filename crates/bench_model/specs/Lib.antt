@@ -8,12 +8,14 @@ pub mod History
 pub mod Holds
 pub mod Lists
 pub mod Looks
+pub mod Meeting
 pub mod MutexParts
 pub mod Mutexes
 pub mod Notes
 pub mod Notifying
 pub mod PriorityAffinity
 pub mod Refusals
+pub mod SameTest
 pub mod Seek
 pub mod Session
 pub mod Sound

@@ -1,6 +1,7 @@
 pub mod Alike
 pub mod EditedSessions
 pub mod SameOrders
+pub mod SameTests
 pub mod Shapes
 pub mod Tallies
 pub mod Traces

@@ -1,5 +1,5 @@
 -- Counting a step and adding two parts keep the shape of tallies, and those of a session have the shape of its settings.
-use Rattle.std.proofs.Common.{◌≡◌, ℕ, ◌+◌, ◌<◌, List, [], ◌∷◌, length, map, sym, ap, ◌∙◌, refl}
+use Rattle.std.proofs.Common.{◌≡◌, ℕ, ◌+◌, List, [], ◌∷◌, length, map, sym, ap, ◌∙◌, refl}
 use Rattle.std.proofs.lemmas.List.FromFn.{length-range_with_len}
 use Rattle.std.proofs.lemmas.Simd.{splat_is_map}
 use Rattle.bench_types.specs.declared.header.Header.{Header}

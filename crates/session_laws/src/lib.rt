@@ -2,7 +2,7 @@
 //! function does nothing: its contract is the laws, one a clause.
 #![tactic(auto)]
 
-ghost use Rattle.session_laws.specs.AlikeLaws.{SameIsAlike};
+ghost use Rattle.session_laws.specs.AlikeLaws.{SameIsAlike, SameIsTested};
 ghost use Rattle.session_laws.specs.EditLaws.{EditKeepsSession, EditKeepsRoom};
 ghost use Rattle.session_laws.specs.TallyLaws.{TalliesAreStepwise, PartsAddUp, CountsAreFew, CountingKeepsShape, AddingKeepsShape, TalliesFitSettings, TallySimulates};
 
@@ -19,7 +19,9 @@ pub fn laws_of_edits()
 pub fn laws_of_equality()
     // What can be seen of two sound tables, sorted into lists, is equal exactly where the tables
     // are alike pair by pair.
-    ensures { SameIsAlike }
+    ensures same_is_alike { SameIsAlike }
+    // The test of it that computes tells just whether they are equal.
+    ensures same_is_tested { SameIsTested }
 {}
 
 /// The tallies of a session.

@@ -5,6 +5,7 @@
 ghost use Rattle.worked_examples.specs.ChangeExamples.{WorkedChanges};
 ghost use Rattle.worked_examples.specs.Examples.{WorkedSessions, TimedSessions, EndlessWaits, EqualTables, AlikeTables};
 ghost use Rattle.worked_examples.specs.HoldExamples.{WorkedHolds, WorkedUntils};
+ghost use Rattle.worked_examples.specs.MeetingExamples.{WorkedOpenings, WorkedMeetings, WorkedCheckpoints};
 ghost use Rattle.worked_examples.specs.MutexExamples.{WorkedMutexes};
 ghost use Rattle.worked_examples.specs.NoteExamples.{WorkedNotes, WorkedWaits, WorkedTakes, WorkedClears, WorkedNotifies, WorkedCalls};
 ghost use Rattle.worked_examples.specs.SeekExamples.{AskedCores, SoughtCores, WorkedChoices};
@@ -95,4 +96,15 @@ pub fn examples_of_holds()
 pub fn examples_of_tallies()
     // The definitions give the tallies that were worked out by hand.
     ensures { WorkedTallies }
+{}
+
+/// Edits of sessions with checkpoints: which steps are replayed for them, and where the checkpoints
+/// lie after them.
+pub fn examples_of_meetings()
+    // The definitions give the checkpoints at the opening that were worked out by hand.
+    ensures worked_openings { WorkedOpenings }
+    // The replay of an edit begins and ends where it was worked out by hand.
+    ensures worked_meetings { WorkedMeetings }
+    // The checkpoints after edits, as they were worked out by hand.
+    ensures worked_checkpoints { WorkedCheckpoints }
 {}

@@ -1,0 +1,24 @@
+use Rattle.meeting_laws.proofs.Going.{go_on_alike, sound_at, stand_alike, state_later}
+use Rattle.meeting_laws.proofs.Runs.{run_alike, segments_add_up, traces_follow}
+use Rattle.meeting_laws.proofs.laws_of_runs.Goals as goal
+
+pub returns-clause-equal_run_alike : goal.returns-clause-equal_run_alike
+returns-clause-equal_run_alike c = run_alike
+
+pub returns-clause-equal_go_on_alike : goal.returns-clause-equal_go_on_alike
+returns-clause-equal_go_on_alike c = go_on_alike
+
+pub returns-clause-states_are_sound : goal.returns-clause-states_are_sound
+returns-clause-states_are_sound c = sound_at
+
+pub returns-clause-states_go_on : goal.returns-clause-states_go_on
+returns-clause-states_go_on c = state_later
+
+pub returns-clause-equal_stand_alike : goal.returns-clause-equal_stand_alike
+returns-clause-equal_stand_alike c = stand_alike
+
+pub returns-clause-traces_follow : goal.returns-clause-traces_follow
+returns-clause-traces_follow c = traces_follow
+
+pub returns-clause-segments_add_up : goal.returns-clause-segments_add_up
+returns-clause-segments_add_up c = segments_add_up

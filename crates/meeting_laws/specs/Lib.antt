@@ -1,0 +1,3 @@
+pub mod CheckpointLaws
+pub mod MeetingLaws
+pub mod RunLaws

@@ -1,0 +1,85 @@
+-- The laws of lists of steps from equal states. Each is a clause of a public function.
+use Rattle.std.specs.Prelude.{◌≡◌, ℕ, ◌+◌, ◌≤◌, List, [], ◌∷◌, ◌++◌, fold, take, drop, All}
+use Rattle.bench_types.specs.declared.kernel_data.Settings.{Settings}
+use Rattle.bench_types.specs.declared.header.Header.{Header}
+use Rattle.bench_types.specs.declared.step.Step.{Step}
+use Rattle.bench_types.specs.Session.{Session, IsSession}
+use Rattle.bench_types.specs.Step.{IsCheckedStep}
+use Rattle.bench_model.specs.Equal.{Same, StandsFor}
+use Rattle.bench_model.specs.Lists.{View}
+use Rattle.bench_model.specs.Meeting.{last_place}
+use Rattle.bench_model.specs.Session.{state_after, trace, state_at, reply_at, running_at}
+use Rattle.bench_model.specs.Sound.{IsSound}
+use Rattle.bench_model.specs.Table.{Table}
+use Rattle.bench_model.specs.Tallied.{part_tallies, added}
+use Rattle.bench_model.specs.Tally.{TaskTally}
+
+-- from both tables the steps have the same replies, the same running tasks after each and the same
+-- tallies, and lead to equal states at each place
+pub record RunAlike (a b : Table) (steps : List Step) : Type 0 where
+  pub outcomes : trace a steps ≡ trace b steps
+  pub tallies : part_tallies a.settings a steps ≡ part_tallies a.settings b steps
+  pub states :
+      (place : ℕ) → Same (state_after a (take place steps)) (state_after b (take place steps))
+
+-- from equal tables checked steps run alike
+abbrev pub EqualRunAlike : Type 0
+EqualRunAlike =
+    (a b : Table) (steps : List Step) → IsSound a → IsSound b → Same a b
+    → All (IsCheckedStep a.settings) steps → RunAlike a b steps
+
+-- the outcomes of steps that follow others are those from the state that these left
+abbrev pub TracesFollow : Type 0
+TracesFollow =
+    (table : Table) (first second : List Step)
+    → trace table (first ++ second) ≡ trace table first ++ trace (state_after table first) second
+
+-- the tallies of segments, each from the state that the one before it left
+abbrev pub tallies_in_turn : Settings → Table → List (List Step) → List (List TaskTally)
+tallies_in_turn settings table [] = []
+tallies_in_turn settings table (segment ∷ segments) =
+    part_tallies settings table segment
+    ∷ tallies_in_turn settings (state_after table segment) segments
+
+-- the tallies of a session are those of its first segment, with each later one's added to them
+abbrev pub SegmentsAddUp : Type 0
+SegmentsAddUp =
+    (settings : Settings) (table : Table) (first : List Step) (segments : List (List Step)) →
+    part_tallies settings table (fold (λ steps segment. steps ++ segment) first segments)
+    ≡ fold added (part_tallies settings table first)
+    (tallies_in_turn settings (state_after table first) segments)
+
+-- every state of a session is sound
+abbrev pub StatesAreSound : Type 0
+StatesAreSound =
+    (session : Session) (place : ℕ) → IsSession session
+    → IsSound (state_at session.header session.steps place)
+
+-- the state at a later place is that after the steps between the two
+abbrev pub StatesGoOn : Type 0
+StatesGoOn =
+    (header : Header) (steps : List Step) (place k : ℕ)
+    → state_at header steps (place + k)
+    ≡ state_after (state_at header steps place) (take k (drop place steps))
+
+-- a kernel that stands for a table stands for each sound table that is equal
+abbrev pub EqualStandAlike : Type 0
+EqualStandAlike =
+    (view : View) (a b : Table) → StandsFor view a → Same a b → IsSound b → StandsFor view b
+
+-- from these places on the sessions have equal states, equal replies and the same running tasks
+pub record GoOnAlike (old new : Session) (p q : ℕ) : Type 0 where
+  pub states :
+      (k : ℕ) → Same (state_at old.header old.steps (p + k)) (state_at new.header new.steps (q + k))
+  pub replies :
+      (k : ℕ) → reply_at old.header old.steps (p + k) ≡ reply_at new.header new.steps (q + k)
+  pub rows :
+      (k : ℕ) → running_at old.header old.steps (p + k) ≡ running_at new.header new.steps (q + k)
+
+-- two sessions whose states at two places are equal, and whose steps after them are the same, go on
+-- alike
+abbrev pub EqualGoOnAlike : Type 0
+EqualGoOnAlike =
+    (old new : Session) (p q : ℕ) → IsSession old → IsSession new → p ≤ last_place old
+    → q ≤ last_place new → Same (state_at old.header old.steps p) (state_at new.header new.steps q)
+    → drop p old.steps ≡ drop q new.steps → GoOnAlike old new p q

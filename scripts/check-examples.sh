@@ -154,7 +154,7 @@ awk '
         next
     }
     /^    \.\./ { gap = 1; next }
-    /^    (start |edit [0-9]+ |[0-9]+ |task [^ ]+ run )/ {
+    /^    (start |edit [0-9]+ |[0-9]+ (done|blocked|true|false|value|waited|until|isr|refused) |task [^ ]+ run )/ {
         look(output(named), cut(substr($0, 5)))
         first = gap = 0
     }

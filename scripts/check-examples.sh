@@ -1,7 +1,8 @@
 #!/usr/bin/env bash
 # Runs the built program over every document of examples/ and compares its whole output with the file beside it: NAME.out for
-# `replay`, and NAME.tally, where there is one, for `replay --tally`. Then it looks for what README.md and docs/ show of these
-# documents and outputs: each such line has to stand in the file. One line where something differs, then a total; status 1 then.
+# `replay`, and NAME.tally, where there is one, for `replay --tally`. Then it looks at what README.md and docs/ show of
+# these documents and outputs, and at the texts and refusals of docs/FORMATS.md. One line where something differs, then a total;
+# status 1 where something does.
 # With --write it writes the outputs anew instead; look at what `git diff` shows before you keep them.
 set -u
 export LC_ALL=C
@@ -163,6 +164,51 @@ awk '
         exit wrong > 0 || held == 0
     }
 ' "${files[@]}" README.md docs/*.md || bad=$((bad + 1))
+
+# The texts of the two tables of docs/FORMATS.md, "Paths", that the program reads. A row is named by its first cell.
+held=0
+row() { # CELL TEXT..: each text gets the refusal of that row
+    local cell="$1" want got text
+    shift
+    want="$(grep -F -- "| $cell | \`refused " docs/FORMATS.md | sed 's/.* | `\(.*\)` |$/\1/')"
+    held=$((held + 1))
+    for text in "$@"; do
+        got="$(printf '%s' "$text" | "$program" replay)"
+        [ "$got" = "$want" ] || wrong "docs/FORMATS.md: $cell: '$got' and not '$want'"
+    done
+}
+with() { sed "$1" examples/first-run.json; } # SCRIPT OF SED: the example with this change
+first() { with "s/{\"do\": \"delay\".*}/$1/"; }
+second() { with "0,/{\"do\": \"switch\", \"core\": 0}/s//$1/"; }
+edits() { printf '{"session": %s, "edits": [%s]}' "$(cat examples/first-run.json)" "$1"; }
+
+row '`[]`' '[]'
+row '`{}`' '{}'
+row 'the example with `"cores": "2"`, or without `cores`' "$(with 's/"cores": 2/"cores": "2"/')" "$(with '/"cores"/d')"
+row 'with `"tasks": {}`' "$(with '/"tasks"/,/\]/c"tasks": {},')"
+row 'with `7` as the second task' "$(with 's/{"name": "B".*}/7/')"
+row 'with `"mask": null` in the first task' "$(with '/"name": "A"/s/"mask": 3/"mask": null/')"
+row 'with a member `core` in the first task' "$(with '/"name": "A"/s/}/, "core": 0}/')"
+row 'with `{"do": "sleep"}` or `{}` as the second step' "$(second '{"do": "sleep"}')" "$(second '{}')"
+row 'with `{"do": "switch"}` as the second step' "$(second '{"do": "switch"}')"
+row 'with `{"do": "tick", "core": 0}` as the third step' "$(with 's/{"do": "tick"}/{"do": "tick", "core": 0}/')"
+isr='{"do": "isr_notify", "core": 0, "to": "A", "action":'
+row "with \`$isr \"add\", \"value\": 1}\` as the first step" "$(first "$isr \"add\", \"value\": 1}")"
+row 'the same with `"action": "set"` and no `value`' "$(first "$isr \"set\"}")"
+row 'the same with `"action": "increment"` and a `value`' "$(first "$isr \"increment\", \"value\": 1}")"
+until='{"do": "delay_until", "core": 0, "by": "A", "inc": 10, "ticks": 10}'
+row "with \`$until\` as the first step" "$(first "$until")"
+row 'with a member `note` beside `steps`' "$(with 's/"steps"/"note": 0, &/')"
+row '`{"session": {}, "edits": []}`' '{"session": {}, "edits": []}'
+row 'the example as `session`, and no `edits`' "$(edits '' | sed 's/, "edits": \[\]//')"
+row 'with `{"edit": "remove"}` as the only edit' "$(edits '{"edit": "remove"}')"
+row 'with an `insert` whose step is `{"do": "switch"}`' "$(edits '{"edit": "insert", "at": 0, "step": {"do": "switch"}}')"
+both='{"edit": "remove", "at": 0, "step": {"do": "tick"}}'
+row "with \`$both\`" "$(edits "$both")"
+row 'with a member `format` beside `session` and `edits`' "$(edits '' | sed 's/{"session"/{"format": 1, "session"/')"
+rows="$(sed -n '/^## Paths/,/^In a rig document/p' docs/FORMATS.md | grep -c '| `refused ')"
+[ "$held" = "$rows" ] || wrong "docs/FORMATS.md: $rows texts with their refusals, of which $held are tried"
+printf '%d texts with their refusals are tried of docs/FORMATS.md\n' "$held"
 
 printf '%d passed, %d failed\n' "$good" "$bad"
 [ "$bad" = 0 ]

@@ -13,7 +13,7 @@ from referencing import Registry, Resource
 
 SEED = 38
 ACCEPTED = {"session": 400, "bench": 400, "rig": 200}
-WRONG = {"session": 200, "bench": 170, "rig": 100}
+WRONG = {"session": 230, "bench": 100, "rig": 140}
 UNTELLABLE = {"session": 15, "bench": 15}
 NUMBERS = [0, 0, 1, 2, 3, 5, 7, 31, 4294967294, 4294967295]
 # The members of a step after `core` and `by`, or after `core` for an interrupt.
@@ -26,6 +26,7 @@ STEPS = {
     "finish": [], "hold_open": [], "hold_close": [],
 }
 ACTIONS = {"none": False, "set_bits": True, "increment": False, "set": True, "set_new": True}
+EDITS = ("insert", "remove", "replace", "change")
 NAMES = ["A", "B", "pump", "valve-2", "~", "!", "idle0", "\"quoted\"", "back\\slash", "fifteen_letters"]
 
 
@@ -73,8 +74,8 @@ def action(rng, head, kinds):
     return step
 
 
-def step(rng, head):
-    made = action(rng, head, list(STEPS))
+def step(rng, head, kinds=tuple(STEPS)):
+    made = action(rng, head, kinds)
     if made["do"] != "tick":
         made["core"] = rng.randrange(head["cores"])
     if made["do"] not in ("tick", "switch", "isr_notify"):
@@ -89,8 +90,8 @@ def mixed(rng, made):
     return {name: made[name] for name in names}
 
 
-def edit(rng, head):
-    kind = rng.choice(["insert", "remove", "replace", "change"])
+def edit(rng, head, kinds=EDITS):
+    kind = rng.choice(kinds)
     if kind == "change":
         task = rng.choice(head["tasks"])["name"]
         priority = rng.randrange(head["priorities"])
@@ -159,6 +160,44 @@ def damaged(rng, good):
     else:
         at(bad, path[:-1])[path[-1]] = wrong_value(rng, path, here)
     return bad
+
+
+def faults(rng, good):
+    """An object without each of its members, with each ill-typed, and with one more."""
+    for name in good:
+        yield {key: value for key, value in good.items() if key != name}
+        yield {**good, name: wrong_value(rng, (name,), good[name])}
+    yield {**good, "note": 0}
+
+
+def faults_of_value(good):
+    """A notification with each action, without its value or with one too many."""
+    if "action" in good:
+        bare = {key: value for key, value in good.items() if key != "value"}
+        for word, has_value in ACTIONS.items():
+            yield {**bare, "action": word, **({} if has_value else {"value": 1})}
+
+
+def faults_of_parts(rng, kind):
+    """Documents of which one step, edit, action, task or the outermost object has each fault."""
+    good = document(rng, kind)
+    head = {**header(rng), "mutexes": 2}
+    yield from faults(rng, good)
+    if kind == "session":
+        pieces = [step(rng, head, (do,)) for do in STEPS]
+        whole = lambda piece: {**head, "steps": [step(rng, head), piece, step(rng, head)]}
+        for bad in faults(rng, head["tasks"][0]):
+            yield {**head, "tasks": [bad] + head["tasks"][1:], "steps": []}
+    elif kind == "bench":
+        pieces = [edit(rng, head, (name,)) for name in EDITS]
+        whole = lambda piece: {"session": {**head, "steps": []}, "edits": [edit(rng, head), piece]}
+    else:
+        pieces = [action(rng, head, (do,)) for do in STEPS]
+        whole = lambda piece: {"session": {**head, "steps": []}, "limit": 5,
+                               "scripts": [[piece]] + [[]] * (head["cores"] - 1)}
+    for piece in pieces:
+        for bad in [*faults(rng, piece), *faults_of_value(piece)]:
+            yield whole(bad)
 
 
 def with_odd_number(rng, good):
@@ -253,10 +292,11 @@ def accepted(check, rng):
 
 def of_wrong_shape(check, rng):
     for kind, many in WRONG.items():
-        for _ in range(many):
-            bad = damaged(rng, document(rng, kind))
+        parts = list(faults_of_parts(rng, kind))
+        assert len(parts) <= many
+        for bad in parts + [damaged(rng, document(rng, kind)) for _ in range(many - len(parts))]:
             check.hold(kind, json.dumps(bad), "refused H2 ", False)
-        print("%d of wrong shape, %s" % (many, kind))
+        print("%d of wrong shape, %s, %d of them part by part" % (many, kind, len(parts)))
     for kind, many in UNTELLABLE.items():
         for _ in range(many):
             check.hold(kind, with_odd_number(rng, document(rng, kind)), "refused H2 ", True)

@@ -3,4 +3,4 @@ pub mod Frees
 mod Looks
 mod Moves
 pub mod Paths
-mod Places
+pub mod Places

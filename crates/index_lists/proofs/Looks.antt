@@ -1,6 +1,6 @@
 -- What is read off the fields: the list of an item, who is first, who is next.
-use Rattle.std.proofs.Common.{◌≡◌, ℕ, zero, suc, ◌+◌, ◌-◌, ◌<◌, ◌≤◌, ◌^◌, Bool, true, false, cond, not, eqb, ltb, List, [], ◌∷◌, ◌++◌, length, map, replicate, set, get_or, take, drop, Option, Some, None, unwrap_or, refl, sym, ap, subst, ◌∙◌, zero-add, arith}
-use Rattle.std.specs.List.{find, position_or_len, after_first, insert}
+use Rattle.std.proofs.Common.{◌≡◌, ℕ, zero, suc, ◌+◌, ◌-◌, ◌<◌, ◌≤◌, ◌^◌, Bool, true, false, cond, not, eqb, ltb, List, [], ◌∷◌, ◌++◌, length, map, replicate, set, get_or, take, drop, Option, Some, None, option_map, unwrap_or, refl, sym, ap, subst, ◌∙◌, zero-add, arith}
+use Rattle.std.specs.List.{find, position_or_len, after_first, insert, AllByRecursion}
 use Rattle.std.proofs.lemmas.Bool.Decides.{nat_tests}
 use Rattle.std.proofs.lemmas.List.{take-append-drop, get_or_past, get_or_read, get_or-map, length-map, ext_get_or}
 use Rattle.std.proofs.lemmas.Option.{unwrap_or-slice_get}
@@ -10,7 +10,7 @@ use Rattle.std.proofs.lemmas.List.FromFn.{length-range_with_len, get_or-range_wi
 use Rattle.list_orders.specs.Search.{numbers}
 use Rattle.index_lists.specs.declared.links.Link.{Link}
 use Rattle.index_lists.specs.declared.links.Home.{Home}
-use Rattle.index_lists.specs.Listed.{Listed, ListsView, items_of, has_item, without_item, list_of, first_of, next_of}
+use Rattle.index_lists.specs.Listed.{Listed, ListsView, items_of, has_item, without_item, list_of, key_of, first_of, next_of}
 use Rattle.index_lists.specs.Rings.{nexts, prevs, IsRing, first_or, last_or}
 use Rattle.index_lists.specs.Shape.{home_at, is_home, seen_lists, IsShape, StandFor}
 use Rattle.index_lists.proofs.Paths.{ring_after, ring_before, distinct_nil}
@@ -59,6 +59,15 @@ after-parts : (item key : ℕ) (xs ys : List Listed) → has_item item xs ≡ fa
 after-parts item key [] ys away = after_here (λ (e : Listed). eqb e.item item) (record { item = item; key = key }) ys (grind (arith, nat_tests))
 after-parts item key (x ∷ xs) ys away =
     after_later (λ (e : Listed). eqb e.item item) x (xs ++ record { item = item; key = key } ∷ ys) (grind (arith, away)) ∙ after-parts item key xs ys (grind (arith, away))
+
+-- what a search for an item finds
+find-parts : (item key : ℕ) (xs ys : List Listed) → has_item item xs ≡ false → find (λ (e : Listed). eqb e.item item) (xs ++ record { item = item; key = key } ∷ ys) ≡ Some (record { item = item; key = key })
+find-parts item key [] ys away = ap (λ b. cond b (Some (record { item = item; key = key })) (find (λ (e : Listed). eqb e.item item) ys)) (let itself : eqb item item ≡ true = grind (arith, nat_tests) in itself)
+find-parts item key (x ∷ xs) ys away = grind (arith, away, find-parts item key xs ys)
+
+All-middle : (P : Listed → Type 0) (xs : List Listed) (x : Listed) (ys : List Listed) → AllByRecursion P (xs ++ x ∷ ys) → P x
+All-middle P [] x ys all = all.0
+All-middle P (z ∷ xs) x ys all = All-middle P xs x ys all.1
 
 module _ (items : ℕ) (named named_back : List ℕ) (homes : List (Option Home)) (lens : List ℕ) (lists : List (List Listed)) (stand : StandFor items named named_back homes lens lists) where
   -- the list that holds an item, by its home
@@ -128,6 +137,23 @@ module _ (items : ℕ) (named named_back : List ℕ) (homes : List (Option Home)
 
   pub next_none : (item : ℕ) → home_at homes item ≡ None → next_of item view ≡ None
   next_none item is = ap (λ row. first_of (after_first (λ (e : Listed). eqb e.item item) row)) (found_at item (length lists) (no_place item is) ∙ get_or_past lists (length lists) [] (omega arith))
+
+  pub key_of_home : (item : ℕ) (home : Home) → home_at homes item ≡ Some home → key_of item view ≡ Some home.key
+  key_of_home item home is =
+      let l = home.list in
+      let low = stand.within item home is in
+      let cut = parted item (row_at lists l) (held_in item home is) in
+      let xs = cut.0 in
+      let ys = cut.1 in
+      let key = cut.2 in
+      let apart : has_item item xs ≡ false = left_apart items named named_back homes lens lists stand l item key xs ys low cut.3 in
+      let keyed = All-middle (λ e. home_at homes e.item ≡ Some (record { list = l; key = e.key })) xs (record { item = item; key = key }) ys (subst (AllByRecursion (λ e. home_at homes e.item ≡ Some (record { list = l; key = e.key }))) cut.3 (stand.keys l low)) in
+      ap (λ row. option_map (λ (e : Listed). e.key) (find (λ (e : Listed). eqb e.item item) row)) (found_at item l (held_place item home is) ∙ cut.3)
+      ∙ ap (option_map (λ (e : Listed). e.key)) (find-parts item key xs ys apart)
+      ∙ ap (option_map (λ (h : Home). h.key)) (sym keyed ∙ is)
+
+  pub key_of_none : (item : ℕ) → home_at homes item ≡ None → key_of item view ≡ None
+  key_of_none item is = ap (λ row. option_map (λ (e : Listed). e.key) (find (λ (e : Listed). eqb e.item item) row)) (found_at item (length lists) (no_place item is) ∙ get_or_past lists (length lists) [] (omega arith))
 
   -- ---- an item comes, an item goes
   pub came : (l item key k next : ℕ) → l < length lists → item < items → list_of item view ≡ None → k ≤ length (row_at lists l) → next ≡ first_or (items + l) (items_of (drop k (row_at lists l))) → (next < items + length lists) × (get_or named_back next 0 < items + length lists) × StandFor items (set (set named (get_or named_back next 0) item) item next) (set (set named_back item (get_or named_back next 0)) next item) (set homes item (Some (record { list = l; key = key }))) (set lens l (get_or lens l 0 + 1)) (set lists l (insert (row_at lists l) k (record { item = item; key = key })))

@@ -1,17 +1,19 @@
 -- The place of an item among the keys of a list, found from the front.
-use Rattle.std.proofs.Common.{◌≡◌, ℕ, ◌+◌, ◌<◌, ◌≤◌, Bool, true, false, cond, ltb, List, ◌∷◌, ◌++◌, length, get_or, take, drop, Option, Some, None, sym, ap, subst, ◌∙◌, arith}
+use Rattle.std.proofs.Common.{◌≡◌, ℕ, ◌+◌, ◌<◌, ◌≤◌, Bool, true, false, cond, eqb, ltb, List, ◌∷◌, ◌++◌, length, get_or, take, drop, Option, Some, None, sym, ap, subst, ◌∙◌, arith}
 use Rattle.std.specs.List.{prefix_len}
+use Rattle.std.specs.Option.{option_eq}
 use Rattle.std.proofs.lemmas.List.{drop_more, drop_all, get_or_past, get_or_read, get_or-map, take_all, take_more_same, take-append-drop}
 use Rattle.std.proofs.lemmas.List.Elements.{All-from_recursion}
 use Rattle.std.proofs.lemmas.Bool.Decides.{nat_tests}
+use Rattle.std.proofs.lemmas.Option.{same_Some}
 use Rattle.list_orders.proofs.Ranks.{IsRank}
 use Rattle.index_lists.specs.declared.links.Home.{Home}
-use Rattle.index_lists.specs.Listed.{Listed, items_of, has_item, first_of, lowest_first}
+use Rattle.index_lists.specs.Listed.{Listed, items_of, has_item, key_of, first_of, lowest_first}
 use Rattle.index_lists.specs.Rings.{IsRing, first_or}
 use Rattle.index_lists.specs.Shape.{home_at, StandFor}
 use Rattle.index_lists.proofs.Paths.{ring_next}
 use Rattle.index_lists.proofs.Fields.{row_at, item_low, lens_at, lens_length}
-use Rattle.index_lists.proofs.Looks.{item_or_none}
+use Rattle.index_lists.proofs.Looks.{item_or_none, key_of_home}
 use Rattle.index_lists.proofs.Moves.{items_of-append, has-parts}
 
 abbrev pub none : Listed
@@ -106,3 +108,15 @@ module _ (items : ℕ) (named named_back : List ℕ) (homes : List (Option Home)
   -- the node of a place is the item there
   pub node_item : first_or (items + l) (items_of (drop i (row_at lists l))) ≡ get_or (items_of (row_at lists l)) i 0
   node_item = node_here items named named_back homes lens lists stand l i low within ∙ sym (get_or-map (λ (e : Listed). e.item) (row_at lists l) i none 0 within)
+
+  -- the entry's key is that of its item
+  pub key_here : key_of (get_or (row_at lists l) i none).item (record { items = items; lists = lists }) ≡ Some (get_or (row_at lists l) i none).key
+  key_here =
+      let entry = get_or (row_at lists l) i none in
+      key_of_home items named named_back homes lens lists stand entry.item (record { list = l; key = entry.key }) (home_here items named named_back homes lens lists stand l i low within)
+
+pub same_entry : (a b : Listed) → a.item ≡ b.item → Some a.key ≡ Some b.key → a ≡ b
+same_entry a b item key = ap (λ n. record { item = n; key = a.key }) item ∙ ap (λ k. record { item = b.item; key = k }) (same_Some a.key b.key key)
+
+pub same_keys : (a b : Option ℕ) (x y : ℕ) → a ≡ Some x → b ≡ Some y → option_eq eqb a b ≡ eqb x y
+same_keys a b x y here there = ap (λ o. option_eq eqb o b) here ∙ ap (option_eq eqb (Some x)) there

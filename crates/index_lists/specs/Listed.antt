@@ -1,5 +1,5 @@
 -- Lists of items with keys, as the callers of `Lists` see them.
-use Rattle.std.specs.Prelude.{ℕ, List, [], ◌∷◌, Bool, not, ◌==◌, nat_le, Option, Some, None, map, filter, find, unwrap_or, replicate, slice_index_or, slice_set}
+use Rattle.std.specs.Prelude.{ℕ, List, [], ◌∷◌, Bool, not, ◌==◌, nat_le, Option, Some, None, map, filter, find, option_map, unwrap_or, replicate, slice_index_or, slice_set}
 use Rattle.std.specs.List.{list_any, position, after_first}
 
 -- an item in a list
@@ -32,6 +32,12 @@ has_item item list = list_any (λ entry. entry.item == item) list
 -- the list that the item stands in
 abbrev pub list_of : ℕ → ListsView → Option ℕ
 list_of item view = position (has_item item) view.lists
+
+-- the key of the item in its list
+abbrev pub key_of : ℕ → ListsView → Option ℕ
+key_of item view =
+    option_map (λ entry. entry.key)
+    (find (λ entry. entry.item == item) (unwrap_or (find (has_item item) view.lists) []))
 
 -- the list without the item
 abbrev pub without_item : ℕ → List Listed → List Listed

@@ -1,7 +1,7 @@
 ghost use Rattle.std.specs.Prelude.{◌≡◌, ◌↔◌, ℕ, ◌+◌, ◌<◌, ◌≤◌, ◌^◌, ◌∷◌, ◌++◌, [], Some, None, nat_lt, if◌then◌else◌, length, map, drop, slice_index, IsTrue, IfOk, IfSome, nat_le};
 ghost use Rattle.std.specs.List.{prefix_len, insert};
 ghost use Rattle.list_orders.specs.Search.{placed, ranked};
-ghost use Rattle.index_lists.specs.Listed.{empty_lists, list_at, with_list, list_of, without_item, items_of, first_of, next_of, lowest_first};
+ghost use Rattle.index_lists.specs.Listed.{empty_lists, list_at, with_list, list_of, key_of, without_item, items_of, first_of, next_of, lowest_first};
 ghost use Rattle.index_lists.specs.Rings.{first_or};
 
 use crate::links::{Home, Link, link_before, lone_nodes, no_homes, no_lens, unlink};
@@ -142,6 +142,42 @@ impl Lists {
             Some(home) => Some(home.list),
             None => None,
         }
+    }
+
+    /// The key of the item in its list; none where it is in none.
+    pub fn key_of(&self, item: u32) -> Option<u64>
+        requires { item < self.now.items }
+        ensures { result ≡ key_of item self.now }
+    {
+        match self.homes[item as usize] {
+            Some(home) => Some(home.key),
+            None => None,
+        }
+    }
+
+    /// Whether the list has the same items with the same keys, in the same order, as a list of the
+    /// other.
+    pub fn has_same_entries(&self, list: u32, other: &Self, other_list: u32) -> bool
+        requires one { list < length self.now.lists }
+        requires other { other_list < length other.now.lists }
+        ensures { IsTrue result ↔ (list_at self.now list ≡ list_at other.now other_list) }
+    {
+        if self.len(list) != other.len(other_list) {
+            return false;
+        }
+        let mut mine = self.links[self.end_of(list) as usize].next;
+        let mut theirs = other.links[other.end_of(other_list) as usize].next;
+        for _step in 0..self.len(list) {
+            if theirs != mine {
+                return false;
+            }
+            if self.key_of(mine) != other.key_of(theirs) {
+                return false;
+            }
+            mine = self.links[mine as usize].next;
+            theirs = other.links[theirs as usize].next;
+        }
+        true
     }
 
     /// Whether the list has the same items in both, in the same order.

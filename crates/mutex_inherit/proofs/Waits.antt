@@ -136,5 +136,5 @@ module _ (t n : ℕ) (hs : List (Option ℕ)) (view : ListsView) (part : MutexPa
   pub same_groups : part.holders ≡ part'.holders → ((k : ℕ) → k < length hs → filter (λ w. eqb w.wait.mutex k) part.waiters ≡ filter (λ w. eqb w.wait.mutex k) part'.waiters) → part.waiters ≡ part'.waiters
   same_groups holders same =
       let sized : length view.lists ≡ length view'.lists = shape.each ∙ ap (λ (p : MutexPart). length p.holders) is ∙ ap length holders ∙ sym (ap (λ (p : MutexPart). length p.holders) is') ∙ sym shape'.each in
-      let rows : view.lists ≡ view'.lists = ext_get_or view.lists view'.lists the_row sized (λ k low. same_row n k (row_at view.lists k) (row_at view'.lists k) (shape.waiting.keys k) (waiting'.keys k) (sym (group k) ∙ same k (omega (arith, low, shape.each)) ∙ group' k)) in
+      let rows : view.lists ≡ view'.lists = ext_get_or the_row view.lists view'.lists sized (λ k low. same_row n k (row_at view.lists k) (row_at view'.lists k) (shape.waiting.keys k) (waiting'.keys k) (sym (group k) ∙ same k (omega (arith, low, shape.each)) ∙ group' k)) in
       sym (ap (λ (p : MutexPart). p.waiters) is) ∙ ap (waiters_from n 0) rows ∙ seen'

@@ -17,4 +17,4 @@ loop-mutex-preserved c = λ k below.
 
 pub returns : goal.returns
 returns c =
-    (λ yes. same_groups _ _ _ c.self.inside.lists _ c.self.view_is _ _ _ c.other.inside.lists _ c.other.view_is c.self.invariant c.other.invariant c.requires.priorities c.requires.holders (λ k low. c.loop-mutex.invariant k (omega (arith, low, c.loop-mutex-test.false, c.loop-mutex.auto.mutex-end, c.len.ensures))), λ same. refl)
+    (λ yes. same_groups _ _ _ c.self.inside.lists _ c.self.view_is _ _ _ c.other.inside.lists _ c.other.view_is c.self.invariant c.other.invariant c.requires.priorities c.requires.holders (λ k low. c.loop-mutex.invariant k (omega (arith, low, c.loop-mutex-test.false, c.loop-mutex.auto.mutex-end, c.len-mutex-end.ensures))), λ same. refl)

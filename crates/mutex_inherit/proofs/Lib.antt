@@ -1,3 +1,3 @@
-pub mod Groups
 pub mod Raises
+mod Rows
 pub mod Waits

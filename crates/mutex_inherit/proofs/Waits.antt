@@ -1,91 +1,140 @@
--- What a list of waiters in the order of blocking shows when one comes and one goes, and what it says of a task.
-use Rattle.std.proofs.Common.{◌≡◌, ℕ, ◌<◌, ◌^◌, Bool, true, false, cond, not, eqb, ◌||◌, List, [], ◌∷◌, ◌++◌, map, replicate, Option, Some, None, refl, sym, ap, subst, ◌∙◌, arith}
-use Rattle.std.specs.Prelude.{option_map}
+-- What the fields of the mutexes show.
+use Rattle.std.proofs.Common.{◌≡◌, ◌≢◌, ℕ, ◌+◌, ◌-◌, ◌<◌, ◌≤◌, ◌^◌, Bool, true, eqb, List, [], ◌∷◌, map, replicate, length, get_or, Option, Some, None, option_map, refl, sym, ap, subst, ◌∙◌, zero-add, arith}
 use Rattle.std.specs.Option.{ForSome}
-use Rattle.std.specs.List.{find, All, IsDistinct, AllByRecursion}
-use Rattle.std.proofs.lemmas.List.{length-replicate}
-use Rattle.std.proofs.lemmas.List.Elements.{All-nil, All-replicate, recursion_from_All}
+use Rattle.std.specs.List.{filter, find}
+use Rattle.std.proofs.lemmas.List.{length-replicate, ext_get_or}
+use Rattle.std.proofs.lemmas.List.Elements.{All-replicate}
 use Rattle.std.proofs.lemmas.Option.{same_Some}
+use Rattle.bench_types.specs.declared.kernel_data.MutexWait.{MutexWait}
 use Rattle.bench_types.specs.declared.kernel_data.Waiter.{Waiter}
-use Rattle.list_orders.specs.Search.{ranked, without, has}
-use Rattle.bench_model.specs.Lists.{waits_first, without_waiter, first_of}
+use Rattle.list_orders.specs.Search.{placed}
+use Rattle.index_lists.specs.Listed.{Listed, ListsView, empty_lists, with_list, items_of, list_of, key_of, without_item, lowest_first, first_of as first_item}
+use Rattle.bench_model.specs.Lists.{without_waiter, first_of}
 use Rattle.bench_model.specs.MutexParts.{with_waiter, wait_of}
-use Rattle.list_orders.proofs.Filters.{filter-map}
-use Rattle.list_orders.proofs.Ranks.{ranked-push, filter-ranked, All-ranked}
-use Rattle.bench_model.proofs.Ranks.{waits_first-IsRank}
-use Rattle.list_orders.proofs.SoleEntries.{each_entry, find-ranked}
-use Rattle.list_orders.specs.Listings.{IsListing}
-use Rattle.mutex_inherit.specs.Parts.{MutexPart, seen_mutexes, free_mutexes}
-use Rattle.mutex_inherit.specs.Shape.{IsMutexShape}
+use Rattle.mutex_inherit.specs.Parts.{MutexPart, waiter_at, waiters_from, tasks_for, seen_mutexes, free_mutexes}
+use Rattle.mutex_inherit.specs.Shape.{AreKeys, AreWaiters, IsMutexShape}
+use Rattle.mutex_inherit.proofs.Rows.{row_at, no_waiters, waiters_none, of_list, list_tasks, first_waiting, waiters_without, waiters_with, waits_in, same_row, same_rows, first_key}
 
-abbrev task_of : Waiter → ℕ
-task_of waiter = waiter.task
+abbrev part_of : ℕ → ℕ → List (Option ℕ) → List Waiter → MutexPart
+part_of tasks priorities holders waiters = record { tasks = tasks; priorities = priorities; holders = holders; waiters = waiters }
 
-abbrev part_from : ℕ → ℕ → List (Option ℕ) → List Waiter → MutexPart
-part_from tasks priorities holders waiters = record { tasks = tasks; priorities = priorities; holders = holders; waiters = waiters }
+abbrev waiter_from : ℕ → ℕ → ℕ → Waiter
+waiter_from task mutex priority = record { task = task; wait = record { mutex = mutex; priority = priority } }
 
 abbrev the_none : Option ℕ
 the_none = None
 
+abbrev the_row : List Listed
+the_row = []
+
 -- the start
-pub free_shape : (tasks priorities mutexes places : ℕ) → mutexes < 2 ^ 32 → places ≡ tasks → IsMutexShape tasks priorities (replicate mutexes None) [] places
-unfolding IsDistinct
-free_shape tasks priorities mutexes places few room = record {
+pub free_shape : (tasks priorities mutexes : ℕ) → mutexes < 2 ^ 32 → IsMutexShape tasks priorities (replicate mutexes None) (empty_lists tasks mutexes)
+free_shape tasks priorities mutexes few = record {
   few_mutexes = omega (arith, length-replicate mutexes (the_none), few);
   held_by_tasks = All-replicate (λ holder. ForSome holder (λ task. task < tasks)) mutexes None (λ task is. absurd (cc (is)));
-  waiting_tasks = record { below = All-nil (λ i. i < tasks); once = tt };
-  waiting_priorities = All-nil (λ (waiter : Waiter). waiter.wait.priority < priorities);
-  room = omega (arith, room);
+  items = refl;
+  each = length-replicate mutexes the_row ∙ sym (length-replicate mutexes the_none);
+  waiting = waiters_none priorities mutexes;
 }
 
-pub seen_free_mutexes : (tasks priorities mutexes : ℕ) → seen_mutexes tasks priorities (replicate mutexes None) [] ≡ free_mutexes tasks priorities mutexes
-unfolding ranked
-seen_free_mutexes tasks priorities mutexes = refl
+pub seen_free_mutexes : (tasks priorities mutexes : ℕ) → seen_mutexes tasks priorities (replicate mutexes None) (empty_lists tasks mutexes) ≡ free_mutexes tasks priorities mutexes
+seen_free_mutexes tasks priorities mutexes = ap (λ ws. record { tasks = tasks; priorities = priorities; holders = replicate mutexes None; waiters = ws }) (no_waiters priorities 0 mutexes)
 
--- a waiter comes, and one goes
-pub seen_enter : (tasks priorities : ℕ) (holders : List (Option ℕ)) (waiters : List Waiter) (waiter : Waiter) (view : MutexPart) → seen_mutexes tasks priorities holders waiters ≡ view → seen_mutexes tasks priorities holders (waiters ++ waiter ∷ []) ≡ record view { waiters = with_waiter waiter view.waiters }
-seen_enter tasks priorities holders waiters waiter view shows =
-    ap (part_from tasks priorities holders) (ranked-push waits_first waiters waiter)
-    ∙ ap (λ (v : MutexPart). part_from v.tasks v.priorities v.holders (with_waiter waiter v.waiters)) shows
+-- ---- fields that show a part
+module _ (t n : ℕ) (hs : List (Option ℕ)) (view : ListsView) (part : MutexPart) (is : seen_mutexes t n hs view ≡ part) where
+  pub tasks_seen : (m : ℕ) → items_of (row_at view.lists m) ≡ tasks_for m part.waiters
+  tasks_seen m = list_tasks n m view.lists ∙ ap (λ (p : MutexPart). tasks_for m p.waiters) is
 
-pub map-left : (task : ℕ) (waiters : List Waiter) → map task_of (without_waiter task waiters) ≡ without task (map task_of waiters)
-map-left task waiters = sym (filter-map (λ m. not (eqb m task)) task_of waiters)
+  pub mutex_seen : (task : ℕ) → list_of task view ≡ option_map (λ (wait : MutexWait). wait.mutex) (wait_of task part.waiters)
+  mutex_seen task = sym (waits_in n task view) ∙ ap (λ (p : MutexPart). option_map (λ (wait : MutexWait). wait.mutex) (wait_of task p.waiters)) is
 
-pub seen_leave : (tasks priorities : ℕ) (holders : List (Option ℕ)) (waiters : List Waiter) (task : ℕ) (view : MutexPart) → seen_mutexes tasks priorities holders waiters ≡ view → seen_mutexes tasks priorities holders (without_waiter task waiters) ≡ record view { waiters = without_waiter task view.waiters }
-seen_leave tasks priorities holders waiters task view shows =
-    ap (part_from tasks priorities holders) (sym (filter-ranked waits_first waits_first-IsRank (λ waiter. not (eqb waiter.task task)) waiters))
-    ∙ ap (λ (v : MutexPart). part_from v.tasks v.priorities v.holders (without_waiter task v.waiters)) shows
+  pub free_seen : (task : ℕ) → wait_of task part.waiters ≡ None → list_of task view ≡ None
+  free_seen task free = mutex_seen task ∙ ap (option_map (λ (wait : MutexWait). wait.mutex)) free
 
--- what the task waits for
-pub seen_wait : (tasks priorities : ℕ) (holders : List (Option ℕ)) (waiters : List Waiter) (task : ℕ) (view : MutexPart) → IsListing tasks (map task_of waiters) → seen_mutexes tasks priorities holders waiters ≡ view → wait_of task waiters ≡ wait_of task view.waiters
-seen_wait tasks priorities holders waiters task view listing shows =
-    ap (option_map (λ (waiter : Waiter). waiter.wait)) (find-ranked task_of waits_first waits_first-IsRank task waiters listing.once)
-    ∙ ap (λ (v : MutexPart). wait_of task v.waiters) shows
+  -- a waiter leaves, and one comes
+  pub seen_leave : (task : ℕ) → seen_mutexes t n hs (record view { lists = map (without_item task) view.lists }) ≡ record part { waiters = without_waiter task part.waiters }
+  seen_leave task =
+      ap (λ (ws : List Waiter). part_of t n hs ws) (waiters_without n task 0 view.lists)
+      ∙ ap (λ (p : MutexPart). record p { waiters = without_waiter task p.waiters }) is
 
-no_entry : (task : ℕ) (waiters : List Waiter) → wait_of task waiters ≡ None → has task (map task_of waiters) ≡ false
-no_entry task [] none = refl
-no_entry task (waiter ∷ waiters) none = at (eqb waiter.task task) none (no_entry task waiters)
-  where
-    at : (b : Bool) → option_map (λ (waiter : Waiter). waiter.wait) (cond b (Some waiter) (find (λ w. eqb w.task task) waiters)) ≡ None → (wait_of task waiters ≡ None → has task (map task_of waiters) ≡ false) → (b || has task (map task_of waiters)) ≡ false
-    at true some rest = absurd (cc (some))
-    at false others rest = rest others
+  pub seen_enter : (task m priority : ℕ) → m < length view.lists → priority < n → AreWaiters n view.lists → seen_mutexes t n hs (with_list m (placed lowest_first (record { item = task; key = n - priority }) (row_at view.lists m)) view) ≡ record part { waiters = with_waiter (record { task = task; wait = record { mutex = m; priority = priority } }) part.waiters }
+  seen_enter task m priority low below waiting =
+      let x : Listed = record { item = task; key = n - priority } in
+      let back : n - (n - priority) ≡ priority = omega (arith, below) in
+      ap (λ (ws : List Waiter). part_of t n hs ws) (waiters_with n 0 m x view.lists low (omega (arith, below), omega arith) (waiting.keys m))
+      ∙ ap (λ (j : ℕ). part_of t n hs (with_waiter (record { task = task; wait = record { mutex = j; priority = n - (n - priority) } }) (waiters_from n 0 view.lists))) (zero-add m)
+      ∙ ap (λ (j : ℕ). part_of t n hs (with_waiter (record { task = task; wait = record { mutex = m; priority = j } }) (waiters_from n 0 view.lists))) back
+      ∙ ap (λ (p : MutexPart). record p { waiters = with_waiter (record { task = task; wait = record { mutex = m; priority = priority } }) p.waiters }) is
 
--- a task that is not seen to wait has no entry
-pub seen_free : (tasks priorities : ℕ) (holders : List (Option ℕ)) (waiters : List Waiter) (task : ℕ) (view : MutexPart) → IsListing tasks (map task_of waiters) → seen_mutexes tasks priorities holders waiters ≡ view → wait_of task view.waiters ≡ None → has task (map task_of waiters) ≡ false
-seen_free tasks priorities holders waiters task view listing shows free = no_entry task waiters (seen_wait tasks priorities holders waiters task view listing shows ∙ free)
+  -- the first of a mutex
+  heads : (m : ℕ) (row : List Listed) → first_item row ≡ option_map (λ (w : Waiter). w.task) (find (λ _. true) (map (waiter_at n m) row))
+  heads m [] = refl
+  heads m (e ∷ row) = refl
 
-found : (P : Waiter → Type 0) (p : Waiter → Bool) (waiters : List Waiter) → AllByRecursion P waiters → ForSome (find p waiters) P
-found P p [] all = λ waiter is. absurd (cc (is))
-found P p (first ∷ waiters) all = elim (p first) as (λ b. ForSome (cond b (Some first) (find p waiters)) P) [ true ↦ λ waiter is. subst P (same_Some _ _ is) all.0 | false ↦ found P p waiters all.1 ]
+  pub first_task_seen : (m : ℕ) → first_item (row_at view.lists m) ≡ option_map (λ (w : Waiter). w.task) (first_of m part.waiters)
+  first_task_seen m =
+      heads m (row_at view.lists m) ∙ ap (option_map (λ (w : Waiter). w.task)) (sym (first_waiting n m view.lists))
+      ∙ ap (λ (p : MutexPart). option_map (λ (w : Waiter). w.task) (first_of m p.waiters)) is
 
--- the first waiter of a mutex is a task
-pub first_below : (n mutex : ℕ) (waiters : List Waiter) → IsListing n (map task_of waiters) → ForSome (first_of mutex (ranked waits_first waiters)) (λ waiter. waiter.task < n)
-first_below n mutex waiters listing =
-    found (λ waiter. waiter.task < n) (λ waiter. eqb waiter.wait.mutex mutex) (ranked waits_first waiters)
-    (All-ranked waits_first (λ waiter. waiter.task < n) waiters (each_entry task_of (λ m. m < n) (λ m. m < n) (λ m low. low) waiters (recursion_from_All (λ i. i < n) (map task_of waiters) listing.below)))
+  no_head : (m : ℕ) (row : List Listed) → first_item row ≡ None → None ≡ find (λ _. true) (map (waiter_at n m) row)
+  no_head m [] none = refl
+  no_head m (e ∷ row) none = absurd (cc (none))
 
--- and it waits with a priority that there is
-pub first_priority : (priorities mutex : ℕ) (waiters : List Waiter) → All (λ waiter. waiter.wait.priority < priorities) waiters → ForSome (first_of mutex (ranked waits_first waiters)) (λ waiter. waiter.wait.priority < priorities)
-first_priority priorities mutex waiters all =
-    found (λ waiter. waiter.wait.priority < priorities) (λ waiter. eqb waiter.wait.mutex mutex) (ranked waits_first waiters)
-    (All-ranked waits_first (λ waiter. waiter.wait.priority < priorities) waiters (recursion_from_All (λ waiter. waiter.wait.priority < priorities) waiters all))
+  pub first_none : (m : ℕ) → first_item (row_at view.lists m) ≡ None → None ≡ first_of m part.waiters
+  first_none m none = no_head m (row_at view.lists m) none ∙ sym (first_waiting n m view.lists) ∙ ap (λ (p : MutexPart). first_of m p.waiters) is
+
+  module _ (waiting : AreWaiters n view.lists) (m task : ℕ) (some : first_item (row_at view.lists m) ≡ Some task) where
+    abbrev its_key : ℕ → Type 0
+    its_key below = (0 < below) × (below ≤ n) × (key_of task view ≡ Some below) × (Some (waiter_from task m (n - below)) ≡ first_of m part.waiters)
+
+    of_head : (row : List Listed) → row_at view.lists m ≡ row → first_item row ≡ Some task → (below : ℕ) × its_key below
+    of_head [] row first = absurd (cc (first))
+    of_head (e ∷ rest) row first =
+        let item : e.item ≡ task = same_Some _ _ first in
+        let keys : AreKeys n (e ∷ rest) = subst (AreKeys n) row (waiting.keys m) in
+        let found = ap (λ r. find (λ _. true) (map (waiter_at n m) r)) row in
+        (e.key, (keys.0.0, keys.0.1, ap (λ i. key_of i view) (sym item) ∙ first_key n m view e rest waiting row, ap (λ i. Some (waiter_from i m (n - e.key))) (sym item) ∙ sym found ∙ sym (first_waiting n m view.lists) ∙ ap (λ (p : MutexPart). first_of m p.waiters) is))
+
+    pub the_key : (below : ℕ) × its_key below
+    the_key = of_head (row_at view.lists m) refl some
+
+    pub key_low : (below : ℕ) → key_of task view ≡ Some below → below ≤ n
+    key_low below has = omega (arith, the_key.1.1, same_Some _ _ (sym the_key.1.2 ∙ has))
+
+    pub key_some : (below : ℕ) → key_of task view ≡ Some below → 0 < below
+    key_some below has = omega (arith, the_key.1.0, same_Some _ _ (sym the_key.1.2 ∙ has))
+
+    pub first_seen : (below : ℕ) → key_of task view ≡ Some below → Some (waiter_from task m (n - below)) ≡ first_of m part.waiters
+    first_seen below has = ap (λ k. Some (waiter_from task m (n - k))) (sym (same_Some _ _ (sym the_key.1.2 ∙ has))) ∙ the_key.1.3
+
+    pub has_key : key_of task view ≢ None
+    has_key none = absurd (cc (sym the_key.1.2 ∙ none))
+
+-- ---- two of them
+module _ (t n : ℕ) (hs : List (Option ℕ)) (view : ListsView) (part : MutexPart) (is : seen_mutexes t n hs view ≡ part) (u o : ℕ) (gs : List (Option ℕ)) (view' : ListsView) (part' : MutexPart) (is' : seen_mutexes u o gs view' ≡ part') (shape : IsMutexShape t n hs view) (shape' : IsMutexShape u o gs view') (alike : part.priorities ≡ part'.priorities) where
+  same_n : o ≡ n
+  same_n = ap (λ (p : MutexPart). p.priorities) is' ∙ sym alike ∙ sym (ap (λ (p : MutexPart). p.priorities) is)
+
+  waiting' : AreWaiters n view'.lists
+  waiting' = subst (λ j. AreWaiters j view'.lists) same_n shape'.waiting
+
+  seen' : waiters_from n 0 view'.lists ≡ part'.waiters
+  seen' = ap (λ j. waiters_from j 0 view'.lists) (sym same_n) ∙ ap (λ (p : MutexPart). p.waiters) is'
+
+  pub same_lists : part.waiters ≡ part'.waiters → (k : ℕ) → row_at view.lists k ≡ row_at view'.lists k
+  same_lists same k = same_rows n view.lists view'.lists shape.waiting waiting' (ap (λ (p : MutexPart). p.waiters) is ∙ same ∙ sym seen') k
+
+  group : (k : ℕ) → filter (λ w. eqb w.wait.mutex k) part.waiters ≡ map (waiter_at n k) (row_at view.lists k)
+  group k = ap (λ (p : MutexPart). filter (λ w. eqb w.wait.mutex k) p.waiters) (sym is) ∙ of_list n k view.lists
+
+  group' : (k : ℕ) → filter (λ w. eqb w.wait.mutex k) part'.waiters ≡ map (waiter_at n k) (row_at view'.lists k)
+  group' k = ap (filter (λ (w : Waiter). eqb w.wait.mutex k)) (sym seen') ∙ of_list n k view'.lists
+
+  pub same_group : (k : ℕ) → row_at view.lists k ≡ row_at view'.lists k → filter (λ w. eqb w.wait.mutex k) part.waiters ≡ filter (λ w. eqb w.wait.mutex k) part'.waiters
+  same_group k same = group k ∙ ap (map (waiter_at n k)) same ∙ sym (group' k)
+
+  pub same_groups : part.holders ≡ part'.holders → ((k : ℕ) → k < length hs → filter (λ w. eqb w.wait.mutex k) part.waiters ≡ filter (λ w. eqb w.wait.mutex k) part'.waiters) → part.waiters ≡ part'.waiters
+  same_groups holders same =
+      let sized : length view.lists ≡ length view'.lists = shape.each ∙ ap (λ (p : MutexPart). length p.holders) is ∙ ap length holders ∙ sym (ap (λ (p : MutexPart). length p.holders) is') ∙ sym shape'.each in
+      let rows : view.lists ≡ view'.lists = ext_get_or the_row view.lists view'.lists sized (λ k low. same_row n k (row_at view.lists k) (row_at view'.lists k) (shape.waiting.keys k) (waiting'.keys k) (sym (group k) ∙ same k (omega (arith, low, shape.each)) ∙ group' k)) in
+      sym (ap (λ (p : MutexPart). p.waiters) is) ∙ ap (waiters_from n 0) rows ∙ seen'

@@ -1,10 +1,8 @@
 -- What can be seen of the mutexes: who holds each, and who waits.
-use Rattle.std.specs.Prelude.{ℕ, List, [], replicate, Bool, ◌&&◌, ◌==◌, Option, None, unwrap_or}
-use Rattle.bench_types.specs.declared.kernel_data.MutexWait.{MutexWait}
+use Rattle.std.specs.Prelude.{ℕ, ◌+◌, ◌-◌, List, [], ◌∷◌, ◌++◌, map, filter, replicate, ◌==◌, Option, None, unwrap_or}
 use Rattle.bench_types.specs.declared.kernel_data.Waiter.{Waiter}
-use Rattle.list_orders.specs.Search.{ranked}
+use Rattle.index_lists.specs.Listed.{Listed, ListsView}
 use Rattle.bench_model.specs.State.{holder_at}
-use Rattle.bench_model.specs.Lists.{waits_first}
 
 pub record MutexPart : Type 0 where
   -- how many tasks and how many priorities there are
@@ -16,14 +14,30 @@ pub record MutexPart : Type 0 where
   -- first, those of one priority in the order in which they began to wait
   pub waiters : List Waiter
 
--- what can be seen of waiters in the order in which they began to wait
-abbrev pub seen_mutexes : ℕ → ℕ → List (Option ℕ) → List Waiter → MutexPart
-seen_mutexes tasks priorities holders waiters =
+-- the waiter that stands in the list of the mutex: its key is how far its waiting priority lies
+-- below the number of priorities
+abbrev pub waiter_at : ℕ → ℕ → Listed → Waiter
+waiter_at priorities mutex entry =
+    record {
+      task = entry.item;
+      wait = record { mutex = mutex; priority = priorities - entry.key };
+    }
+
+-- the waiters of lists, the first of which is that of this mutex, the others those of the mutexes
+-- after it
+abbrev pub waiters_from : ℕ → ℕ → List (List Listed) → List Waiter
+waiters_from priorities mutex [] = []
+waiters_from priorities mutex (list ∷ lists) =
+    map (waiter_at priorities mutex) list ++ waiters_from priorities (mutex + 1) lists
+
+-- what can be seen of lists of waiters, where list m is that of mutex m
+abbrev pub seen_mutexes : ℕ → ℕ → List (Option ℕ) → ListsView → MutexPart
+seen_mutexes tasks priorities holders view =
     record {
       tasks = tasks;
       priorities = priorities;
       holders = holders;
-      waiters = ranked waits_first waiters;
+      waiters = waiters_from priorities 0 view.lists;
     }
 
 -- no task holds a mutex or waits for one
@@ -40,6 +54,7 @@ free_mutexes tasks priorities mutexes =
 abbrev pub holder_of : List (Option ℕ) → ℕ → ℕ
 holder_of holders mutex = unwrap_or (holder_at holders mutex) 0
 
--- the waiter waits for this mutex with this priority
-abbrev pub has_wait : MutexWait → Waiter → Bool
-has_wait wait waiter = waiter.wait.mutex == wait.mutex && waiter.wait.priority == wait.priority
+-- the tasks of the waiters that wait for the mutex
+abbrev pub tasks_for : ℕ → List Waiter → List ℕ
+tasks_for mutex waiters =
+    map (λ waiter. waiter.task) (filter (λ waiter. waiter.wait.mutex == mutex) waiters)

@@ -1,15 +1,28 @@
 -- What the fields of the mutexes keep, whatever they show.
-use Rattle.std.specs.Prelude.{ℕ, ◌<◌, ◌≤◌, ◌^◌, List, length, map, All, Option}
+use Rattle.std.specs.Prelude.{◌≡◌, ℕ, ◌<◌, ◌≤◌, ◌^◌, List, [], length, All, Option, true, slice_index_or}
+use Rattle.std.specs.List.{AllByRecursion}
 use Rattle.std.specs.Option.{ForSome}
-use Rattle.bench_types.specs.declared.kernel_data.Waiter.{Waiter}
-use Rattle.list_orders.specs.Listings.{IsListing}
+use Rattle.list_orders.specs.Search.{ranked}
+use Rattle.index_lists.specs.Listed.{Listed, ListsView, has_item, lowest_first}
 
--- each holder is a task, each task waits once at most, with a priority that there is, and there is
--- a place for every task among those that wait
-pub record IsMutexShape (tasks priorities : ℕ) (holders : List (Option ℕ)) (waiters : List Waiter)
-    (places : ℕ) : Type 0 where
+-- the keys are those of priorities that there are
+abbrev pub AreKeys : ℕ → List Listed → Type 0
+AreKeys priorities list = AllByRecursion (λ entry. (0 < entry.key) × (entry.key ≤ priorities)) list
+
+-- Each list is in the order of its keys, which are those of priorities, and a task stands in one
+-- list at most.
+pub record AreWaiters (priorities : ℕ) (lists : List (List Listed)) : Type 0 where
+  pub keys : (m : ℕ) → AreKeys priorities (slice_index_or lists m [])
+  pub in_order : (m : ℕ)
+      → ranked lowest_first (slice_index_or lists m []) ≡ slice_index_or lists m []
+  pub once : (task m n : ℕ) → has_item task (slice_index_or lists m []) ≡ true
+      → has_item task (slice_index_or lists n []) ≡ true → m ≡ n
+
+-- each holder is a task, and there is a list of waiters for each mutex
+pub record IsMutexShape (tasks priorities : ℕ) (holders : List (Option ℕ)) (view : ListsView)
+    : Type 0 where
   pub few_mutexes : length holders < 2 ^ 32
   pub held_by_tasks : All (λ holder. ForSome holder (λ task. task < tasks)) holders
-  pub waiting_tasks : IsListing tasks (map (λ waiter. waiter.task) waiters)
-  pub waiting_priorities : All (λ waiter. waiter.wait.priority < priorities) waiters
-  pub room : tasks ≤ places
+  pub items : view.items ≡ tasks
+  pub each : length view.lists ≡ length holders
+  pub waiting : AreWaiters priorities view.lists

@@ -4,6 +4,5 @@
 
 mod inheritance;
 mod mutexes;
-mod waiters;
 
 pub use mutexes::Mutexes;

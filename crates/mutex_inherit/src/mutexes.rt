@@ -1,4 +1,4 @@
-ghost use Rattle.std.specs.Prelude.{◌≡◌, ◌↔◌, ◌<◌, ◌^◌, ◌==◌, ◌&&◌, not, if◌then◌else◌, length, replicate, slice_set, is_none, option_map, Some, None, IsTrue, IfOk, IfSome};
+ghost use Rattle.std.specs.Prelude.{◌≡◌, ◌↔◌, ℕ, ◌+◌, ◌<◌, ◌^◌, ◌==◌, ◌&&◌, not, if◌then◌else◌, length, replicate, slice_set, is_none, option_map, Some, None, IsTrue, IfOk, IfSome};
 ghost use Rattle.std.specs.Option.{IsSome, ForSome};
 ghost use Rattle.bench_types.specs.declared.kernel_data.MutexWait.{MutexWait};
 ghost use Rattle.bench_types.specs.declared.kernel_data.Waiter.{Waiter};
@@ -8,11 +8,12 @@ ghost use Rattle.bench_model.specs.Lists.{list_queues, without_waiter, first_of}
 ghost use Rattle.bench_model.specs.Mutexes.{held_by, is_marked, disinherit_priority, inherited, after_disinherit};
 ghost use Rattle.bench_model.specs.MutexParts.{with_waiter, wait_of};
 ghost use Rattle.bench_model.specs.Cores.{cores_rule};
-ghost use Rattle.mutex_inherit.specs.Parts.{free_mutexes, holder_of};
+ghost use Rattle.index_lists.specs.Listed.{list_at, items_of};
+ghost use Rattle.mutex_inherit.specs.Parts.{free_mutexes, holder_of, tasks_for};
 
 use crate::inheritance::{disinherit_priority, inherit, is_marked, lower};
-use crate::waiters::{first_of, have_same_order, remove_waiter, wait_of};
 use bench_types::{MutexWait, Waiter};
+use index_lists::Lists;
 use ready_core::Cores;
 use std::alloc::{AllocError, Global};
 use std::marker::Model;
@@ -24,35 +25,36 @@ pub struct Mutexes {
     priorities: u32,
     /// Per mutex the task that holds it.
     holders: Vec<Option<u32>>,
-    /// The longer a task has been waiting, the earlier it stands here.
-    waiters: Vec<Waiter>,
+    /// Per mutex the tasks that wait for it, each with how far its waiting priority lies below the
+    /// number of priorities; of equal ones, the longer one has been waiting, the earlier it stands.
+    lists: Lists,
 }
 
 impl Model for Mutexes {
-    ghost use Rattle.std.specs.Vec.{vec_capacity};
     ghost use Rattle.mutex_inherit.specs.Parts.{MutexPart, seen_mutexes};
     ghost use Rattle.mutex_inherit.specs.Shape.{IsMutexShape};
 
     ghost Value = { MutexPart };
 
     ghost view = { λ part. seen_mutexes part.tasks part.priorities part.holders.items
-        part.waiters.items };
+        part.lists };
 
     ghost invariant = { λ part. IsMutexShape part.tasks part.priorities part.holders.items
-        part.waiters.items (vec_capacity part.waiters) };
+        part.lists };
 }
 
 impl Mutexes {
     /// No mutex is held, and no task waits. There is room for so many tasks to wait, each with a
     /// priority below their number.
     pub fn new(alloc: Global, tasks: u32, priorities: u32, mutexes: u32) -> Result<Self, AllocError>
+        requires { tasks + mutexes < 2 ^ 32 }
         ensures { IfOk result (λ part. part ≡ free_mutexes tasks priorities mutexes) }
     {
         Ok(Mutexes {
             tasks,
             priorities,
             holders: free_holders(alloc, mutexes)?,
-            waiters: Vec::with_capacity(alloc, tasks as usize)?,
+            lists: Lists::new(alloc, tasks, mutexes)?,
         })
     }
 
@@ -60,13 +62,11 @@ impl Mutexes {
     pub fn copy(&self, alloc: Global) -> Result<Self, AllocError>
         ensures { IfOk result (λ copy. copy ≡ self.now) }
     {
-        let mut waiters = Vec::with_capacity(alloc, self.tasks as usize)?;
-        waiters.extend_from_slice(&self.waiters)?;
         Ok(Mutexes {
             tasks: self.tasks,
             priorities: self.priorities,
             holders: Vec::from_slice(alloc, &self.holders)?,
-            waiters,
+            lists: self.lists.copy(alloc)?,
         })
     }
 
@@ -76,7 +76,7 @@ impl Mutexes {
     {
         // Nested, so that each test is proved where those before it hold.
         self.has_same_sizes(other)
-            && (self.has_same_holders(other) && have_same_order(&self.waiters, &other.waiters))
+            && (self.has_same_holders(other) && self.has_same_waiters(other))
     }
 
     /// The task that holds the mutex; none where it is free.
@@ -101,7 +101,18 @@ impl Mutexes {
         ensures { result
             ≡ option_map (λ (wait : MutexWait). wait.mutex) (wait_of task self.now.waiters) }
     {
-        self.wait(task).map(|wait| wait.mutex)
+        self.lists.list_of(task)
+    }
+
+    /// The tasks that wait: list m has those that wait for mutex m, the greatest waiting priority
+    /// first, those of one priority in the order in which they began to wait.
+    pub fn lists(&self) -> &Lists
+        ensures items { result.now.items ≡ self.now.tasks }
+        ensures mutexes { length result.now.lists ≡ length self.now.holders }
+        ensures lists { (m : ℕ) → m < length self.now.holders
+            → items_of (list_at result.now m) ≡ tasks_for m self.now.waiters }
+    {
+        &self.lists
     }
 
     /// The task takes the mutex where it is free. Returns whether it was; where not, nothing
@@ -205,7 +216,7 @@ impl Mutexes {
         requires { task < self.old.tasks }
         ensures { self.new ≡ record self.old { waiters = without_waiter task self.old.waiters } }
     {
-        remove_waiter(&mut self.waiters, task);
+        self.lists.remove(task);
     }
 
     // Whether the numbers of tasks and of priorities are equal.
@@ -220,6 +231,20 @@ impl Mutexes {
         ensures { IsTrue result ↔ (self.now.holders ≡ other.now.holders) }
     {
         self.holders == other.holders
+    }
+
+    // Whether the same tasks wait for each mutex, with the same priorities, in the same order.
+    fn has_same_waiters(&self, other: &Self) -> bool
+        requires priorities { self.now.priorities ≡ other.now.priorities }
+        requires holders { self.now.holders ≡ other.now.holders }
+        ensures { IsTrue result ↔ (self.now.waiters ≡ other.now.waiters) }
+    {
+        for mutex in 0..self.holders.len() as u32 {
+            if !self.lists.has_same_entries(mutex, &other.lists, mutex) {
+                return false;
+            }
+        }
+        true
     }
 
     // The task that holds a mutex which is held.
@@ -240,15 +265,10 @@ impl Mutexes {
         self.holders[mutex as usize] = holder;
     }
 
-    fn wait(&self, task: u32) -> Option<MutexWait>
-        ensures { result ≡ wait_of task self.now.waiters }
-    {
-        wait_of(&self.waiters, task)
-    }
-
     // The task waits for the mutex with the priority.
     fn enter(&mut self, task: u32, mutex: u32, priority: u32)
         requires task { task < self.old.tasks }
+        requires mutex { mutex < length self.old.holders }
         requires priority { priority < self.old.priorities }
         requires free { wait_of task self.old.waiters ≡ None }
         ensures { self.new ≡ record self.old {
@@ -257,25 +277,31 @@ impl Mutexes {
               self.old.waiters;
         } }
     {
-        let wait = MutexWait { mutex, priority };
-        self.waiters.push_reserved(Waiter { task, wait });
+        let below = (self.priorities - priority) as u64;
+        self.lists.insert_sorted(mutex, task, below);
     }
 
     // Of those that wait for the mutex the first.
     fn first_waiter(&self, mutex: u32) -> Option<Waiter>
+        requires { mutex < length self.now.holders }
         ensures first { result ≡ first_of mutex self.now.waiters }
         ensures task { ForSome result (λ waiter. waiter.task < self.now.tasks) }
         ensures priority { ForSome result (λ waiter. waiter.wait.priority < self.now.priorities) }
     {
-        first_of(&self.waiters, mutex)
+        let task = self.lists.first(mutex)?;
+        let below = self.lists.key_of(task)?;
+        let priority = self.priorities - below as u32;
+        let wait = MutexWait { mutex, priority };
+        Some(Waiter { task, wait })
     }
 
     fn first_task(&self, mutex: u32) -> Option<u32>
+        requires { mutex < length self.now.holders }
         ensures first { result
             ≡ option_map (λ (waiter : Waiter). waiter.task) (first_of mutex self.now.waiters) }
         ensures task { IfSome result (λ task. task < self.now.tasks) }
     {
-        self.first_waiter(mutex).map(|waiter| waiter.task)
+        self.lists.first(mutex)
     }
 }
 

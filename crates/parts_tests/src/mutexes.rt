@@ -98,3 +98,37 @@ fn holder_is_lowered(rt: HostRuntime) -> Result<(), Fail> {
     assert_eq!(&rt; in_use(&rt, &cores), 1);
     Ok(())
 }
+
+// The task waits for mutex 1, with its priority in use.
+fn queue(rt: &impl Abort, cores: &mut Cores, mutexes: &mut Mutexes, task: u32)
+    requires tasks { mutexes.old.tasks ≡ 5 }
+    requires priorities { mutexes.old.priorities ≡ 5 }
+    requires mutexes { length mutexes.old.holders ≡ 2 }
+    ensures tasks { mutexes.new.tasks ≡ 5 }
+    ensures priorities { mutexes.new.priorities ≡ 5 }
+    ensures mutexes { length mutexes.new.holders ≡ 2 }
+{
+    assert!(rt; cores.has_task(4) && !cores.has_task(5));
+    assert!(rt; has_five_priorities(cores));
+    assert!(rt; task < 5);
+    let is_held = mutexes.holder(1).is_some();
+    assert!(rt; is_held);
+    let is_free = mutexes.waits_on(task).is_none();
+    assert!(rt; is_free);
+    mutexes.wait_on(cores, 0, task, 1);
+}
+
+#[test]
+fn equal_waiters_stand_in_turn(rt: HostRuntime) -> Result<(), Fail> {
+    let mut cores = started(&rt, rt.alloc(), false, &[(1, 3), (1, 3), (3, 3)])?;
+    let mut mutexes = Mutexes::new(rt.alloc(), 5, 5, 2)?;
+    assert!(&rt; mutexes.try_take(0, 1));
+    queue(&rt, &mut cores, &mut mutexes, 3);
+    queue(&rt, &mut cores, &mut mutexes, 2);
+    queue(&rt, &mut cores, &mut mutexes, 4);
+    let lists = mutexes.lists();
+    assert_eq!(&rt; (lists.len(0), lists.len(1)), (0, 3));
+    assert_eq!(&rt; lists.first(1), Some(4));
+    assert_eq!(&rt; (lists.next(4), lists.next(3), lists.next(2)), (Some(3), Some(2), None));
+    Ok(())
+}

@@ -1,30 +1,27 @@
-use Rattle.std.proofs.Common.{◌<◌, ap, arith}
-use Rattle.std.proofs.lemmas.List.{map-append, length-map}
-use Rattle.std.proofs.lemmas.List.Elements.{All-push}
-use Rattle.bench_types.specs.declared.kernel_data.Waiter.{Waiter}
-use Rattle.list_orders.proofs.Listings.{listing_push, listing_room}
+use Rattle.std.proofs.Common.{◌≡◌, ◌<◌, ◌-◌, length, ◌∙◌, ap, length-set, arith}
 use Rattle.mutex_inherit.specs.Parts.{MutexPart}
-use Rattle.mutex_inherit.proofs.Waits.{seen_free, seen_enter}
+use Rattle.mutex_inherit.proofs.Rows.{free_rows, waiters_more}
+use Rattle.mutex_inherit.proofs.Waits.{free_seen, seen_enter}
 use Rattle.mutex_inherit.proofs.mutexes.Mutexes.enter.Goals as goal
 
-pub push_reserved-requires : goal.push_reserved-requires
-push_reserved-requires c =
-    let low : c.args.task < c.self.inside.tasks = omega (arith, c.requires.task, ap (λ (view : MutexPart). view.tasks) c.self.view_is) in
-    let free = seen_free _ _ _ _ c.args.task _ c.self.invariant.waiting_tasks c.self.view_is c.requires.free in
-    omega (arith, c.self.invariant.room, length-map c.self.inside.waiters.items (λ (waiter : Waiter). waiter.task), listing_room _ c.args.task _ c.self.invariant.waiting_tasks low free)
+pub insert_sorted-requires-clause-free : goal.insert_sorted-requires-clause-free
+insert_sorted-requires-clause-free c = free_seen _ _ _ c.self.inside.lists _ c.self.view_is c.args.task c.requires.free
 
 pub invariant_of-self : goal.invariant_of-self
 invariant_of-self c =
-    let low : c.args.task < c.self.inside.tasks = omega (arith, c.requires.task, ap (λ (view : MutexPart). view.tasks) c.self.view_is) in
+    let low : c.args.mutex < length c.self.inside.lists.lists = omega (arith, c.requires.mutex, c.self.invariant.each, ap (λ (view : MutexPart). length view.holders) c.self.view_is) in
     let below : c.args.priority < c.self.inside.priorities = omega (arith, c.requires.priority, ap (λ (view : MutexPart). view.priorities) c.self.view_is) in
-    let free = seen_free _ _ _ _ c.args.task _ c.self.invariant.waiting_tasks c.self.view_is c.requires.free in
-    record {
+    let free = free_rows c.args.task c.self.inside.lists (free_seen _ _ _ c.self.inside.lists _ c.self.view_is c.args.task c.requires.free) in
+    rw c.insert_sorted.ensures (record {
       few_mutexes = c.self.invariant.few_mutexes;
       held_by_tasks = c.self.invariant.held_by_tasks;
-      waiting_tasks = rw (c.push_reserved.ensures.items, map-append) (listing_push _ c.args.task _ c.self.invariant.waiting_tasks low free);
-      waiting_priorities = rw c.push_reserved.ensures.items (All-push (λ (waiter : Waiter). waiter.wait.priority < c.self.inside.priorities) c.self.inside.waiters.items _ c.self.invariant.waiting_priorities below);
-      room = omega (arith, c.self.invariant.room, c.push_reserved.ensures.capacity);
-    }
+      items = c.self.invariant.items;
+      each = length-set c.self.inside.lists.lists c.args.mutex _ ∙ c.self.invariant.each;
+      waiting = waiters_more c.self.inside.priorities c.args.mutex (record { item = c.args.task; key = c.self.inside.priorities - c.args.priority }) c.self.inside.lists.lists low (omega (arith, below), omega arith) free c.self.invariant.waiting;
+    })
 
 pub returns : goal.returns
-returns c = rw c.push_reserved.ensures.items (seen_enter _ _ _ _ (record { task = c.args.task; wait = record { mutex = c.args.mutex; priority = c.args.priority } }) _ c.self.view_is)
+returns c =
+    let low : c.args.mutex < length c.self.inside.lists.lists = omega (arith, c.requires.mutex, c.self.invariant.each, ap (λ (view : MutexPart). length view.holders) c.self.view_is) in
+    let below : c.args.priority < c.self.inside.priorities = omega (arith, c.requires.priority, ap (λ (view : MutexPart). view.priorities) c.self.view_is) in
+    rw c.insert_sorted.ensures (seen_enter _ _ _ c.self.inside.lists _ c.self.view_is c.args.task c.args.mutex c.args.priority low below c.self.invariant.waiting)

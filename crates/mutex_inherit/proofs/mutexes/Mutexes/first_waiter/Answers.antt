@@ -1,16 +1,29 @@
-use Rattle.std.proofs.Common.{◌≡◌, sym, ap, ◌∙◌, arith}
-use Rattle.list_orders.specs.Search.{ranked}
-use Rattle.bench_model.specs.Lists.{waits_first, first_of}
+use Rattle.std.proofs.Common.{◌∙◌, ap, sym, arith}
+use Rattle.std.proofs.lemmas.Option.{same_Some}
+use Rattle.bench_types.specs.declared.kernel_data.Waiter.{Waiter}
 use Rattle.mutex_inherit.specs.Parts.{MutexPart}
-use Rattle.mutex_inherit.proofs.Waits.{first_below, first_priority}
+use Rattle.mutex_inherit.proofs.Waits.{first_none, first_seen, has_key, key_low, key_some}
 use Rattle.mutex_inherit.proofs.mutexes.Mutexes.first_waiter.Goals as goal
 
-pub returns-clause-task : goal.returns-clause-task
-returns-clause-task c =
-    let is : c.first_of.result ≡ first_of c.args.mutex (ranked waits_first c.self.inside.waiters.items) = c.first_of.ensures ∙ ap (λ waiters. first_of c.args.mutex (ranked waits_first waiters)) c.deref.ensures.value in
-    λ waiter some. omega (arith, ap (λ (view : MutexPart). view.tasks) c.self.view_is, first_below _ c.args.mutex _ c.self.invariant.waiting_tasks waiter (sym is ∙ some))
+pub returns-in_err-task-clause-first : goal.returns-in_err-task-clause-first
+returns-in_err-task-clause-first c = rw c.from_residual.ensures (first_none _ _ _ c.self.inside.lists _ c.self.view_is c.args.mutex (sym c.first.ensures.first ∙ c.in_err-task.was))
+
+pub returns-in_err-below-clause-first : goal.returns-in_err-below-clause-first
+returns-in_err-below-clause-first c = absurd (has_key _ _ _ c.self.inside.lists _ c.self.view_is c.self.invariant.waiting c.args.mutex c.in_ok-task.task (sym c.in_ok-task.ensures.first) (sym c.key_of.ensures ∙ c.in_err-below.was))
+
+pub overflow_cast-priority : goal.overflow_cast-priority
+overflow_cast-priority c = omega (arith, c.ranges, key_low _ _ _ c.self.inside.lists _ c.self.view_is c.self.invariant.waiting c.args.mutex c.in_ok-task.task (sym c.in_ok-task.ensures.first) c.in_ok-below.below (sym c.in_ok-below.ensures))
+
+pub overflow_sub-priority : goal.overflow_sub-priority
+overflow_sub-priority c = omega (arith, key_low _ _ _ c.self.inside.lists _ c.self.view_is c.self.invariant.waiting c.args.mutex c.in_ok-task.task (sym c.in_ok-task.ensures.first) c.in_ok-below.below (sym c.in_ok-below.ensures))
+
+pub returns-clause-first : goal.returns-clause-first
+returns-clause-first c = first_seen _ _ _ c.self.inside.lists _ c.self.view_is c.self.invariant.waiting c.args.mutex c.in_ok-task.task (sym c.in_ok-task.ensures.first) c.in_ok-below.below (sym c.in_ok-below.ensures)
 
 pub returns-clause-priority : goal.returns-clause-priority
-returns-clause-priority c =
-    let is : c.first_of.result ≡ first_of c.args.mutex (ranked waits_first c.self.inside.waiters.items) = c.first_of.ensures ∙ ap (λ waiters. first_of c.args.mutex (ranked waits_first waiters)) c.deref.ensures.value in
-    λ waiter some. omega (arith, ap (λ (view : MutexPart). view.priorities) c.self.view_is, first_priority _ c.args.mutex _ c.self.invariant.waiting_priorities waiter (sym is ∙ some))
+returns-clause-priority c = λ waiter some.
+    let is = ap (λ (w : Waiter). w.wait.priority) (same_Some _ _ some) in
+    let at = c.in_ok-task.task in
+    let first = sym c.in_ok-task.ensures.first in
+    let key = sym c.in_ok-below.ensures in
+    omega (arith, is, ap (λ (view : MutexPart). view.priorities) c.self.view_is, key_low _ _ _ c.self.inside.lists _ c.self.view_is c.self.invariant.waiting c.args.mutex at first c.in_ok-below.below key, key_some _ _ _ c.self.inside.lists _ c.self.view_is c.self.invariant.waiting c.args.mutex at first c.in_ok-below.below key)

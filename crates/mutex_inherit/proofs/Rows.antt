@@ -1,0 +1,344 @@
+-- What lists of waiters show as a waiter comes and goes, and what is found in them.
+use Rattle.std.proofs.Common.{◌≡◌, ◌≢◌, ℕ, zero, suc, ◌+◌, ◌-◌, ◌<◌, ◌≤◌, Bool, true, false, cond, not, eqb, leb, ltb, ◌||◌, ◌&&◌, List, [], ◌∷◌, ◌++◌, length, map, set, get_or, replicate, Option, Some, None, option_map, unwrap_or, refl, sym, ap, subst, ◌∙◌, append_assoc, get_or-set_same, get_or-set_other, arith, ◌⊎◌, inl, inr, zero-add}
+use Rattle.std.specs.Prelude.{is_some}
+use Rattle.std.specs.List.{filter, find, list_any, position_or_len, AllByRecursion}
+use Rattle.std.proofs.Math.ListN.{get_or-map}
+use Rattle.std.proofs.lemmas.Bool.{cases_eq}
+use Rattle.std.proofs.lemmas.Bool.Decides.{nat_tests}
+use Rattle.std.proofs.lemmas.List.{append-nil, map-append, ext_get_or}
+use Rattle.std.proofs.lemmas.List.Elements.{filter-append}
+use Rattle.bench_types.specs.declared.kernel_data.MutexWait.{MutexWait}
+use Rattle.bench_types.specs.declared.kernel_data.Waiter.{Waiter}
+use Rattle.list_orders.specs.Search.{placed, ranked}
+use Rattle.list_orders.proofs.Filters.{filter_all, filter_none, filter_agrees, filter-map, find_filter, list_any-append, list_any-map, All-append, All-map, All-weaker, All_each, All-filter}
+use Rattle.list_orders.proofs.Ranks.{list_any-placed, All-placed, filter-ranked}
+use Rattle.list_orders.proofs.Placements.{ranked-placed}
+use Rattle.index_lists.specs.Listed.{Listed, ListsView, items_of, has_item, without_item, list_of, key_of, lowest_first}
+use Rattle.index_lists.proofs.Frees.{some_list, no_list}
+use Rattle.index_lists.proofs.Places.{lowest_first-IsRank}
+use Rattle.bench_model.specs.Lists.{waits_first, without_waiter, first_of}
+use Rattle.bench_model.specs.MutexParts.{wait_of}
+use Rattle.mutex_inherit.specs.Parts.{waiter_at, waiters_from, tasks_for}
+use Rattle.mutex_inherit.specs.Shape.{AreKeys, AreWaiters}
+
+abbrev pub row_at : List (List Listed) → ℕ → List Listed
+row_at rows m = get_or rows m []
+
+abbrev waits_for : ℕ → Waiter → Bool
+waits_for m waiter = eqb waiter.wait.mutex m
+
+abbrev is_key : ℕ → Listed → Type 0
+is_key n entry = (0 < entry.key) × (entry.key ≤ n)
+
+abbrev front : Waiter → Waiter → Bool
+front waiter w = waits_first w waiter
+
+abbrev back : Waiter → Waiter → Bool
+back waiter w = not (waits_first w waiter)
+
+next_of_sum : (m k : ℕ) → (m + 1) + k ≡ m + suc k
+next_of_sum m k = omega arith
+
+-- ---- a waiter that is placed in one of two parts
+placed_left : (x : Waiter) (xs ys : List Waiter) → AllByRecursion (λ y. waits_first y x ≡ false) ys → placed waits_first x (xs ++ ys) ≡ placed waits_first x xs ++ ys
+unfolding placed
+placed_left x xs ys later =
+    let none = filter_none (front x) ys later in
+    let all = filter_all (back x) ys (All-weaker (λ y. waits_first y x ≡ false) (λ y. back x y ≡ true) (λ y h. ap not h) ys later) in
+    ap (λ zs. zs ++ x ∷ filter (back x) (xs ++ ys)) (filter-append (front x) xs ys ∙ ap (λ zs. filter (front x) xs ++ zs) none ∙ append-nil (filter (front x) xs))
+    ∙ ap (λ zs. filter (front x) xs ++ x ∷ zs) (filter-append (back x) xs ys ∙ ap (λ zs. filter (back x) xs ++ zs) all)
+    ∙ sym (append_assoc (filter (front x) xs) (x ∷ filter (back x) xs) ys)
+
+placed_right : (x : Waiter) (xs ys : List Waiter) → AllByRecursion (λ y. waits_first y x ≡ true) xs → placed waits_first x (xs ++ ys) ≡ xs ++ placed waits_first x ys
+unfolding placed
+placed_right x xs ys ahead =
+    let all = filter_all (front x) xs ahead in
+    let none = filter_none (back x) xs (All-weaker (λ y. waits_first y x ≡ true) (λ y. back x y ≡ false) (λ y h. ap not h) xs ahead) in
+    ap (λ zs. zs ++ x ∷ filter (back x) (xs ++ ys)) (filter-append (front x) xs ys ∙ ap (λ zs. zs ++ filter (front x) ys) all)
+    ∙ ap (λ zs. (xs ++ filter (front x) ys) ++ x ∷ zs) (filter-append (back x) xs ys ∙ ap (λ zs. zs ++ filter (back x) ys) none)
+    ∙ append_assoc xs (filter (front x) ys) (x ∷ filter (back x) ys)
+
+-- ---- lists of waiters, the first that of mutex m
+module _ (n : ℕ) where
+  one_mutex : (m : ℕ) (row : List Listed) → AllByRecursion (λ (w : Waiter). w.wait.mutex ≡ m) (map (waiter_at n m) row)
+  one_mutex m row = All-map (λ (w : Waiter). w.wait.mutex ≡ m) (waiter_at n m) row (All_each (λ e. (waiter_at n m e).wait.mutex ≡ m) (λ e. refl) row)
+
+  from_mutex : (m : ℕ) (rows : List (List Listed)) → AllByRecursion (λ (w : Waiter). m ≤ w.wait.mutex) (waiters_from n m rows)
+  from_mutex m [] = tt
+  from_mutex m (row ∷ rows) =
+      All-append (λ (w : Waiter). m ≤ w.wait.mutex) (map (waiter_at n m) row) (waiters_from n (m + 1) rows)
+      (All-weaker (λ (w : Waiter). w.wait.mutex ≡ m) (λ (w : Waiter). m ≤ w.wait.mutex) (λ w is. omega (arith, is)) (map (waiter_at n m) row) (one_mutex m row))
+      (All-weaker (λ (w : Waiter). m + 1 ≤ w.wait.mutex) (λ (w : Waiter). m ≤ w.wait.mutex) (λ w low. omega (arith, low)) (waiters_from n (m + 1) rows) (from_mutex (m + 1) rows))
+
+  -- those of a mutex are those of its list
+  pub of_mutex : (m k : ℕ) (rows : List (List Listed)) → filter (waits_for (m + k)) (waiters_from n m rows) ≡ map (waiter_at n (m + k)) (row_at rows k)
+  of_mutex m zero [] = refl
+  of_mutex m (suc k) [] = refl
+  of_mutex m zero (row ∷ rows) =
+      let none : m + 0 ≡ m = omega arith in
+      let here = map (waiter_at n m) row in
+      let rest = waiters_from n (m + 1) rows in
+      ap (λ j. filter (waits_for j) (here ++ rest)) none
+      ∙ filter-append (waits_for m) here rest
+      ∙ ap (λ ws. ws ++ filter (waits_for m) rest) (filter_all (waits_for m) here (All-weaker (λ (w : Waiter). w.wait.mutex ≡ m) (λ w. waits_for m w ≡ true) (λ w is. grind (arith, nat_tests, is)) here (one_mutex m row)))
+      ∙ ap (λ ws. here ++ ws) (filter_none (waits_for m) rest (All-weaker (λ (w : Waiter). m + 1 ≤ w.wait.mutex) (λ w. waits_for m w ≡ false) (λ w low. grind (arith, nat_tests, low)) rest (from_mutex (m + 1) rows)))
+      ∙ append-nil here ∙ ap (λ j. map (waiter_at n j) row) (sym none)
+  of_mutex m (suc k) (row ∷ rows) =
+      let here = map (waiter_at n m) row in
+      let rest = waiters_from n (m + 1) rows in
+      filter-append (waits_for (m + suc k)) here rest
+      ∙ ap (λ ws. ws ++ filter (waits_for (m + suc k)) rest) (filter_none (waits_for (m + suc k)) here (All-weaker (λ (w : Waiter). w.wait.mutex ≡ m) (λ w. waits_for (m + suc k) w ≡ false) (λ w is. grind (arith, nat_tests, is)) here (one_mutex m row)))
+      ∙ ap (λ j. filter (waits_for j) rest) (sym (next_of_sum m k))
+      ∙ of_mutex (m + 1) k rows
+      ∙ ap (λ j. map (waiter_at n j) (row_at rows k)) (next_of_sum m k)
+
+  pub of_list : (k : ℕ) (rows : List (List Listed)) → filter (waits_for k) (waiters_from n 0 rows) ≡ map (waiter_at n k) (row_at rows k)
+  of_list k rows = ap (λ j. filter (waits_for j) (waiters_from n 0 rows)) (sym (zero-add k)) ∙ of_mutex 0 k rows ∙ ap (λ j. map (waiter_at n j) (row_at rows k)) (zero-add k)
+
+  tasks_in : (m : ℕ) (row : List Listed) → map (λ (w : Waiter). w.task) (map (waiter_at n m) row) ≡ items_of row
+  tasks_in m [] = refl
+  tasks_in m (e ∷ row) = ap (λ ts. e.item ∷ ts) (tasks_in m row)
+
+  pub list_tasks : (k : ℕ) (rows : List (List Listed)) → items_of (row_at rows k) ≡ tasks_for k (waiters_from n 0 rows)
+  list_tasks k rows = sym (tasks_in k (row_at rows k)) ∙ ap (map (λ (w : Waiter). w.task)) (sym (of_list k rows))
+
+  -- the first of a mutex is the first of its list
+  pub first_waiting : (k : ℕ) (rows : List (List Listed)) → first_of k (waiters_from n 0 rows) ≡ find (λ _. true) (map (waiter_at n k) (row_at rows k))
+  first_waiting k rows = find_filter (waits_for k) (waiters_from n 0 rows) ∙ ap (find (λ _. true)) (of_list k rows)
+
+  -- ---- a waiter leaves, and one comes
+  pub waiters_without : (t m : ℕ) (rows : List (List Listed)) → waiters_from n m (map (without_item t) rows) ≡ without_waiter t (waiters_from n m rows)
+  waiters_without t m [] = refl
+  waiters_without t m (row ∷ rows) =
+      let stays = λ (w : Waiter). not (eqb w.task t) in
+      ap (λ ws. ws ++ waiters_from n (m + 1) (map (without_item t) rows)) (sym (filter-map stays (waiter_at n m) row))
+      ∙ ap (λ ws. filter stays (map (waiter_at n m) row) ++ ws) (waiters_without t (m + 1) rows)
+      ∙ sym (filter-append stays (map (waiter_at n m) row) (waiters_from n (m + 1) rows))
+
+  keeps : (m : ℕ) (a b : Listed) → is_key n a → is_key n b → waits_first (waiter_at n m a) (waiter_at n m b) ≡ lowest_first a b
+  keeps m a b ka kb = at (leb a.key b.key) refl
+    where
+      at : (b' : Bool) → leb a.key b.key ≡ b' → (ltb m m || (eqb m m && leb (n - b.key) (n - a.key))) ≡ b'
+      at true is =
+          let low : n - b.key ≤ n - a.key = grind (arith, nat_tests, is, ka.1, kb.1) in
+          grind (arith, nat_tests, low)
+      at false is =
+          let high : n - a.key < n - b.key = grind (arith, nat_tests, is, ka.1, kb.1) in
+          grind (arith, nat_tests, high)
+
+  map-placed : (m : ℕ) (x : Listed) (xs : List Listed) → is_key n x → AreKeys n xs → map (waiter_at n m) (placed lowest_first x xs) ≡ placed waits_first (waiter_at n m x) (map (waiter_at n m) xs)
+  unfolding placed
+  map-placed m x xs here all =
+      let f = waiter_at n m in
+      let w = waiter_at n m x in
+      let ahead = λ (y : Listed). lowest_first y x in
+      let after = λ (y : Listed). not (lowest_first y x) in
+      let agree = All-weaker (is_key n) (λ y. ahead y ≡ front w (f y)) (λ y k. sym (keeps m y x k here)) xs all in
+      let agree_not = All-weaker (is_key n) (λ y. after y ≡ back w (f y)) (λ y k. ap not (sym (keeps m y x k here))) xs all in
+      map-append f (filter ahead xs) (x ∷ filter after xs)
+      ∙ ap (λ ws. ws ++ w ∷ map f (filter after xs)) (ap (map f) (filter_agrees ahead (λ y. front w (f y)) xs agree) ∙ sym (filter-map (front w) f xs))
+      ∙ ap (λ ws. filter (front w) (map f xs) ++ w ∷ ws) (ap (map f) (filter_agrees after (λ y. back w (f y)) xs agree_not) ∙ sym (filter-map (back w) f xs))
+
+  pub waiters_with : (m k : ℕ) (x : Listed) (rows : List (List Listed)) → k < length rows → is_key n x → AreKeys n (row_at rows k) → waiters_from n m (set rows k (placed lowest_first x (row_at rows k))) ≡ placed waits_first (waiter_at n (m + k) x) (waiters_from n m rows)
+  waiters_with m k x [] low here all = absurd (omega (arith, low))
+  waiters_with m zero x (row ∷ rows) low here all =
+      let none : m + 0 ≡ m = omega arith in
+      let rest = waiters_from n (m + 1) rows in
+      let w = waiter_at n m x in
+      ap (λ ws. ws ++ rest) (map-placed m x row here all)
+      ∙ sym (placed_left w (map (waiter_at n m) row) rest (All-weaker (λ (y : Waiter). m + 1 ≤ y.wait.mutex) (λ y. waits_first y w ≡ false) (λ y above. grind (arith, nat_tests, above)) rest (from_mutex (m + 1) rows)))
+      ∙ ap (λ j. placed waits_first (waiter_at n j x) (map (waiter_at n m) row ++ rest)) (sym none)
+  waiters_with m (suc k) x (row ∷ rows) low here all =
+      let here_row = map (waiter_at n m) row in
+      let rest = waiters_from n (m + 1) rows in
+      let w = waiter_at n (m + suc k) x in
+      ap (λ ws. here_row ++ ws) (waiters_with (m + 1) k x rows (omega (arith, low)) here all)
+      ∙ ap (λ j. here_row ++ placed waits_first (waiter_at n j x) rest) (next_of_sum m k)
+      ∙ sym (placed_right w here_row rest (All-weaker (λ (y : Waiter). y.wait.mutex ≡ m) (λ y. waits_first y w ≡ true) (λ y is. grind (arith, nat_tests, is)) here_row (one_mutex m row)))
+
+  -- ---- the mutex that a task waits for
+  wait_later : (t : ℕ) (xs ys : List Waiter) → list_any (λ (w : Waiter). eqb w.task t) xs ≡ false → wait_of t (xs ++ ys) ≡ wait_of t ys
+  wait_later t [] ys away = refl
+  wait_later t (x ∷ xs) ys away = grind (arith, away, wait_later t xs ys)
+
+  abbrev mutex_of : MutexWait → ℕ
+  mutex_of wait = wait.mutex
+
+  wait_here : (t m : ℕ) (row : List Listed) (ys : List Waiter) → has_item t row ≡ true → option_map mutex_of (wait_of t (map (waiter_at n m) row ++ ys)) ≡ Some m
+  wait_here t m [] ys here = absurd (cc (here))
+  wait_here t m (e ∷ row) ys here = at (eqb e.item t) refl (wait_here t m row ys)
+    where
+      at : (b : Bool) → eqb e.item t ≡ b → (has_item t row ≡ true → option_map mutex_of (wait_of t (map (waiter_at n m) row ++ ys)) ≡ Some m) → option_map mutex_of (option_map (λ (w : Waiter). w.wait) (cond b (Some (waiter_at n m e)) (find (λ (w : Waiter). eqb w.task t) (map (waiter_at n m) row ++ ys)))) ≡ Some m
+      at true is rest = refl
+      at false is rest = rest (grind (arith, here, is))
+
+  abbrev place_in : ℕ → ℕ → List (List Listed) → Option ℕ
+  place_in t m rows = cond (ltb (position_or_len (has_item t) rows) (length rows)) (Some (m + position_or_len (has_item t) rows)) None
+
+  waits_at : (t m : ℕ) (rows : List (List Listed)) → option_map mutex_of (wait_of t (waiters_from n m rows)) ≡ place_in t m rows
+  waits_at t m [] = refl
+  waits_at t m (row ∷ rows) = at (has_item t row) refl (waits_at t (m + 1) rows)
+    where
+      rest : List Waiter
+      rest = waiters_from n (m + 1) rows
+
+      pol : ℕ
+      pol = position_or_len (has_item t) rows
+
+      at : (b : Bool) → has_item t row ≡ b → option_map mutex_of (wait_of t rest) ≡ place_in t (m + 1) rows → option_map mutex_of (wait_of t (map (waiter_at n m) row ++ rest)) ≡ cond (ltb (cond (not b) (1 + pol) 0) (suc (length rows))) (Some (m + cond (not b) (1 + pol) 0)) None
+      at true here later =
+          let within : ltb 0 (suc (length rows)) ≡ true = grind (arith, nat_tests) in
+          let none : m + 0 ≡ m = omega arith in
+          wait_here t m row rest here ∙ ap Some (sym none) ∙ ap (λ b. cond b (Some (m + 0)) None) (sym within)
+      at false away later =
+          let shift : (m + 1) + pol ≡ m + (1 + pol) = omega arith in
+          let alike : ltb pol (length rows) ≡ ltb (1 + pol) (suc (length rows)) = grind (arith, nat_tests) in
+          ap (option_map mutex_of) (wait_later t (map (waiter_at n m) row) rest (list_any-map (λ (w : Waiter). eqb w.task t) (waiter_at n m) row ∙ away))
+          ∙ later
+          ∙ ap (λ j. cond (ltb pol (length rows)) (Some j) None) shift
+          ∙ ap (λ b. cond b (Some (m + (1 + pol))) None) alike
+
+  pub waits_in : (t : ℕ) (view : ListsView) → option_map mutex_of (wait_of t (waiters_from n 0 view.lists)) ≡ list_of t view
+  waits_in t view =
+      let pol = position_or_len (has_item t) view.lists in
+      waits_at t 0 view.lists ∙ ap (λ j. cond (ltb pol (length view.lists)) (Some j) None) (zero-add pol)
+
+  -- ---- lists are known by their waiters
+  pub same_row : (m : ℕ) (xs ys : List Listed) → AreKeys n xs → AreKeys n ys → map (waiter_at n m) xs ≡ map (waiter_at n m) ys → xs ≡ ys
+  same_row m [] [] kx ky same = refl
+  same_row m [] (y ∷ ys) kx ky same = absurd (cc (same))
+  same_row m (x ∷ xs) [] kx ky same = absurd (cc (same))
+  same_row m (x ∷ xs) (y ∷ ys) kx ky same =
+      let first : waiter_at n m x ≡ waiter_at n m y = cc (same) in
+      let rest : map (waiter_at n m) xs ≡ map (waiter_at n m) ys = cc (same) in
+      let item : x.item ≡ y.item = ap (λ (w : Waiter). w.task) first in
+      let left : n - x.key ≡ n - y.key = ap (λ (w : Waiter). w.wait.priority) first in
+      let key : x.key ≡ y.key = omega (arith, left, kx.0.1, ky.0.1) in
+      let entry : x ≡ y = ap (λ i. record { item = i; key = x.key }) item ∙ ap (λ k. record { item = y.item; key = k }) key in
+      cc (entry, same_row m xs ys kx.1 ky.1 rest)
+
+  pub same_rows : (xs ys : List (List Listed)) → AreWaiters n xs → AreWaiters n ys → waiters_from n 0 xs ≡ waiters_from n 0 ys → (k : ℕ) → row_at xs k ≡ row_at ys k
+  same_rows xs ys wx wy same k = same_row k (row_at xs k) (row_at ys k) (wx.keys k) (wy.keys k) (sym (of_list k xs) ∙ ap (filter (waits_for k)) same ∙ of_list k ys)
+
+-- ---- what the lists keep
+any_row : (t k : ℕ) (rows : List (List Listed)) → list_any (has_item t) rows ≡ false → has_item t (row_at rows k) ≡ false
+any_row t zero [] none = refl
+any_row t (suc k) [] none = refl
+any_row t zero (row ∷ rows) none = grind (arith, none)
+any_row t (suc k) (row ∷ rows) none = any_row t k rows (grind (arith, none))
+
+-- a task of no list is in none
+pub free_rows : (t : ℕ) (view : ListsView) → list_of t view ≡ None → (k : ℕ) → has_item t (row_at view.lists k) ≡ false
+free_rows t view none k = any_row t k view.lists (sym (some_list t view) ∙ ap is_some none)
+
+pub empty_row : (lists k : ℕ) → row_at (replicate lists []) k ≡ []
+empty_row zero zero = refl
+empty_row zero (suc k) = refl
+empty_row (suc lists) zero = refl
+empty_row (suc lists) (suc k) = empty_row lists k
+
+pub no_waiters : (n m lists : ℕ) → waiters_from n m (replicate lists []) ≡ []
+no_waiters n m zero = refl
+no_waiters n m (suc lists) = no_waiters n (m + 1) lists
+
+pub waiters_none : (n lists : ℕ) → AreWaiters n (replicate lists [])
+unfolding ranked
+waiters_none n lists = record {
+  keys = λ m. rw (empty_row lists m) tt;
+  in_order = λ m. rw (empty_row lists m) refl;
+  once = λ t m k here there. absurd (cc (sym here ∙ ap (has_item t) (empty_row lists m)));
+}
+
+has_kept : (t u : ℕ) (row : List Listed) → has_item t (without_item u row) ≡ true → has_item t row ≡ true
+has_kept t u [] here = here
+has_kept t u (e ∷ row) here = at (eqb e.item u) (eqb e.item t) here (has_kept t u row)
+  where
+    at : (b c : Bool) → list_any (λ (e' : Listed). eqb e'.item t) (cond (not b) (e ∷ without_item u row) (without_item u row)) ≡ true → (has_item t (without_item u row) ≡ true → has_item t row ≡ true) → (eqb e.item t || has_item t row) ≡ true
+    at true c is rest = grind (arith, rest is)
+    at false c is rest = cases (eqb e.item t) refl is rest
+      where
+        cases : (d : Bool) → eqb e.item t ≡ d → (eqb e.item t || has_item t (without_item u row)) ≡ true → (has_item t (without_item u row) ≡ true → has_item t row ≡ true) → (eqb e.item t || has_item t row) ≡ true
+        cases true same is rest = grind (arith, same)
+        cases false other is rest =
+            let later : has_item t (without_item u row) ≡ true = grind (arith, is, other) in
+            grind (arith, rest later)
+
+pub waiters_gone : (n u : ℕ) (rows : List (List Listed)) → AreWaiters n rows → AreWaiters n (map (without_item u) rows)
+waiters_gone n u rows waiting =
+    let row = λ (m : ℕ). get_or-map (without_item u) rows m [] in
+    let stays = λ (e : Listed). not (eqb e.item u) in
+    record {
+      keys = λ m. rw (row m) (All-filter (is_key n) stays (row_at rows m) (waiting.keys m));
+      in_order = λ m. rw (row m) (sym (filter-ranked lowest_first lowest_first-IsRank stays (row_at rows m)) ∙ ap (filter stays) (waiting.in_order m));
+      once = λ t m k here there. waiting.once t m k (has_kept t u (row_at rows m) (ap (has_item t) (sym (row m)) ∙ here)) (has_kept t u (row_at rows k) (ap (has_item t) (sym (row k)) ∙ there));
+    }
+
+module _ (n k : ℕ) (x : Listed) (rows : List (List Listed)) (low : k < length rows) (key : is_key n x) (free : (m : ℕ) → has_item x.item (row_at rows m) ≡ false) (waiting : AreWaiters n rows) where
+  abbrev more : List (List Listed)
+  more = set rows k (placed lowest_first x (row_at rows k))
+
+  its_row : row_at more k ≡ placed lowest_first x (row_at rows k)
+  its_row = get_or-set_same rows k (placed lowest_first x (row_at rows k)) [] low
+
+  other_row : (m : ℕ) → m ≢ k → row_at more m ≡ row_at rows m
+  other_row m away = get_or-set_other rows k m (placed lowest_first x (row_at rows k)) [] away
+
+  -- in which lists a task stands
+  has_more : (t m : ℕ) → has_item t (row_at more m) ≡ true → ((m ≡ k) × (t ≡ x.item)) ⊎ (has_item t (row_at rows m) ≡ true)
+  has_more t m here = elim (cases_eq m k) [
+    | inl same ↦ in_its_list same (eqb x.item t) refl
+    | inr away ↦ inr (ap (has_item t) (sym (other_row m away)) ∙ here)
+  ]
+    where
+      in_its_list : m ≡ k → (b : Bool) → eqb x.item t ≡ b → ((m ≡ k) × (t ≡ x.item)) ⊎ (has_item t (row_at rows m) ≡ true)
+      in_its_list same true is = inl (same, grind (arith, nat_tests, is))
+      in_its_list same false other =
+          let now : (eqb x.item t || has_item t (row_at rows k)) ≡ true = sym (ap (has_item t) its_row ∙ list_any-placed lowest_first (λ (e : Listed). eqb e.item t) x (row_at rows k)) ∙ ap (λ j. has_item t (row_at more j)) (sym same) ∙ here in
+          let old : has_item t (row_at rows k) ≡ true = grind (arith, now, other) in
+          inr (ap (λ j. has_item t (row_at rows j)) same ∙ old)
+
+  once_more : (t m j : ℕ) → has_item t (row_at more m) ≡ true → has_item t (row_at more j) ≡ true → m ≡ j
+  once_more t m j here there = elim (has_more t m here) [
+    | inl new ↦ elim (has_more t j there) [
+      | inl too ↦ new.0 ∙ sym too.0
+      | inr old ↦ absurd (cc (old, ap (λ u. has_item u (row_at rows j)) new.1, free j))
+    ]
+    | inr old ↦ elim (has_more t j there) [
+      | inl new ↦ absurd (cc (old, ap (λ u. has_item u (row_at rows m)) new.1, free m))
+      | inr too ↦ waiting.once t m j old too
+    ]
+  ]
+
+  pub waiters_more : AreWaiters n more
+  waiters_more = record {
+    keys = λ m. elim (cases_eq m k) [
+      | inl same ↦ rw (same, its_row) (All-placed lowest_first (is_key n) x (row_at rows k) key (waiting.keys k))
+      | inr away ↦ rw (other_row m away) (waiting.keys m)
+    ];
+    in_order = λ m. elim (cases_eq m k) [
+      | inl same ↦ rw (same, its_row) (ranked-placed lowest_first lowest_first-IsRank x (row_at rows k) (waiting.in_order k))
+      | inr away ↦ rw (other_row m away) (waiting.in_order m)
+    ];
+    once = once_more;
+  }
+
+-- ---- the key of the first of a list
+found_row : (t k : ℕ) (rows : List (List Listed)) → has_item t (row_at rows k) ≡ true → ((j : ℕ) → has_item t (row_at rows j) ≡ true → j ≡ k) → find (has_item t) rows ≡ Some (row_at rows k)
+found_row t zero [] here sole = absurd (cc (here))
+found_row t (suc k) [] here sole = absurd (cc (here))
+found_row t zero (row ∷ rows) here sole = ap (λ b. cond b (Some row) (find (has_item t) rows)) here
+found_row t (suc k) (row ∷ rows) here sole = at (has_item t row) refl (found_row t k rows here (λ j there. omega (arith, sole (suc j) there)))
+  where
+    at : (b : Bool) → has_item t row ≡ b → find (has_item t) rows ≡ Some (row_at rows k) → cond b (Some row) (find (has_item t) rows) ≡ Some (row_at rows k)
+    at true first later = absurd (omega (arith, sole 0 first))
+    at false away later = later
+
+-- the first of a list, and its key
+pub first_key : (n k : ℕ) (view : ListsView) (e : Listed) (rest : List Listed) → AreWaiters n view.lists → row_at view.lists k ≡ e ∷ rest → key_of e.item view ≡ Some e.key
+first_key n k view e rest waiting is =
+    let itself : eqb e.item e.item ≡ true = grind (arith, nat_tests) in
+    let here : has_item e.item (row_at view.lists k) ≡ true = ap (has_item e.item) is ∙ ap (λ b. b || has_item e.item rest) itself in
+    let row = found_row e.item k view.lists here (λ j there. waiting.once e.item j k there here) in
+    ap (λ o. option_map (λ (d : Listed). d.key) (find (λ (d : Listed). eqb d.item e.item) (unwrap_or o []))) row
+    ∙ ap (λ r. option_map (λ (d : Listed). d.key) (find (λ (d : Listed). eqb d.item e.item) r)) is
+    ∙ ap (λ b. option_map (λ (d : Listed). d.key) (cond b (Some e) (find (λ (d : Listed). eqb d.item e.item) rest))) itself

@@ -1,20 +1,20 @@
 -- What lists of waiters show as a waiter comes and goes, and what is found in them.
-use Rattle.std.proofs.Common.{◌≡◌, ◌≢◌, ℕ, zero, suc, ◌+◌, ◌-◌, ◌<◌, ◌≤◌, Bool, true, false, cond, not, eqb, leb, ltb, ◌||◌, ◌&&◌, List, [], ◌∷◌, ◌++◌, length, map, set, get_or, replicate, Option, Some, None, option_map, unwrap_or, refl, sym, ap, subst, ◌∙◌, append_assoc, get_or-set_same, get_or-set_other, arith, ◌⊎◌, inl, inr, zero-add}
+use Rattle.std.proofs.Common.{◌≡◌, ◌≢◌, ℕ, zero, suc, ◌+◌, ◌-◌, ◌<◌, ◌≤◌, Bool, true, false, cond, not, eqb, leb, ltb, ◌||◌, ◌&&◌, List, [], ◌∷◌, ◌++◌, length, map, set, get_or, replicate, Option, Some, None, option_map, unwrap_or, refl, sym, ap, ◌∙◌, append_assoc, get_or-set_same, get_or-set_other, arith, ◌⊎◌, inl, inr, zero-add}
 use Rattle.std.specs.Prelude.{is_some}
 use Rattle.std.specs.List.{filter, find, list_any, position_or_len, AllByRecursion}
 use Rattle.std.proofs.Math.ListN.{get_or-map}
 use Rattle.std.proofs.lemmas.Bool.{cases_eq}
 use Rattle.std.proofs.lemmas.Bool.Decides.{nat_tests}
-use Rattle.std.proofs.lemmas.List.{append-nil, map-append, ext_get_or}
+use Rattle.std.proofs.lemmas.List.{append-nil, map-append}
 use Rattle.std.proofs.lemmas.List.Elements.{filter-append}
 use Rattle.bench_types.specs.declared.kernel_data.MutexWait.{MutexWait}
 use Rattle.bench_types.specs.declared.kernel_data.Waiter.{Waiter}
 use Rattle.list_orders.specs.Search.{placed, ranked}
-use Rattle.list_orders.proofs.Filters.{filter_all, filter_none, filter_agrees, filter-map, find_filter, list_any-append, list_any-map, All-append, All-map, All-weaker, All_each, All-filter}
+use Rattle.list_orders.proofs.Filters.{filter_all, filter_none, filter_agrees, filter-map, find_filter, list_any-map, All-append, All-map, All-weaker, All_each, All-filter}
 use Rattle.list_orders.proofs.Ranks.{list_any-placed, All-placed, filter-ranked}
 use Rattle.list_orders.proofs.Placements.{ranked-placed}
 use Rattle.index_lists.specs.Listed.{Listed, ListsView, items_of, has_item, without_item, list_of, key_of, lowest_first}
-use Rattle.index_lists.proofs.Frees.{some_list, no_list}
+use Rattle.index_lists.proofs.Frees.{some_list}
 use Rattle.index_lists.proofs.Places.{lowest_first-IsRank}
 use Rattle.bench_model.specs.Lists.{waits_first, without_waiter, first_of}
 use Rattle.bench_model.specs.MutexParts.{wait_of}

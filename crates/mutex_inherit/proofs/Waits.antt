@@ -1,5 +1,5 @@
 -- What the fields of the mutexes show.
-use Rattle.std.proofs.Common.{◌≡◌, ◌≢◌, ℕ, ◌+◌, ◌-◌, ◌<◌, ◌≤◌, ◌^◌, Bool, true, eqb, List, [], ◌∷◌, map, replicate, length, get_or, Option, Some, None, option_map, refl, sym, ap, subst, ◌∙◌, zero-add, arith}
+use Rattle.std.proofs.Common.{◌≡◌, ◌≢◌, ℕ, ◌-◌, ◌<◌, ◌≤◌, ◌^◌, true, eqb, List, [], ◌∷◌, map, replicate, length, Option, Some, None, option_map, refl, sym, ap, subst, ◌∙◌, zero-add, arith}
 use Rattle.std.specs.Option.{ForSome}
 use Rattle.std.specs.List.{filter, find}
 use Rattle.std.proofs.lemmas.List.{length-replicate, ext_get_or}

@@ -1,4 +1,4 @@
-use Rattle.std.proofs.Common.{◌≡◌, ◌<◌, ◌-◌, length, ◌∙◌, ap, length-set, arith}
+use Rattle.std.proofs.Common.{◌<◌, ◌-◌, length, ◌∙◌, ap, length-set, arith}
 use Rattle.mutex_inherit.specs.Parts.{MutexPart}
 use Rattle.mutex_inherit.proofs.Rows.{free_rows, waiters_more}
 use Rattle.mutex_inherit.proofs.Waits.{free_seen, seen_enter}

@@ -1,4 +1,4 @@
-use Rattle.std.proofs.Common.{◌≡◌, true, ap, sym, arith, inl, inr, refl}
+use Rattle.std.proofs.Common.{◌≡◌, true, arith, inl, inr, refl}
 use Rattle.std.proofs.lemmas.Bool.{cases_eq}
 use Rattle.mutex_inherit.proofs.Waits.{same_lists, same_group, same_groups}
 use Rattle.mutex_inherit.proofs.mutexes.Mutexes.has_same_waiters.Goals as goal

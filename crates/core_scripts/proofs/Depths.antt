@@ -116,6 +116,7 @@ close_opens_none core task table some = at (refusal stamp_queues (steps.Call cor
         let own : eqb hold.core core ≡ true = grind (arith, nat_tests, free) in
         let zero : hold.depth ≡ 0 = ap (λ b. cond {A = ℕ} b hold.depth 0) (sym own) ∙ none in
         some (ap (λ depth. depth_by core (closed_once core (depth - 1))) zero)
+
     at : (why : Option Refusal) → refusal stamp_queues (steps.Call core task HoldClose) table ≡ why → depth_by core (told why (steps.Call core task HoldClose) table).1.hold ≢ 0 → depth_by core table.hold ≢ 0
     at None none some = by_hold table.hold (accepted stamp_queues core task HoldClose table none).free some
     at (Some why) is some = some

@@ -135,10 +135,12 @@ module _ (old new : CoreView) (terms : new.terms ≡ old.terms) (core : new.core
   less_still places less = (less.0, begins_through new.seen old.seen less.0 begins less.1, subst (λ terms. room_of (recording_of terms less.0) < places) (sym terms) less.2)
 
   idle_still : HasIdleOn old.terms.header old.core old.seen → HasIdleOn new.terms.header new.core new.seen
-  idle_still idle =
-      (idle.0, begins_through new.seen old.seen idle.0 begins idle.1,
-      subst (λ core. current (end_of new.terms.header idle.0).control core < new.terms.header.config.cores) (sym core)
-      (subst (λ terms. current (end_of terms.header idle.0).control old.core < terms.header.config.cores) (sym terms) idle.2))
+  idle_still idle = (
+    idle.0,
+    begins_through new.seen old.seen idle.0 begins idle.1,
+    subst (λ core. current (end_of new.terms.header idle.0).control core < new.terms.header.config.cores) (sym core)
+        (subst (λ terms. current (end_of terms.header idle.0).control old.core < terms.header.config.cores) (sym terms) idle.2),
+  )
 
   -- no matter which actions it kept, these stand as they did
   pub kept_still : (script : List Act) (kept : List Entry) → IsKept script kept old → IsKept script kept new
@@ -151,6 +153,7 @@ module _ (old new : CoreView) (terms : new.terms ≡ old.terms) (core : new.core
       at : (interrupts_of (acts_of kept) ≡ interrupts_of script) ⊎ HasLessRoom 1 old → (interrupts_of (acts_of kept) ≡ interrupts_of script) ⊎ HasLessRoom 1 new
       at (inl same) = inl same
       at (inr less) = inr (less_still 1 less)
+
       at_all : (acts_of kept ≡ script) ⊎ HasIdleOn old.terms.header old.core old.seen ⊎ HasLessRoom 2 old ⊎ SwitchesAndHolds script → (acts_of kept ≡ script) ⊎ HasIdleOn new.terms.header new.core new.seen ⊎ HasLessRoom 2 new ⊎ SwitchesAndHolds script
       at_all (inl same) = inl same
       at_all (inr (inl idle)) = inr (inl (idle_still idle))
@@ -171,9 +174,11 @@ module _ (done : List Act) (act : Act) (kept : List Entry) (seat : CoreView) (is
     where
       acts : acts_of (kept ++ entry ∷ []) ≡ acts_of kept ++ act ∷ []
       acts = map-append (λ (entry : Entry). act_of entry.step) kept (entry ∷ []) ∙ ap (λ act. acts_of kept ++ act ∷ []) its
+
       at : (interrupts_of (acts_of kept) ≡ interrupts_of done) ⊎ HasLessRoom 1 seat → (interrupts_of (acts_of (kept ++ entry ∷ [])) ≡ interrupts_of (done ++ act ∷ [])) ⊎ HasLessRoom 1 seat
       at (inl same) = inl (ap interrupts_of acts ∙ interrupts_last (acts_of kept) act ∙ ap (λ front. front ++ interrupts_of (act ∷ [])) same ∙ sym (interrupts_last done act))
       at (inr less) = inr less
+
       at_all : (acts_of kept ≡ done) ⊎ HasIdleOn seat.terms.header seat.core seat.seen ⊎ HasLessRoom 2 seat ⊎ SwitchesAndHolds done → (acts_of (kept ++ entry ∷ []) ≡ done ++ act ∷ []) ⊎ HasIdleOn seat.terms.header seat.core seat.seen ⊎ HasLessRoom 2 seat ⊎ SwitchesAndHolds (done ++ act ∷ [])
       at_all (inl same) = inl (acts ∙ ap (λ front. front ++ act ∷ []) same)
       at_all (inr (inl idle)) = inr (inl idle)

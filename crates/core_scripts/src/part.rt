@@ -31,13 +31,7 @@ pub(crate) fn part_played<R: Wait, G: Gate>(
     seat
 }
 
-fn act_all<R: Wait, G: Gate>(
-    rt: &R,
-    rig: &Rig,
-    seat: &mut CoreSeat,
-    script: &[Act],
-    gate: &G,
-)
+fn act_all<R: Wait, G: Gate>(rt: &R, rig: &Rig, seat: &mut CoreSeat, script: &[Act], gate: &G)
     requires own { IsSeatOf rig.now seat.old }
     requires new { seat.old ≡ new_seat rig.now seat.old.core }
     requires script { IsScriptOf (settings_of seat.old.terms.header) seat.old.core script.now }
@@ -50,12 +44,7 @@ fn act_all<R: Wait, G: Gate>(
     }
 }
 
-fn act_once<R: Wait>(
-    rt: &R,
-    rig: &Rig,
-    seat: &mut CoreSeat,
-    act: Act,
-) -> Result<Answer, RigRefusal>
+fn act_once<R: Wait>(rt: &R, rig: &Rig, seat: &mut CoreSeat, act: Act) -> Result<Answer, RigRefusal>
     requires own { IsSeatOf rig.now seat.old }
     requires act { act_check (settings_of seat.old.terms.header) seat.old.core act ≡ Ok tt }
     ensures same { IsSameSeat seat.old seat.new }

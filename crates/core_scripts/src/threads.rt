@@ -1,15 +1,17 @@
 //! The scripts of all cores, side by side.
 ghost use Rattle.std.specs.Prelude.{◌≡◌, ◌≤◌, ℕ, length, map, get_or, All, [], IfOk, None, Ok};
+ghost use Rattle.std.specs.Thread.{IsSync};
 ghost use Rattle.list_orders.specs.Search.{numbers};
 ghost use Rattle.bench_types.specs.Header.{header_check};
 ghost use Rattle.bench_types.specs.Limits.{max_steps};
 ghost use Rattle.bench_model.specs.History.{IsLegal};
 ghost use Rattle.port_locks.specs.Holds.{hold_after};
 ghost use Rattle.core_rig.specs.Closing.{counts};
-ghost use Rattle.core_rig.specs.Seats.{new_seat};
+ghost use Rattle.bench_types.specs.Step.{settings_of};
+ghost use Rattle.core_rig.specs.Seats.{IsSeatOf, new_seat};
 ghost use Rattle.core_scripts.specs.Played.{ArePlayed};
-ghost use Rattle.core_scripts.specs.Scripts.{AreScripts};
-ghost use Rattle.core_scripts.specs.Threads.{AreEnded};
+ghost use Rattle.core_scripts.specs.Scripts.{AreScripts, IsScriptOf};
+ghost use Rattle.core_scripts.specs.Threads.{AreEnded, HasDonePart};
 
 use crate::gate::Gate;
 use crate::part::part_played;
@@ -28,12 +30,9 @@ struct Part<'a> {
 }
 
 impl<'a> Promise<CoreSeat> for Part<'a> {
-    ghost use Rattle.std.specs.Prelude.{◌≡◌};
-    ghost use Rattle.core_rig.specs.Seats.{IsSeatOf};
-    ghost use Rattle.core_scripts.specs.Parts.{HasEnded};
+    ghost use Rattle.core_scripts.specs.Threads.{HasDonePart};
 
-    ghost kept_by = { λ part seat. IsSeatOf part.rig.now seat
-        × (seat.core ≡ part.core) × HasEnded part.script.now seat };
+    ghost kept_by = { λ part seat. HasDonePart part.rig.now part.core part.script.now seat };
 }
 
 /// Plays one script per core on a kernel of the header, each in a thread of its own, and gives what
@@ -92,6 +91,7 @@ fn all_parts<R: Threads + Wait + Sync, G: Gate>(
         thread::scope_env(),
         rt,
         move |scope| -> Result<Vec<CoreSeat>, AllocError>
+            requires shared { IsSync R.row × IsSync G.row }
             requires seats { seats.items ≡ map (new_seat rig.now) (numbers rig.now.cores) }
             requires scripts { AreScripts rig.now.terms.header scripts.now }
             requires cores { rig.now.cores ≡ rig.now.terms.header.config.cores }
@@ -102,7 +102,17 @@ fn all_parts<R: Threads + Wait + Sync, G: Gate>(
                 let core = seat.core();
                 let script = scripts[core as usize].as_slice();
                 let part = Part { rig, script, core };
-                let thread = scope.spawn_with(part, move || part_played(rt, rig, seat, script, gate))?;
+                let thread = scope.spawn_with(
+                    part,
+                    move || -> CoreSeat
+                        requires own { IsSeatOf rig.now seat }
+                        requires new { seat ≡ new_seat rig.now seat.core }
+                        requires script { IsScriptOf (settings_of seat.terms.header) seat.core
+                            script.now }
+                        ensures { HasDonePart rig.entry.now seat.core script.entry.now
+                            result }
+                    { part_played(rt, rig, seat, script, gate) },
+                )?;
                 threads.push(thread)?;
             }
             Ok(thread::join_promised(rt, threads)?)

@@ -2,7 +2,10 @@
 use crate::gates::Open;
 use crate::played::{THREE, check_steps, document, played};
 use bench_types::{Call, Step};
+use std::process::Abort;
+use std::sync::Wait;
 use std::test::Fail;
+use std::thread::Threads;
 
 const OPEN: Step = Step::Call {
     core: 0,
@@ -17,23 +20,25 @@ const CLOSE: Step = Step::Call {
 };
 
 /// What is recorded of the scripts, with so much room.
-fn check(
-    rt: HostRuntime,
+fn check<R: Threads + Wait + Abort + Sync>(
+    rt: &R,
+    host: &HostRuntime,
     tasks: &str,
     limit: u32,
     scripts: &str,
     steps: &[Step],
 ) -> Result<(), Fail> {
-    let text = document(rt.alloc(), tasks, limit, scripts)?;
-    let recorded = played(&rt, &rt, text.as_str(), &Open)?;
-    check_steps(&rt, &recorded, steps);
+    let text = document(host.alloc(), tasks, limit, scripts)?;
+    let recorded = played(rt, host, text.as_str(), &Open)?;
+    check_steps(rt, &recorded, steps);
     Ok(())
 }
 
 #[test]
 fn an_open_hold_is_closed_at_the_end(rt: HostRuntime) -> Result<(), Fail> {
     check(
-        rt,
+        &rt,
+        &rt,
         THREE,
         10,
         "[[{\"do\":\"hold_open\"}],[]]",
@@ -44,19 +49,19 @@ fn an_open_hold_is_closed_at_the_end(rt: HostRuntime) -> Result<(), Fail> {
 #[test]
 fn a_switch_in_an_own_hold_is_passed_over(rt: HostRuntime) -> Result<(), Fail> {
     let scripts = "[[{\"do\":\"hold_open\"},{\"do\":\"switch\"}],[]]";
-    check(rt, THREE, 10, scripts, &[OPEN, CLOSE])
+    check(&rt, &rt, THREE, 10, scripts, &[OPEN, CLOSE])
 }
 
 #[test]
 fn a_hold_that_fills_the_room_is_closed(rt: HostRuntime) -> Result<(), Fail> {
     let scripts = "[[{\"do\":\"hold_open\"},{\"do\":\"tick\"}],[]]";
-    check(rt, THREE, 2, scripts, &[OPEN, CLOSE])
+    check(&rt, &rt, THREE, 2, scripts, &[OPEN, CLOSE])
 }
 
 #[test]
 fn a_hold_for_which_there_is_no_room_is_passed_over(rt: HostRuntime) -> Result<(), Fail> {
     let scripts = "[[{\"do\":\"hold_open\"},{\"do\":\"tick\"}],[]]";
-    check(rt, THREE, 1, scripts, &[Step::Tick])
+    check(&rt, &rt, THREE, 1, scripts, &[Step::Tick])
 }
 
 #[test]
@@ -76,7 +81,8 @@ fn calls_of_an_idle_task_are_passed_over(rt: HostRuntime) -> Result<(), Fail> {
     let switch = Step::Switch { core: 0 };
     let steps = [delay, switch, Step::Tick, switch, finish];
     check(
-        rt,
+        &rt,
+        &rt,
         "{\"name\":\"A\",\"priority\":2,\"mask\":1}",
         10,
         scripts,

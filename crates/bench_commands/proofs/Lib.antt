@@ -8,3 +8,4 @@ mod Refused
 mod Opened
 mod SpanTexts
 mod CommandLines
+mod Recordings

@@ -4,4 +4,5 @@ pub mod CommandLines
 pub mod Device
 pub mod Lines
 pub mod Program
+pub mod Record
 pub mod Run

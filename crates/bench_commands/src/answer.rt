@@ -34,7 +34,7 @@ impl Model for Answer {
         record { is_refused = answer.is_refused; text = string_bytes answer.text } };
 }
 
-fn refused(alloc: Global, code: &str, path: &str) -> Result<Answer, AllocError>
+pub(crate) fn refused(alloc: Global, code: &str, path: &str) -> Result<Answer, AllocError>
     ensures { IfOk result
         (λ answer. answer ≡ record { is_refused = true; text = refusal_line code.now path.now }) }
 {
@@ -45,7 +45,7 @@ fn refused(alloc: Global, code: &str, path: &str) -> Result<Answer, AllocError>
     })
 }
 
-fn refused_for(alloc: Global, fault: TextFault) -> Result<Answer, AllocError>
+pub(crate) fn refused_for(alloc: Global, fault: TextFault) -> Result<Answer, AllocError>
     ensures line { IfOk result
         (λ answer. answer
         ≡ record { is_refused = true; text = refusal_line (why_text fault.why) fault.path }) }

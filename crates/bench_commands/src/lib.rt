@@ -10,10 +10,13 @@ mod input;
 mod lines;
 mod output;
 mod program;
+mod recording;
 mod writing;
 
 pub use command::{DEFAULT_SPAN, Request, request_of};
+pub use core_scripts::Gate;
 pub use device::{Counted, CountedRead, CountedWrite};
 pub use examples::examples_of_command_lines;
 pub use execution::{Mode, RunFault, Status, run};
 pub use program::{Ending, carry_out, run_program};
+pub use recording::record;

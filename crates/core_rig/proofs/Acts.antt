@@ -14,6 +14,7 @@ use Rattle.bench_types.specs.Header.{header_check}
 use Rattle.bench_types.specs.Step.{settings_of}
 use Rattle.bench_model.specs.History.{core_of, made_by, IsLegal}
 use Rattle.bench_model.specs.Holds.{depth_of, depth_by, is_held_by}
+use Rattle.history_laws.specs.SoundHistories.{IsSoundHistory}
 use Rattle.history_laws.proofs.Parts.{made-push}
 use Rattle.port_locks.specs.declared.view.Terms.{Terms}
 use Rattle.port_locks.specs.Holds.{hold_after, own_hold}
@@ -63,26 +64,28 @@ module _ (old : CoreView) (act : Act) (found : List Entry) (finds : Finds old fo
       ∙ ap (λ b. cond b (made_by old.core found ++ entry ∷ []) (made_by old.core found)) is
       ∙ ap (λ made. made ++ entry ∷ []) finds.own
 
-  pub acts_as : IsLegal old.terms.header (later (is_ok (answer_to_act old.core act view))) → HasActed act old (seat_after (is_ok (answer_to_act old.core act view))) (answered (answer_to_act old.core act view))
-  acts_as legal = at (answer_to_act old.core act view) refl legal
+  pub acts_as : IsLegal old.terms.header (later (is_ok (answer_to_act old.core act view))) → IsSoundHistory old.terms.header (later (is_ok (answer_to_act old.core act view))) → HasActed act old (seat_after (is_ok (answer_to_act old.core act view))) (answered (answer_to_act old.core act view))
+  acts_as legal sound = at (answer_to_act old.core act view) refl legal sound
     where
-      at : (r : Result Answer RecordRefusal) → answer_to_act old.core act view ≡ r → IsLegal old.terms.header (later (is_ok r)) → HasActed act old (seat_after (is_ok r)) (answered r)
-      at (Ok answer) is legal = record {
+      at : (r : Result Answer RecordRefusal) → answer_to_act old.core act view ≡ r → IsLegal old.terms.header (later (is_ok r)) → IsSoundHistory old.terms.header (later (is_ok r)) → HasActed act old (seat_after (is_ok r)) (answered r)
+      at (Ok answer) is legal sound = record {
         found = found;
         finds = finds;
         answer = ap answered (sym is);
         made = ap (λ made. record old { seen = found ++ entry ∷ []; made = made }) one_more;
         refused = tt;
         legal = legal;
+        sound = sound;
         own = refl;
       }
-      at (Err why) is legal = record {
+      at (Err why) is legal sound = record {
         found = found;
         finds = finds;
         answer = ap answered (sym is);
         made = tt;
         refused = ap (λ made. record old { seen = found; made = made }) finds.own;
         legal = legal;
+        sound = sound;
         own = refl;
       }
 
@@ -118,16 +121,16 @@ module _ (old : SeatView RecordingView) (act : Act) (checked : act_check (settin
   abbrev in_hand : ℕ → List Entry → SeatView RecordingView
   in_hand task found = record old { task_depth = task; interrupt_depth = 1; seen = found; value = Some (recording_of old.terms found) }
 
-  came_from : (task : ℕ) (found : List Entry) → Finds (core_view old) found → IsLegal old.terms.header (after_stretch act (in_hand task found)).seen → Came act old (after_stretch act (in_hand task found)) (answered (answer_to_act old.number act (recording_of old.terms found)))
-  came_from task found finds legal = record {
-    acted = acts_as (core_view old) act found finds checked legal;
+  came_from : (task : ℕ) (found : List Entry) → Finds (core_view old) found → IsLegal old.terms.header (after_stretch act (in_hand task found)).seen → IsSoundHistory old.terms.header (after_stretch act (in_hand task found)).seen → Came act old (after_stretch act (in_hand task found)) (answered (answer_to_act old.number act (recording_of old.terms found)))
+  came_from task found finds legal sound = record {
+    acted = acts_as (core_view old) act found finds checked legal sound;
     terms = refl;
     number = refl;
     own = refl;
   }
 
-  pub came : (task : ℕ) (taken new : SeatView RecordingView) (answer : Result Answer RigRefusal) → HasTaken terms_of entries_of (record old { task_depth = task }) taken → new ≡ after_stretch act taken → answer ≡ answered (answer_to_act taken.number act (recording_of taken.terms taken.seen)) → IsLegal new.terms.header new.seen → Came act old new answer
-  came task taken new answer has is answers legal =
+  pub came : (task : ℕ) (taken new : SeatView RecordingView) (answer : Result Answer RigRefusal) → HasTaken terms_of entries_of (record old { task_depth = task }) taken → new ≡ after_stretch act taken → answer ≡ answered (answer_to_act taken.number act (recording_of taken.terms taken.seen)) → IsLegal new.terms.header new.seen → IsSoundHistory new.terms.header new.seen → Came act old new answer
+  came task taken new answer has is answers legal sound =
       let value = has.0 in
       let found = entries_of value in
       let same : taken ≡ in_hand task found = has.2 ∙ ap (λ terms. record old { task_depth = task; interrupt_depth = 1; seen = found; value = Some (recording_of terms found) }) has.1 in
@@ -135,7 +138,8 @@ module _ (old : SeatView RecordingView) (act : Act) (checked : act_check (settin
       let told = answers ∙ ap (λ seat. answered (answer_to_act seat.number act (recording_of seat.terms seat.seen))) same in
       subst (λ seat. Came act old seat answer) (sym done)
       (subst (Came act old (after_stretch act (in_hand task found))) (sym told)
-      (came_from task found (core_finds (record old { task_depth = task }) value has.3) (subst (λ seat. IsLegal seat.terms.header seat.seen) done legal)))
+      (came_from task found (core_finds (record old { task_depth = task }) value has.3) (subst (λ seat. IsLegal seat.terms.header seat.seen) done legal)
+      (subst (λ seat. IsSoundHistory seat.terms.header seat.seen) done sound)))
 
 -- the task word tells nothing of what a core saw and made
 pub came_beside : (act : Act) (old new later : SeatView RecordingView) (answer : Result Answer RigRefusal) (task : ℕ) → later ≡ record new { task_depth = task } → Came act old new answer → Came act old later answer

@@ -6,6 +6,7 @@ use Rattle.bench_types.specs.declared.act.Act.{Act}
 use Rattle.bench_types.specs.declared.entry.Entry.{Entry}
 use Rattle.bench_model.specs.Holds.{depth_by}
 use Rattle.bench_model.specs.History.{made_by, IsLegal, StartsWith}
+use Rattle.history_laws.specs.SoundHistories.{IsSoundHistory}
 use Rattle.port_locks.specs.Holds.{hold_after}
 use Rattle.recordings.specs.declared.recording.Answer.{Answer}
 use Rattle.recordings.specs.declared.recording.RecordRefusal.{RecordRefusal}
@@ -56,6 +57,7 @@ pub record HasActed (act : Act) (old new : CoreView) (result : Result Answer Rig
       })
   pub refused : OnErr result (new ≡ record old { seen = found })
   pub legal : IsLegal new.terms.header new.seen
+  pub sound : IsSoundHistory new.terms.header new.seen
   pub own : made_by new.core new.seen ≡ new.made
 
 -- the refusal changed nothing

@@ -3,6 +3,7 @@ ghost use Rattle.list_orders.specs.Search.{numbers};
 ghost use Rattle.bench_types.specs.Header.{header_check};
 ghost use Rattle.bench_types.specs.Limits.{max_steps};
 ghost use Rattle.bench_model.specs.History.{made_by, IsLegal};
+ghost use Rattle.history_laws.specs.SoundHistories.{IsSoundHistory};
 ghost use Rattle.port_locks.specs.Holds.{hold_after};
 ghost use Rattle.core_rig.specs.declared.fault.RigFault.TheVariants.{BadHeader, BadLimit};
 ghost use Rattle.core_rig.specs.Closing.{IsEndOf, close_check, counts, has_all_cores, has_core, hold_nothing};
@@ -96,6 +97,7 @@ impl Rig {
         ensures closed { OnOk result (close_check self.cores seats.items ≡ Ok tt) }
         ensures header { IfOk result (λ it. it.header ≡ self.terms.header) }
         ensures legal { IfOk result (λ it. IsLegal it.header it.entries.items) }
+        ensures sound { IfOk result (λ it. IsSoundHistory it.header it.entries.items) }
         ensures few { IfOk result (λ it. length it.entries.items ≤ self.terms.limit) }
         ensures seats { IfOk result (λ it. All (IsEndOf it.entries.items) seats.items) }
         ensures unheld { IfOk result (λ it. hold_after it.header it.entries.items ≡ None) }
@@ -119,6 +121,7 @@ impl Rig {
         requires all { close_check self.cores seats.items ≡ Ok tt }
         ensures header { result.header ≡ self.terms.header }
         ensures legal { IsLegal result.header result.entries.items }
+        ensures sound { IsSoundHistory result.header result.entries.items }
         ensures few { length result.entries.items ≤ self.terms.limit }
         ensures seats { All (IsEndOf result.entries.items) seats.items }
         ensures unheld { hold_after result.header result.entries.items ≡ None }

@@ -4,6 +4,7 @@ ghost use Rattle.bench_types.specs.Act.{act_check};
 ghost use Rattle.bench_types.specs.Step.{settings_of};
 ghost use Rattle.bench_model.specs.Holds.{depth_by, is_held_by};
 ghost use Rattle.bench_model.specs.History.{IsLegal};
+ghost use Rattle.history_laws.specs.SoundHistories.{IsSoundHistory};
 ghost use Rattle.port_locks.specs.Holds.{hold_after};
 ghost use Rattle.port_locks.specs.Seats.{IsSeatOf, HasTaken, HasNoHold};
 ghost use Rattle.recordings.specs.RecordingView.{answer_to_act};
@@ -54,6 +55,7 @@ pub(crate) fn act_and_leave(
         (answer_to_act seat.old.number act (recording_of seat.old.terms seat.old.seen)) }
     ensures seat { seat.new ≡ after_stretch act seat.old }
     ensures legal { IsLegal seat.new.terms.header seat.new.seen }
+    ensures sound { IsSoundHistory seat.new.terms.header seat.new.seen }
     ensures depth { result.depth
         ≡ depth_by seat.new.number (hold_after seat.new.terms.header seat.new.seen) }
     ensures stays { is_call act ≡ false

@@ -9,7 +9,7 @@ invariant_of-self g c =
     let its = c.act_and_leave-stretch.ensures in
     let checked : act_check (settings_of c.self.inside.seat.terms.header) c.self.inside.seat.number c.args.act ≡ Ok tt = search rules in
     let came =
-    came c.self.inside.seat c.args.act checked _ _ _ _ c.enter.ensures its.seat its.answer its.legal in
+    came c.self.inside.seat c.args.act checked _ _ _ _ c.enter.ensures its.seat its.answer its.legal its.sound in
     let stays = depth_stays _ _ _ _ _ _ _ c.self.invariant c.enter.ensures its.seat (its.stays (no_call c.args.act c.requires.kind)) its.depth in
     rests_again _ _ _ _ _ _ _ _ c.self.invariant came its.legal its.depth its.none its.count (search rules) (search rules)
     (task_stays _ _ _ _ _ _ _ c.self.invariant c.enter.ensures its.seat stays)
@@ -19,5 +19,5 @@ returns-clause-answered g c =
     let its = c.act_and_leave-stretch.ensures in
     let checked : act_check (settings_of c.self.inside.seat.terms.header) c.self.inside.seat.number c.args.act ≡ Ok tt = search rules in
     let came =
-    came c.self.inside.seat c.args.act checked _ _ _ _ c.enter.ensures its.seat its.answer its.legal in
+    came c.self.inside.seat c.args.act checked _ _ _ _ c.enter.ensures its.seat its.answer its.legal its.sound in
     is_answered _ _ _ _ c.self.view_is _ checked came

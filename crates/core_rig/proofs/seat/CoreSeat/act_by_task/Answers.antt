@@ -12,7 +12,7 @@ invariant_of-self g c =
     let checked : act_check (settings_of c.self.inside.seat.terms.header) c.self.inside.seat.number c.args.act ≡ Ok tt = search rules in
     let took = subst (λ seat. HasTaken terms_of entries_of seat c.enter.new.seat) c.enter_task.ensures c.enter.ensures in
     let came =
-    came c.self.inside.seat c.args.act checked _ _ _ _ took its.seat its.answer its.legal in
+    came c.self.inside.seat c.args.act checked _ _ _ _ took its.seat its.answer its.legal its.sound in
     rests_with _ _ _ _ _ _ _ _ _ _ c.self.invariant came its.legal its.depth its.none its.count (search rules) (search rules) c.leave_task.ensures (one_take _ _ refl)
 
 pub returns-clause-answered : goal.returns-clause-answered
@@ -21,6 +21,6 @@ returns-clause-answered g c =
     let checked : act_check (settings_of c.self.inside.seat.terms.header) c.self.inside.seat.number c.args.act ≡ Ok tt = search rules in
     let took = subst (λ seat. HasTaken terms_of entries_of seat c.enter.new.seat) c.enter_task.ensures c.enter.ensures in
     let came =
-    came c.self.inside.seat c.args.act checked _ _ _ _ took its.seat its.answer its.legal in
+    came c.self.inside.seat c.args.act checked _ _ _ _ took its.seat its.answer its.legal its.sound in
     let later = came_beside _ _ _ _ _ _ c.leave_task.ensures came in
     is_answered _ _ _ _ c.self.view_is _ checked later

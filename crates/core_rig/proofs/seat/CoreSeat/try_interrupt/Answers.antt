@@ -11,7 +11,7 @@ invariant_of-self-2 c =
     let act = acts.Interrupt c.args.note in
     let checked : act_check (settings_of c.self.inside.seat.terms.header) c.self.inside.seat.number act ≡ Ok tt = search rules in
     let took = c.in-Ok.ensures.outermost c.self.invariant.interrupt in
-    let came = came c.self.inside.seat act checked _ _ _ _ took its.seat its.answer its.legal in
+    let came = came c.self.inside.seat act checked _ _ _ _ took its.seat its.answer its.legal its.sound in
     let stays = depth_stays _ _ _ act _ _ _ c.self.invariant took its.seat (its.stays refl) its.depth in
     rests_again act _ _ _ _ _ _ _ c.self.invariant came its.legal its.depth its.none its.count (search rules) (search rules)
     (task_stays _ _ _ act _ _ _ c.self.invariant took its.seat stays)
@@ -22,5 +22,5 @@ returns-clause-answered c =
     let act = acts.Interrupt c.args.note in
     let checked : act_check (settings_of c.self.inside.seat.terms.header) c.self.inside.seat.number act ≡ Ok tt = search rules in
     let took = c.in-Ok.ensures.outermost c.self.invariant.interrupt in
-    let came = came c.self.inside.seat act checked _ _ _ _ took its.seat its.answer its.legal in
+    let came = came c.self.inside.seat act checked _ _ _ _ took its.seat its.answer its.legal its.sound in
     is_answered_at_once act c.self.inside.seat c.act_and_leave-stretch.new.seat _ c.self.view_is _ checked (inr came.acted)

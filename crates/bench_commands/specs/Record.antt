@@ -1,0 +1,80 @@
+-- What a recording has read and written when it ends.
+use Rattle.std.specs.Prelude.{◌≡◌, ◌≤◌, ◌++◌, ℕ, List, [], length, codes, nat_lt, Option, None, Bool, true, false, Result, Ok, Err, if◌then◌else◌}
+use Rattle.std.specs.Io.KnownBytes.{Appends}
+use Rattle.bench_types.specs.declared.entry.Entry.{Entry}
+use Rattle.bench_types.specs.declared.header.Header.{Header}
+use Rattle.bench_types.specs.Limits.{max_input}
+use Rattle.bench_model.specs.History.{IsLegal, steps_of}
+use Rattle.port_locks.specs.Holds.{hold_after}
+use Rattle.core_scripts.specs.Played.{ArePlayed}
+use Rattle.session_text.specs.declared.fault.TextFault.{TextFault}
+use Rattle.session_text.specs.declared.rig.RigScript.{RigScript}
+use Rattle.session_text.specs.Rig.{rig_text}
+use Rattle.session_write.specs.Written.{written}
+use Rattle.bench_commands.specs.declared.execution.Status.{Status}
+use Rattle.bench_commands.specs.declared.execution.Status.TheVariants.{Fine, Refused, Fault}
+use Rattle.bench_commands.specs.declared.execution.RunFault.TheVariants.{Memory, Read, Write}
+use Rattle.bench_commands.specs.Answer.{Output, refused, why_text}
+use Rattle.bench_commands.specs.Device.{ReadsInput, AppendsPrefix}
+use Rattle.bench_commands.specs.Run.{WroteNothing}
+
+-- a session that was recorded, and a line feed
+abbrev pub recorded_text : Header → List Entry → List ℕ
+recorded_text header entries = written header (steps_of entries) ++ codes "\n"
+
+-- The steps of some history are written, which the cores of the rig may have recorded when they
+-- played their scripts: a legal one, within the limit, at whose end no core holds the kernel.
+pub record IsRecorded (rig : RigScript) (output : Output) : Type 0 where
+  pub entries : List Entry
+  pub legal : IsLegal rig.header entries
+  pub few : length entries ≤ rig.limit
+  pub unheld : hold_after rig.header entries ≡ None
+  pub played : ArePlayed rig.header rig.limit entries rig.scripts
+  pub fine : output.is_refused ≡ false
+  pub text : output.text ≡ recorded_text rig.header entries
+
+-- by what a text is read as
+abbrev pub IsAnswerTo : Result RigScript TextFault → Output → Type 0
+IsAnswerTo (Ok rig) output = IsRecorded rig output
+IsAnswerTo (Err fault) output = output ≡ refused (why_text fault.why) fault.path
+
+-- H3 where the input is too long
+abbrev pub IsAnswerWhere : Bool → List ℕ → Output → Type 0
+IsAnswerWhere true input output = output ≡ refused (codes "H3") []
+IsAnswerWhere false input output = IsAnswerTo (rig_text input) output
+
+abbrev pub IsAnswer : List ℕ → Output → Type 0
+IsAnswer input output = IsAnswerWhere (nat_lt max_input (length input)) input output
+
+-- the input was read, and its whole answer written
+pub record WroteAnswer (read_old read_new write_old write_new : Option (List ℕ))
+    (is_refused : Bool) : Type 0 where
+  pub input : List ℕ
+  pub reads : ReadsInput read_old read_new input
+  pub output : Output
+  pub answer : IsAnswer input output
+  pub status : output.is_refused ≡ is_refused
+  pub writes : Appends write_old write_new output.text
+
+-- the input was read, and some first bytes of its answer written
+pub record WrotePartOfAnswer (read_old read_new write_old write_new : Option (List ℕ))
+    : Type 0 where
+  pub input : List ℕ
+  pub reads : ReadsInput read_old read_new input
+  pub output : Output
+  pub answer : IsAnswer input output
+  pub writes : AppendsPrefix write_old write_new output.text
+
+-- by the status, what was read and written
+abbrev pub EndsRecord :
+    Status → Option (List ℕ) → Option (List ℕ) → Option (List ℕ) → Option (List ℕ) → Type 0
+EndsRecord Fine read_old read_new write_old write_new =
+    WroteAnswer read_old read_new write_old write_new false
+EndsRecord Refused read_old read_new write_old write_new =
+    WroteAnswer read_old read_new write_old write_new true
+EndsRecord (Fault Memory) read_old read_new write_old write_new =
+    WroteNothing read_old read_new write_old write_new
+EndsRecord (Fault Read) read_old read_new write_old write_new =
+    WroteNothing read_old read_new write_old write_new
+EndsRecord (Fault Write) read_old read_new write_old write_new =
+    WrotePartOfAnswer read_old read_new write_old write_new

@@ -1,0 +1,154 @@
+//! Recordings of the scripts of a rig document.
+ghost use Rattle.std.specs.Prelude.{◌≡◌, All, IfOk, Ok};
+ghost use Rattle.bench_types.specs.Step.{IsCheckedStep, settings_of, step_check};
+ghost use Rattle.session_text.specs.Rig.{IsCheckedRig, rig_text};
+ghost use Rattle.bench_commands.specs.Device.{failures_after};
+ghost use Rattle.bench_commands.specs.Record.{EndsRecord, IsAnswer, IsAnswerTo, IsRecorded};
+ghost use Rattle.bench_commands.specs.Run.{reads_well, writes_well};
+
+use crate::answer::{Answer, refused, refused_for};
+use crate::device::{CountedRead, CountedWrite};
+use crate::execution::{RunFault, Status};
+use crate::input::{InputFault, read_input};
+use crate::writing::write_text;
+use bench_types::{Header, MAX_INPUT, Step};
+use core_scripts::{Gate, play};
+use session_text::{RigScript, read_rig};
+use session_write::write_session;
+use std::alloc::{AllocError, Global};
+use std::marker::Model;
+use std::sync::Wait;
+use std::thread::Threads;
+
+// What is written, in bytes, and whether the input was refused.
+#[derive(Drop)]
+struct Written {
+    is_refused: bool,
+    text: Vec<u8>,
+}
+
+impl Model for Written {
+    ghost use Rattle.bench_commands.specs.Answer.{Output};
+
+    ghost Value = { Output };
+
+    ghost view = { λ it.
+        record { is_refused = it.is_refused; text = it.text.items } };
+}
+
+fn told(answer: Answer) -> Written
+    ensures { result ≡ answer }
+{
+    let Answer { is_refused, text } = answer;
+    Written {
+        is_refused,
+        text: text.into_bytes(),
+    }
+}
+
+// Steps that are checked have numbers of 32 bits, as types say.
+fn check_all(header: &Header, steps: &[Step])
+    requires { All (λ step. step_check (settings_of header.now) step ≡ Ok tt) steps.now }
+    ensures { All (IsCheckedStep (settings_of header.now)) steps.now }
+{
+    for step in steps {
+        let Ok(()) = step.check(header) else {
+            unreachable!()
+        };
+    }
+}
+
+// The text of what was recorded of a rig document.
+fn recorded<R: Threads + Wait + Sync, G: Gate>(
+    rt: &R,
+    host: &HostRuntime,
+    alloc: Global,
+    rig: &RigScript,
+    gate: &G,
+) -> Result<Written, AllocError>
+    requires { IsCheckedRig rig.now }
+    ensures { IfOk result (IsRecorded rig.now) }
+{
+    let scripts = rig.scripts.as_slice();
+    let recorded = play(rt, host, alloc, &rig.header, rig.limit, scripts, gate)?;
+    let steps = recorded.steps(alloc)?;
+    check_all(&recorded.header, steps.as_slice());
+    let mut text = write_session(alloc, &recorded.header, steps.as_slice())?;
+    text.push(b'\n')?;
+    Ok(Written {
+        is_refused: false,
+        text,
+    })
+}
+
+fn answer_to_rig<R: Threads + Wait + Sync, G: Gate>(
+    rt: &R,
+    host: &HostRuntime,
+    alloc: Global,
+    input: &[u8],
+    gate: &G,
+) -> Result<Written, AllocError>
+    ensures { IfOk result (IsAnswerTo (rig_text input.now)) }
+{
+    match read_rig(alloc, input) {
+        Err(fault) => {
+            let answer = refused_for(alloc, fault)?;
+            Ok(told(answer))
+        }
+        Ok(rig) => recorded(rt, host, alloc, &rig, gate),
+    }
+}
+
+fn recording_of<R: Threads + Wait + Sync, G: Gate>(
+    rt: &R,
+    host: &HostRuntime,
+    alloc: Global,
+    input: &[u8],
+    gate: &G,
+) -> Result<Written, AllocError>
+    ensures { IfOk result (IsAnswer input.now) }
+{
+    if input.len() > MAX_INPUT {
+        let answer = refused(alloc, "H3", "")?;
+        return Ok(told(answer));
+    }
+    answer_to_rig(rt, host, alloc, input, gate)
+}
+
+/// Reads a rig document to its end, or one byte past the most that it is, plays its scripts, one
+/// thread a core, and then writes the session that was recorded and a line feed.
+///
+/// Each thread passes the gate before each action of its script. A thread that can't be started is
+/// memory that was refused.
+pub fn record<R: Threads + Wait + Sync, I: CountedRead, O: CountedWrite, G: Gate>(
+    rt: &R,
+    host: &HostRuntime,
+    alloc: Global,
+    reader: &mut I,
+    writer: &mut O,
+    gate: &G,
+) -> Status
+    ensures bytes { EndsRecord result (I.Read.remaining reader.old)
+        (I.Read.remaining reader.new) (O.Write.contents writer.old) (O.Write.contents writer.new) }
+    ensures reads { I.CountedRead.failures reader.new
+        ≡ failures_after (reads_well result) (I.CountedRead.failures reader.old) }
+    ensures writes { O.CountedWrite.failures writer.new
+        ≡ failures_after (writes_well result) (O.CountedWrite.failures writer.old) }
+{
+    let input = match read_input(alloc, reader) {
+        Ok(input) => input,
+        Err(InputFault::Memory) => return Status::Fault(RunFault::Memory),
+        Err(InputFault::Read) => return Status::Fault(RunFault::Read),
+    };
+    let Ok(recording) = recording_of(rt, host, alloc, &input, gate) else {
+        return Status::Fault(RunFault::Memory);
+    };
+    if write_text(writer, recording.text.as_slice()).is_err() {
+        return Status::Fault(RunFault::Write);
+    }
+    if recording.is_refused {
+        Status::Refused
+    } else {
+        Status::Fine
+    }
+}

@@ -1,0 +1,5 @@
+mod Sublists
+mod Depths
+mod Parts
+mod Closes
+mod Ends

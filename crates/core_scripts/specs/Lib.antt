@@ -1,0 +1,4 @@
+pub mod Scripts
+pub mod Parts
+pub mod Played
+pub mod Threads

@@ -1,5 +1,5 @@
 -- A core that holds the kernel closes its hold.
-use Rattle.std.proofs.Common.{◌≡◌, ℕ, suc, ◌+◌, ◌-◌, ◌<◌, ◌≤◌, Bool, true, false, cond, eqb, List, [], ◌∷◌, ◌++◌, Option, Some, None, Result, Ok, Err, All, refl, sym, ap, subst, ◌∙◌, arith, append_assoc}
+use Rattle.std.proofs.Common.{◌≡◌, ℕ, ◌-◌, ◌<◌, Bool, true, false, cond, eqb, [], ◌∷◌, ◌++◌, Option, Some, None, Result, Ok, Err, refl, sym, ap, subst, ◌∙◌, arith, append_assoc}
 use Rattle.std.specs.Prelude.{◌≢◌, nat_lt}
 use Rattle.std.proofs.lemmas.Bool.Decides.{nat_tests}
 use Rattle.std.proofs.lemmas.List.{append-nil}
@@ -13,7 +13,7 @@ use Rattle.bench_types.specs.declared.reply.Reply.TheVariants.{Done}
 use Rattle.bench_types.specs.declared.step.Call.TheVariants.{HoldClose}
 use Rattle.bench_types.specs.declared.step.Step.TheVariants as steps
 use Rattle.bench_model.specs.Control.{current}
-use Rattle.bench_model.specs.History.{StartsWith, end_of}
+use Rattle.bench_model.specs.History.{end_of}
 use Rattle.bench_model.specs.Holds.{depth_by, depth_of, hold_closed, is_held_by}
 use Rattle.bench_model.specs.Session.{step_of}
 use Rattle.bench_model.specs.Sound.{IsSound}
@@ -21,7 +21,7 @@ use Rattle.bench_model.specs.Table.{Table}
 use Rattle.step_laws.proofs.Holds.{its_hold}
 use Rattle.history_laws.specs.SoundHistories.{IsSoundHistory}
 use Rattle.history_laws.proofs.Legal.{end-push}
-use Rattle.history_laws.proofs.Parts.{begins_longer, begins_through, begins_with_all, begins_with_first}
+use Rattle.history_laws.proofs.Parts.{begins_longer, begins_through, begins_with_all}
 use Rattle.history_laws.proofs.Room.{close_done}
 use Rattle.recordings.specs.declared.recording.Answer.{Answer}
 use Rattle.recordings.specs.declared.recording.RecordRefusal.{RecordRefusal}
@@ -29,7 +29,7 @@ use Rattle.recordings.specs.declared.recording.RecordRefusal.TheVariants.{IdleHe
 use Rattle.recordings.specs.RecordingView.{RecordingView, answer_in_room, answer_to, answer_to_act, call_on, hold_of, room_of, table_of, task_on}
 use Rattle.core_rig.specs.Acts.{HasActed, entry_after}
 use Rattle.core_rig.specs.declared.fault.RigRefusal.{RigRefusal}
-use Rattle.core_rig.specs.Seats.{CoreView, IsSameSeat, depth_at, recording_of}
+use Rattle.core_rig.specs.Seats.{CoreView, depth_at, recording_of}
 use Rattle.core_scripts.specs.Parts.{HasClosed}
 use Rattle.core_scripts.specs.Scripts.{IsClose}
 use Rattle.core_scripts.proofs.Depths.{its_settings}

@@ -1,7 +1,7 @@
 -- The end of a core's part, and of all parts.
-use Rattle.std.proofs.Common.{inl, inr, ◌≡◌, ℕ, suc, ◌+◌, ◌<◌, ◌≤◌, ◌==◌, ◌&&◌, ◌||◌, zero, Bool, true, false, cond, List, [], ◌∷◌, ◌++◌, length, map, get_or, None, Ok, Err, Result, All, refl, sym, ap, subst, ◌∙◌, arith}
+use Rattle.std.proofs.Common.{inl, inr, ◌≡◌, ℕ, suc, ◌+◌, ◌<◌, ◌==◌, ◌&&◌, ◌||◌, zero, Bool, true, false, cond, List, [], ◌∷◌, ◌++◌, length, map, get_or, None, Ok, Err, Result, All, refl, sym, ap, subst, ◌∙◌, arith}
 use Rattle.std.specs.Prelude.{◌⊎◌, ⊤}
-use Rattle.std.specs.List.{list_all, list_any}
+use Rattle.std.specs.List.{list_any}
 use Rattle.std.proofs.lemmas.Bool.Decides.{nat_tests}
 use Rattle.std.proofs.lemmas.List.{length-append, length-map}
 use Rattle.std.proofs.Math.Seq.{get_or-append_seam}
@@ -14,8 +14,7 @@ use Rattle.bench_types.specs.declared.entry.Entry.{Entry}
 use Rattle.bench_types.specs.declared.header.Header.{Header}
 use Rattle.list_orders.specs.Search.{numbers}
 use Rattle.bench_model.specs.Control.{current}
-use Rattle.bench_model.specs.History.{StartsWith, end_of, made_by}
-use Rattle.bench_model.specs.Holds.{depth_of}
+use Rattle.bench_model.specs.History.{end_of}
 use Rattle.history_laws.specs.SoundHistories.{IsSoundHistory}
 use Rattle.history_laws.proofs.Parts.{begins_through}
 use Rattle.port_locks.specs.declared.view.Terms.{Terms}
@@ -24,7 +23,7 @@ use Rattle.recordings.specs.RecordingView.{room_of}
 use Rattle.core_rig.specs.Closing.{IsEndOf, close_check, has_all_cores, has_core, hold_nothing}
 use Rattle.core_rig.specs.declared.fault.CloseFault.{CloseFault}
 use Rattle.core_rig.specs.declared.fault.CloseFault.TheVariants.{WrongSeats, HoldOpen}
-use Rattle.core_rig.specs.Seats.{CoreView, IsSameSeat, IsSeatOf, depth_at, new_seat, recording_of}
+use Rattle.core_rig.specs.Seats.{CoreView, IsSeatOf, depth_at, new_seat, recording_of}
 use Rattle.core_scripts.specs.Parts.{HasClosed, HasEnded, HasIdleOn, HasLessRoom, IsUnderWay}
 use Rattle.core_scripts.specs.Played.{ArePlayed, IsPlayed}
 use Rattle.core_scripts.specs.Scripts.{AreScripts, IsScriptOf, SwitchesAndHolds, acts_of, interrupts_of}

@@ -1,6 +1,6 @@
 -- A core's part of its script, from one action to the next.
-use Rattle.std.proofs.Common.{inl, inr, ◌≡◌, ℕ, ◌+◌, ◌<◌, ◌≤◌, Bool, true, false, cond, eqb, ◌||◌, List, [], ◌∷◌, ◌++◌, length, take, get_or, suc, Option, Some, None, Result, Ok, Err, refl, sym, ap, subst, ◌∙◌, arith}
-use Rattle.std.specs.Prelude.{◌⊎◌, ◌≢◌, OnOk, OnErr, nat_lt, not, filter, map}
+use Rattle.std.proofs.Common.{inl, inr, ◌≡◌, ℕ, ◌+◌, ◌<◌, ◌≤◌, Bool, true, false, cond, ◌||◌, List, [], ◌∷◌, ◌++◌, length, take, get_or, suc, Option, Result, Ok, Err, refl, sym, ap, subst, ◌∙◌, arith}
+use Rattle.std.specs.Prelude.{◌⊎◌, ◌≢◌, OnOk, OnErr, nat_lt, not}
 use Rattle.std.specs.List.{list_any}
 use Rattle.std.proofs.lemmas.Bool.Decides.{nat_tests}
 use Rattle.std.proofs.lemmas.List.{append-nil, map-append}
@@ -33,7 +33,7 @@ use Rattle.recordings.specs.declared.recording.Answer.{Answer}
 use Rattle.recordings.specs.declared.recording.RecordRefusal.{RecordRefusal}
 use Rattle.recordings.specs.declared.recording.RecordRefusal.TheVariants.{IdleHere, Full}
 use Rattle.recordings.specs.RecordingView.{RecordingView, act_on, answer_in_room, answer_to, answer_to_act, call_on, hold_of, room_of, table_of, task_on}
-use Rattle.core_rig.specs.Acts.{Finds, HasActed, answered, entry_after, refusal_of}
+use Rattle.core_rig.specs.Acts.{HasActed, answered, entry_after}
 use Rattle.core_rig.specs.declared.fault.RigRefusal.{RigRefusal}
 use Rattle.core_rig.specs.Seats.{CoreView, IsSameSeat, IsSeatOf, depth_at, new_seat, recording_of}
 use Rattle.core_rig.specs.Stretches.{is_by_task}

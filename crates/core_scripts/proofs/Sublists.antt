@@ -1,6 +1,5 @@
 -- Lists of which some items were passed over.
-use Rattle.std.proofs.Common.{inl, inr, ◌≡◌, List, [], ◌∷◌, ◌++◌, refl, ap}
-use Rattle.std.specs.Prelude.{◌⊎◌}
+use Rattle.std.proofs.Common.{inl, inr, List, [], ◌∷◌, ◌++◌, refl, ap}
 use Rattle.core_scripts.specs.Scripts.{IsPartOf}
 
 module _ {X : Type 0} where

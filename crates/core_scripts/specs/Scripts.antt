@@ -1,5 +1,5 @@
 -- The scripts of cores, and what entries have of them.
-use Rattle.std.specs.Prelude.{◌≡◌, ◌⊎◌, ◌≤◌, ℕ, length, map, filter, get_or, not, Bool, true, false, List, [], ◌∷◌, All, EachIndex, Ok}
+use Rattle.std.specs.Prelude.{◌≡◌, ◌⊎◌, ℕ, length, map, filter, get_or, not, Bool, true, false, List, [], ◌∷◌, All, EachIndex, Ok}
 use Rattle.std.specs.List.{list_any}
 use Rattle.bench_types.specs.Act.{act_check}
 use Rattle.bench_types.specs.declared.act.Act.{Act}

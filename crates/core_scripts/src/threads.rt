@@ -39,8 +39,8 @@ impl<'a> Promise<CoreSeat> for Part<'a> {
 /// was recorded, of at most `limit` entries. Each thread passes the gate before each action.
 ///
 /// An action that the rig refuses is passed over, and a thread whose script has ended closes the
-/// holds that it left open. A thread that can't be started is a want of memory, and nothing else can
-/// be wanting.
+/// holds that it left open. A thread that can't be started is a want of memory; nothing else can be
+/// wanting.
 pub fn play<R: Threads + Wait + Sync, G: Gate>(
     rt: &R,
     host: &HostRuntime,

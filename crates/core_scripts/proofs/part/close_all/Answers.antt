@@ -1,5 +1,4 @@
 use Rattle.core_scripts.proofs.Closes.{closed_more, closed_none, deep, lower}
-use Rattle.core_scripts.proofs.Parts.{its_still}
 use Rattle.core_scripts.proofs.part.close_all.Goals as goal
 
 pub loop-seat-init : goal.loop-seat-init

@@ -1,5 +1,4 @@
 use Rattle.core_scripts.proofs.Ends.{has_ended}
-use Rattle.core_scripts.proofs.Parts.{its_still}
 use Rattle.core_scripts.proofs.part.part_played.Goals as goal
 
 pub returns-clause-ended : goal.returns-clause-ended

@@ -1,7 +1,7 @@
-use Rattle.std.proofs.Common.{rules, arith, refl, subst, ◌+◌, ap, sym, ◌∙◌, ◌≡◌, ◌++◌, ◌∷◌, [], get_or, length, map, ℕ, vec_items, vec_len, below_more}
+use Rattle.std.proofs.Common.{rules, arith, subst, ◌+◌, ap, sym, ◌∙◌, ◌≡◌, ◌++◌, [], get_or, length, map, vec_items, vec_len, below_more}
 use Rattle.std.proofs.lemmas.List.{get_or_default, length_push}
 use Rattle.list_orders.specs.Search.{numbers}
-use Rattle.core_rig.specs.Seats.{CoreView, new_seat}
+use Rattle.core_rig.specs.Seats.{new_seat}
 use Rattle.core_rig.proofs.Seats.{moved_on}
 use Rattle.core_scripts.proofs.Ends.{all_taken, done_at, nth_below, nth_core, nth_new, nth_own, nth_script}
 use Rattle.core_scripts.proofs.threads.fn.all_parts.scope.Goals as goal

@@ -103,6 +103,17 @@ task B run 0 1 wait 0 inverted 0 in 0 displaced 0 timeouts 0 top 1
 task C run 0 0 wait 1 inverted 0 in 0 displaced 1 timeouts 0 top 1
 " '' replay --tally
 
+# ---- the examples, and what the documents show of them
+
+if bash scripts/check-examples.sh >"$folder/examples" 2>&1; then
+    good=$((good + 1))
+    printf 'ok    0  the examples: %s\n' "$(tail -n 1 "$folder/examples")"
+else
+    bad=$((bad + 1))
+    printf 'WRONG 1 (wanted 0)  the examples\n'
+    sed 's/^/      /' "$folder/examples"
+fi
+
 # ---- refused input
 
 : >"$folder/in"

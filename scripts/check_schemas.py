@@ -1,0 +1,322 @@
+"""The work of check-schemas.sh, which see. The documents are made from a fixed seed."""
+
+import copy
+import json
+import pathlib
+import random
+import re
+import subprocess
+import sys
+
+from jsonschema import Draft202012Validator
+from referencing import Registry, Resource
+
+SEED = 38
+ACCEPTED = {"session": 400, "bench": 400, "rig": 200}
+WRONG = {"session": 230, "bench": 100, "rig": 140}
+UNTELLABLE = {"session": 15, "bench": 15}
+NUMBERS = [0, 0, 1, 2, 3, 5, 7, 31, 4294967294, 4294967295]
+# The members of a step after `core` and `by`, or after `core` for an interrupt.
+STEPS = {
+    "tick": [], "switch": [], "isr_notify": ["to", "action"], "yield": [], "delay": ["ticks"],
+    "delay_until": ["prev", "inc"], "priority_set": ["to", "priority"], "affinity_set": ["to", "mask"],
+    "preempt_off": ["to"], "preempt_on": ["to"], "notify": ["to", "action"],
+    "notify_wait": ["entry", "exit", "ticks"], "notify_take": ["clear", "ticks"], "state_clear": ["to"],
+    "value_clear": ["to", "bits"], "mutex_take": ["mutex", "ticks"], "mutex_give": ["mutex"],
+    "finish": [], "hold_open": [], "hold_close": [],
+}
+ACTIONS = {"none": False, "set_bits": True, "increment": False, "set": True, "set_new": True}
+EDITS = ("insert", "remove", "replace", "change")
+NAMES = ["A", "B", "pump", "valve-2", "~", "!", "idle0", "\"quoted\"", "back\\slash", "fifteen_letters"]
+
+
+# ---- documents that are accepted
+
+def mask(rng, cores):
+    return rng.choice([1, 3, 4294967295, 1 << rng.randrange(cores)])
+
+
+def header(rng):
+    cores, priorities = rng.randint(2, 8), rng.randint(1, 32)
+    names = rng.sample(NAMES, rng.randint(1, 6))
+    return {
+        "format": 1, "cores": cores, "priorities": priorities, "slicing": rng.random() < 0.5,
+        "tick": rng.choice(NUMBERS), "mutexes": rng.choice([0, 1, 2, 32]),
+        "tasks": [{"name": name, "priority": rng.randrange(priorities), "mask": mask(rng, cores)}
+                  for name in names],
+    }
+
+
+def member(rng, name, head):
+    if name == "to":
+        return rng.choice(head["tasks"])["name"]
+    if name == "mutex":
+        return rng.randrange(head["mutexes"])
+    if name == "mask":
+        return mask(rng, head["cores"])
+    if name == "inc":
+        return max(1, rng.choice(NUMBERS))
+    if name == "clear":
+        return rng.random() < 0.5
+    if name == "action":
+        return rng.choice(list(ACTIONS))
+    return rng.choice(NUMBERS)
+
+
+def action(rng, head, kinds):
+    """A step without `core` and `by`."""
+    do = rng.choice([k for k in kinds if head["mutexes"] or "mutex" not in k])
+    step = {"do": do}
+    for name in STEPS[do]:
+        step[name] = member(rng, name, head)
+    if ACTIONS.get(step.get("action")):
+        step["value"] = rng.choice(NUMBERS)
+    return step
+
+
+def step(rng, head, kinds=tuple(STEPS)):
+    made = action(rng, head, kinds)
+    if made["do"] != "tick":
+        made["core"] = rng.randrange(head["cores"])
+    if made["do"] not in ("tick", "switch", "isr_notify"):
+        made["by"] = rng.choice(head["tasks"])["name"]
+    return mixed(rng, made)
+
+
+def mixed(rng, made):
+    """The members in any order."""
+    names = list(made)
+    rng.shuffle(names)
+    return {name: made[name] for name in names}
+
+
+def edit(rng, head, kinds=EDITS):
+    kind = rng.choice(kinds)
+    if kind == "change":
+        task = rng.choice(head["tasks"])["name"]
+        priority = rng.randrange(head["priorities"])
+        return {"edit": kind, "task": task, "priority": priority, "mask": mask(rng, head["cores"])}
+    made = {"edit": kind, "at": rng.choice(NUMBERS)}
+    if kind != "remove":
+        made["step"] = step(rng, head)
+    return made
+
+
+def document(rng, kind):
+    head = header(rng)
+    if kind == "rig":
+        late = [k for k in STEPS if k != "tick"]
+        scripts = [[action(rng, head, late if core else list(STEPS)) for _ in range(rng.randrange(5))]
+                   for core in range(head["cores"])]
+        limit = rng.choice([0, 1, 100, 100000])
+        return {"session": {**head, "steps": []}, "limit": limit, "scripts": scripts}
+    session = mixed(rng, {**head, "steps": [step(rng, head) for _ in range(rng.randrange(12))]})
+    if kind == "session":
+        return session
+    return {"session": session, "edits": [edit(rng, head) for _ in range(rng.randrange(6))]}
+
+
+# ---- documents of wrong shape
+
+def places(value, path=()):
+    """The path of each value in a document, that of the document first."""
+    yield path
+    inner = value.items() if isinstance(value, dict) else enumerate(value) if isinstance(value, list) else ()
+    for key, item in inner:
+        yield from places(item, path + (key,))
+
+
+def at(value, path):
+    for key in path:
+        value = value[key]
+    return value
+
+
+def other_kind(rng, value):
+    kinds = [None, [], {}, "1", 1, True]
+    return rng.choice([kind for kind in kinds if type(kind) is not type(value)])
+
+
+def wrong_value(rng, path, value):
+    if path and path[-1] in ("do", "action", "edit"):
+        return rng.choice(["", "sleep", "TICK", 1, None])
+    if type(value) is int:
+        return rng.choice([-1, 4294967296, 1.5, 1e300, str(value), None, value == 1, [value]])
+    return other_kind(rng, value)
+
+
+def damaged(rng, good):
+    """A document with one fault of its shape."""
+    bad = copy.deepcopy(good)
+    path = rng.choice(list(places(bad)))
+    here = at(bad, path)
+    way = rng.random()
+    if isinstance(here, dict) and here and way < 0.4:
+        del here[rng.choice(list(here))]
+    elif isinstance(here, dict) and way < 0.8:
+        here[rng.choice(["note", "Core", "", "value "])] = rng.choice([0, None, "A"])
+    elif not path:
+        return other_kind(rng, here)
+    else:
+        at(bad, path[:-1])[path[-1]] = wrong_value(rng, path, here)
+    return bad
+
+
+def faults(rng, good):
+    """An object without each of its members, with each ill-typed, and with one more."""
+    for name in good:
+        yield {key: value for key, value in good.items() if key != name}
+        yield {**good, name: wrong_value(rng, (name,), good[name])}
+    yield {**good, "note": 0}
+
+
+def faults_of_value(good):
+    """A notification with each action, without its value or with one too many."""
+    if "action" in good:
+        bare = {key: value for key, value in good.items() if key != "value"}
+        for word, has_value in ACTIONS.items():
+            yield {**bare, "action": word, **({} if has_value else {"value": 1})}
+
+
+def faults_of_parts(rng, kind):
+    """Documents of which one step, edit, action, task or the outermost object has each fault."""
+    good = document(rng, kind)
+    head = {**header(rng), "mutexes": 2}
+    yield from faults(rng, good)
+    if kind == "session":
+        pieces = [step(rng, head, (do,)) for do in STEPS]
+        whole = lambda piece: {**head, "steps": [step(rng, head), piece, step(rng, head)]}
+        for bad in faults(rng, head["tasks"][0]):
+            yield {**head, "tasks": [bad] + head["tasks"][1:], "steps": []}
+    elif kind == "bench":
+        pieces = [edit(rng, head, (name,)) for name in EDITS]
+        whole = lambda piece: {"session": {**head, "steps": []}, "edits": [edit(rng, head), piece]}
+    else:
+        pieces = [action(rng, head, (do,)) for do in STEPS]
+        whole = lambda piece: {"session": {**head, "steps": []}, "limit": 5,
+                               "scripts": [[piece]] + [[]] * (head["cores"] - 1)}
+    for piece in pieces:
+        for bad in [*faults(rng, piece), *faults_of_value(piece)]:
+            yield whole(bad)
+
+
+def with_odd_number(rng, good):
+    """The text of a document with one number that is whole, but not written so."""
+    odd = copy.deepcopy(good)
+    path = rng.choice([p for p in places(odd) if type(at(odd, p)) is int])
+    number = at(odd, path)
+    text = rng.choice(["%d.0" % number, "%de0" % number, "%dE+0" % number] + ["-0"] * (number == 0))
+    at(odd, path[:-1])[path[-1]] = "<odd>"
+    return json.dumps(odd).replace('"<odd>"', text)
+
+
+# ---- what is held
+
+class Check:
+    def __init__(self, program):
+        self.program, self.faults = program, 0
+        folder = pathlib.Path("docs/schema")
+        self.schemas = {p.name: json.loads(p.read_text()) for p in sorted(folder.glob("*.schema.json"))}
+        base = "file:///docs/schema/"
+        registry = Registry().with_resources(
+            [(base + name, Resource.from_contents(schema)) for name, schema in self.schemas.items()])
+
+        def validator(place):
+            return Draft202012Validator({"$ref": base + place}, registry=registry)
+        self.valid = {name: validator(name + ".schema.json").is_valid for name in ("session", "bench", "rig")}
+        self.valid_step = validator("session.schema.json#/$defs/step").is_valid
+        self.valid_edit = validator("bench.schema.json#/$defs/edit").is_valid
+
+    def fault(self, why, text):
+        self.faults += 1
+        print("WRONG %s: %s" % (why, text[:300]))
+
+    def first_line(self, text):
+        run = subprocess.run([self.program, "replay"], input=text.encode(), capture_output=True)
+        return run.stdout.split(b"\n")[0].decode()
+
+    def hold(self, kind, text, line, valid):
+        """No command of the program reads a rig document, so that its answer is as it was made is taken."""
+        if kind != "rig" and not re.match(line, self.first_line(text)):
+            self.fault("%s, which the program answers otherwise than %s" % (kind, line), text)
+        if self.valid[kind](json.loads(text)) != valid:
+            self.fault("%s %s" % (kind, "not valid" if valid else "valid"), text)
+
+
+def described(name, schema, check):
+    """Each member has a description with its unit. `if`, and what is no type of its own, has none."""
+    if isinstance(schema, dict):
+        if schema.get("type") == "object":
+            for member_name, inner in schema["properties"].items():
+                if "Unit: " not in inner.get("description", ""):
+                    check.fault("no unit", "%s, %s" % (name, member_name))
+        schema = list(schema.values())
+    if isinstance(schema, list):
+        for inner in schema:
+            described(name, inner, check)
+
+
+def kind_of(value):
+    return "rig" if "scripts" in value else "bench" if "session" in value else "session"
+
+
+def written(check):
+    """The documents of examples/ that the program accepts, and the JSON of the docs."""
+    count = 0
+    for path in sorted(pathlib.Path("examples").rglob("*.json")):
+        if not path.with_suffix(".out").read_text().startswith("refused "):
+            value = json.loads(path.read_text())
+            check.hold(kind_of(value), path.read_text(), "(edit|start) ", True)
+            count += 1
+    for path in sorted(pathlib.Path("docs").glob("*.md")):
+        text = path.read_text()
+        fenced = r"^```json\n(.*?)^```"
+        lines = re.findall(r"^    (\{.*\})$", re.sub(fenced, "", text, flags=re.M | re.S), re.M)
+        for block in re.findall(fenced, text, re.M | re.S) + lines:
+            values = json.loads("[%s]" % block)
+            for value in values:
+                fine = (check.valid_step if "do" in value else check.valid_edit if "edit" in value
+                        else check.valid[kind_of(value)])
+                if not fine(value):
+                    check.fault("not valid, in %s" % path, json.dumps(value))
+                count += 1
+    print("%d documents of examples/ and blocks of docs/" % count)
+
+
+def accepted(check, rng):
+    for kind, many in ACCEPTED.items():
+        for _ in range(many):
+            check.hold(kind, json.dumps(document(rng, kind)), "(edit|start) ", True)
+        print("%d accepted, %s" % (many, kind))
+
+
+def of_wrong_shape(check, rng):
+    for kind, many in WRONG.items():
+        parts = list(faults_of_parts(rng, kind))
+        assert len(parts) <= many
+        for bad in parts + [damaged(rng, document(rng, kind)) for _ in range(many - len(parts))]:
+            check.hold(kind, json.dumps(bad), "refused H2 ", False)
+        print("%d of wrong shape, %s, %d of them part by part" % (many, kind, len(parts)))
+    for kind, many in UNTELLABLE.items():
+        for _ in range(many):
+            check.hold(kind, with_odd_number(rng, document(rng, kind)), "refused H2 ", True)
+        print("%d of a wrong shape that a schema can't tell, %s" % (many, kind))
+
+
+def main():
+    check = Check(sys.argv[1])
+    rng = random.Random(SEED)
+    for name, schema in check.schemas.items():
+        Draft202012Validator.check_schema(schema)
+        described(name, schema, check)
+    written(check)
+    accepted(check, rng)
+    of_wrong_shape(check, rng)
+    told, odd = sum(WRONG.values()), sum(UNTELLABLE.values())
+    print("%d accepted, %d of wrong shape of which a schema can't tell %d: %d wrong"
+          % (sum(ACCEPTED.values()), told + odd, odd, check.faults))
+    return check.faults > 0
+
+
+if __name__ == "__main__":
+    sys.exit(main())

@@ -15,7 +15,7 @@ use Rattle.bench_model.specs.Lists.{View}
 use Rattle.bench_model.specs.Seek.{effective}
 use Rattle.bench_model.specs.Tally.{is_current, outranks_some}
 use Rattle.session_laws.proofs.Tallies.{numbers_agree}
-use Rattle.ready_core.proofs.Marks.{IsMarked, mark_more, mark_all}
+use Rattle.bench_reports.proofs.Marks.{IsMarked, mark_more, mark_all}
 use Rattle.smp_kernel.specs.Kernel.{StandsForSome}
 use Rattle.bench_reports.specs.Counting.{IsLowest}
 

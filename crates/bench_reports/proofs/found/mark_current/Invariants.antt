@@ -1,7 +1,7 @@
 use Rattle.std.proofs.Common.{length, map, take}
 use Rattle.list_orders.specs.Search.{numbers}
 use Rattle.bench_model.specs.Control.{current}
-use Rattle.ready_core.proofs.Marks.{IsMarked}
+use Rattle.bench_reports.proofs.Marks.{IsMarked}
 use Rattle.bench_reports.proofs.found.mark_current.Given as goal
 
 abbrev pub invariant-loop-core : goal.invariant-loop-core

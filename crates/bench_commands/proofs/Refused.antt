@@ -1,6 +1,6 @@
 -- What is written for a text that was not read.
 use Rattle.std.proofs.Common.{◌≡◌, ◌⊎◌, ℕ, List, [], length, Bool, true, false, Result, Ok, Err, IfOk, nat_lt, nat_le, codes, refl, sym, ap, ◌∙◌, arith, inl, inr}
-use Rattle.std.specs.Prelude.{IsErr, OnOk}
+use Rattle.std.specs.Prelude.{IsErr, OnOk, if◌then◌else◌}
 use Rattle.std.proofs.lemmas.Bool.Decides.{nat_tests}
 use Rattle.bench_types.specs.Name.{is_within}
 use Rattle.bench_types.specs.Limits.{max_span, max_steps}
@@ -12,8 +12,9 @@ use Rattle.session_text.specs.declared.bench.Bench.{Bench}
 use Rattle.session_text.specs.declared.fault.TextFault.{TextFault}
 use Rattle.session_text.specs.declared.fault.Why.TheVariants.{NoMemory}
 use Rattle.session_text.specs.Bench.{bench_text, IsCheckedBench}
-use Rattle.bench_commands.specs.Answer.{why_text, refused, output_of, output_of_bench, Output}
-use Rattle.bench_commands.proofs.Opened.{opens}
+use Rattle.bench_types.specs.Session.{Session}
+use Rattle.bench_commands.specs.Answer.{why_text, refused, edited_text, bench_replay, output_of, output_of_bench, Output}
+use Rattle.bench_commands.proofs.Opened.{few_steps, opens}
 
 pub refused_output : {E : Type 0} (text : Bench → List ℕ) (input : List ℕ) (fault : TextFault) (result : Result Output E) → (bench_text input ≡ Err fault) ⊎ (fault ≡ record { why = NoMemory; path = [] })
     → IfOk result (λ answer. answer ≡ refused (why_text fault.why) fault.path) → (fault.why ≡ NoMemory → IsErr result) → IfOk result (λ answer. answer ≡ output_of text (bench_text input))
@@ -37,3 +38,11 @@ pub not_opened_output : {E : Type 0} (text : Bench → List ℕ) (bench : Bench)
     → (why ≡ TooLong → refused (codes "J2") [] ≡ output_of_bench text bench) → IfOk result (λ answer. answer ≡ output_of_bench text bench)
 not_opened_output text bench why (Err e) long line told = tt
 not_opened_output text bench why (Ok answer) long line told = line ∙ told long
+
+-- what is told of a session that was opened
+pub opened_output : {E : Type 0} (tally : Bool) (bench : Bench) (span : ℕ) (session : Session) (result : Result Output E) → open_check bench.header bench.steps span ≡ Ok tt → session ≡ record { header = bench.header; steps = bench.steps }
+    → IfOk result (λ answer. answer ≡ record { is_refused = false; text = edited_text tally session bench.edits }) → IfOk result (λ answer. answer ≡ output_of_bench (bench_replay tally) bench)
+opened_output tally bench span session (Err e) accepted same told = tt
+opened_output tally bench span session (Ok answer) accepted same told =
+    let few = few_steps bench.header bench.steps span accepted in
+    told ∙ ap (λ (s : Session). record { is_refused = false; text = edited_text tally s bench.edits }) same ∙ sym (ap (λ (many : Bool). if many then refused (codes "J2") [] else record { is_refused = false; text = bench_replay tally bench }) few)

@@ -75,8 +75,7 @@ impl Mutexes {
         ensures { IsTrue result ↔ (self.now ≡ other.now) }
     {
         // Nested, so that each test is proved where those before it hold.
-        self.has_same_sizes(other)
-            && (self.has_same_holders(other) && self.has_same_waiters(other))
+        self.has_same_sizes(other) && (self.has_same_holders(other) && self.has_same_waiters(other))
     }
 
     /// The task that holds the mutex; none where it is free.

@@ -61,7 +61,10 @@ fn lists_change_places_where_the_tick_count_wraps(rt: HostRuntime) -> Result<(),
     let keys = (lists.key_of(0), lists.key_of(1));
     assert_eq!(&rt; keys, (Some(4_294_967_295), Some(1)));
     let (turn, lists) = delays.in_turn();
-    assert_eq!(&rt; (lists.first(turn), lists.first(1 - turn)), (Some(0), Some(1)));
+    assert_eq!(&rt;
+        (lists.first(turn), lists.first(1 - turn)),
+        (Some(0), Some(1))
+    );
     assert_eq!(&rt; delays.turn(), turn);
     let due = pop_due(&mut delays);
     assert!(&rt; due.is_none());

@@ -129,6 +129,9 @@ fn equal_waiters_stand_in_turn(rt: HostRuntime) -> Result<(), Fail> {
     let lists = mutexes.lists();
     assert_eq!(&rt; (lists.len(0), lists.len(1)), (0, 3));
     assert_eq!(&rt; lists.first(1), Some(4));
-    assert_eq!(&rt; (lists.next(4), lists.next(3), lists.next(2)), (Some(3), Some(2), None));
+    assert_eq!(&rt;
+        (lists.next(4), lists.next(3), lists.next(2)),
+        (Some(3), Some(2), None)
+    );
     Ok(())
 }

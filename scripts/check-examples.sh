@@ -1,7 +1,7 @@
 #!/usr/bin/env bash
 # Runs the built program over every document of examples/ and compares its whole output with the file beside it: NAME.out for
-# `replay`, and NAME.tally, where there is one, for `replay --tally`. Then it looks at what README.md and docs/ show of
-# these documents and outputs, and at the texts and refusals of docs/FORMATS.md. One line where something differs, then a total;
+# `replay`, and NAME.tally, where there is one, for `replay --tally`. A rig document is recorded, and the recording replayed. Then it
+# looks at what README.md and docs/ show of these documents and outputs, and at the texts and refusals of docs/FORMATS.md. One line where something differs, then a total;
 # status 1 where something does.
 # With --write it writes the outputs anew instead; look at what `git diff` shows before you keep them.
 set -u
@@ -53,7 +53,41 @@ hold() { # DOCUMENT FILE WORD..
     fi
 }
 
+# The kinds of steps or actions, one a line, as they stand.
+kinds() {
+    grep -o '"do": *"[a-z_]*"' | tr -d ' '
+}
+
+# The threads of a rig may meet otherwise each time. Of the rigs in examples/ no action is ever passed over: so the steps of each core
+# are its script, none is refused for a hold of another core, and a replay of them ends well.
+hold_rig() { # DOCUMENT
+    local document="$1" run core
+    kinds <"$document" >"$folder/scripts"
+    for run in {1..20}; do
+        "$program" record <"$document" >"$folder/out" 2>"$folder/err" && ! [ -s "$folder/err" ] &&
+            "$program" replay <"$folder/out" >"$folder/replayed" 2>"$folder/err" && ! [ -s "$folder/err" ] &&
+            ! grep -q ' refused E1 ' "$folder/replayed" || {
+            wrong "$document: run $run, $(head -c 200 "$folder/err")"
+            return
+        }
+        sed 's/},{/}\n{/g' "$folder/out" >"$folder/steps"
+        {
+            grep -e '"core":0' -e '"do":"tick"' "$folder/steps"
+            for core in {1..7}; do grep "\"core\":$core" "$folder/steps"; done
+        } | kinds >"$folder/by_core"
+        cmp -s "$folder/by_core" "$folder/scripts" || {
+            wrong "$document: run $run recorded other steps than its scripts have"
+            return
+        }
+    done
+    good=$((good + 1))
+}
+
 while IFS= read -r -d '' document; do
+    if grep -q '"scripts"' "$document"; then
+        hold_rig "$document"
+        continue
+    fi
     hold "$document" "${document%.json}.out" replay
     ! [ -e "${document%.json}.tally" ] || hold "$document" "${document%.json}.tally" replay --tally
 done < <(find examples -name '*.json' -print0 | sort -z)
@@ -72,7 +106,7 @@ done < <(find examples -mindepth 2 -name '*.json' -print0 | sort -z)
 # In README.md and docs/, what is shown belongs to the document that is named last before it. Lines of a block of JSON, and indented
 # lines that begin with a brace, are lines of it, but for spaces in front and a comma at the end. Indented lines of output are lines
 # of its output, one after the other; two spaces begin a remark, and `..` stands for lines that are left out. A block with the
-# title `as it was` has two columns, the outputs of the two documents that are named last. Rig documents are read by no command.
+# title `as it was` has two columns, the outputs of the two documents that are named last.
 mapfile -d '' files < <(find examples \( -name '*.json' -o -name '*.out' -o -name '*.tally' \) -print0 | sort -z)
 awk '
     function bare(line) {
@@ -110,17 +144,13 @@ awk '
     }
     /^```/ {
         inside = $0 == "```json"
-        rig = 0
         place[named ".json"] = 0
         next
     }
     inside {
-        if ($0 ~ /"session"/) rig = 1
-        if (!rig) {
-            first = 1
-            gap = 0
-            look(named ".json", bare($0))
-        }
+        first = 1
+        gap = 0
+        look(named ".json", bare($0))
         next
     }
     !/^    / {
@@ -165,15 +195,16 @@ awk '
     }
 ' "${files[@]}" README.md docs/*.md || bad=$((bad + 1))
 
-# The texts of the two tables of docs/FORMATS.md, "Paths", that the program reads. A row is named by its first cell.
+# The texts of the tables of docs/FORMATS.md, "Paths". A row is named by its first cell.
 held=0
+command=replay
 row() { # CELL TEXT..: each text gets the refusal of that row
     local cell="$1" want got text
     shift
     want="$(grep -F -- "| $cell | \`refused " docs/FORMATS.md | sed 's/.* | `\(.*\)` |$/\1/')"
     held=$((held + 1))
     for text in "$@"; do
-        got="$(printf '%s' "$text" | "$program" replay)"
+        got="$(printf '%s' "$text" | "$program" "$command")"
         [ "$got" = "$want" ] || wrong "docs/FORMATS.md: $cell: '$got' and not '$want'"
     done
 }
@@ -206,7 +237,19 @@ row 'with an `insert` whose step is `{"do": "switch"}`' "$(edits '{"edit": "inse
 both='{"edit": "remove", "at": 0, "step": {"do": "tick"}}'
 row "with \`$both\`" "$(edits "$both")"
 row 'with a member `format` beside `session` and `edits`' "$(edits '' | sed 's/{"session"/{"format": 1, "session"/')"
-rows="$(sed -n '/^## Paths/,/^In a rig document/p' docs/FORMATS.md | grep -c '| `refused ')"
+command=record
+rig() { sed "$1" examples/rigs/interrupt-driven-driver.json; } # SCRIPT OF SED: the rig with this change
+there() { rig "s/{\"do\": \"isr_notify\".*}/$1/"; }
+row 'with `"cores": "2"`' "$(rig 's/"cores": 2/"cores": "2"/')"
+row 'with `"steps": [{"do": "tick"}]`' "$(rig 's/"steps": \[\]/"steps": [{"do": "tick"}]/')"
+row 'without `limit`' "$(rig '/"limit"/d')"
+row 'with a third script, or with `"scripts": [[], 7]`' "$(rig 's/"scripts": \[/&[], /')" "$(rig '/"scripts"/,$c"scripts": [[], 7]}')"
+row 'with `{"do": "sleep"}` as the first action of the second script' "$(there '{"do": "sleep"}')"
+row 'with `{"do": "switch", "core": 1}` there' "$(there '{"do": "switch", "core": 1}')"
+row 'with a member `edits` beside `limit`' "$(rig 's/"limit"/"edits": [], &/')"
+row 'with `"limit": 100001`' "$(rig 's/"limit": 100/"limit": 100001/')"
+row 'with `{"do": "tick"}` as the first action of the second script' "$(there '{"do": "tick"}')"
+rows="$(sed -n '/^## Paths/,/^## Order of checks/p' docs/FORMATS.md | grep -c '| `refused ')"
 [ "$held" = "$rows" ] || wrong "docs/FORMATS.md: $rows texts with their refusals, of which $held are tried"
 printf '%d texts with their refusals are tried of docs/FORMATS.md\n' "$held"
 

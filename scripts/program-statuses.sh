@@ -103,6 +103,36 @@ task B run 0 1 wait 0 inverted 0 in 0 displaced 0 timeouts 0 top 1
 task C run 0 0 wait 1 inverted 0 in 0 displaced 1 timeouts 0 top 1
 " '' replay --tally
 
+# ---- rigs
+
+# Only one core has a script, so the recording is the same each time.
+rig='{"session": {"format": 1, "cores": 2, "priorities": 5, "slicing": false, "tick": 0, "mutexes": 0,
+  "tasks": [{"name": "A", "priority": 2, "mask": 1}, {"name": "B", "priority": 1, "mask": 2}], "steps": []},
+ "limit": 9, "scripts": [[{"do": "hold_open"}, {"do": "tick"}, {"do": "hold_close"}, {"do": "delay", "ticks": 1},
+  {"do": "switch"}, {"do": "yield"}, {"do": "hold_open"}, {"do": "tick"}, {"do": "switch"}, {"do": "finish"}, {"do": "hold_open"}], []]}'
+recorded='{"cores":2,"format":1,"mutexes":0,"priorities":5,"slicing":false,"steps":[{"by":"A","core":0,"do":"hold_open"},{"do":"tick"},{"by":"A","core":0,"do":"hold_close"},{"by":"A","core":0,"do":"delay","ticks":1},{"core":0,"do":"switch"},{"do":"tick"},{"core":0,"do":"switch"},{"by":"A","core":0,"do":"finish"}],"tasks":[{"mask":1,"name":"A","priority":2},{"mask":2,"name":"B","priority":1}],"tick":0}
+'
+with() { printf '%s' "${rig/"$1"/"$2"}" >"$folder/in"; } # FROM TO: the rig with the first FROM replaced by TO
+with '' ''
+run 'record: no room for a last hold' 0 "$recorded" '' record
+run 'record, with the end of the options marked' 0 "$recorded" '' record --
+printf '%s' "$recorded" >"$folder/in"
+run 'replay of a recording' 0 'start A B
+0 done A B
+1 done A B
+2 done A B
+3 blocked A B
+4 done IDLE0 B
+5 done IDLE0 B
+6 done A B
+7 done A B
+' '' replay
+with '"limit": 9' '"limit": 100000'
+run 'record: a hold that is open at the end is closed' 0 "${recorded/'"do":"finish"}'/'"do":"finish"},{"by":"A","core":0,"do":"hold_open"},{"by":"A","core":0,"do":"hold_close"}'}" '' record
+with '"limit": 9' '"limit": 0'
+run 'record with room for nothing' 0 "$(printf '%s' "$recorded" | sed 's/"steps":\[.*\],"tasks"/"steps":[],"tasks"/')
+" '' record
+
 # ---- the examples, and what the documents show of them
 
 if bash scripts/check-examples.sh >"$folder/examples" 2>&1; then
@@ -144,15 +174,44 @@ ticks="$(printf '%0100001d' 0 | sed 's/0/{"do":"tick"},/g')"
 session '"steps": [' "\"steps\": [$ticks"
 run 'more steps than a session may have' 1 $'refused J2\n' '' replay
 
+: >"$folder/in"
+run 'no rig' 1 $'refused H1\n' '' record
+session '' ''
+run 'a session in place of a rig' 1 $'refused H2 session\n' '' record
+with '"steps": []' '"steps": [{"do": "tick"}]'
+run 'a rig whose session has steps' 1 $'refused H2 session.steps\n' '' record
+with ', []]}' ']}'
+run 'a core without a script' 1 $'refused H2 scripts\n' '' record
+with '"cores": 2' '"cores": 1'
+run 'more scripts than cores' 1 $'refused H2 scripts\n' '' record
+with '"priorities": 5' '"priorities": 2'
+run 'a rig with a header outside its limits' 1 $'refused F1\n' '' record
+with '"limit": 9' '"limit": 100001'
+run 'a limit above the greatest' 1 $'refused F5 limit\n' '' record
+with ', []]}' ', [{"do": "tick"}]]}'
+run 'a tick on another core than 0' 1 $'refused F2 scripts[1][0]\n' '' record
+head -c 67108865 /dev/zero | tr '\0' ' ' >"$folder/in"
+run 'a rig one byte longer than the longest input' 1 $'refused H3\n' '' record
+with '' ''
+run 'a rig in place of a session' 1 $'refused H2 edits\n' '' replay
+
 # ---- help
 
 session '' ''
-help='Replays FreeRTOS SMP scheduling sessions
+help='Records and replays FreeRTOS SMP scheduling sessions
 
 Usage: smp_bench <COMMAND>
 
 Commands:
   replay  Replays the session on standard input, and prints the tasks that run after each step
+  record  Plays the scripts of the rig on standard input, one thread a core, and prints the session
+
+Options:
+  -h, --help  Print help
+'
+record_help='Plays the scripts of the rig on standard input, one thread a core, and prints the session
+
+Usage: smp_bench record
 
 Options:
   -h, --help  Print help
@@ -174,6 +233,8 @@ run 'replay --help' 0 "$replay_help" '' replay --help
 run 'replay -h' 0 "$replay_help" '' replay -h
 run 'replay --help, then more words' 0 "$replay_help" '' replay --help again
 run 'replay with a span, then --help' 0 "$replay_help" '' replay --span 5 --help
+run 'record --help' 0 "$record_help" '' record --help
+run 'record -h, then more words' 0 "$record_help" '' record -h again
 
 # ---- bad command lines
 
@@ -207,11 +268,16 @@ run 'a span before the command' 2 '' "error: unexpected argument '--span' found"
 run 'replay with a word' 2 '' "error: unexpected argument 'again' found" replay again
 run 'replay twice' 2 '' "error: unexpected argument 'replay' found" replay replay
 run 'replay, the end of the options, and a word' 2 '' "error: unexpected argument 'again' found" replay -- again
+run 'record with tallies' 2 '' "error: unexpected argument '--tally' found" record --tally
+run 'record with a span' 2 '' "error: unexpected argument '--span' found" record --span 5
+run 'record with a word' 2 '' "error: unexpected argument 'again' found" record again
+run 'record, then replay' 2 '' "error: unexpected argument 'replay' found" record replay
+run 'replay, then record' 2 '' "error: unexpected argument 'record' found" replay record
 run 'a word that is not UTF-8' 2 '' 'error: invalid UTF-8 was detected in one or more arguments' $'\377'
 run 'replay and a word that is not UTF-8' 2 '' 'error: invalid UTF-8 was detected in one or more arguments' replay $'re\300'
 
 # The command line is read before the input: what is left of that is the whole session.
-for words in '' --help 'replay again'; do
+for words in '' --help 'replay again' 'record again'; do
     # shellcheck disable=SC2086
     { "$program" $words >/dev/null 2>&1; cat >"$folder/out"; } <examples/first-run.json
     status=0
@@ -226,6 +292,10 @@ done
 "$program" replay </ >"$folder/out" 2>"$folder/err"
 status=$?
 compare 'a folder as input' 3 '' $'fault read\n'
+: >"$folder/out"
+"$program" record </ >"$folder/out" 2>"$folder/err"
+status=$?
+compare 'record of a folder' 3 '' $'fault read\n'
 "$program" replay <&- >"$folder/out" 2>"$folder/err"
 status=$?
 compare 'closed input' 3 '' $'fault read\n'
@@ -234,6 +304,9 @@ compare 'closed input' 3 '' $'fault read\n'
 "$program" replay <"$folder/in" >/dev/full 2>"$folder/err"
 status=$?
 compare 'a full device as output' 3 '' $'fault write\n'
+printf '%s' "$rig" | "$program" record >/dev/full 2>"$folder/err"
+status=$?
+compare 'record to a full device' 3 '' $'fault write\n'
 "$program" --help >/dev/full 2>"$folder/err"
 status=$?
 compare '--help to a full device' 3 '' $'fault write\n'

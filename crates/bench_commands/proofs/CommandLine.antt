@@ -1,5 +1,5 @@
 -- What clap answers to the words of a command line, and what the program asks for by that.
-use Rattle.std.proofs.Common.{◌≡◌, true, true≢false, List, [], ◌∷◌, flat_map, codes, Option, Some, None, Result, Ok, Err, IfOk, IsErr, refl, sym, ap, ap₂, subst, ◌∙◌, inl, inr}
+use Rattle.std.proofs.Common.{◌≡◌, Bool, true, false, true≢false, if◌then◌else◌, bytes_eq, List, [], ◌∷◌, flat_map, codes, Option, Some, None, Result, Ok, Err, IfOk, IsErr, refl, sym, ap, ap₂, subst, ◌∙◌, inl, inr}
 use Rattle.std.specs.Prelude.{IfSome}
 use Rattle.std.specs.Option.{IsSomeAnd, option_map_or}
 use Rattle.clap.specs.Words.{App, HasKind, IsAmong, Kinds, Row, Rule, Text, built, fault_of, is_simple, is_simple_and_free, kind_of, one_of, subcommand_of}
@@ -15,9 +15,9 @@ use Rattle.clap.specs.declared.error.kind.ErrorKind.{ErrorKind}
 use Rattle.clap.specs.declared.error.kind.ErrorKind.TheVariants.{OutOfMemory}
 use Rattle.bench_types.specs.Name.{is_within}
 use Rattle.bench_types.specs.Limits.{max_span}
-use Rattle.bench_commands.specs.declared.execution.Mode.{Mode}
 use Rattle.bench_commands.specs.declared.command.Request.{Request}
-use Rattle.bench_commands.specs.Command.{AreTaken, a_run, asked_by, asked_in, asked_in_words, asked_of, bench_app, default_span, is_flag, is_span, mode_of, number_of}
+use Rattle.bench_commands.specs.declared.command.Request.TheVariants.{Bad, Help, Record, Run}
+use Rattle.bench_commands.specs.Command.{AreTaken, Asked, a_mistake, a_recording, a_run, asked_by, asked_for, asked_in, asked_in_words, asked_of, bench_app, can_run, default_span, help, is_flag, is_span, mode_of, number_of}
 use Rattle.bench_commands.specs.Run.{has_span}
 use Rattle.bench_commands.proofs.ClapAnswers.{AskOne, Every, Reads, RowsFit, RuleFits, ShapeFits, Yields, app_yields, one_fits}
 use Rattle.bench_commands.proofs.SpanTexts.{span_is_within, span_taken}
@@ -42,7 +42,8 @@ top_fits : ShapeFits Value Read (built bench_app).top
 top_fits = record { rules = (as_told _ refl, tt); helpless = refl }
 
 commands_fit : Every (ShapeFits Value Read) (built bench_app).subs
-commands_fit = (record { rules = (as_told _ refl, (as_told _ refl, (as_told _ refl, tt))); helpless = refl }, tt)
+commands_fit =
+    (record { rules = (as_told _ refl, (as_told _ refl, (as_told _ refl, tt))); helpless = refl }, (record { rules = (as_told _ refl, tt); helpless = refl }, tt))
 
 taken : (rows : List Row) → RowsFit Value Read rows → AreTaken rows
 taken rows fit = record {
@@ -99,19 +100,40 @@ matched words app found is kinds finds = record {
     same : found ≡ subcommand_of bench_app words
     same = finds (ap is_simple is) ∙ ap (λ app. subcommand_of app words) is
 
--- so a run was asked for, by the options that were met
-pub run_asked : (words : List Text) (found : Option (Text × List Row)) (mode : Mode) → Matched words found → IfSome found (λ met. mode ≡ mode_of met.1)
-    → (has_span mode ≡ true) × (a_run mode ≡ asked_in_words words)
+-- a session may be opened with the span that is asked for, if one is
+abbrev may_open : Asked → Bool
+may_open (a_run mode) = has_span mode
+may_open a_recording = true
+may_open help = true
+may_open a_mistake = true
+
+can_open : (request : Request) → can_run request ≡ may_open (asked_in request)
+can_open (Run mode) = refl
+can_open Record = refl
+can_open (Help text) = refl
+can_open (Bad text) = refl
+
+-- so what was asked for goes by the command that was met, and its options
+pub met_asked : (words : List Text) (found : Option (Text × List Row)) (request : Request) → Matched words found → IfSome found (λ met. asked_in request ≡ asked_for met.0 met.1)
+    → (can_run request ≡ true) × (asked_in request ≡ asked_in_words words)
 unfolding asked_in_words
-run_asked words found mode matched is = go found matched.are_taken is (ap₂ asked_of (sym matched.faultless) matched.found_is)
+met_asked words found request matched is = go found matched.are_taken is (ap₂ asked_of (sym matched.faultless) matched.found_is)
   where
     within : (text : Option Text) → IfSome text (λ text. is_span text ≡ true) → is_within 1 max_span (option_map_or number_of text default_span) ≡ true
     within None taken = refl
     within (Some text) taken = span_is_within text taken
 
-    go : (found : Option (Text × List Row)) → MetTaken found → IfSome found (λ met. mode ≡ mode_of met.1) → asked_of [] found ≡ asked_in_words words → (has_span mode ≡ true) × (a_run mode ≡ asked_in_words words)
+    opens : (name : Text) (options : List Row) → AreTaken options → may_open (asked_for name options) ≡ true
+    opens name options taken = by_name (bytes_eq name (codes "record"))
+      where
+        by_name : (is : Bool) → may_open (if is then a_recording else a_run (mode_of options)) ≡ true
+        by_name true = refl
+        by_name false = within (one_of (codes "span") options) taken.span
+
+    go : (found : Option (Text × List Row)) → MetTaken found → IfSome found (λ met. asked_in request ≡ asked_for met.0 met.1) → asked_of [] found ≡ asked_in_words words
+        → (can_run request ≡ true) × (asked_in request ≡ asked_in_words words)
     go None none is asks = absurd none
-    go (Some met) taken is asks = (ap has_span is ∙ within (one_of (codes "span") met.1) taken.span, ap a_run is ∙ asks)
+    go (Some met) taken is asks = (can_open request ∙ ap may_open is ∙ opens met.0 met.1 taken, is ∙ asks)
 
 kind_among : (first k : ErrorKind) (kinds : Kinds) → Every (λ l. asked_by l ≡ asked_by first) kinds → IsAmong k kinds → asked_by k ≡ asked_by first
 kind_among first k [] all among = absurd among

@@ -1,5 +1,5 @@
 -- What a command line asks for: what clap is told, and what each of its answers means.
-use Rattle.std.specs.Prelude.{◌≡◌, ◌&&◌, ℕ, List, [], ◌∷◌, Bool, true, false, codes, Option, Some, None, IfSome, pos}
+use Rattle.std.specs.Prelude.{◌≡◌, ◌&&◌, ℕ, List, [], ◌∷◌, Bool, true, false, codes, Option, Some, None, IfSome, if◌then◌else◌, pos}
 use Rattle.std.specs.Option.{option_map_or}
 use Rattle.std.specs.Str.{bytes_eq}
 use Rattle.std.specs.Str.Parse.{digits_value, without_leading_plus}
@@ -15,12 +15,13 @@ use Rattle.bench_types.specs.Limits.{max_span}
 use Rattle.bench_commands.specs.declared.execution.Mode.{Mode}
 use Rattle.bench_commands.specs.declared.execution.Mode.TheVariants.{Replay}
 use Rattle.bench_commands.specs.declared.command.Request.{Request}
-use Rattle.bench_commands.specs.declared.command.Request.TheVariants.{Run, Help, Bad}
+use Rattle.bench_commands.specs.declared.command.Request.TheVariants.{Run, Record, Help, Bad}
 use Rattle.bench_commands.specs.Run.{has_span}
 
--- a run, the text of help, or nothing that the program does
+-- a run, a recording, the text of help, or nothing that the program does
 pub data Asked : Type 0 where
   a_run : Mode → Asked
+  a_recording : Asked
   help : Asked
   a_mistake : Asked
 
@@ -41,6 +42,10 @@ tally_rule =
 abbrev pub replay_app : App
 replay_app = with_rule (with_rule (new_app (codes "replay")) span_rule) tally_rule
 
+-- the command `record`, which has no options
+abbrev pub record_app : App
+record_app = new_app (codes "record")
+
 -- the program, which wants a command, and of which `help` is none
 abbrev pub program_app : App
 program_app = record (new_app (codes "smp_bench")) {
@@ -52,7 +57,7 @@ program_app = record (new_app (codes "smp_bench")) {
 
 -- the program with its commands
 abbrev pub bench_app : App
-bench_app = with_subcommand program_app replay_app.top
+bench_app = with_subcommand (with_subcommand program_app replay_app.top) record_app.top
 
 -- ---- what its answers mean
 
@@ -76,6 +81,11 @@ tally_in options = option_map_or (bytes_eq (codes "true")) (one_of (codes "tally
 abbrev pub mode_of : List Row → Mode
 mode_of options = Replay (span_in options) (tally_in options)
 
+-- what a command with this name and these options asks for
+abbrev pub asked_for : Text → List Row → Asked
+asked_for name options =
+    if bytes_eq name (codes "record") then a_recording else a_run (mode_of options)
+
 -- by the kind of an error, of which `--help` and `-h` make one too
 abbrev pub asked_by : ErrorKind → Asked
 asked_by kind.DisplayHelp = help
@@ -85,7 +95,7 @@ asked_by _ = a_mistake
 abbrev pub asked_of : Kinds → Option (Text × List Row) → Asked
 asked_of (kind ∷ kinds) met = asked_by kind
 asked_of [] None = a_mistake
-asked_of [] (Some met) = a_run (mode_of met.1)
+asked_of [] (Some met) = asked_for met.0 met.1
 
 -- the words of a command line, the program's name first
 unfoldable pub asked_in_words : List Text → Asked
@@ -100,12 +110,14 @@ asked None = a_mistake
 
 abbrev pub asked_in : Request → Asked
 asked_in (Run mode) = a_run mode
+asked_in Record = a_recording
 asked_in (Help text) = help
 asked_in (Bad text) = a_mistake
 
 -- a session may be opened with the span of the run, if one is asked for
 abbrev pub can_run : Request → Bool
 can_run (Run mode) = has_span mode
+can_run Record = true
 can_run (Help text) = true
 can_run (Bad text) = true
 

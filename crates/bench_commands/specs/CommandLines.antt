@@ -2,7 +2,7 @@
 use Rattle.std.specs.Prelude.{◌≡◌, List, [], ◌∷◌, Some, None, true, false, codes}
 use Rattle.clap.specs.Words.{Text}
 use Rattle.bench_commands.specs.declared.execution.Mode.TheVariants.{Replay}
-use Rattle.bench_commands.specs.Command.{Asked, a_run, help, a_mistake, asked}
+use Rattle.bench_commands.specs.Command.{Asked, a_run, a_recording, help, a_mistake, asked}
 
 -- by the words after the program's name
 abbrev pub asked_after : List Text → Asked
@@ -21,10 +21,15 @@ pub record WorkedRuns : Type 0 where
   pub end_of_options :
       asked_after (codes "replay" ∷ codes "--tally" ∷ codes "--" ∷ []) ≡ a_run (Replay 64 true)
 
+pub record WorkedRecordings : Type 0 where
+  pub bare : asked_after (codes "record" ∷ []) ≡ a_recording
+  pub end_of_options : asked_after (codes "record" ∷ codes "--" ∷ []) ≡ a_recording
+
 pub record WorkedHelp : Type 0 where
   pub of_program : asked_after (codes "--help" ∷ []) ≡ help
   pub by_letter : asked_after (codes "-h" ∷ codes "again" ∷ []) ≡ help
   pub of_replay : asked_after (codes "replay" ∷ codes "--tally" ∷ codes "--help" ∷ []) ≡ help
+  pub of_record : asked_after (codes "record" ∷ codes "--help" ∷ []) ≡ help
 
 pub record WorkedMistakes : Type 0 where
   pub no_command : asked_after [] ≡ a_mistake
@@ -37,4 +42,8 @@ pub record WorkedMistakes : Type 0 where
       asked_after (codes "replay" ∷ codes "--span" ∷ codes "7" ∷ codes "--span=7" ∷ []) ≡ a_mistake
   pub two_tallies : asked_after (codes "replay" ∷ codes "--tally" ∷ codes "--tally" ∷ []) ≡ a_mistake
   pub tally_with_value : asked_after (codes "replay" ∷ codes "--tally=x" ∷ []) ≡ a_mistake
+  pub span_of_record : asked_after (codes "record" ∷ codes "--span" ∷ codes "7" ∷ []) ≡ a_mistake
+  pub tally_of_record : asked_after (codes "record" ∷ codes "--tally" ∷ []) ≡ a_mistake
+  pub word_of_record : asked_after (codes "record" ∷ codes "again" ∷ []) ≡ a_mistake
+  pub two_commands : asked_after (codes "record" ∷ codes "replay" ∷ []) ≡ a_mistake
   pub no_text : asked None ≡ a_mistake

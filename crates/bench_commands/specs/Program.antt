@@ -15,8 +15,9 @@ use Rattle.bench_commands.specs.declared.execution.RunFault.{RunFault}
 use Rattle.bench_commands.specs.declared.execution.RunFault.TheVariants.{Memory, Read, Write}
 use Rattle.bench_commands.specs.declared.program.Ending.{Ending}
 use Rattle.bench_commands.specs.declared.program.Ending.TheVariants.{Ran, BadCommandLine}
-use Rattle.bench_commands.specs.Command.{Asked, a_run, help, a_mistake, asked}
+use Rattle.bench_commands.specs.Command.{Asked, a_run, a_recording, help, a_mistake, asked}
 use Rattle.bench_commands.specs.Device.{AppendsPrefix, failures_after}
+use Rattle.bench_commands.specs.Record.{EndsRecord}
 use Rattle.bench_commands.specs.Run.{Ran as RunEnds, reads_well, writes_well}
 
 abbrev pub exit_code : Ending → ℕ
@@ -73,10 +74,18 @@ EndsRun mode (Ran status) read_old read_new write_old write_new =
     RunEnds mode status read_old read_new write_old write_new
 EndsRun mode (BadCommandLine text) read_old read_new write_old write_new = ⊥
 
+-- a recording; a bad command line is none
+abbrev pub EndsRecording :
+    Ending → Option (List ℕ) → Option (List ℕ) → Option (List ℕ) → Option (List ℕ) → Type 0
+EndsRecording (Ran status) read_old read_new write_old write_new =
+    EndsRecord status read_old read_new write_old write_new
+EndsRecording (BadCommandLine text) read_old read_new write_old write_new = ⊥
+
 -- by what was asked, how the program ends, and what was read and written then
 abbrev pub Ends :
     Asked → Ending → Option (List ℕ) → Option (List ℕ) → Option (List ℕ) → Option (List ℕ) → Type 0
 Ends (a_run mode) ending = EndsRun mode ending
+Ends a_recording ending = EndsRecording ending
 Ends help ending = EndsHelp ending
 Ends a_mistake ending = EndsBad ending
 

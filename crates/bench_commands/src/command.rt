@@ -2,7 +2,7 @@ ghost use Rattle.std.specs.Prelude.{◌≡◌, IfOk, IfSome, IsErr, map, option_
 ghost use Rattle.std.specs.Option.{IsSomeAnd};
 ghost use Rattle.clap.specs.Words.{app_of, found_of, kind_of, rows_of, rule_of, subcommand_rows_of};
 ghost use Rattle.clap.specs.declared.error.kind.ErrorKind.TheVariants.{OutOfMemory};
-ghost use Rattle.bench_commands.specs.Command.{AreTaken, a_mistake, asked, asked_by, asked_in, asked_in_words, bench_app, can_run, mode_of, span_in, span_rule, tally_in, tally_rule};
+ghost use Rattle.bench_commands.specs.Command.{AreTaken, a_mistake, asked, asked_by, asked_in, asked_for, asked_in_words, bench_app, can_run, span_in, span_rule, tally_in, tally_rule};
 
 use crate::execution::Mode;
 use bench_types::MAX_SPAN;
@@ -19,6 +19,8 @@ pub const DEFAULT_SPAN: u32 = 64;
 pub enum Request {
     /// A run over standard input.
     Run(Mode),
+    /// A recording of the rig document on standard input.
+    Record,
     /// This help.
     Help(String),
     /// Nothing that the program does; the text says why.
@@ -55,11 +57,15 @@ fn command<'a>(alloc: Global) -> Result<Command<'a>, AllocError>
         )
         .arg(span_option(alloc))?
         .arg(tally_flag(alloc))?;
+    let record = Command::new(alloc, "record").about(
+        "Plays the scripts of the rig on standard input, one thread a core, and prints the session",
+    );
     Command::new(alloc, "smp_bench")
-        .about("Replays FreeRTOS SMP scheduling sessions")
+        .about("Records and replays FreeRTOS SMP scheduling sessions")
         .disable_help_subcommand(true)
         .subcommand_required(true)
-        .subcommand(replay)
+        .subcommand(replay)?
+        .subcommand(record)
 }
 
 fn told(alloc: Global, error: &Error) -> Result<Request, AllocError>
@@ -101,15 +107,19 @@ fn tally_in(options: &ArgMatches) -> bool
 }
 
 // What the command that was met asks for.
-fn mode_in(matches: &ArgMatches) -> Mode
+fn asked_for(matches: &ArgMatches) -> Request
     requires { IsSomeAnd (subcommand_rows_of matches.now) (λ met. AreTaken met.1) }
-    ensures { IfSome (subcommand_rows_of matches.now) (λ met. result ≡ mode_of met.1) }
+    ensures { IfSome (subcommand_rows_of matches.now)
+        (λ met. asked_in result ≡ asked_for met.0 met.1) }
 {
-    let (_, options) = matches.subcommand().unwrap();
-    Mode::Replay {
+    let (name, options) = matches.subcommand().unwrap();
+    if name == "record" {
+        return Request::Record;
+    }
+    Request::Run(Mode::Replay {
         span: span_in(options),
         tally: tally_in(options),
-    }
+    })
 }
 
 fn request_in<S: AsStr>(alloc: Global, words: &[S]) -> Result<Request, AllocError>
@@ -118,7 +128,7 @@ fn request_in<S: AsStr>(alloc: Global, words: &[S]) -> Result<Request, AllocErro
         (λ request. asked_in request ≡ asked_in_words (map S.text words.now)) }
 {
     match command(alloc)?.try_get_matches_from(words) {
-        Ok(matches) => Ok(Request::Run(mode_in(&matches))),
+        Ok(matches) => Ok(asked_for(&matches)),
         Err(error) => told(alloc, &error),
     }
 }

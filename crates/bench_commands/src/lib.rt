@@ -6,6 +6,7 @@ mod command;
 mod device;
 mod examples;
 mod execution;
+mod gate;
 mod input;
 mod lines;
 mod output;

@@ -8,6 +8,8 @@ ghost use Rattle.bench_commands.specs.Run.{writes_well};
 use crate::command::{Request, request_of};
 use crate::device::{CountedRead, CountedWrite};
 use crate::execution::{RunFault, Status, run};
+use crate::gate::OpenGate;
+use crate::recording::record;
 use crate::writing::write_text;
 use std::alloc::Global;
 use std::convert::AsStr;
@@ -15,6 +17,8 @@ use std::env::Args;
 use std::io;
 use std::io::ErrorKind;
 use std::process::ExitCode;
+use std::sync::Wait;
+use std::thread::Threads;
 
 /// How the program ends.
 #[derive(Debug, Drop)]
@@ -65,9 +69,10 @@ fn show_help<W: CountedWrite>(writer: &mut W, text: &str) -> Status
 }
 
 /// Does what the words of the command line ask for: they are `None` where one of them is no text.
-/// Only a run reads, once the words are known to ask for it.
-pub fn carry_out<S: AsStr, R: CountedRead, W: CountedWrite>(
-    rt: &HostRuntime,
+/// Only a run or a recording reads, once the words are known to ask for it.
+pub fn carry_out<T: Threads + Wait + Sync, S: AsStr, R: CountedRead, W: CountedWrite>(
+    rt: &T,
+    host: &HostRuntime,
     alloc: Global,
     words: Option<&[S]>,
     reader: &mut R,
@@ -82,7 +87,8 @@ pub fn carry_out<S: AsStr, R: CountedRead, W: CountedWrite>(
         ≡ failures_after (all_writes_well result) (W.CountedWrite.failures writer.old) }
 {
     match request_of(alloc, words) {
-        Ok(Request::Run(mode)) => Ending::Ran(run(rt, alloc, reader, writer, &mode)),
+        Ok(Request::Run(mode)) => Ending::Ran(run(host, alloc, reader, writer, &mode)),
+        Ok(Request::Record) => Ending::Ran(record(rt, host, alloc, reader, writer, &OpenGate)),
         Ok(Request::Help(text)) => Ending::Ran(show_help(writer, text.as_str())),
         Ok(Request::Bad(text)) => Ending::BadCommandLine(text),
         Err(_) => Ending::Ran(Status::Fault(RunFault::Memory)),
@@ -90,8 +96,9 @@ pub fn carry_out<S: AsStr, R: CountedRead, W: CountedWrite>(
 }
 
 // How the program ends with the words that the system hands over.
-fn ending_of<R: CountedRead, W: CountedWrite>(
-    rt: &HostRuntime,
+fn ending_of<T: Threads + Wait + Sync, R: CountedRead, W: CountedWrite>(
+    rt: &T,
+    host: &HostRuntime,
     words: io::Result<Args>,
     reader: &mut R,
     writer: &mut W,
@@ -104,12 +111,19 @@ fn ending_of<R: CountedRead, W: CountedWrite>(
         ≡ failures_after (all_writes_well result) (W.CountedWrite.failures writer.old) }
 {
     match words {
-        Ok(words) => match words.collect::<Vec<String>>(rt.alloc()) {
-            Ok(words) => carry_out(rt, rt.alloc(), Some(words.as_slice()), reader, writer),
+        Ok(words) => match words.collect::<Vec<String>>(host.alloc()) {
+            Ok(words) => carry_out(
+                rt,
+                host,
+                host.alloc(),
+                Some(words.as_slice()),
+                reader,
+                writer,
+            ),
             Err(_) => Ending::Ran(Status::Fault(RunFault::Memory)),
         },
         Err(error) if error.kind() == ErrorKind::InvalidData => {
-            carry_out(rt, rt.alloc(), None::<&[String]>, reader, writer)
+            carry_out(rt, host, host.alloc(), None::<&[String]>, reader, writer)
         }
         Err(_) => Ending::Ran(Status::Fault(RunFault::Memory)),
     }
@@ -121,8 +135,9 @@ fn ending_of<R: CountedRead, W: CountedWrite>(
 ///
 /// The words are those of [`std::env::args`]. Where standard error takes nothing, the exit status
 /// still tells.
-pub fn run_program<R: CountedRead, W: CountedWrite, E: CountedWrite>(
-    rt: &HostRuntime,
+pub fn run_program<T: Threads + Wait + Sync, R: CountedRead, W: CountedWrite, E: CountedWrite>(
+    rt: &T,
+    host: &HostRuntime,
     words: io::Result<Args>,
     reader: &mut R,
     writer: &mut W,
@@ -136,7 +151,7 @@ pub fn run_program<R: CountedRead, W: CountedWrite, E: CountedWrite>(
         (device (E.Write.contents errors.old) (E.CountedWrite.failures errors.old))
         (device (E.Write.contents errors.new) (E.CountedWrite.failures errors.new)) }
 {
-    let ending = ending_of(rt, words, reader, writer);
+    let ending = ending_of(rt, host, words, reader, writer);
     let _ = write_text(errors, ending.message().as_bytes());
     ExitCode::from(ending.code())
 }

@@ -4,6 +4,6 @@ pub mod InPlace
 pub mod Parts
 pub mod Rooms
 pub mod TickCounts
-pub mod Marks
 pub mod TickFinds
 pub mod TickLoop
+pub mod Tops

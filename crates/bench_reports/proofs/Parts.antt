@@ -183,11 +183,11 @@ pub length_event : (event : Option Event) (tallies : List TaskTally) → length 
 unfolding with_event
 length_event event tallies = length_each (λ task. event_tally event task (tally_at tallies task)) (length tallies)
 
-found_at : (before : View) (step : Step) (tallies : List TaskTally) (task : ℕ) → task < length tallies → tally_at (found before step tallies) task ≡ found_tally before step task (tally_at tallies task)
+pub found_at : (before : View) (step : Step) (tallies : List TaskTally) (task : ℕ) → task < length tallies → tally_at (found before step tallies) task ≡ found_tally before step task (tally_at tallies task)
 unfolding found
 found_at before step tallies task low = each_at (λ task. found_tally before step task (tally_at tallies task)) (length tallies) task nothing low
 
-event_at : (event : Option Event) (tallies : List TaskTally) (task : ℕ) → task < length tallies → tally_at (with_event event tallies) task ≡ event_tally event task (tally_at tallies task)
+pub event_at : (event : Option Event) (tallies : List TaskTally) (task : ℕ) → task < length tallies → tally_at (with_event event tallies) task ≡ event_tally event task (tally_at tallies task)
 unfolding with_event
 event_at event tallies task low = each_at (λ task. event_tally event task (tally_at tallies task)) (length tallies) task nothing low
 

@@ -1,10 +1,8 @@
 -- A tick that is added to one task after another.
-use Rattle.std.proofs.Common.{◌≡◌, ℕ, ◌<◌, Bool, false, List, length, map, get_or, sym, ap, subst, ◌∙◌, arith}
+use Rattle.std.proofs.Common.{◌≡◌, ℕ, ◌<◌, List, length, get_or, sym, ap, subst, ◌∙◌, arith}
 use Rattle.std.proofs.lemmas.List.{length-map, get_or-map, get_or_default, length-replicate, get_or-replicate}
 use Rattle.std.proofs.lemmas.List.Elements.{All-get_or}
-use Rattle.std.proofs.lemmas.List.FromFn.{get_or-map-range_with_len, length-map-range_with_len}
 use Rattle.bench_types.specs.declared.kernel_data.Settings.{Settings}
-use Rattle.list_orders.specs.Search.{numbers}
 use Rattle.bench_model.specs.Tally.{TaskTally}
 use Rattle.bench_model.specs.Tallied.{shape, shape_of, tally_at, CountsBelow, AllCountsBelow}
 use Rattle.bench_reports.proofs.Additions.{nothing}
@@ -27,11 +25,3 @@ module _ (f : ℕ → TaskTally) (old now : List TaskTally) (task : ℕ) (x : Ta
 
   pub kept_room : (bound : ℕ) → AllCountsBelow bound old → IsSetTo f nothing old task now → task < length old → x ≡ get_or now task x → CountsBelow bound x
   kept_room bound room set low is = subst (CountsBelow bound) (sym (kept set low is)) (All-get_or (CountsBelow bound) old task nothing low room)
-
--- a mark of a task
-module _ (f : ℕ → Bool) (marks : List Bool) (n : ℕ) (all : marks ≡ map f (numbers n)) where
-  pub marks_length : length marks ≡ n
-  marks_length = ap (λ (bs : List Bool). length bs) all ∙ length-map-range_with_len f 0 n
-
-  pub mark_at : (k : ℕ) → k < n → get_or marks k false ≡ f k
-  mark_at k low = ap (λ bs. get_or bs k false) all ∙ get_or-map-range_with_len f 0 n k k false low (omega arith)

@@ -130,9 +130,3 @@ pub record HasEventRoom (tally : TaskTally) : Type 0 where
   pub switched : tally.counts.switched < 2 ^ 32 - 1
   pub displaced : tally.counts.displaced < 2 ^ 32 - 1
   pub timeouts : tally.counts.timeouts < 2 ^ 32 - 1
-
--- each task has a mark of each of two kinds, and there are fewer tasks than numbers of 32 bits
-pub record HasRoomForMarks (tasks marks others : ℕ) : Type 0 where
-  pub few : tasks < 2 ^ 32
-  pub all : marks ≡ tasks
-  pub also : others ≡ tasks

@@ -1,9 +1,7 @@
-ghost use Rattle.std.specs.Prelude.{◌≡◌, ◌<◌, ◌≤◌, length, map, true, false};
+ghost use Rattle.std.specs.Prelude.{◌≡◌, ◌<◌, ◌≤◌, length};
 ghost use Rattle.std.specs.Option.{ForSome};
-ghost use Rattle.list_orders.specs.Search.{numbers};
-ghost use Rattle.bench_model.specs.Lists.{is_ready};
 ghost use Rattle.bench_model.specs.Seek.{effective};
-ghost use Rattle.bench_model.specs.Tally.{is_current, outranks_some};
+ghost use Rattle.bench_model.specs.Tally.{outranks_some};
 ghost use Rattle.bench_reports.specs.Counting.{found_as, IsLowest};
 
 use smp_kernel::Kernel;
@@ -18,18 +16,6 @@ pub(crate) enum Found {
     Waiting(bool),
     /// It is neither ready nor on a core.
     Blocked,
-}
-
-/// Sets the mark of each task to whether it is the current one of a core.
-pub(crate) fn mark_current(kernel: &Kernel, marks: &mut [bool])
-    requires { length marks.old ≡ kernel.now.settings.tasks }
-    ensures { marks.new ≡ map (is_current kernel.now.control) (numbers (length marks.old)) }
-{
-    let cores = kernel.settings().cores;
-    marks.fill(false);
-    for core in 0..cores {
-        marks[kernel.running(core) as usize] = true;
-    }
 }
 
 /// Of the current tasks one than which none stands lower; none where there is no core.
@@ -59,26 +45,18 @@ fn lower_of(kernel: &Kernel, lowest: Option<u32>, task: u32) -> u32
     }
 }
 
-/// How a tick finds the task, by its marks. Where no current task stands lower than this one, none
-/// of the cores is looked at.
-pub(crate) fn found_as(
-    kernel: &Kernel,
-    lowest: Option<u32>,
-    task: u32,
-    ready: bool,
-    runs: bool,
-) -> Found
+/// How a tick finds the task. Where no current task stands lower than this one, none of the cores
+/// is looked at.
+pub(crate) fn found_as(kernel: &Kernel, lowest: Option<u32>, task: u32) -> Found
     requires task { task < kernel.now.settings.tasks }
     requires low { ForSome lowest (λ lowest. lowest < kernel.now.settings.tasks) }
     requires lowest { IsLowest kernel.now.control kernel.now.settings.cores lowest }
-    requires ready { ready ≡ is_ready task kernel.now.orders }
-    requires runs { runs ≡ is_current kernel.now.control task }
     requires cores { length kernel.now.control.cores ≡ kernel.now.settings.cores }
     ensures { result ≡ found_as kernel.now task }
 {
-    if runs {
+    if kernel.is_current(task) {
         Found::Running
-    } else if ready {
+    } else if kernel.ready(task) {
         Found::Waiting(outranks_some(kernel, lowest, task))
     } else {
         Found::Blocked

@@ -1,20 +1,19 @@
-ghost use Rattle.std.specs.Prelude.{◌≡◌, ℕ, suc, ◌+◌, ◌-◌, ◌<◌, ◌^◌, All, Ok, length, map, min, string_bytes, IfOk};
+ghost use Rattle.std.specs.Prelude.{◌≡◌, ℕ, suc, ◌+◌, ◌-◌, ◌<◌, ◌^◌, All, Ok, length, min, string_bytes, IfOk, IfSome};
 ghost use Rattle.bench_types.specs.Step.{step_check};
 ghost use Rattle.bench_types.specs.declared.step.Step.TheVariants.{Tick};
-ghost use Rattle.list_orders.specs.Search.{has, numbers};
 ghost use Rattle.bench_model.specs.Equal.{StandsFor};
 ghost use Rattle.bench_model.specs.Lists.{list_queues};
 ghost use Rattle.bench_model.specs.Session.{step_of};
 ghost use Rattle.bench_model.specs.Table.{Table};
-ghost use Rattle.bench_model.specs.Tally.{is_current};
 ghost use Rattle.bench_model.specs.Tallied.{added, first_tallies, run_at, shape, shape_of, tallied, tally_at, AllCountsBelow};
 ghost use Rattle.smp_kernel.specs.Kernel.{StandsForSome};
 ghost use Rattle.bench_reports.specs.Counting.{found, topped, with_event, HasEventRoom};
 ghost use Rattle.bench_reports.specs.Lines.{tally_lines};
+ghost use Rattle.bench_reports.specs.Tops.{HasTops, HasOtherTops};
 
 use crate::counts::TaskCounts;
 use crate::event::{Event, event_of, left_by};
-use crate::found::{found_as, lowest_current, mark_current};
+use crate::found::{found_as, lowest_current};
 use crate::lines::push_tallies;
 use bench_types::{Header, Reply, Step, Tally};
 use smp_kernel::{Kernel, Meter};
@@ -26,23 +25,17 @@ use std::marker::Model;
 #[derive(Debug, Drop)]
 pub struct Tallies {
     tasks: Vec<TaskCounts>,
-    /// Room for the marks of the ready tasks.
-    ready: Vec<bool>,
-    /// Room for those of the current tasks.
-    current: Vec<bool>,
 }
 
 impl Model for Tallies {
-    ghost use Rattle.std.specs.Prelude.{List, length};
+    ghost use Rattle.std.specs.Prelude.{◌<◌, ◌^◌, List, length};
     ghost use Rattle.bench_model.specs.Tally.{TaskTally};
-    ghost use Rattle.bench_reports.specs.Counting.{HasRoomForMarks};
 
     ghost Value = { List TaskTally };
 
     ghost view = { λ tallies. tallies.tasks.items };
 
-    ghost invariant = { λ tallies. HasRoomForMarks (length tallies.tasks.items)
-        (length tallies.ready.items) (length tallies.current.items) };
+    ghost invariant = { λ tallies. length tallies.tasks.items < 2 ^ 32 };
 }
 
 impl Tallies {
@@ -52,17 +45,14 @@ impl Tallies {
             (λ tallies. tallies ≡ first_tallies kernel.now.settings kernel.now.control) }
         ensures shape { IfOk result (λ tallies. shape tallies ≡ shape_of kernel.now.settings) }
         ensures room { IfOk result (AllCountsBelow 1) }
+        ensures tops { IfOk result (HasTops kernel.now.control) }
     {
         let settings = kernel.settings();
         let mut tasks = Vec::with_capacity(alloc, settings.tasks as usize)?;
         for task in 0..settings.tasks {
             tasks.push(TaskCounts::zeros(alloc, settings.cores, kernel.look(task).in_use)?)?;
         }
-        Ok(Tallies {
-            ready: no_marks(alloc, tasks.len())?,
-            current: no_marks(alloc, tasks.len())?,
-            tasks,
-        })
+        Ok(Tallies { tasks })
     }
 
     /// Counts a step, which the kernel `before` answered with this reply, and after which it is
@@ -114,6 +104,40 @@ impl Tallies {
         reply
     }
 
+    /// Makes a step of the kernel and counts it, as [`Tallies::make`] does. Each task's greatest
+    /// priority in use so far has to be no less than the one that it has in use, as it is after
+    /// [`Tallies::begin`] and after this function. So only the task that the step may raise is
+    /// looked at.
+    pub fn make_next(&mut self, kernel: &mut Kernel, meter: &mut Meter, step: &Step) -> Reply
+        requires checked { step_check kernel.old.settings step.now ≡ Ok tt }
+        requires shape { shape self.old ≡ shape_of kernel.old.settings }
+        requires room { AllCountsBelow (2 ^ 32 - 1) self.old }
+        requires tops { HasTops kernel.old.control self.old }
+        ensures reply { (table : Table) → StandsFor kernel.old table
+            → result ≡ (step_of step.now table).0 }
+        ensures state { (table : Table) → StandsFor kernel.old table
+            → StandsFor kernel.new (step_of step.now table).1 }
+        ensures meter { meter.new ≡ min (meter.old + 1) (2 ^ 64 - 1) }
+        ensures shape { kernel.new.settings ≡ kernel.old.settings }
+        ensures counted { self.new ≡ tallied list_queues (record {
+          before = kernel.old;
+          step = step.now;
+          reply = result;
+          after = kernel.new;
+        }) self.old }
+        ensures kept { shape self.new ≡ shape self.old }
+        ensures grown { (bound : ℕ) → AllCountsBelow bound self.old
+            → AllCountsBelow (suc bound) self.new }
+        ensures tops { HasTops kernel.new.control self.new }
+    {
+        let left = left_by(kernel, step);
+        let raised = kernel.raised_by(step);
+        self.find(kernel, step);
+        let reply = kernel.step(meter, step);
+        self.leave_next(event_of(left, step, reply, kernel), raised, kernel);
+        reply
+    }
+
     /// Adds the numbers of another part of the session; each task's priority in use is the greater
     /// one.
     pub fn add(&mut self, other: &Tallies)
@@ -133,11 +157,7 @@ impl Tallies {
         for task in &self.tasks {
             tasks.push(task.copy(alloc)?)?;
         }
-        Ok(Tallies {
-            ready: no_marks(alloc, tasks.len())?,
-            current: no_marks(alloc, tasks.len())?,
-            tasks,
-        })
+        Ok(Tallies { tasks })
     }
 
     /// How many tasks there are.
@@ -197,9 +217,7 @@ impl Tallies {
         requires room { AllCountsBelow (2 ^ 32 - 1) self.old }
         ensures { self.new ≡ found kernel.now Tick self.old }
     {
-        kernel.mark_ready(&mut self.ready);
-        mark_current(kernel, &mut self.current);
-        add_tick(&mut self.tasks, kernel, &self.ready, &self.current);
+        add_tick(&mut self.tasks, kernel);
     }
 
     // Adds the event of a step, and the priorities in use after it.
@@ -212,32 +230,31 @@ impl Tallies {
         add_event(&mut self.tasks, event);
         raise_tops(&mut self.tasks, after);
     }
+
+    // The same where only this task's priority in use may be greater than the greatest so far.
+    fn leave_next(&mut self, event: Option<Event>, raised: Option<u32>, after: &Kernel)
+        requires tasks { length self.old ≡ after.now.settings.tasks }
+        requires room { All HasEventRoom self.old }
+        requires raised { IfSome raised (λ task. task < after.now.settings.tasks) }
+        requires tops { HasOtherTops raised after.now.control self.old }
+        ensures { self.new ≡ topped after.now.control (with_event event self.old) }
+    {
+        add_event(&mut self.tasks, event);
+        raise_top_of(&mut self.tasks, raised, after);
+    }
 }
 
-fn no_marks(alloc: Global, tasks: usize) -> Result<Vec<bool>, AllocError>
-    ensures { IfOk result (λ marks. length marks.items ≡ tasks) }
-{
-    let mut marks = Vec::new(alloc);
-    marks.resize(tasks, false)?;
-    Ok(marks)
-}
-
-// Adds a tick, by the marks of the ready and the current tasks.
+// Adds a tick.
 #[tactic(auto, unfolding(crate::specs::Counting::found))]
-fn add_tick(tasks: &mut [TaskCounts], kernel: &Kernel, ready: &[bool], current: &[bool])
+fn add_tick(tasks: &mut [TaskCounts], kernel: &Kernel)
     requires shape { shape tasks.old ≡ shape_of kernel.now.settings }
     requires room { AllCountsBelow (2 ^ 32 - 1) tasks.old }
-    requires ready { ready.now
-        ≡ map (λ task. has task kernel.now.orders.ready) (numbers (length tasks.old)) }
-    requires current { current.now
-        ≡ map (is_current kernel.now.control) (numbers (length tasks.old)) }
     ensures { tasks.new ≡ found kernel.now Tick tasks.old }
 {
     let lowest = lowest_current(kernel);
     for task in 0..kernel.settings().tasks {
-        let place = task as usize;
-        let found = found_as(kernel, lowest, task, ready[place], current[place]);
-        tasks[place].add_tick(kernel, task, found);
+        let found = found_as(kernel, lowest, task);
+        tasks[task as usize].add_tick(kernel, task, found);
     }
 }
 
@@ -262,6 +279,18 @@ fn raise_tops(tasks: &mut [TaskCounts], kernel: &Kernel)
     ensures sound { StandsForSome kernel.now }
 {
     for task in 0..kernel.settings().tasks {
+        tasks[task as usize].raise_top(kernel, task);
+    }
+}
+
+// The priority in use of the task, if there is one, where it is the greatest so far.
+fn raise_top_of(tasks: &mut [TaskCounts], raised: Option<u32>, kernel: &Kernel)
+    requires tasks { length tasks.old ≡ kernel.now.settings.tasks }
+    requires raised { IfSome raised (λ task. task < kernel.now.settings.tasks) }
+    requires tops { HasOtherTops raised kernel.now.control tasks.old }
+    ensures { tasks.new ≡ topped kernel.now.control tasks.old }
+{
+    if let Some(task) = raised {
         tasks[task as usize].raise_top(kernel, task);
     }
 }

@@ -158,7 +158,6 @@ fn check_ranks(rt: &impl Abort, kernel: &Kernel) {
     assert!(rt; kernel.stands_below(0, 3) && kernel.stands_below(3, 2));
     assert!(rt; !kernel.stands_below(3, 4) && !kernel.stands_below(2, 3));
     assert!(rt; kernel.is_allowed(1, 2));
-    let mut marks = [false; 5];
-    kernel.mark_ready(&mut marks);
-    assert_eq!(rt; marks, [true, true, false, true, true]);
+    assert!(rt; kernel.ready(0) && kernel.ready(4) && !kernel.ready(2));
+    assert!(rt; kernel.is_current(2) && kernel.is_current(3) && !kernel.is_current(4));
 }

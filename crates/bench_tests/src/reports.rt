@@ -190,6 +190,23 @@ fn tallied(
     Ok(tallies)
 }
 
+// What they take, each made and counted after the one before it.
+fn tallied_in_turn(
+    alloc: Global,
+    kernel: &mut Kernel,
+    meter: &mut Meter,
+    steps: &[Step],
+) -> Result<Tallies, AllocError>
+    requires steps { All (λ step. step_check kernel.old.settings step ≡ Ok tt) steps.now }
+    requires few { length steps.now < 1000 }
+{
+    let mut tallies = Tallies::begin(alloc, kernel)?;
+    for step in steps {
+        tallies.make_next(kernel, meter, step);
+    }
+    Ok(tallies)
+}
+
 // What they take, each counted after it was made, by a copy of the kernel before it.
 fn tallied_by_copies(
     alloc: Global,
@@ -252,6 +269,37 @@ fn tallies_by_copies_of_the_kernel(rt: HostRuntime) -> Result<(), Fail> {
     let (mut kernel, mut meter) = (Kernel::start(alloc, &header)?, Meter::new(&rt));
     let tallies = tallied_by_copies(alloc, &mut kernel, &mut meter, &SHARED)?;
     assert_text(&rt, alloc, &header, &tallies)
+}
+
+fn check_in_turn(
+    rt: &impl Abort,
+    host: &HostRuntime,
+    header: &Header,
+    steps: &[Step],
+    wanted: &str,
+) -> Result<(), Fail>
+    requires { length steps.now < 1000 }
+{
+    let alloc = host.alloc();
+    assert!(rt; are_checked(header, steps));
+    let (mut kernel, mut meter) = (Kernel::start(alloc, header)?, Meter::new(host));
+    let tallies = tallied_in_turn(alloc, &mut kernel, &mut meter, steps)?;
+    let text = tallies.text(alloc, header)?;
+    assert_eq!(rt; text.as_str(), wanted);
+    Ok(())
+}
+
+#[test]
+fn tallies_step_after_step(rt: HostRuntime) -> Result<(), Fail> {
+    let alloc = rt.alloc();
+    check_in_turn(
+        &rt,
+        &rt,
+        &three_tasks(alloc, 2, true)?,
+        &SHARED,
+        SHARED_TALLIES,
+    )?;
+    check_in_turn(&rt, &rt, &low_and_high(alloc)?, &RUN_OUT, RUN_OUT_TALLIES)
 }
 
 const OF_C: Tally = Tally {

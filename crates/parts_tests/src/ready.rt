@@ -94,13 +94,12 @@ fn start(rt: HostRuntime) -> Result<(), Fail> {
 }
 
 #[test]
-fn marks_of_ready_tasks(rt: HostRuntime) -> Result<(), Fail> {
+fn current_tasks(rt: HostRuntime) -> Result<(), Fail> {
     let mut cores = started(&rt, rt.alloc(), false, &[(2, 3), (1, 3), (1, 3)])?;
     unready(&rt, &mut cores, 3);
     assert!(&rt; cores.has_task(4) && !cores.has_task(5));
-    let mut marks = [false, false, false, true, false];
-    cores.mark_ready(&mut marks);
-    assert_eq!(&rt; marks, [true, true, true, false, true]);
+    assert!(&rt; cores.is_current(2) && cores.is_current(3) && !cores.is_current(4));
+    assert!(&rt; !cores.is_current(0) && !cores.ready(3));
     Ok(())
 }
 

@@ -3,10 +3,12 @@ use crate::devices::Sink;
 use bench_commands::{Counted, Ending, Mode, Request, carry_out, request_of};
 use std::alloc::{AllocError, Global};
 use std::process::Abort;
+use std::sync::Wait;
 use std::test::Fail;
+use std::thread::Threads;
 
-/// Command lines, and what each asks for: a replay with this span, and tallies or not, help that
-/// begins so, or nothing that the program does.
+/// Command lines, and what each asks for: a replay with this span, and tallies or not, a recording,
+/// help that begins so, or nothing that the program does.
 const COMMAND_LINES: &str = "\
 smp_bench replay => 64
 smp_bench replay -- => 64
@@ -25,14 +27,18 @@ smp_bench replay --tally --span 7 => 7 tally
 smp_bench replay --span 7 --tally => 7 tally
 smp_bench replay --span=7 --tally -- => 7 tally
 smp_bench replay --tally --span=7 => 7 tally
-smp_bench --help => Replays FreeRTOS
-smp_bench -hx => Replays FreeRTOS
+smp_bench record => a recording
+smp_bench record -- => a recording
+smp_bench --help => Records and replays
+smp_bench -hx => Records and replays
 smp_bench replay -h again => Replays the session
 smp_bench replay --span 5 --help => Replays the session
 smp_bench replay --span=5 -hx => Replays the session
 smp_bench replay --help --span 0 => Replays the session
 smp_bench replay --tally --help => Replays the session
 smp_bench replay --span 5 --tally -h => Replays the session
+smp_bench record --help => Plays the scripts
+smp_bench record -hx again => Plays the scripts
 smp_bench => a mistake
 smp_bench help => a mistake
 smp_bench -- replay => a mistake
@@ -78,27 +84,45 @@ smp_bench replay -- --tally => a mistake
 smp_bench replay -t => a mistake
 smp_bench replay --tall => a mistake
 smp_bench --tally replay => a mistake
+smp_bench record again => a mistake
+smp_bench record -- again => a mistake
+smp_bench record --tally => a mistake
+smp_bench record --span 5 => a mistake
+smp_bench record --span=5 => a mistake
+smp_bench record -t => a mistake
+smp_bench record replay => a mistake
+smp_bench replay record => a mistake
+smp_bench recor => a mistake
+smp_bench records => a mistake
 ";
+
+/// What the program is to do with its input.
+#[derive(Clone, Copy, Debug, PartialEq, Eq)]
+enum Task {
+    Replay(u32, bool),
+    Recording,
+    Nothing,
+}
 
 /// What a command line asks for, how the program ends, and how what it writes begins.
 #[derive(Clone, Copy)]
 struct Wanted<'a> {
-    run: Option<(u32, bool)>,
+    task: Task,
     code: u8,
     output: &'a str,
     message: &'a str,
 }
 
-/// The span of a run and whether it tallies, if one is asked for.
-fn run_of(request: &Request) -> Option<(u32, bool)> {
+fn task_of(request: &Request) -> Task {
     match request {
-        Request::Run(Mode::Replay { span, tally }) => Some((*span, *tally)),
-        _ => None,
+        Request::Run(Mode::Replay { span, tally }) => Task::Replay(*span, *tally),
+        Request::Record => Task::Recording,
+        _ => Task::Nothing,
     }
 }
 
-fn run_asked(alloc: Global, words: &[&str]) -> Result<Option<(u32, bool)>, AllocError> {
-    Ok(run_of(&request_of(alloc, Some(words))?))
+fn task_asked(alloc: Global, words: &[&str]) -> Result<Task, AllocError> {
+    Ok(task_of(&request_of(alloc, Some(words))?))
 }
 
 /// Whether a text begins so, and is empty where nothing is wanted.
@@ -112,21 +136,37 @@ fn ends(ending: &Ending, output: &[u8], wanted: &Wanted<'_>) -> bool {
         && begins(output, wanted.output)
 }
 
-/// The input is empty, so that a replay is refused.
-fn check_words(rt: &impl Abort, host: &HostRuntime, words: &[&str], wanted: &Wanted<'_>) {
-    assert_eq!(rt; run_asked(host.alloc(), words), Ok(wanted.run), "{words:?}");
+/// The input is empty, so that a replay is refused, and a recording too.
+fn check_words<R: Threads + Wait + Abort + Sync>(
+    rt: &R,
+    host: &HostRuntime,
+    words: &[&str],
+    wanted: &Wanted<'_>,
+) {
+    assert_eq!(rt;
+        task_asked(host.alloc(), words),
+        Ok(wanted.task),
+        "{words:?}"
+    );
     let mut sink = Sink::wide();
     let mut reader = Counted::new("".as_bytes());
     let mut writer = Counted::new(&mut sink);
-    let ending = carry_out(host, host.alloc(), Some(words), &mut reader, &mut writer);
+    let ending = carry_out(
+        rt,
+        host,
+        host.alloc(),
+        Some(words),
+        &mut reader,
+        &mut writer,
+    );
     assert!(rt;
         ends(&ending, sink.taken(), wanted),
         "{words:?}: {ending:?}"
     );
 }
 
-fn check_line(
-    rt: &impl Abort,
+fn check_line<R: Threads + Wait + Abort + Sync>(
+    rt: &R,
     host: &HostRuntime,
     line: &str,
     wanted: &Wanted<'_>,
@@ -136,27 +176,33 @@ fn check_line(
     Ok(())
 }
 
-/// The run that a row names by its span, and by `tally` after it.
-fn run_named(asked: &str) -> Option<(u32, bool)> {
+/// What a row names: a replay by its span, and by `tally` after it.
+fn task_named(asked: &str) -> Task {
+    if asked == "a recording" {
+        return Task::Recording;
+    }
     let (span, tally) = match asked.split_once(' ') {
         Some((span, "tally")) => (span, true),
         _ => (asked, false),
     };
-    Some((span.parse().ok()?, tally))
+    match span.parse() {
+        Ok(span) => Task::Replay(span, tally),
+        Err(_) => Task::Nothing,
+    }
 }
 
 fn wanted_of(asked: &str) -> Wanted<'_> {
-    let (run, is_mistake) = (run_named(asked), asked == "a mistake");
-    if run.is_some() {
+    let (task, is_mistake) = (task_named(asked), asked == "a mistake");
+    if task != Task::Nothing {
         return Wanted {
-            run,
+            task,
             code: 1,
             output: "refused H1\n",
             message: "",
         };
     }
     Wanted {
-        run,
+        task,
         code: if is_mistake { 2 } else { 0 },
         output: if is_mistake { "" } else { asked },
         message: if is_mistake { "error: " } else { "" },

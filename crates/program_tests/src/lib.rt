@@ -13,4 +13,6 @@ mod faults;
 #[cfg(test)]
 mod processes;
 #[cfg(test)]
+mod recordings;
+#[cfg(test)]
 mod tallies;

@@ -6,7 +6,9 @@ use std::alloc::{AllocError, Global};
 use std::env::Args;
 use std::io::{self, ErrorKind, Write};
 use std::process::{Abort, ExitCode};
+use std::sync::Wait;
 use std::test::Fail;
+use std::thread::Threads;
 
 /// How a process ends: its exit status, and how its standard output and standard error begin. Where
 /// nothing is wanted of one, it is empty.
@@ -27,8 +29,9 @@ fn args_of(alloc: Global, line: &str) -> Result<Args, AllocError> {
 }
 
 /// The exit status of the program with these words and an empty input.
-fn status_of(
-    rt: &HostRuntime,
+fn status_of<R: Threads + Wait + Sync>(
+    rt: &R,
+    host: &HostRuntime,
     words: io::Result<Args>,
     output: &mut Sink,
     errors: &mut Sink,
@@ -37,6 +40,7 @@ fn status_of(
     let mut writer = Counted::new(output);
     run_program(
         rt,
+        host,
         words,
         &mut reader,
         &mut writer,
@@ -48,10 +52,15 @@ fn begins(text: &[u8], start: &str) -> bool {
     text.starts_with(start.as_bytes()) && text.is_empty() == start.is_empty()
 }
 
-fn check_end(rt: &impl Abort, host: &HostRuntime, words: io::Result<Args>, end: &End<'_>) {
+fn check_end<R: Threads + Wait + Abort + Sync>(
+    rt: &R,
+    host: &HostRuntime,
+    words: io::Result<Args>,
+    end: &End<'_>,
+) {
     let mut output = Sink::wide();
     let mut errors = Sink::wide();
-    let status = status_of(host, words, &mut output, &mut errors);
+    let status = status_of(rt, host, words, &mut output, &mut errors);
     assert_eq!(rt;
         status,
         ExitCode::from(end.code),
@@ -66,8 +75,9 @@ fn check_end(rt: &impl Abort, host: &HostRuntime, words: io::Result<Args>, end: 
 #[test]
 fn exit_statuses(rt: HostRuntime) -> Result<(), Fail> {
     for (line, code, output, message) in [
-        ("smp_bench --help", 0, "Replays FreeRTOS", ""),
+        ("smp_bench --help", 0, "Records and replays", ""),
         ("smp_bench replay", 1, "refused H1\n", ""),
+        ("smp_bench record", 1, "refused H1\n", ""),
         ("smp_bench", 2, "", "error: "),
     ] {
         let end = End {
@@ -100,7 +110,7 @@ fn standard_error_that_takes_nothing(rt: HostRuntime) -> Result<(), Fail> {
     let mut output = Sink::wide();
     let mut errors = Sink::new(9, 0, true);
     let words = Ok(args_of(rt.alloc(), "smp_bench")?);
-    let status = status_of(&rt, words, &mut output, &mut errors);
+    let status = status_of(&rt, &rt, words, &mut output, &mut errors);
     assert_eq!(rt; status, ExitCode::from(2));
     Ok(())
 }
@@ -111,7 +121,7 @@ fn spans_in_the_help(rt: HostRuntime) -> Result<(), Fail> {
     let mut output = Sink::wide();
     let mut errors = Sink::wide();
     let words = Ok(args_of(rt.alloc(), "smp_bench replay --help")?);
-    status_of(&rt, words, &mut output, &mut errors);
+    status_of(&rt, &rt, words, &mut output, &mut errors);
     let spans = format!(in rt.alloc(); "1 to {MAX_SPAN}, or {DEFAULT_SPAN} if left out")?;
     let text = std::str::from_utf8(output.taken()).unwrap_or("");
     assert!(rt; text.contains(spans.as_str()), "{text}");

@@ -10,7 +10,8 @@ use Rattle.list_orders.proofs.Filters.{All-weaker}
 use Rattle.list_orders.proofs.Stamped.{numbers_below, numbers_have}
 use Rattle.bench_model.specs.Control.{Control, core_at, current}
 use Rattle.bench_model.specs.Seek.{is_running}
-use Rattle.ready_core.specs.Fields.{has_seat, is_set}
+use Rattle.bench_model.specs.Tally.{is_current}
+use Rattle.ready_core.specs.Fields.{is_set}
 
 -- one bit is cleared, and the others stay
 pub bit_cleared : (a place c : ℕ) → place < 32 → (32 ≤ c → is_set a c ≡ false) → is_set (bit_and a (bit_not w32 (1 * 2 ^ place % 4294967296))) c ≡ (not (eqb c place) && is_set a c)
@@ -64,13 +65,10 @@ some_bit w n q bits = at (list_any q (numbers n)) refl
     ]
     at false none = let zero_word = same_from_bits w 0 (no_bit none) in grind (arith, nat_tests, zero_word)
 
--- a task that no core has does not run
-pub not_running : (control : Control) (task w : ℕ) → ((c : ℕ) → is_set w c ≡ has_seat control task c) → w ≡ 0 → is_running control task ≡ false
-not_running control task w bits none =
+-- a task that is the current one of no core does not run
+pub not_running : (control : Control) (task : ℕ) → is_current control task ≡ false → is_running control task ≡ false
+not_running control task none =
     none_any (λ c. eqb (current control c) task && not (core_at control c).asked) (numbers (length control.cores)) (All-weaker (λ c. c < length control.cores) (λ c. (eqb (current control c) task && not (core_at control c).asked) ≡ false) idle (numbers (length control.cores)) (numbers_below (length control.cores)))
   where
     idle : (c : ℕ) → c < length control.cores → (eqb (current control c) task && not (core_at control c).asked) ≡ false
-    idle c low =
-        let off : is_set w c ≡ false = ap (λ m. is_set m c) none ∙ ap (λ d. eqb d 1) (bit_at-zero c) ∙ grind (arith, nat_tests) in
-        let other : eqb (current control c) task ≡ false = grind (arith, nat_tests, off, bits c, low) in
-        ap (λ b. b && not (core_at control c).asked) other
+    idle c low = ap (λ b. b && not (core_at control c).asked) (any_none (λ core. eqb (current control core) task) c (numbers (length control.cores)) none (numbers_have (length control.cores) c low))

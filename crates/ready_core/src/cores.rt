@@ -1,9 +1,9 @@
-ghost use Rattle.std.specs.Prelude.{◌≡◌, ℕ, ◌↔◌, ◌-◌, ◌<◌, ◌≤◌, ◌==◌, ◌&&◌, nat_lt, if◌then◌else◌, length, map, true, false, not, find, unwrap_or, IsTrue, IfOk, IfSome, Ok};
+ghost use Rattle.std.specs.Prelude.{◌≡◌, ℕ, ◌↔◌, ◌-◌, ◌<◌, ◌≤◌, ◌==◌, ◌&&◌, nat_lt, if◌then◌else◌, length, true, false, not, find, unwrap_or, IsTrue, IfOk, IfSome, Ok};
 ghost use Rattle.std.specs.Option.{ForSome};
 ghost use Rattle.bench_types.specs.Header.{header_check};
 ghost use Rattle.bench_types.specs.Limits.{max_cores};
 ghost use Rattle.std.specs.List.{range_with_len};
-ghost use Rattle.list_orders.specs.Search.{numbers, placed, without, has};
+ghost use Rattle.list_orders.specs.Search.{placed, without, has};
 ghost use Rattle.index_lists.specs.Listed.{list_at, items_of};
 ghost use Rattle.bench_model.specs.Control.{core_at, task_at, current, in_mask, is_allowed, is_idle, is_elsewhere, may_select, ask, run_on, runs_on, ask_its_core};
 ghost use Rattle.bench_model.specs.State.{after_select};
@@ -11,6 +11,7 @@ ghost use Rattle.bench_model.specs.Lists.{list_queues, outranks};
 ghost use Rattle.bench_model.specs.Start.{first_lists, unstarted};
 ghost use Rattle.bench_model.specs.Seek.{effective, is_running, is_preemptible_by, core_to_yield, seek, may_move, wake, after_switch, ready_in, shares_its_time, sliced};
 ghost use Rattle.bench_model.specs.ControlFields.{with_base, with_in_use, with_affinity, with_preemption, in_use_set};
+ghost use Rattle.bench_model.specs.Tally.{is_current};
 ghost use Rattle.bench_model.specs.Cores.{cores_of, bare_view, cores_rule, has_core};
 ghost use Rattle.list_orders.specs.Scans.{better_of};
 ghost use Rattle.ready_core.specs.Fields.{ready_list, is_set, has_seat, unlisted, all_placed, may_be_asked, stays_asked};
@@ -183,15 +184,12 @@ impl Cores {
         self.lists.list_of(task).is_some()
     }
 
-    /// Sets the mark of each task to whether it is in a ready list. It takes one pass over the
-    /// tasks, and no search for each.
-    pub fn mark_ready(&self, marks: &mut [bool])
-        requires { length marks.old ≡ length self.now.control.tasks }
-        ensures { marks.new ≡ map (λ task. has task self.now.ready) (numbers (length marks.old)) }
+    /// Whether the task is the current one of a core, also of one that is to give it up.
+    pub fn is_current(&self, task: u32) -> bool
+        requires { task < length self.now.control.tasks }
+        ensures { result ≡ is_current self.now.control task }
     {
-        for task in 0..self.tasks.len() {
-            marks[task] = self.ready(task as u32);
-        }
+        self.seats(task) != 0
     }
 
     /// Whether the effective priority of one task is below that of the other: an idle task stands
@@ -496,7 +494,7 @@ impl Cores {
         requires { task < length self.now.control.tasks }
         ensures { result ≡ is_running self.now.control task }
     {
-        self.seats(task) != 0
+        self.is_current(task)
             && self.core_numbers().any(|core| self.running(core) == task && !self.flags(core).asked)
     }
 

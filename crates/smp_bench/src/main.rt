@@ -7,6 +7,7 @@ use std::process::ExitCode;
 fn main(rt: HostRuntime) -> ExitCode {
     run_program(
         &rt,
+        &rt,
         std::env::args(&rt),
         &mut Counted::new(rt.stdin()),
         &mut Counted::new(rt.stdout()),

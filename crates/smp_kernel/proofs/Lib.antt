@@ -5,6 +5,7 @@ pub mod CoreMoves
 pub mod Firsts
 pub mod Lefts
 pub mod Owing
+pub mod Raises
 pub mod Sizes
 pub mod Stands
 pub mod Ticks

@@ -1,5 +1,5 @@
 -- The deadlines of unfinished waits for mutexes.
-use Rattle.std.specs.Prelude.{◌≤◌, ℕ, ◌+◌, ◌-◌, List, All, Option, Some, map, option_map}
+use Rattle.std.specs.Prelude.{◌≤◌, ℕ, ◌+◌, ◌-◌, List, All, Option, map, option_map}
 use Rattle.std.specs.Option.{ForSome}
 
 -- one tick less is left to a deadline, and none to one that is reached

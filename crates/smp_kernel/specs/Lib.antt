@@ -1,2 +1,3 @@
 pub mod Deadlines
 pub mod Kernel
+pub mod Raised

@@ -1,7 +1,6 @@
-ghost use Rattle.std.specs.Prelude.{◌≡◌, ◌+◌, ◌-◌, ◌<◌, ◌%◌, ◌^◌, ◌↔◌, length, map, nat_lt, true, option_map, IsErr, IfOk, IfSome, Ok, Err, min};
+ghost use Rattle.std.specs.Prelude.{◌≡◌, ◌+◌, ◌-◌, ◌<◌, ◌%◌, ◌^◌, ◌↔◌, nat_lt, true, option_map, IsErr, IfOk, IfSome, Ok, Err, min};
 ghost use Rattle.bench_types.specs.Header.{header_check};
 ghost use Rattle.bench_types.specs.Step.{settings_of, step_check};
-ghost use Rattle.list_orders.specs.Search.{has, numbers};
 ghost use Rattle.bench_model.specs.Control.{core_at, current, is_allowed, task_at};
 ghost use Rattle.bench_model.specs.State.{holder_at};
 ghost use Rattle.bench_model.specs.Table.{Table};
@@ -10,7 +9,10 @@ ghost use Rattle.bench_model.specs.Looks.{task_look};
 ghost use Rattle.bench_model.specs.Session.{step_of};
 ghost use Rattle.bench_model.specs.Equal.{Same, StandsFor};
 ghost use Rattle.bench_model.specs.Seek.{effective};
+ghost use Rattle.bench_model.specs.Lists.{is_ready};
+ghost use Rattle.bench_model.specs.Tally.{is_current};
 ghost use Rattle.smp_kernel.specs.Kernel.{StandsForSome};
+ghost use Rattle.smp_kernel.specs.Raised.{raised_by, KeepsOthers};
 
 use crate::Meter;
 use crate::scheduler::Scheduler;
@@ -178,14 +180,32 @@ impl Kernel {
         self.scheduler.is_allowed(core, task)
     }
 
-    /// Sets the mark of each task to whether it is in a ready list; `marks` has one for each task.
-    /// It takes one pass over the ready tasks, and no search for each.
-    pub fn mark_ready(&self, marks: &mut [bool])
-        requires { length marks.old ≡ self.now.settings.tasks }
-        ensures { marks.new
-            ≡ map (λ task. has task self.now.orders.ready) (numbers (length marks.old)) }
+    /// Whether the task is the current one of a core, also of one that is to give it up.
+    pub fn is_current(&self, task: u32) -> bool
+        requires { task < self.now.settings.tasks }
+        ensures { result ≡ is_current self.now.control task }
     {
-        self.scheduler.mark_ready(marks);
+        self.scheduler.is_current(task)
+    }
+
+    /// Whether the task is in a ready list.
+    pub fn ready(&self, task: u32) -> bool
+        requires { task < self.now.settings.tasks }
+        ensures { result ≡ is_ready task self.now.orders }
+    {
+        self.scheduler.ready(task)
+    }
+
+    /// The task whose priority in use the step may raise, if there is one. Every other keeps its
+    /// own.
+    pub fn raised_by(&self, step: &Step) -> Option<u32>
+        requires { step_check self.now.settings step.now ≡ Ok tt }
+        ensures raised { result ≡ raised_by self.now step.now }
+        ensures task { IfSome result (λ task. task < self.now.settings.tasks) }
+        ensures others { (table : Table) → StandsFor self.now table
+            → KeepsOthers result table.control (step_of step.now table).1.control }
+    {
+        self.scheduler.raised_by(step)
     }
 
     /// The task that holds the mutex, if there is one (`xSemaphoreGetMutexHolder`).

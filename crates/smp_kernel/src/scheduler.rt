@@ -1,11 +1,11 @@
-ghost use Rattle.std.specs.Prelude.{◌≡◌, ◌<◌, ◌≤◌, length, map, nat_lt, [], true, false, IfOk, IfSome, Ok, Some, None, replicate};
+ghost use Rattle.std.specs.Prelude.{◌≡◌, ◌<◌, ◌≤◌, nat_lt, [], true, false, IfOk, IfSome, Ok, Some, None, replicate};
 ghost use Rattle.std.specs.Option.{option_map_or};
 ghost use Rattle.bench_types.specs.Header.{header_check};
 ghost use Rattle.bench_types.specs.Step.{call_check, step_check, IsStepOfWords};
 ghost use Rattle.bench_types.specs.Limits.{max_cores, max_depth};
 ghost use Rattle.bench_types.specs.declared.step.Call.TheVariants.{Delay};
 ghost use Rattle.bench_types.specs.declared.step.Unfinished.TheVariants.{Made};
-ghost use Rattle.list_orders.specs.Search.{numbers, placed, has};
+ghost use Rattle.list_orders.specs.Search.{placed, has};
 ghost use Rattle.bench_model.specs.Control.{core_at, current, is_allowed, task_at};
 ghost use Rattle.bench_model.specs.Holds.{depth_of};
 ghost use Rattle.bench_model.specs.Refusals.{give_refusal};
@@ -13,8 +13,9 @@ ghost use Rattle.bench_model.specs.Start.{first_lists, unstarted, start_seen};
 ghost use Rattle.bench_model.specs.State.{holder_at, yielded, blocked};
 ghost use Rattle.bench_model.specs.Seek.{effective, wake, after_switch, sliced};
 ghost use Rattle.bench_model.specs.Steps.{ticked, delayed_until, called, performed, after};
-ghost use Rattle.bench_model.specs.Lists.{list_queues, wakes_first, advance, due_tasks};
+ghost use Rattle.bench_model.specs.Lists.{list_queues, is_ready, wakes_first, advance, due_tasks};
 ghost use Rattle.bench_model.specs.Looks.{look_in};
+ghost use Rattle.bench_model.specs.Tally.{is_current};
 ghost use Rattle.tick_delay.specs.Parts.{is_waiting};
 ghost use Rattle.smp_kernel.specs.Kernel.{HasTheirMutexes, IsSettled, CallFits};
 
@@ -22,6 +23,7 @@ mod equal;
 mod holds;
 mod mutexes;
 mod notes;
+mod raises;
 mod refusals;
 mod sets;
 
@@ -175,13 +177,20 @@ impl Scheduler {
         self.cores.is_allowed(core, task)
     }
 
-    /// Sets the mark of each task to whether it is in a ready list.
-    pub fn mark_ready(&self, marks: &mut [bool])
-        requires { length marks.old ≡ self.now.settings.tasks }
-        ensures { marks.new
-            ≡ map (λ task. has task self.now.orders.ready) (numbers (length marks.old)) }
+    /// Whether the task is the current one of a core.
+    pub fn is_current(&self, task: u32) -> bool
+        requires { task < self.now.settings.tasks }
+        ensures { result ≡ is_current self.now.control task }
     {
-        self.cores.mark_ready(marks);
+        self.cores.is_current(task)
+    }
+
+    /// Whether the task is in a ready list.
+    pub fn ready(&self, task: u32) -> bool
+        requires { task < self.now.settings.tasks }
+        ensures { result ≡ is_ready task self.now.orders }
+    {
+        self.cores.ready(task)
     }
 
     /// The task that holds the mutex, if there is one.

@@ -1,10 +1,10 @@
 use Rattle.std.proofs.Common.{◌∙◌, ap, subst, map}
 use Rattle.clap.specs.Words.{HasKind, app_of, fault_of, is_simple_and_free, subcommand_rows_of}
-use Rattle.bench_commands.proofs.CommandLine.{commands_are_simple, error_asked, matched, run_asked}
+use Rattle.bench_commands.proofs.CommandLine.{commands_are_simple, error_asked, matched, met_asked}
 use Rattle.bench_commands.proofs.command.request_in.Goals as goal
 
-pub mode_in-requires : goal.mode_in-requires
-mode_in-requires g c =
+pub asked_for-requires : goal.asked_for-requires
+asked_for-requires g c =
     let words = map g.S.AsStr.text c.args.words.now in
     let found = subcommand_rows_of c.in-Ok.matches in
     (matched words (app_of c.in_ok-command.field-0) found c.in_ok-command.ensures c.in-Ok.ensures.kinds (λ simple. (c.in-Ok.ensures.matches simple).1)).are_taken
@@ -13,13 +13,13 @@ pub returns-in-Ok-clause-span : goal.returns-in-Ok-clause-span
 returns-in-Ok-clause-span g c =
     let words = map g.S.AsStr.text c.args.words.now in
     let found = subcommand_rows_of c.in-Ok.matches in
-    (run_asked words found c.mode_in.result (matched words (app_of c.in_ok-command.field-0) found c.in_ok-command.ensures c.in-Ok.ensures.kinds (λ simple. (c.in-Ok.ensures.matches simple).1)) c.mode_in.ensures).0
+    (met_asked words found c.asked_for.result (matched words (app_of c.in_ok-command.field-0) found c.in_ok-command.ensures c.in-Ok.ensures.kinds (λ simple. (c.in-Ok.ensures.matches simple).1)) c.asked_for.ensures).0
 
 pub returns-in-Ok-clause-asked : goal.returns-in-Ok-clause-asked
 returns-in-Ok-clause-asked g c =
     let words = map g.S.AsStr.text c.args.words.now in
     let found = subcommand_rows_of c.in-Ok.matches in
-    (run_asked words found c.mode_in.result (matched words (app_of c.in_ok-command.field-0) found c.in_ok-command.ensures c.in-Ok.ensures.kinds (λ simple. (c.in-Ok.ensures.matches simple).1)) c.mode_in.ensures).1
+    (met_asked words found c.asked_for.result (matched words (app_of c.in_ok-command.field-0) found c.in_ok-command.ensures c.in-Ok.ensures.kinds (λ simple. (c.in-Ok.ensures.matches simple).1)) c.asked_for.ensures).1
 
 pub returns-in-Err-clause-asked : goal.returns-in-Err-clause-asked
 returns-in-Err-clause-asked g c =

@@ -1,4 +1,4 @@
-use Rattle.std.proofs.Common.{◌≡◌, ◌∙◌, All, ap, subst, sym}
+use Rattle.std.proofs.Common.{◌∙◌, All, ap, subst, sym}
 use Rattle.bench_types.specs.Header.{IsCheckedHeader}
 use Rattle.bench_types.specs.Step.{IsCheckedStep, settings_of}
 use Rattle.core_scripts.specs.Played.{ArePlayed}

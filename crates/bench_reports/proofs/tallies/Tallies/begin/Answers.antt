@@ -4,6 +4,8 @@ use Rattle.list_orders.specs.Search.{numbers}
 use Rattle.bench_model.specs.Tallied.{first_tally, shape, AllCountsBelow}
 use Rattle.bench_reports.proofs.Begins.{firsts_more, firsts_length}
 use Rattle.bench_reports.proofs.Rooms.{first_shape, first_room}
+use Rattle.bench_reports.specs.Tops.{HasTops}
+use Rattle.bench_reports.proofs.Tops.{begun_tops}
 use Rattle.bench_reports.proofs.tallies.Tallies.begin.Goals as goal
 
 pub loop-task-preserved : goal.loop-task-preserved
@@ -29,3 +31,8 @@ returns-clause-shape c = ap shape (returns-clause-tallies c) ∙ first_shape c.a
 
 pub returns-clause-room : goal.returns-clause-room
 returns-clause-room c = subst (AllCountsBelow 1) (sym (returns-clause-tallies c)) (first_room c.args.kernel.now.settings c.args.kernel.now.control)
+
+pub returns-clause-tops : goal.returns-clause-tops
+returns-clause-tops c =
+    let kernel = c.args.kernel.now in
+    subst (HasTops kernel.control) (sym (returns-clause-tallies c)) (begun_tops kernel.settings kernel.control)

@@ -1,0 +1,206 @@
+//! Recordings of rig documents over devices in memory.
+use crate::devices::{Sink, Source};
+use bench_commands::{Counted, Ending, Gate, RunFault, Status, carry_out, record};
+use std::io::{Read, Write};
+use std::process::Abort;
+use std::sync::Wait;
+use std::sync::atomic::{AtomicU32, Ordering};
+use std::test::Fail;
+use std::thread::Threads;
+
+/// Only core 0 has a script: A is delayed, and what an idle task would call is passed over.
+const RIG: &str =
+    r#"{"session":{"format":1,"cores":2,"priorities":5,"slicing":false,"tick":0,"mutexes":0,"tasks":[{"name":"A","priority":2,"mask":1},{"name":"B","priority":1,"mask":2}],"steps":[]},"limit":9,"scripts":[[{"do":"hold_open"},{"do":"hold_close"},{"do":"delay","ticks":2},{"do":"switch"},{"do":"yield"},{"do":"tick"}],[]]}"#;
+
+/// What is recorded of it.
+const SESSION: &str = "\
+{\"cores\":2,\"format\":1,\"mutexes\":0,\"priorities\":5,\"slicing\":false,\"steps\":[\
+{\"by\":\"A\",\"core\":0,\"do\":\"hold_open\"},{\"by\":\"A\",\"core\":0,\"do\":\"hold_close\"},\
+{\"by\":\"A\",\"core\":0,\"do\":\"delay\",\"ticks\":2},{\"core\":0,\"do\":\"switch\"},{\"do\":\"tick\"}],\
+\"tasks\":[{\"mask\":1,\"name\":\"A\",\"priority\":2},{\"mask\":2,\"name\":\"B\",\"priority\":1}],\"tick\":0}\n";
+
+/// Both cores have scripts, whose actions can be told apart.
+const BOTH: &str =
+    r#"{"session":{"format":1,"cores":2,"priorities":5,"slicing":false,"tick":0,"mutexes":0,"tasks":[{"name":"A","priority":2,"mask":1},{"name":"B","priority":1,"mask":2}],"steps":[]},"limit":9,"scripts":[[{"do":"value_clear","to":"A","bits":10},{"do":"value_clear","to":"A","bits":11},{"do":"value_clear","to":"A","bits":12}],[{"do":"value_clear","to":"B","bits":20},{"do":"value_clear","to":"B","bits":21},{"do":"value_clear","to":"B","bits":22}]]}"#;
+
+/// Texts that are refused as rig documents, with what is written.
+const REFUSED: [(&str, &str); 7] = [
+    ("", "refused H1\n"),
+    ("{}", "refused H2 session\n"),
+    (
+        r#"{"session":{},"limit":1,"scripts":[]}"#,
+        "refused H2 session.format\n",
+    ),
+    (
+        r#"{"session":{"format":1,"cores":2,"priorities":5,"slicing":false,"tick":0,"mutexes":0,"tasks":[],"steps":[]},"limit":1,"scripts":[[]]}"#,
+        "refused H2 scripts\n",
+    ),
+    (
+        r#"{"session":{"format":1,"cores":2,"priorities":5,"slicing":false,"tick":0,"mutexes":0,"tasks":[],"steps":[]},"limit":1,"scripts":[[],[]]}"#,
+        "refused F1\n",
+    ),
+    (
+        r#"{"session":{"format":1,"cores":2,"priorities":5,"slicing":false,"tick":0,"mutexes":0,"tasks":[{"name":"A","priority":2,"mask":1}],"steps":[]},"limit":100001,"scripts":[[],[]]}"#,
+        "refused F5 limit\n",
+    ),
+    (
+        r#"{"session":{"format":1,"cores":2,"priorities":5,"slicing":false,"tick":0,"mutexes":0,"tasks":[{"name":"A","priority":2,"mask":1}],"steps":[]},"limit":1,"scripts":[[],[{"do":"tick"}]]}"#,
+        "refused F2 scripts[1][0]\n",
+    ),
+];
+
+/// A gate that counts who passes.
+#[derive(Drop)]
+struct Counting {
+    passed: AtomicU32,
+}
+
+impl Counting {
+    fn new() -> Counting {
+        Counting {
+            passed: AtomicU32::new(0),
+        }
+    }
+}
+
+impl Gate for Counting {
+    fn pass(&self, _core: u32, _done: u32) {
+        self.passed.fetch_add(1, Ordering::SeqCst);
+    }
+}
+
+/// How a recording ends, how many reads and writes failed, and how often the gate was passed.
+fn recorded<R: Threads + Wait + Sync, I: Read, O: Write>(
+    rt: &R,
+    host: &HostRuntime,
+    reader: &mut I,
+    writer: &mut O,
+) -> (Status, u64, u64, u32) {
+    let mut reader = Counted::new(reader);
+    let mut writer = Counted::new(writer);
+    let gate = Counting::new();
+    let status = record(rt, host, host.alloc(), &mut reader, &mut writer, &gate);
+    let passed = gate.passed.load(Ordering::SeqCst);
+    (status, reader.count(), writer.count(), passed)
+}
+
+fn source_of(piece: usize, reads: usize) -> Source {
+    Source {
+        text: RIG.as_bytes(),
+        piece,
+        reads,
+    }
+}
+
+/// The sink takes one byte at a time, and has just the room for them.
+#[test]
+fn a_rig_is_recorded(rt: HostRuntime) {
+    let mut sink = Sink::new(1, SESSION.len(), false);
+    let mut source = source_of(1, 1000);
+    let ended = recorded(&rt, &rt, &mut source, &mut sink);
+    assert_eq!(rt; ended, (Status::Fine, 0, 0, 6));
+    assert_eq!(rt; sink.taken(), SESSION.as_bytes());
+}
+
+/// The word alone does it, with a gate that holds nobody up.
+#[test]
+fn the_command_records(rt: HostRuntime) {
+    let mut sink = Sink::wide();
+    let mut reader = Counted::new(RIG.as_bytes());
+    let mut writer = Counted::new(&mut sink);
+    let words: Option<&[&str]> = Some(&["smp_bench", "record"]);
+    let ending = carry_out(&rt, &rt, rt.alloc(), words, &mut reader, &mut writer);
+    assert!(rt; matches!(ending, Ending::Ran(Status::Fine)));
+    assert_eq!(rt; sink.taken(), SESSION.as_bytes());
+}
+
+fn check_refused<R: Threads + Wait + Abort + Sync, I: Read>(
+    rt: &R,
+    host: &HostRuntime,
+    reader: &mut I,
+    line: &str,
+) {
+    let mut sink = Sink::wide();
+    let ended = recorded(rt, host, reader, &mut sink);
+    assert_eq!(rt; ended, (Status::Refused, 0, 0, 0), "{line}");
+    assert_eq!(rt; sink.taken(), line.as_bytes());
+}
+
+#[test]
+fn refused_rigs(rt: HostRuntime) {
+    for (text, line) in &REFUSED {
+        check_refused(&rt, &rt, &mut text.as_bytes(), line);
+    }
+}
+
+#[test]
+fn reads_that_fail(rt: HostRuntime) {
+    for reads in 0..4 {
+        let mut sink = Sink::wide();
+        let mut source = source_of(100, reads);
+        let ended = recorded(&rt, &rt, &mut source, &mut sink);
+        assert_eq!(rt;
+            ended,
+            (Status::Fault(RunFault::Read), 1, 0, 0),
+            "{reads} reads"
+        );
+        assert_eq!(rt; sink.taken(), b"".as_slice());
+    }
+}
+
+#[test]
+fn writes_that_fail(rt: HostRuntime) {
+    for room in [0, 1, SESSION.len() - 1] {
+        for fails in [false, true] {
+            let mut sink = Sink::new(7, room, fails);
+            let mut source = source_of(1000, 1000);
+            let ended = recorded(&rt, &rt, &mut source, &mut sink);
+            assert_eq!(rt;
+                ended,
+                (Status::Fault(RunFault::Write), 0, 1, 6),
+                "room for {room}"
+            );
+            assert_eq!(rt; sink.taken(), &SESSION.as_bytes()[..room]);
+        }
+    }
+}
+
+/// Whether the words stand in the text, each after the one before it.
+fn stand_in_order(text: &str, words: &[&str]) -> bool {
+    let mut rest = text;
+    for word in words {
+        match rest.split_once(*word) {
+            Some((_, after)) => rest = after,
+            None => return false,
+        }
+    }
+    true
+}
+
+/// The actions of each core are recorded in the order of its script, whatever the other does
+/// meanwhile.
+#[test]
+fn scripts_in_their_order(rt: HostRuntime) {
+    let mut sink = Sink::wide();
+    let ended = recorded(&rt, &rt, &mut BOTH.as_bytes(), &mut sink);
+    assert_eq!(rt; ended, (Status::Fine, 0, 0, 6));
+    let text = std::str::from_utf8(sink.taken()).unwrap_or("");
+    let first = ["\"bits\":10,", "\"bits\":11,", "\"bits\":12,"];
+    let second = ["\"bits\":20,", "\"bits\":21,", "\"bits\":22,"];
+    assert!(rt; stand_in_order(text, &first), "{text}");
+    assert!(rt; stand_in_order(text, &second), "{text}");
+}
+
+/// Ends as one of two; which of them, `rt try --test --fail-alloc N` decides.
+#[test]
+fn memory_that_is_refused(rt: HostRuntime) {
+    let mut sink = Sink::wide();
+    let mut source = source_of(1000, 1000);
+    let (status, failed_reads, failed_writes, _) = recorded(&rt, &rt, &mut source, &mut sink);
+    assert_eq!(rt; (failed_reads, failed_writes), (0, 0));
+    let written = match status {
+        Status::Fault(RunFault::Memory) => "",
+        _ => SESSION,
+    };
+    assert_eq!(rt; sink.taken(), written.as_bytes());
+}

@@ -1,0 +1,9 @@
+pub mod EditedEnds
+pub mod EditedPlaces
+pub mod EditedSegments
+pub mod EditedSteps
+pub mod Following
+pub mod OpenedPlaces
+pub mod Reading
+pub mod Shifts
+pub mod Starts

@@ -1,0 +1,3 @@
+pub mod Segments
+pub mod EditedSegments
+pub mod SegmentLaws

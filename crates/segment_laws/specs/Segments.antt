@@ -1,0 +1,61 @@
+-- Segments of a session: the steps from one checkpoint to the next, with the kernel at the first.
+use Rattle.std.specs.Prelude.{◌≡◌, ℕ, ◌+◌, ◌<◌, ◌≤◌, ⊤, List, [], ◌∷◌, length, map, take, Option, Some, None, nat_le, if◌then◌else◌, option_map, slice_get}
+use Rattle.std.specs.List.{flat_map}
+use Rattle.bench_types.specs.declared.reply.Reply.{Reply}
+use Rattle.bench_types.specs.declared.step.Step.{Step}
+use Rattle.bench_model.specs.Control.{running}
+use Rattle.bench_model.specs.Equal.{StandsFor}
+use Rattle.bench_model.specs.Lists.{View}
+use Rattle.bench_model.specs.Meeting.{CheckpointedSession}
+use Rattle.bench_model.specs.Session.{step_of, state_after}
+use Rattle.bench_model.specs.Start.{start}
+use Rattle.bench_model.specs.Table.{Table}
+
+pub record SegmentView : Type 0 where
+  -- what can be seen of the kernel at the checkpoint
+  pub kernel : View
+  pub steps : List Step
+
+abbrev pub steps_of : SegmentView → List Step
+steps_of segment = segment.steps
+
+-- the steps of the segments, one segment after another
+abbrev pub all_steps : List SegmentView → List Step
+all_steps segments = flat_map steps_of segments
+
+abbrev pub lengths : List SegmentView → List ℕ
+lengths segments = map (λ segment. length segment.steps) segments
+
+-- the places where parts of these lengths begin, the first of them at the place
+abbrev pub starts : ℕ → List ℕ → List ℕ
+starts place [] = []
+starts place (steps ∷ lengths) = place ∷ starts (place + steps) lengths
+
+-- each segment's kernel stands for the table that those before it left
+abbrev pub Follow : Table → List SegmentView → Type 0
+Follow table [] = ⊤
+Follow table (segment ∷ segments) =
+    StandsFor segment.kernel table × Follow (state_after table segment.steps) segments
+
+-- the segments are those of the session between its checkpoints
+pub record AreSegments (kept : CheckpointedSession) (segments : List SegmentView) : Type 0 where
+  pub steps : all_steps segments ≡ kept.session.steps
+  pub places : starts 0 (lengths segments) ≡ kept.checkpoints
+  pub follow : Follow (start kept.session.header) segments
+
+-- the checkpoint at the index is the last that is not after the place
+pub record IsIndexOf (checkpoints : List ℕ) (place index from : ℕ) : Type 0 where
+  pub there : slice_get checkpoints index ≡ Some from
+  pub before : from ≤ place
+  pub last : (next : ℕ) → slice_get checkpoints (index + 1) ≡ Some next → place < next
+
+-- the reply of the step after so many, from a table on; none past the last
+abbrev pub reply_after : Table → List Step → ℕ → Option Reply
+reply_after table steps count =
+    option_map (λ step. (step_of step (state_after table (take count steps))).0)
+    (slice_get steps count)
+
+-- the tasks that run after so many steps from a table on, core by core; none past the last
+abbrev pub running_after : Table → List Step → ℕ → Option (List ℕ)
+running_after table steps count = let after = state_after table (take count steps) in
+    if nat_le count (length steps) then Some (running after.control) else None

@@ -1,0 +1,6 @@
+mod Counts
+mod KeptRows
+mod Places
+mod Replays
+mod Rows
+pub mod Tallied

@@ -1,0 +1,6 @@
+use Rattle.std.proofs.Common.{◌≡◌, ◌++◌, map, take}
+use Rattle.bench_types.specs.declared.kernel_data.CoreLook.{CoreLook}
+use Rattle.session_segments.proofs.replay.push_row.Given as goal
+
+abbrev pub invariant-loop-core : goal.invariant-loop-core
+invariant-loop-core l = l.rows.items ≡ l.fn.rows.items ++ map (λ (core : CoreLook). core.current) (take l.core l.kernel.control.cores)

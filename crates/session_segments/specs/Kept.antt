@@ -1,0 +1,42 @@
+-- What the fields of a segment keep, and those of several.
+use Rattle.std.specs.Prelude.{◌≡◌, ℕ, ◌<◌, ◌≤◌, ◌^◌, List, length, map, All}
+use Rattle.std.specs.List.{flat_map}
+use Rattle.bench_types.specs.declared.kernel_data.Settings.{Settings}
+use Rattle.bench_types.specs.declared.reply.Reply.{Reply}
+use Rattle.bench_types.specs.declared.step.Step.{Step}
+use Rattle.bench_types.specs.Limits.{max_cores, max_steps}
+use Rattle.bench_types.specs.Step.{IsCheckedStep}
+use Rattle.bench_model.specs.Equal.{StandsFor}
+use Rattle.bench_model.specs.Lists.{View}
+use Rattle.bench_model.specs.Session.{trace}
+use Rattle.bench_model.specs.Table.{Table}
+use Rattle.bench_model.specs.Tally.{TaskTally}
+use Rattle.bench_model.specs.Tallied.{part_tallies, shape, shape_of}
+use Rattle.segment_laws.specs.Segments.{SegmentView, all_steps, lengths, starts}
+use Rattle.smp_kernel.specs.Kernel.{StandsForSome}
+
+-- the replies of the steps from a table on, the tasks that run after each, one step after another,
+-- and the tallies of the steps
+pub record IsReplayedFrom (table : Table) (settings : Settings) (steps : List Step)
+    (replies : List Reply) (rows : List ℕ) (tallies : List TaskTally) : Type 0 where
+  pub replies_are : replies ≡ map (λ outcome. outcome.0) (trace table steps)
+  pub rows_are : rows ≡ flat_map (λ outcome. outcome.1) (trace table steps)
+  pub tallies_are : tallies ≡ part_tallies settings table steps
+
+-- a kernel, steps that it can make, and what they led to
+pub record IsKept (kernel : View) (steps : List Step) (replies : List Reply) (rows : List ℕ)
+    (tallies : List TaskTally) : Type 0 where
+  pub stands : StandsForSome kernel
+  pub few_cores : kernel.settings.cores ≤ max_cores
+  pub checked : All (IsCheckedStep kernel.settings) steps
+  pub few_steps : length steps ≤ max_steps
+  pub sizes : shape tallies ≡ shape_of kernel.settings
+  pub outcomes :
+      (table : Table) → StandsFor kernel table
+      → IsReplayedFrom table kernel.settings steps replies rows tallies
+
+-- the places where the segments begin; there is a first one
+pub record ArePlaced (places : List ℕ) (segments : List SegmentView) : Type 0 where
+  pub begin : places ≡ starts 0 (lengths segments)
+  pub some : 0 < length segments
+  pub few_steps : length (all_steps segments) < 2 ^ 32

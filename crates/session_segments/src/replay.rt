@@ -1,0 +1,84 @@
+ghost use Rattle.std.specs.Prelude.{◌≡◌, ◌++◌, ◌<◌, ◌≤◌, ◌+◌, ◌-◌, ◌^◌, min, All, Ok, IfOk, OnOk, OnErr, length, map};
+ghost use Rattle.std.specs.List.{flat_map};
+ghost use Rattle.bench_types.specs.Limits.{max_cores, max_steps};
+ghost use Rattle.bench_types.specs.Step.{step_check, IsCheckedStep};
+ghost use Rattle.bench_model.specs.Control.{running};
+ghost use Rattle.bench_model.specs.Equal.{StandsFor};
+ghost use Rattle.bench_model.specs.Session.{state_after, trace};
+ghost use Rattle.bench_model.specs.Table.{Table};
+ghost use Rattle.bench_model.specs.Tallied.{first_tallies, part_tallies, shape, shape_of};
+ghost use Rattle.smp_kernel.specs.Kernel.{StandsForSome};
+ghost use Rattle.bench_reports.specs.Tops.{HasTops};
+ghost use Rattle.session_segments.specs.Counting.{meter_after, CountsUpTo};
+
+use bench_reports::Tallies;
+use bench_types::{Reply, Step};
+use smp_kernel::{Kernel, Meter};
+use std::alloc::{AllocError, Global};
+
+/// Makes the steps on the kernel, and keeps no reply.
+pub fn advance(kernel: &mut Kernel, steps: &[Step], meter: &mut Meter)
+    requires { All (IsCheckedStep kernel.old.settings) steps.now }
+    ensures state { (table : Table) → StandsFor kernel.old table
+        → StandsFor kernel.new (state_after table steps.now) }
+    ensures settings { kernel.new.settings ≡ kernel.old.settings }
+    ensures meter { meter.new ≡ meter_after (length steps.now) meter.old }
+{
+    for step in steps {
+        kernel.step(meter, step);
+    }
+}
+
+// Adds the tasks that run, core 0 first.
+fn push_row(rows: &mut Vec<u32>, kernel: &Kernel, cores: u32) -> Result<(), AllocError>
+    requires stands { StandsForSome kernel.now }
+    requires cores { cores ≡ kernel.now.settings.cores }
+    ensures { OnOk result (rows.new.items ≡ rows.old.items ++ running kernel.now.control) }
+{
+    for core in 0..cores {
+        rows.push(kernel.running(core))?;
+    }
+    Ok(())
+}
+
+/// The replies that the kernel gives to the steps, and the tasks that run after each, one row
+/// after another. The tallies count the steps.
+pub(crate) fn outcomes_of(
+    alloc: Global,
+    kernel: &mut Kernel,
+    tallies: &mut Tallies,
+    steps: &[Step],
+    meter: &mut Meter,
+) -> Result<(Vec<Reply>, Vec<u32>), AllocError>
+    requires stands { StandsForSome kernel.old }
+    requires few { kernel.old.settings.cores ≤ max_cores }
+    requires steps { All (IsCheckedStep kernel.old.settings) steps.now }
+    requires few_steps { length steps.now ≤ max_steps }
+    requires begun { tallies.old ≡ first_tallies kernel.old.settings kernel.old.control }
+    requires sizes { shape tallies.old ≡ shape_of kernel.old.settings }
+    requires tops { HasTops kernel.old.control tallies.old }
+    ensures replies { IfOk result
+        (λ outcomes. (table : Table) → StandsFor kernel.old table
+        → outcomes.0.items ≡ map (λ outcome. outcome.0) (trace table steps.now)) }
+    ensures rows { IfOk result
+        (λ outcomes. (table : Table) → StandsFor kernel.old table
+        → outcomes.1.items ≡ flat_map (λ outcome. outcome.1) (trace table steps.now)) }
+    ensures tallies { OnOk result ((table : Table) → StandsFor kernel.old table
+        → tallies.new ≡ part_tallies kernel.old.settings table steps.now) }
+    ensures sizes { OnOk result (shape tallies.new ≡ shape_of kernel.old.settings) }
+    ensures state { OnOk result ((table : Table) → StandsFor kernel.old table
+        → StandsFor kernel.new (state_after table steps.now)) }
+    ensures settings { kernel.new.settings ≡ kernel.old.settings }
+    ensures meter { OnOk result (meter.new ≡ meter_after (length steps.now) meter.old) }
+    ensures some { OnErr result (CountsUpTo (length steps.now) meter.old meter.new) }
+{
+    let cores = kernel.settings().cores;
+    let mut replies = Vec::with_capacity(alloc, steps.len())?;
+    let mut rows = Vec::with_capacity(alloc, steps.len() * cores as usize)?;
+    for step in steps {
+        let reply = tallies.make_next(kernel, meter, step);
+        replies.push(reply)?;
+        push_row(&mut rows, kernel, cores)?;
+    }
+    Ok((replies, rows))
+}

@@ -1,0 +1,229 @@
+ghost use Rattle.std.specs.Prelude.{◌≡◌, ◌↔◌, ◌<◌, ◌≤◌, ◌+◌, ◌-◌, ◌*◌, All, true, Ok, Some, None, IfOk, OnOk, OnErr, length, take, map, option_map, option_and_then, slice_get};
+ghost use Rattle.std.specs.List.{flat_map};
+ghost use Rattle.bench_types.specs.Limits.{max_cores, max_steps};
+ghost use Rattle.bench_types.specs.Step.{IsCheckedStep};
+ghost use Rattle.bench_model.specs.Equal.{Same, StandsFor};
+ghost use Rattle.bench_model.specs.Session.{state_after, trace};
+ghost use Rattle.bench_model.specs.Table.{Table};
+ghost use Rattle.bench_model.specs.Tallied.{part_tallies, shape, shape_of};
+ghost use Rattle.segment_laws.specs.Segments.{reply_after, running_after};
+ghost use Rattle.smp_kernel.specs.Kernel.{StandsForSome};
+ghost use Rattle.session_segments.specs.Counting.{meter_after, CountsUpTo};
+ghost use Rattle.session_segments.specs.Kept.{IsReplayedFrom};
+
+use crate::replay::{advance, outcomes_of};
+use bench_reports::Tallies;
+use bench_types::{Reply, Step};
+use smp_kernel::{Kernel, Meter};
+use std::alloc::{AllocError, Global};
+use std::marker::Model;
+
+/// The steps from one checkpoint to the next or to the end, with the kernel at the first and what
+/// the steps led to.
+#[derive(Debug, Drop)]
+pub struct Segment {
+    kernel: Kernel,
+    steps: Vec<Step>,
+    /// Each step's reply.
+    replies: Vec<Reply>,
+    /// The tasks that run after each step, core 0 first, one row after another.
+    rows: Vec<u32>,
+    /// How the tasks fared in these steps.
+    tallies: Tallies,
+}
+
+impl Model for Segment {
+    ghost use Rattle.segment_laws.specs.Segments.{SegmentView};
+
+    ghost Value = { SegmentView };
+
+    ghost use Rattle.session_segments.specs.Kept.{IsKept};
+
+    ghost view = { λ segment. record { kernel = segment.kernel; steps = segment.steps.items } };
+
+    ghost invariant = { λ segment. IsKept segment.kernel segment.steps.items segment.replies.items
+        segment.rows.items segment.tallies };
+}
+
+fn reply_at(replies: &[Reply], index: u32) -> Option<Reply>
+    ensures { result ≡ slice_get replies.now index }
+{
+    replies.get(index as usize).copied()
+}
+
+/// What steps led to.
+#[derive(Debug, Drop)]
+struct Outcomes {
+    replies: Vec<Reply>,
+    rows: Vec<u32>,
+    tallies: Tallies,
+}
+
+impl Outcomes {
+    // Replays the steps on the kernel.
+    fn of(
+        alloc: Global,
+        kernel: &mut Kernel,
+        steps: &[Step],
+        meter: &mut Meter,
+    ) -> Result<Outcomes, AllocError>
+        requires stands { StandsForSome kernel.old }
+        requires few { kernel.old.settings.cores ≤ max_cores }
+        requires steps { All (IsCheckedStep kernel.old.settings) steps.now }
+        requires few_steps { length steps.now ≤ max_steps }
+        ensures outcomes { IfOk result
+            (λ made. (table : Table) → StandsFor kernel.old table
+            → IsReplayedFrom table kernel.old.settings steps.now made.replies.items made.rows.items
+            made.tallies) }
+        ensures sizes { IfOk result (λ made. shape made.tallies ≡ shape_of kernel.old.settings) }
+        ensures state { OnOk result ((table : Table) → StandsFor kernel.old table
+            → StandsFor kernel.new (state_after table steps.now)) }
+        ensures settings { kernel.new.settings ≡ kernel.old.settings }
+        ensures meter { OnOk result (meter.new ≡ meter_after (length steps.now) meter.old) }
+        ensures some { OnErr result (CountsUpTo (length steps.now) meter.old meter.new) }
+    {
+        let mut tallies = Tallies::begin(alloc, kernel)?;
+        let (replies, rows) = outcomes_of(alloc, kernel, &mut tallies, steps, meter)?;
+        Ok(Outcomes {
+            replies,
+            rows,
+            tallies,
+        })
+    }
+}
+
+impl Segment {
+    /// Replays the steps on the kernel, and keeps them with a copy of the kernel as it was before.
+    pub fn replay(
+        alloc: Global,
+        kernel: &mut Kernel,
+        steps: &[Step],
+        meter: &mut Meter,
+    ) -> Result<Segment, AllocError>
+        requires stands { StandsForSome kernel.old }
+        requires few { kernel.old.settings.cores ≤ max_cores }
+        requires steps { All (IsCheckedStep kernel.old.settings) steps.now }
+        requires few_steps { length steps.now ≤ max_steps }
+        ensures segment { IfOk result
+            (λ segment. segment ≡ record { kernel = kernel.old; steps = steps.now }) }
+        ensures state { OnOk result ((table : Table) → StandsFor kernel.old table
+            → StandsFor kernel.new (state_after table steps.now)) }
+        ensures settings { kernel.new.settings ≡ kernel.old.settings }
+        ensures meter { OnOk result (meter.new ≡ meter_after (length steps.now) meter.old) }
+        ensures some { OnErr result (CountsUpTo (length steps.now) meter.old meter.new) }
+    {
+        let mut own = Vec::with_capacity(alloc, steps.len())?;
+        own.extend_from_slice(steps)?;
+        let first = kernel.copy(alloc)?;
+        let Outcomes {
+            replies,
+            rows,
+            tallies,
+        } = Outcomes::of(alloc, kernel, steps, meter)?;
+        Ok(Segment {
+            kernel: first,
+            steps: own,
+            replies,
+            rows,
+            tallies,
+        })
+    }
+
+    /// The kernel before the first step.
+    pub fn kernel(&self) -> &Kernel
+        ensures kernel { result.now ≡ self.now.kernel }
+        ensures stands { StandsForSome self.now.kernel }
+        ensures few { self.now.kernel.settings.cores ≤ max_cores }
+    {
+        &self.kernel
+    }
+
+    /// The steps.
+    pub fn steps(&self) -> &[Step]
+        ensures steps { result.now ≡ self.now.steps }
+        ensures checked { All (IsCheckedStep self.now.kernel.settings) self.now.steps }
+        ensures few { length self.now.steps ≤ max_steps }
+    {
+        self.steps.as_slice()
+    }
+
+    /// The reply of the step at the index; `None` past the last.
+    pub fn reply(&self, index: u32) -> Option<Reply>
+        ensures { (table : Table) → StandsFor self.now.kernel table
+            → result ≡ reply_after table self.now.steps index }
+    {
+        reply_at(self.replies.as_slice(), index)
+    }
+
+    /// The current task of the core after so many steps; `None` past the last, and where there is
+    /// no such core.
+    pub fn running(&self, count: u32, core: u32) -> Option<u32>
+        ensures { (table : Table) → StandsFor self.now.kernel table
+            → result
+            ≡ option_and_then (λ row. slice_get row core)
+            (running_after table self.now.steps count) }
+    {
+        let cores = self.kernel.settings().cores;
+        if cores <= core {
+            return None;
+        }
+        if count as usize > self.steps.len() {
+            return None;
+        }
+        if count == 0 {
+            return Some(self.kernel.running(core));
+        }
+        Some(self.row_of(count)[core as usize])
+    }
+
+    // The current tasks after so many steps, core 0 first.
+    fn row_of(&self, count: u32) -> &[u32]
+        requires some { 0 < count }
+        requires within { count ≤ length self.now.steps }
+        ensures row { (table : Table) → StandsFor self.now.kernel table
+            → Some result.now ≡ running_after table self.now.steps count }
+        ensures cores { length result.now ≡ self.now.kernel.settings.cores }
+    {
+        let cores = self.kernel.settings().cores as usize;
+        let from = (count as usize - 1) * cores;
+        &self.rows[from..from + cores]
+    }
+
+    /// A kernel as this segment's is after so many of its steps, which the meter counts.
+    pub fn kernel_after(
+        &self,
+        alloc: Global,
+        count: u32,
+        meter: &mut Meter,
+    ) -> Result<Kernel, AllocError>
+        requires { count ≤ length self.now.steps }
+        ensures stands { IfOk result
+            (λ kernel. (table : Table) → StandsFor self.now.kernel table
+            → StandsFor kernel (state_after table (take count self.now.steps))) }
+        ensures settings { IfOk result
+            (λ kernel. kernel.settings ≡ self.now.kernel.settings) }
+        ensures meter { OnOk result (meter.new ≡ meter_after count meter.old) }
+        ensures uncounted { OnErr result (meter.new ≡ meter.old) }
+    {
+        let mut kernel = self.kernel.copy(alloc)?;
+        advance(&mut kernel, &self.steps[..count as usize], meter);
+        Ok(kernel)
+    }
+
+    /// Whether the kernel before the first step is equal to this one.
+    pub fn begins_with(&self, kernel: &Kernel) -> bool
+        ensures { (a b : Table) → StandsFor self.now.kernel a → StandsFor kernel.now b
+            → ((result ≡ true) ↔ Same a b) }
+    {
+        self.kernel.same(kernel)
+    }
+
+    /// How the tasks fared in these steps.
+    pub fn tallies(&self) -> &Tallies
+        ensures tallies { (table : Table) → StandsFor self.now.kernel table
+            → result.now ≡ part_tallies self.now.kernel.settings table self.now.steps }
+        ensures sizes { shape result.now ≡ shape_of self.now.kernel.settings }
+    {
+        &self.tallies
+    }
+}

@@ -1,0 +1,155 @@
+ghost use Rattle.std.specs.Prelude.{◌≡◌, ◌++◌, ◌<◌, ◌≤◌, ◌+◌, ◌-◌, ◌^◌, Ok, Some, IfOk, OnOk, OnErr, length, take, drop, map, slice_get, slice_index_or};
+ghost use Rattle.segment_laws.specs.Segments.{all_steps, lengths, starts, IsIndexOf};
+
+use crate::segment::Segment;
+use std::alloc::{AllocError, Global};
+use std::marker::Model;
+
+/// Segments one after another, with the place where each begins. There is always a first one, which
+/// begins at the start.
+#[derive(Debug, Drop)]
+pub struct Segments {
+    places: Vec<u32>,
+    segments: Vec<Segment>,
+}
+
+impl Model for Segments {
+    ghost use Rattle.std.specs.Prelude.{List};
+    ghost use Rattle.segment_laws.specs.Segments.{SegmentView};
+
+    ghost Value = { List SegmentView };
+
+    ghost use Rattle.session_segments.specs.Kept.{ArePlaced};
+
+    ghost view = { λ segments. segments.segments.items };
+
+    ghost invariant = { λ segments. ArePlaced segments.places.items segments.segments.items };
+}
+
+// Adds the places where the segments begin, the first of them at the place, and returns that after
+// the last.
+fn push_places(places: &mut Vec<u32>, place: u32, segments: &[Segment]) -> Result<u32, AllocError>
+    requires few { place + length (all_steps segments.now) < 2 ^ 32 }
+    ensures places { OnOk result
+        (places.new.items ≡ places.old.items ++ starts place (lengths segments.now)) }
+    ensures end { IfOk result (λ end. end ≡ place + length (all_steps segments.now)) }
+{
+    let mut next = place;
+    for segment in segments {
+        places.push(next)?;
+        next += segment.steps().len() as u32;
+    }
+    Ok(next)
+}
+
+// The places of the segments, where the made ones stand for those between the two indices.
+fn places_with(
+    alloc: Global,
+    segments: &[Segment],
+    from: usize,
+    to: usize,
+    made: &[Segment],
+) -> Result<Vec<u32>, AllocError>
+    requires order { from ≤ to }
+    requires within { to ≤ length segments.now }
+    requires few { length
+        (all_steps (take from segments.now ++ made.now ++ drop to segments.now)) < 2 ^ 32 }
+    ensures { IfOk result
+        (λ places. places.items
+        ≡ starts 0 (lengths (take from segments.now ++ made.now ++ drop to segments.now))) }
+{
+    let mut places = Vec::new(alloc);
+    let begin = push_places(&mut places, 0, &segments[..from])?;
+    let end = push_places(&mut places, begin, made)?;
+    push_places(&mut places, end, &segments[to..])?;
+    Ok(places)
+}
+
+impl Segments {
+    /// The segments, the first of which begins at the start.
+    pub fn new(alloc: Global, segments: Vec<Segment>) -> Result<Segments, AllocError>
+        requires some { 0 < length segments.items }
+        requires few { length (all_steps segments.items) < 2 ^ 32 }
+        ensures { IfOk result (λ made. made ≡ segments.items) }
+    {
+        let mut places = Vec::with_capacity(alloc, segments.len())?;
+        push_places(&mut places, 0, segments.as_slice())?;
+        Ok(Segments { places, segments })
+    }
+
+    /// How many segments there are.
+    pub fn len(&self) -> usize
+        ensures count { result ≡ length self.now }
+        ensures some { 0 < length self.now }
+    {
+        self.segments.len()
+    }
+
+    /// The segments.
+    pub fn as_slice(&self) -> &[Segment]
+        ensures segments { result.now ≡ self.now }
+        ensures few { length (all_steps self.now) < 2 ^ 32 }
+        ensures some { 0 < length self.now }
+    {
+        self.segments.as_slice()
+    }
+
+    /// The place where segment `k` begins, counted from 0; `None` past the last.
+    pub fn checkpoint(&self, k: u32) -> Option<u32>
+        ensures { result ≡ slice_get (starts 0 (lengths self.now)) k }
+    {
+        self.places.get(k as usize).copied()
+    }
+
+    /// The index of the segment that the place is in, which is the last that does not begin after
+    /// it, and the place where that begins.
+    pub fn locate(&self, place: u32) -> (usize, u32)
+        ensures index { IsIndexOf (starts 0 (lengths self.now)) place result.0 result.1 }
+        ensures within { result.0 < length self.now }
+    {
+        let index = last_begun(self.places.as_slice(), place);
+        (index, self.places[index])
+    }
+
+    /// The made segments take the place of those from the first index up to the second.
+    pub fn replace(
+        &mut self,
+        alloc: Global,
+        from: usize,
+        to: usize,
+        made: Vec<Segment>,
+    ) -> Result<(), AllocError>
+        requires order { from ≤ to }
+        requires within { to ≤ length self.old }
+        requires some { 0 < length (take from self.old ++ made.items ++ drop to self.old) }
+        requires few { length
+            (all_steps (take from self.old ++ made.items ++ drop to self.old)) < 2 ^ 32 }
+        ensures replaced { OnOk result
+            (self.new ≡ take from self.old ++ made.items ++ drop to self.old) }
+        ensures unchanged { OnErr result (self.new ≡ self.old) }
+    {
+        let places = places_with(alloc, self.segments.as_slice(), from, to, made.as_slice())?;
+        self.segments.splice(from..to, made)?;
+        self.places = places;
+        Ok(())
+    }
+}
+
+// The index of the last of the ascending places that is not after the place.
+fn last_begun(places: &[u32], place: u32) -> usize
+    requires { slice_get places.now 0 ≡ Some 0 }
+    ensures index { IsIndexOf places.now place result (slice_index_or places.now result 0) }
+    ensures within { result < length places.now }
+{
+    let mut found = 0;
+    let mut end = places.len();
+    while end - found > 1 {
+        let middle = found + (end - found) / 2;
+        if places[middle] <= place {
+            found = middle;
+        } else {
+            end = middle;
+        }
+    }
+    found
+}

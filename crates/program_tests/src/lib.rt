@@ -13,6 +13,6 @@ mod faults;
 #[cfg(test)]
 mod processes;
 #[cfg(test)]
-mod recordings;
+mod rigs;
 #[cfg(test)]
 mod tallies;

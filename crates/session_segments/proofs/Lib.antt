@@ -1,4 +1,4 @@
-mod Counts
+pub mod Counts
 mod KeptRows
 mod Places
 mod Replays

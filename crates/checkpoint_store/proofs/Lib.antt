@@ -1,0 +1,11 @@
+mod Cuts
+mod EditReplays
+mod EditTold
+mod GoingOn
+mod Opened
+mod Openings
+mod Parted
+mod Spans
+mod StoreReads
+mod StoreStates
+mod StoreTallies

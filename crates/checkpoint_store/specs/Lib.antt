@@ -1,0 +1,4 @@
+pub mod Kept
+pub mod Opening
+pub mod Outcomes
+pub mod Replays

@@ -1,0 +1,243 @@
+ghost use Rattle.std.specs.Prelude.{◌≡◌, ◌≤◌, ◌<◌, ◌+◌, ◌-◌, ◌^◌, ◌↔◌, length, List, Ok, Err, Some, None, IfOk, IfErr, IfSome, IsSome, OnOk, OnErr, option_map, option_and_then, slice_get};
+ghost use Rattle.bench_types.specs.Step.{settings_of};
+ghost use Rattle.bench_types.specs.Limits.{max_steps};
+ghost use Rattle.bench_types.specs.declared.edit.EditFault.{EditFault as Why};
+ghost use Rattle.bench_types.specs.Session.{IsSession};
+ghost use Rattle.bench_model.specs.Edits.{accepted};
+ghost use Rattle.bench_model.specs.Equal.{StandsFor};
+ghost use Rattle.bench_model.specs.Meeting.{first_kept, kept_after, last_place, replayed};
+ghost use Rattle.bench_model.specs.Session.{state_at, reply_at, running_at};
+ghost use Rattle.bench_model.specs.Tally.{tallies};
+ghost use Rattle.meeting_laws.specs.CheckpointLaws.{AreCheckpoints};
+ghost use Rattle.session_segments.specs.Counting.{meter_after, CountsUpTo};
+ghost use Rattle.checkpoint_store.specs.declared.fault.Refused.{Refused as Refusal};
+ghost use Rattle.checkpoint_store.specs.Opening.{open_check, handed_back, no_memory};
+ghost use Rattle.checkpoint_store.specs.Outcomes.{outcome_of, row_items, distance};
+
+use crate::checks::{check_edit, check_opening};
+use crate::edit::{EditReplay, replay_edit};
+use crate::fault::Refused;
+use crate::opening::opened;
+use crate::{OpenFault, OpenRefusal, Outcome, StoreFault};
+use bench_reports::Tallies;
+use bench_types::{Edit, Header, Items, MAX_STEPS, Reply, Row, Step};
+use session_segments::Segments;
+use smp_kernel::{Kernel, Meter};
+use std::alloc::{AllocError, Global};
+use std::marker::Model;
+
+/// A session that was replayed, in segments that begin at its checkpoints: with its replies, the
+/// tasks that run at each place, and how each task fared.
+#[derive(Debug, Drop)]
+pub struct Store {
+    header: Header,
+    /// About how many steps are to lie between two checkpoints.
+    span: u32,
+    segments: Segments,
+}
+
+impl Model for Store {
+    ghost use Rattle.bench_model.specs.Meeting.{CheckpointedSession};
+
+    ghost Value = { CheckpointedSession };
+
+    ghost use Rattle.checkpoint_store.specs.Kept.{kept_of, IsKept};
+
+    ghost view = { λ store. kept_of store.header store.span store.segments };
+
+    ghost invariant = { λ store. IsKept store.header store.span store.segments };
+}
+
+impl Store {
+    /// Replays the session from its start and keeps it, with a checkpoint every `span` steps.
+    ///
+    /// A refusal gives the session back: F1, else J3, else J2, else the first fault of a step, with
+    /// the step's index.
+    pub fn open(
+        alloc: Global,
+        header: Header,
+        steps: Vec<Step>,
+        span: u32,
+        meter: &mut Meter,
+    ) -> Result<Store, OpenFault>
+        ensures opened { IfOk result
+            (λ store. store
+            ≡ first_kept span (record { header = header; steps = steps.items })) }
+        ensures accepted { OnOk result (open_check header steps.items span ≡ Ok tt) }
+        ensures refused { (refusal : Refusal) → open_check header steps.items span ≡ Err refusal
+            → result ≡ Err (handed_back header steps.items refusal) }
+        ensures no_memory { open_check header steps.items span ≡ Ok tt
+            → IfErr result (λ fault. fault ≡ no_memory header steps.items) }
+        ensures meter { OnOk result (meter.new ≡ meter_after (length steps.items) meter.old) }
+        ensures uncounted { (refusal : Refusal) → open_check header steps.items span ≡ Err refusal
+            → meter.new ≡ meter.old }
+        ensures some { OnErr result (CountsUpTo (length steps.items) meter.old meter.new) }
+    {
+        if let Err(Refused { why, at }) = check_opening(&header, steps.as_slice(), span) {
+            return Err(OpenFault {
+                header,
+                steps: Items::new(steps),
+                at,
+                why,
+            });
+        }
+        match opened(alloc, &header, steps.as_slice(), span, meter) {
+            Ok(segments) => Ok(Store {
+                header,
+                span,
+                segments,
+            }),
+            Err(_) => Err(OpenFault {
+                header,
+                steps: Items::new(steps),
+                at: None,
+                why: OpenRefusal::NoMemory,
+            }),
+        }
+    }
+
+    /// Makes an edit: the session is replayed from the last checkpoint before the edit, up to the
+    /// first after it from which the edited session goes on as it did.
+    ///
+    /// A refusal leaves the store as it was: F1 to F5 of [`Edit::check`], else J1, else J2, else
+    /// want of memory.
+    pub fn apply(
+        &mut self,
+        alloc: Global,
+        edit: Edit,
+        meter: &mut Meter,
+    ) -> Result<Outcome, StoreFault>
+        ensures refused { (why : Why)
+            → (result ≡ Err (StoreFault.Edit why)) ↔ (accepted self.old.session edit ≡ Err why) }
+        ensures kept { OnOk result (self.new ≡ kept_after edit self.old) }
+        ensures outcome { IfOk result (λ outcome. outcome ≡ outcome_of self.old edit) }
+        ensures unchanged { OnErr result (self.new ≡ self.old) }
+        ensures meter { OnOk result (meter.new ≡ meter_after (replayed self.old edit) meter.old) }
+        ensures uncounted { (why : Why) → result ≡ Err (StoreFault.Edit why)
+            → meter.new ≡ meter.old }
+        ensures some { OnErr result
+            (CountsUpTo (replayed self.old edit) meter.old meter.new) }
+    {
+        check_edit(&self.header, self.len(), &edit)?;
+        let EditReplay {
+            header,
+            made,
+            before,
+            after,
+            outcome,
+        } = replay_edit(alloc, &self.header, self.span, &self.segments, &edit, meter)?;
+        self.segments.replace(alloc, before, after, made)?;
+        self.header = header;
+        Ok(outcome)
+    }
+
+    /// The number of steps, which is the last place.
+    pub fn len(&self) -> u32
+        ensures steps { result ≡ length self.now.session.steps }
+        ensures few { result ≤ max_steps }
+    {
+        let (index, from) = self.segments.locate(MAX_STEPS);
+        from + self.segments.as_slice()[index].steps().len() as u32
+    }
+
+    /// The settings and tasks of the session as it stands after all edits.
+    pub fn header(&self) -> &Header
+        ensures header { result.now ≡ self.now.session.header }
+        ensures session { IsSession self.now.session }
+    {
+        &self.header
+    }
+
+    /// The step at index `i` of the session as it stands after all edits, the first at 0; `None`
+    /// past the last.
+    pub fn step(&self, i: u32) -> Option<Step>
+        ensures { result ≡ slice_get self.now.session.steps i }
+    {
+        let (index, from) = self.segments.locate(i);
+        let segment = &self.segments.as_slice()[index];
+        segment.steps().get((i - from) as usize).copied()
+    }
+
+    /// The reply of the step at index `i`; `None` past the last.
+    pub fn reply(&self, i: u32) -> Option<Reply>
+        ensures { result ≡ reply_at self.now.session.header self.now.session.steps i }
+    {
+        let (index, from) = self.segments.locate(i);
+        self.segments.as_slice()[index].reply(i - from)
+    }
+
+    /// The current task of the core at the place; `None` past the last place, and where there is no
+    /// such core.
+    pub fn running(&self, place: u32, core: u32) -> Option<u32>
+        ensures { result
+            ≡ option_and_then (λ row. slice_get row core)
+            (running_at self.now.session.header self.now.session.steps place) }
+    {
+        let (index, from) = self.segments.locate(place);
+        self.segments.as_slice()[index].running(place - from, core)
+    }
+
+    /// The current tasks at the place, core 0 first; `None` past the last place.
+    pub fn row(&self, place: u32) -> Option<Row>
+        ensures { option_map row_items result
+            ≡ running_at self.now.session.header self.now.session.steps place }
+    {
+        let mut row = Row::new();
+        for core in 0..self.header.config.cores {
+            row.push(self.running(place, core)?);
+        }
+        Some(row)
+    }
+
+    /// The place of checkpoint `k`, counted from 0; `None` past the last. The first is the start.
+    pub fn checkpoint(&self, k: u32) -> Option<u32>
+        ensures place { result ≡ slice_get self.now.checkpoints k }
+        ensures checkpoints { AreCheckpoints self.now.span (last_place self.now.session)
+            self.now.checkpoints }
+    {
+        self.segments.checkpoint(k)
+    }
+
+    /// A kernel that stands for the state at the place, `None` past the last. It is replayed from
+    /// the checkpoint before, which the meter counts.
+    pub fn state(
+        &self,
+        alloc: Global,
+        place: u32,
+        meter: &mut Meter,
+    ) -> Result<Option<Kernel>, AllocError>
+        ensures stands { IfOk result
+            (λ found. IfSome found
+            (λ kernel. StandsFor kernel
+            (state_at self.now.session.header self.now.session.steps place))) }
+        ensures settings { IfOk result
+            (λ found. IfSome found
+            (λ kernel. kernel.settings ≡ settings_of self.now.session.header)) }
+        ensures within { place ≤ length self.now.session.steps
+            → IfOk result (λ found. IsSome found) }
+        ensures past { length self.now.session.steps < place → result ≡ Ok None }
+        ensures meter { OnOk result (meter.new ≡ meter_after (distance self.now place) meter.old) }
+        ensures unmade { OnErr result (meter.new ≡ meter.old) }
+    {
+        if place > self.len() {
+            return Ok(None);
+        }
+        let (index, from) = self.segments.locate(place);
+        let segment = &self.segments.as_slice()[index];
+        let kernel = segment.kernel_after(alloc, place - from, meter)?;
+        Ok(Some(kernel))
+    }
+
+    /// How each task fared in the session as it stands after all edits.
+    pub fn tallies(&self, alloc: Global) -> Result<Tallies, AllocError>
+        ensures { IfOk result
+            (λ tallied. tallied ≡ tallies self.now.session.header self.now.session.steps) }
+    {
+        let segments = self.segments.as_slice();
+        let mut total = segments[0].tallies().copy(alloc)?;
+        for segment in &segments[1..] {
+            total.add(segment.tallies());
+        }
+        Ok(total)
+    }
+}

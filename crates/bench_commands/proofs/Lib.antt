@@ -9,3 +9,4 @@ mod Opened
 mod SpanTexts
 mod CommandLines
 mod Recordings
+mod EditsMade

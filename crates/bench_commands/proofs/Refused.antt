@@ -12,7 +12,7 @@ use Rattle.session_text.specs.declared.bench.Bench.{Bench}
 use Rattle.session_text.specs.declared.fault.TextFault.{TextFault}
 use Rattle.session_text.specs.declared.fault.Why.TheVariants.{NoMemory}
 use Rattle.session_text.specs.Bench.{bench_text, IsCheckedBench}
-use Rattle.bench_types.specs.Session.{Session}
+use Rattle.bench_model.specs.Meeting.{CheckpointedSession, first_kept}
 use Rattle.bench_commands.specs.Answer.{why_text, refused, edited_text, bench_replay, output_of, output_of_bench, Output}
 use Rattle.bench_commands.proofs.Opened.{few_steps, opens}
 
@@ -40,9 +40,9 @@ not_opened_output text bench why (Err e) long line told = tt
 not_opened_output text bench why (Ok answer) long line told = line ∙ told long
 
 -- what is told of a session that was opened
-pub opened_output : {E : Type 0} (tally : Bool) (bench : Bench) (span : ℕ) (session : Session) (result : Result Output E) → open_check bench.header bench.steps span ≡ Ok tt → session ≡ record { header = bench.header; steps = bench.steps }
-    → IfOk result (λ answer. answer ≡ record { is_refused = false; text = edited_text tally session bench.edits }) → IfOk result (λ answer. answer ≡ output_of_bench (bench_replay tally) bench)
-opened_output tally bench span session (Err e) accepted same told = tt
-opened_output tally bench span session (Ok answer) accepted same told =
+pub opened_output : {E : Type 0} (tally : Bool) (bench : Bench) (span : ℕ) (kept : CheckpointedSession) (result : Result Output E) → open_check bench.header bench.steps span ≡ Ok tt → kept ≡ first_kept span (record { header = bench.header; steps = bench.steps })
+    → IfOk result (λ answer. answer ≡ record { is_refused = false; text = edited_text tally kept bench.edits }) → IfOk result (λ answer. answer ≡ output_of_bench (bench_replay span tally) bench)
+opened_output tally bench span kept (Err e) accepted same told = tt
+opened_output tally bench span kept (Ok answer) accepted same told =
     let few = few_steps bench.header bench.steps span accepted in
-    told ∙ ap (λ (s : Session). record { is_refused = false; text = edited_text tally s bench.edits }) same ∙ sym (ap (λ (many : Bool). if many then refused (codes "J2") [] else record { is_refused = false; text = bench_replay tally bench }) few)
+    told ∙ ap (λ (k : CheckpointedSession). record { is_refused = false; text = edited_text tally k bench.edits }) same ∙ sym (ap (λ (many : Bool). if many then refused (codes "J2") [] else record { is_refused = false; text = bench_replay span tally bench }) few)

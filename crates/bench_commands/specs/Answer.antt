@@ -10,7 +10,7 @@ use Rattle.list_orders.specs.Search.{numbers}
 use Rattle.bench_model.specs.Control.{running}
 use Rattle.bench_model.specs.Start.{start}
 use Rattle.bench_model.specs.Edits.{after_edits}
-use Rattle.bench_types.specs.Session.{Session}
+use Rattle.bench_model.specs.Meeting.{CheckpointedSession, first_kept}
 use Rattle.bench_model.specs.Session.{outcome_at}
 use Rattle.bench_model.specs.Tally.{tallies}
 use Rattle.bench_reports.specs.Lines.{tally_lines}
@@ -68,16 +68,17 @@ abbrev pub tally_text : Bool → Header → List Step → List ℕ
 tally_text tally header steps = if tally then tally_lines header 0 (tallies header steps) else []
 
 -- the lines of the edits, then those of the session that they leave
-abbrev pub edited_text : Bool → Session → List Edit → List ℕ
-edited_text tally session edits =
-    let last = after_edits session edits in
-    edit_lines 0 (answers session edits) ++ replay_text last.header last.steps
+abbrev pub edited_text : Bool → CheckpointedSession → List Edit → List ℕ
+edited_text tally kept edits =
+    let last = after_edits kept.session edits in
+    edit_lines 0 (answers kept edits) ++ replay_text last.header last.steps
     ++ tally_text tally last.header last.steps
 
--- what a replay writes for a bench document
-abbrev pub bench_replay : Bool → Bench → List ℕ
-bench_replay tally bench =
-    edited_text tally (record { header = bench.header; steps = bench.steps }) bench.edits
+-- what a replay with a checkpoint every span writes for a bench document
+abbrev pub bench_replay : ℕ → Bool → Bench → List ℕ
+bench_replay span tally bench =
+    edited_text tally (first_kept span (record { header = bench.header; steps = bench.steps }))
+    bench.edits
 
 -- by what is written for a bench document; J2 comes after all other refusals
 abbrev pub output_of_bench : (Bench → List ℕ) → Bench → Output
@@ -91,7 +92,7 @@ output_of text (Err fault) = refused (why_text fault.why) fault.path
 
 -- by the mode, the output for an input that is not too long
 abbrev pub output_by : Mode → List ℕ → Output
-output_by (Replay span tally) input = output_of (bench_replay tally) (bench_text input)
+output_by (Replay span tally) input = output_of (bench_replay span tally) (bench_text input)
 
 unfoldable pub output : Mode → List ℕ → Output
 output mode input =

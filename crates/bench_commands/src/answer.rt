@@ -67,7 +67,7 @@ fn answer_of_store(
 ) -> Result<Answer, AllocError>
     ensures { IfOk result
         (λ answer. answer
-        ≡ record { is_refused = false; text = edited_text tally store.old.session edits.now }) }
+        ≡ record { is_refused = false; text = edited_text tally store.old edits.now }) }
 {
     let text = edited_replay(alloc, meter, store, edits, tally)?;
     Ok(Answer {
@@ -98,7 +98,7 @@ fn answer_of_bench(
 ) -> Result<Answer, AllocError>
     requires checked { IsCheckedBench bench }
     requires span { is_within 1 max_span span ≡ true }
-    ensures { IfOk result (λ answer. answer ≡ output_of_bench (bench_replay tally) bench) }
+    ensures { IfOk result (λ answer. answer ≡ output_of_bench (bench_replay span tally) bench) }
 {
     let Bench {
         header,
@@ -121,7 +121,7 @@ fn replay_of(
 ) -> Result<Answer, AllocError>
     requires { is_within 1 max_span span ≡ true }
     ensures { IfOk result
-        (λ answer. answer ≡ output_of (bench_replay tally) (bench_text input.now)) }
+        (λ answer. answer ≡ output_of (bench_replay span tally) (bench_text input.now)) }
 {
     match read_bench(alloc, input) {
         Err(fault) => refused_for(alloc, fault),

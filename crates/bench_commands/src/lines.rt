@@ -1,6 +1,6 @@
 ghost use Rattle.std.specs.Prelude.{◌≡◌, ◌++◌, OnOk, string_bytes};
 ghost use Rattle.bench_types.specs.Header.{name_of};
-ghost use Rattle.bench_commands.specs.Lines.{spaced, reply_text, row_text, start_line, step_line, answer_text, edit_line, edit_lines};
+ghost use Rattle.bench_commands.specs.Lines.{spaced, reply_text, row_text, start_line, step_line, answer_text, edit_line};
 
 use bench_types::{EditFault, Header, Reply};
 use session_store::Outcome;
@@ -98,7 +98,8 @@ fn push_answer(text: &mut String, answer: &Result<Outcome, EditFault>) -> Result
     }
 }
 
-fn push_edit_line(
+/// The line of an edit, by what it led to.
+pub(crate) fn push_edit_line(
     text: &mut String,
     index: usize,
     answer: &Result<Outcome, EditFault>,
@@ -109,18 +110,4 @@ fn push_edit_line(
     write!(text, "edit {index} ")?;
     push_answer(text, answer)?;
     text.push_str("\n")
-}
-
-/// The lines of edits, by what each of them led to.
-pub(crate) fn push_edit_lines(
-    text: &mut String,
-    answers: &[Result<Outcome, EditFault>],
-) -> Result<(), AllocError>
-    ensures { OnOk result
-        (string_bytes text.new ≡ string_bytes text.old ++ edit_lines 0 answers.now) }
-{
-    for (index, answer) in answers.iter().enumerate() {
-        push_edit_line(text, index, answer)?;
-    }
-    Ok(())
 }

@@ -1,10 +1,13 @@
 ghost use Rattle.std.specs.Prelude.{◌≡◌, ◌++◌, ◌<◌, IfOk, OnOk, string_bytes};
 ghost use Rattle.bench_types.specs.Limits.{max_steps};
+ghost use Rattle.bench_model.specs.Edits.{after_edits};
+ghost use Rattle.session_store.specs.Outcomes.{after_edit, answer, answers};
 ghost use Rattle.bench_commands.specs.Answer.{edited_text, first_line, line_at, replay_text, tally_text};
+ghost use Rattle.bench_commands.specs.Lines.{edit_lines};
 
-use crate::lines::{push_edit_lines, push_start_line, push_step_line};
-use bench_types::Edit;
-use session_store::Store;
+use crate::lines::{push_edit_line, push_start_line, push_step_line};
+use bench_types::{Edit, EditFault};
+use session_store::{Outcome, Store, StoreFault};
 use smp_kernel::Meter;
 use std::alloc::{AllocError, Global};
 
@@ -66,6 +69,44 @@ fn push_tallies(
     text.push_str(lines.as_str())
 }
 
+// Makes an edit, and tells what it led to.
+fn answer_to_edit(
+    alloc: Global,
+    meter: &mut Meter,
+    store: &mut Store,
+    edit: Edit,
+) -> Result<Result<Outcome, EditFault>, AllocError>
+    ensures answer { IfOk result (λ given. given ≡ answer store.old edit) }
+    ensures kept { OnOk result (store.new ≡ after_edit store.old edit) }
+{
+    match store.apply(alloc, edit, meter) {
+        Ok(outcome) => Ok(Ok(outcome)),
+        Err(StoreFault::Edit(why)) => Ok(Err(why)),
+        Err(StoreFault::NoMemory) => Err(AllocError),
+    }
+}
+
+// Makes the edits, and adds a line for each.
+fn push_edits(
+    alloc: Global,
+    meter: &mut Meter,
+    text: &mut String,
+    store: &mut Store,
+    edits: &[Edit],
+) -> Result<(), AllocError>
+    ensures lines { OnOk result
+        (string_bytes text.new
+        ≡ string_bytes text.old ++ edit_lines 0 (answers store.old edits.now)) }
+    ensures session { OnOk result
+        (store.new.session ≡ after_edits store.old.session edits.now) }
+{
+    for (index, edit) in edits.iter().enumerate() {
+        let answer = answer_to_edit(alloc, meter, store, *edit)?;
+        push_edit_line(text, index, &answer)?;
+    }
+    Ok(())
+}
+
 /// Makes the edits, and gives a line for each, then those of a replay of the session that they
 /// leave, and with `tally` those of its tasks.
 pub(crate) fn edited_replay(
@@ -76,11 +117,10 @@ pub(crate) fn edited_replay(
     tally: bool,
 ) -> Result<String, AllocError>
     ensures { IfOk result
-        (λ text. string_bytes text ≡ edited_text tally store.old.session edits.now) }
+        (λ text. string_bytes text ≡ edited_text tally store.old edits.now) }
 {
-    let answers = store.apply_all(alloc, edits, meter)?;
     let mut text = String::new(alloc);
-    push_edit_lines(&mut text, answers.as_slice())?;
+    push_edits(alloc, meter, &mut text, store, edits)?;
     push_replay(&mut text, store)?;
     push_tallies(alloc, &mut text, store, tally)?;
     Ok(text)

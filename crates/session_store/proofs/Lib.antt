@@ -1,7 +1,12 @@
-mod Counts
-mod EditLists
+mod Cuts
+mod EditReplays
+mod EditTold
+mod GoingOn
+mod Opened
 mod Openings
-mod Places
-mod Replays
-mod Views
-pub mod Tallied
+pub mod Parted
+mod Partings
+mod Spans
+mod StoreReads
+mod StoreStates
+mod StoreTallies

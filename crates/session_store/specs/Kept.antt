@@ -1,31 +1,30 @@
 -- What the fields of a store keep.
-use Rattle.std.specs.Prelude.{◌≡◌, ℕ, ◌≤◌, List, length, map, true}
+use Rattle.std.specs.Prelude.{◌≡◌, ℕ, ◌≤◌, List, length, true}
 use Rattle.bench_types.specs.declared.header.Header.{Header}
-use Rattle.bench_types.specs.Name.{is_within}
-use Rattle.bench_types.specs.Step.{settings_of}
-use Rattle.bench_types.specs.Session.{IsSession}
-use Rattle.bench_model.specs.Equal.{StandsFor}
-use Rattle.bench_model.specs.Session.{trace}
-use Rattle.bench_types.specs.Reply.{shown}
 use Rattle.bench_types.specs.Limits.{max_span, max_steps}
+use Rattle.bench_types.specs.Name.{is_within}
+use Rattle.bench_types.specs.Session.{Session, IsSession}
+use Rattle.bench_model.specs.Meeting.{CheckpointedSession}
 use Rattle.bench_model.specs.Start.{start}
-use Rattle.bench_model.specs.Table.{Table}
-use Rattle.bench_model.specs.Tally.{TaskTally, tallies}
-use Rattle.session_store.specs.declared.store.Segment.{Segment}
+use Rattle.meeting_laws.specs.CheckpointLaws.{AreCheckpoints}
+use Rattle.segment_laws.specs.Segments.{SegmentView, all_steps, lengths, starts, Follow}
 
--- the kernel stands for the table at the segment's checkpoint, and the outcomes are those of its
--- steps from there
-pub record IsSegment (table : Table) (segment : Segment) : Type 0 where
-  pub stands : StandsFor segment.kernel table
-  pub outcomes : map shown segment.outcomes.items ≡ trace table segment.steps.items
+abbrev pub session_of : Header → List SegmentView → Session
+session_of header segments = record { header = header; steps = all_steps segments }
 
--- a session that is not too long, its replay from the start, and its tallies
-pub record IsKept (header : Header) (span : ℕ) (segment : Segment)
-    (tallied : List TaskTally) : Type 0 where
-  pub session : IsSession (record { header = header; steps = segment.steps.items })
-  pub few_steps : length segment.steps.items ≤ max_steps
-  pub settings : segment.kernel.settings ≡ settings_of header
+-- the session of the segments, with a checkpoint where each begins
+abbrev pub kept_of : Header → ℕ → List SegmentView → CheckpointedSession
+kept_of header span segments = record {
+  session = session_of header segments;
+  span = span;
+  checkpoints = starts 0 (lengths segments);
+}
+
+-- a session that is not too long, and its replay from the start in segments
+pub record IsKept (header : Header) (span : ℕ) (segments : List SegmentView) : Type 0 where
+  pub session : IsSession (session_of header segments)
+  pub few_steps : length (all_steps segments) ≤ max_steps
   pub span_fits : is_within 1 max_span span ≡ true
-  pub from_start : segment.from ≡ 0
-  pub replay : IsSegment (start header) segment
-  pub tallied_all : tallied ≡ tallies header segment.steps.items
+  pub checkpoints :
+      AreCheckpoints span (length (all_steps segments)) (starts 0 (lengths segments))
+  pub follow : Follow (start header) segments

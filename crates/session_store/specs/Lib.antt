@@ -1,5 +1,4 @@
-pub mod Counting
 pub mod Kept
 pub mod Opening
 pub mod Outcomes
-pub mod StoreView
+pub mod Replays

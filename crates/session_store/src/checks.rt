@@ -1,7 +1,8 @@
-ghost use Rattle.std.specs.Prelude.{◌≡◌, ◌≤◌, ◌^◌, ◌<◌, All, OnOk, length};
+ghost use Rattle.std.specs.Prelude.{◌≡◌, ◌≤◌, ◌^◌, ◌<◌, All, OnOk, List, length};
 ghost use Rattle.bench_types.specs.Edit.{IsEditOfWords};
 ghost use Rattle.bench_types.specs.Session.{IsSession};
 ghost use Rattle.bench_types.specs.Step.{settings_of, IsCheckedStep};
+ghost use Rattle.bench_types.specs.declared.step.Step.{Step};
 ghost use Rattle.bench_model.specs.Edits.{accepted, has_place, has_room};
 ghost use Rattle.session_store.specs.Opening.{open_check, steps_check};
 
@@ -9,35 +10,36 @@ use crate::OpenRefusal;
 use crate::fault::Refused;
 use bench_types::{Edit, EditFault, Header, MAX_SPAN, MAX_STEPS, Step};
 
-fn has_place(steps: &[Step], edit: &Edit) -> bool
-    ensures { result ≡ has_place steps.now edit.now }
+fn has_place(count: u32, edit: &Edit) -> bool
+    ensures { (steps : List Step) → length steps ≡ count → result ≡ has_place steps edit.now }
 {
     match *edit {
-        Edit::Insert { at, step: _ } => at as usize <= steps.len(),
-        Edit::Remove { at } | Edit::Replace { at, step: _ } => (at as usize) < steps.len(),
+        Edit::Insert { at, step: _ } => at <= count,
+        Edit::Remove { at } | Edit::Replace { at, step: _ } => at < count,
         Edit::ChangeTask { .. } => true,
     }
 }
 
-fn has_room(steps: &[Step], edit: &Edit) -> bool
-    ensures { result ≡ has_room steps.now edit.now }
+fn has_room(count: u32, edit: &Edit) -> bool
+    ensures { (steps : List Step) → length steps ≡ count → result ≡ has_room steps edit.now }
 {
     match edit {
-        Edit::Insert { .. } => steps.len() < MAX_STEPS as usize,
+        Edit::Insert { .. } => count < MAX_STEPS,
         Edit::Remove { .. } | Edit::Replace { .. } | Edit::ChangeTask { .. } => true,
     }
 }
 
-/// The fault of the edit under the header, else J1, else J2.
-pub(crate) fn check_edit(header: &Header, steps: &[Step], edit: &Edit) -> Result<(), EditFault>
-    ensures value { result ≡ accepted (record { header = header.now; steps = steps.now }) edit.now }
+/// The fault of the edit under the header, else J1, else J2, for a session of so many steps.
+pub(crate) fn check_edit(header: &Header, count: u32, edit: &Edit) -> Result<(), EditFault>
+    ensures value { (steps : List Step) → length steps ≡ count
+        → result ≡ accepted (record { header = header.now; steps = steps }) edit.now }
     ensures words { OnOk result (IsEditOfWords edit.now) }
 {
     edit.check(header)?;
-    if !has_place(steps, edit) {
+    if !has_place(count, edit) {
         return Err(EditFault::NoPlace);
     }
-    if !has_room(steps, edit) {
+    if !has_room(count, edit) {
         return Err(EditFault::TooLong);
     }
     Ok(())

@@ -1,9 +1,11 @@
-ghost use Rattle.std.specs.Prelude.{◌≡◌, ◌+◌, ◌^◌, ◌<◌, ◌≤◌, length, List, true, Ok, IfOk};
+ghost use Rattle.std.specs.Prelude.{◌≡◌, ◌+◌, ◌^◌, ◌<◌, ◌≤◌, length, List, Ok, IfOk};
 ghost use Rattle.bench_types.specs.Edit.{edit_check};
 ghost use Rattle.bench_types.specs.Step.{settings_of, task_check};
 ghost use Rattle.bench_types.specs.declared.header.Header.{Header};
 ghost use Rattle.bench_types.specs.declared.step.Step.{Step};
-ghost use Rattle.bench_model.specs.Edits.{changed, edited, has_place};
+ghost use Rattle.bench_model.specs.Edits.{changed, edited};
+ghost use Rattle.segment_laws.specs.EditedSegments.{edited_part};
+ghost use Rattle.session_store.specs.Replays.{IsEditAmong};
 
 use bench_types::{Edit, Header, Items, Step};
 use std::alloc::{AllocError, Global};
@@ -50,26 +52,25 @@ pub(crate) fn edited_header(
     }
 }
 
-/// The steps after the edit.
-pub(crate) fn edited_steps(
+/// The steps of a segment that begins at the place, after the edit of one of them.
+pub(crate) fn edited_part(
     alloc: Global,
     steps: &[Step],
     edit: &Edit,
+    from: u32,
 ) -> Result<Vec<Step>, AllocError>
-    requires place { has_place steps.now edit.now ≡ true }
+    requires place { IsEditAmong edit.now from (length steps.now) }
     requires few { length steps.now < 2 ^ 32 }
-    ensures { IfOk result
-        (λ next. (header : Header)
-        → next.items ≡ (edited edit.now (record { header = header; steps = steps.now })).steps) }
+    ensures { IfOk result (λ next. next.items ≡ edited_part edit.now from steps.now) }
 {
     let mut next = Vec::with_capacity(alloc, steps.len() + 1)?;
     next.extend_from_slice(steps)?;
     match *edit {
-        Edit::Insert { at, step } => next.insert(at as usize, step)?,
+        Edit::Insert { at, step } => next.insert((at - from) as usize, step)?,
         Edit::Remove { at } => {
-            next.remove(at as usize);
+            next.remove((at - from) as usize);
         }
-        Edit::Replace { at, step } => next[at as usize] = step,
+        Edit::Replace { at, step } => next[(at - from) as usize] = step,
         Edit::ChangeTask { .. } => {}
     }
     Ok(next)

@@ -1,11 +1,14 @@
-//! A session that is kept with the replies and the running tasks of its replay, and is changed by
-//! edits.
+//! A session that is kept with the replies and the running tasks of its replay, in segments that
+//! begin with a kernel, and is changed by edits that replay what they change.
 #![tactic(auto)]
 
 mod checks;
+mod edit;
 mod edited;
 mod fault;
+mod opening;
 mod outcome;
+mod parting;
 mod replay;
 mod store;
 

@@ -1,21 +1,19 @@
-ghost use Rattle.std.specs.Prelude.{◌≡◌, ◌<◌, ◌≤◌, ◌+◌, ◌-◌, ◌^◌, min, All, Ok, IfOk, OnOk, OnErr, length, map};
+ghost use Rattle.std.specs.Prelude.{◌≡◌, ◌≤◌, ◌+◌, ◌++◌, ◌∷◌, [], All, Ok, IfOk, OnOk, OnErr, length, take, drop};
 ghost use Rattle.bench_types.specs.Header.{header_check};
-ghost use Rattle.bench_types.specs.Step.{settings_of, step_check};
-ghost use Rattle.bench_model.specs.Control.{running};
-ghost use Rattle.bench_types.specs.Session.{IsSession};
+ghost use Rattle.bench_types.specs.Limits.{max_cores, max_steps, max_span};
+ghost use Rattle.bench_types.specs.Step.{settings_of, IsCheckedStep};
 ghost use Rattle.bench_model.specs.Equal.{StandsFor};
-ghost use Rattle.bench_model.specs.Session.{state_after, trace};
-ghost use Rattle.bench_types.specs.Reply.{shown};
-ghost use Rattle.bench_types.specs.Limits.{max_cores, max_steps};
+ghost use Rattle.bench_model.specs.Session.{state_after};
 ghost use Rattle.bench_model.specs.Start.{start};
 ghost use Rattle.bench_model.specs.Table.{Table};
-ghost use Rattle.bench_model.specs.Tally.{tallies};
-ghost use Rattle.bench_model.specs.Tallied.{first_tallies, part_tallies, shape, shape_of};
+ghost use Rattle.segment_laws.specs.EditedSegments.{cut, AreReplayed};
+ghost use Rattle.segment_laws.specs.Segments.{all_steps};
 ghost use Rattle.smp_kernel.specs.Kernel.{StandsForSome};
-ghost use Rattle.session_store.specs.Counting.{meter_after, CountsUpTo};
+ghost use Rattle.session_segments.specs.Counting.{meter_after, CountsUpTo};
+ghost use Rattle.session_store.specs.Replays.{AreMade, GivesUp, HasLater, HasSettings};
 
-use bench_reports::Tallies;
-use bench_types::{Header, Reply, Row, Step};
+use bench_types::{Header, Step};
+use session_segments::Segment;
 use smp_kernel::{Kernel, Meter};
 use std::alloc::{AllocError, Global};
 
@@ -23,7 +21,7 @@ use std::alloc::{AllocError, Global};
 pub(crate) fn started(alloc: Global, header: &Header) -> Result<Kernel, AllocError>
     requires { header_check header.now ≡ Ok tt }
     ensures stands { IfOk result (λ kernel. StandsFor kernel (start header.now)) }
-    ensures shape { IfOk result (λ kernel. kernel.settings ≡ settings_of header.now) }
+    ensures settings { IfOk result (λ kernel. kernel.settings ≡ settings_of header.now) }
 {
     match Kernel::start(alloc, header) {
         Ok(kernel) => Ok(kernel),
@@ -31,114 +29,161 @@ pub(crate) fn started(alloc: Global, header: &Header) -> Result<Kernel, AllocErr
     }
 }
 
-/// The tasks that run, core 0 first.
-pub(crate) fn row_of(kernel: &Kernel, cores: u32) -> Row
-    requires stands { StandsForSome kernel.now }
-    requires cores { cores ≡ kernel.now.settings.cores }
-    requires few { cores ≤ max_cores }
-    ensures { result.items ≡ running kernel.now.control }
-{
-    let mut row = Row::new();
-    for core in 0..cores {
-        row.push(kernel.running(core));
-    }
-    row
-}
-
-pub(crate) fn copy_row(row: &Row) -> Row
-    ensures { result.items ≡ row.now.items }
-{
-    let mut copy = Row::new();
-    for task in row.as_slice() {
-        copy.push(*task);
-    }
-    copy
-}
-
-/// Makes the steps on the kernel.
-pub(crate) fn advance(kernel: &mut Kernel, steps: &[Step], meter: &mut Meter)
-    requires { All (λ step. step_check kernel.old.settings step ≡ Ok tt) steps.now }
-    ensures state { (table : Table) → StandsFor kernel.old table
-        → StandsFor kernel.new (state_after table steps.now) }
-    ensures shape { kernel.new.settings ≡ kernel.old.settings }
-    ensures meter { meter.new ≡ meter_after (length steps.now) meter.old }
-{
-    for step in steps {
-        kernel.step(meter, step);
-    }
-}
-
-/// The replies that the kernel gives to the steps, each with the tasks that run after it. The
-/// tallies count them.
-fn outcomes_of(
+/// Replays the steps on the kernel into one segment more.
+pub(crate) fn push_segment(
     alloc: Global,
     kernel: &mut Kernel,
-    tallies: &mut Tallies,
+    segments: &mut Vec<Segment>,
     steps: &[Step],
     meter: &mut Meter,
-) -> Result<Vec<(Reply, Row)>, AllocError>
+) -> Result<(), AllocError>
     requires stands { StandsForSome kernel.old }
     requires few { kernel.old.settings.cores ≤ max_cores }
-    requires steps { All (λ step. step_check kernel.old.settings step ≡ Ok tt) steps.now }
+    requires steps { All (IsCheckedStep kernel.old.settings) steps.now }
     requires few_steps { length steps.now ≤ max_steps }
-    requires begun { tallies.old ≡ first_tallies kernel.old.settings kernel.old.control }
-    requires sizes { shape tallies.old ≡ shape_of kernel.old.settings }
-    ensures outcomes { IfOk result
-        (λ outcomes. (table : Table) → StandsFor kernel.old table
-        → map shown outcomes.items ≡ trace table steps.now) }
-    ensures tallies { OnOk result ((table : Table) → StandsFor kernel.old table
-        → tallies.new ≡ part_tallies kernel.old.settings table steps.now) }
+    ensures segment { OnOk result
+        (segments.new.items
+        ≡ segments.old.items ++ record { kernel = kernel.old; steps = steps.now } ∷ []) }
+    ensures state { OnOk result ((table : Table) → StandsFor kernel.old table
+        → StandsFor kernel.new (state_after table steps.now)) }
+    ensures settings { kernel.new.settings ≡ kernel.old.settings }
     ensures meter { OnOk result (meter.new ≡ meter_after (length steps.now) meter.old) }
     ensures some { OnErr result (CountsUpTo (length steps.now) meter.old meter.new) }
 {
-    let cores = kernel.settings().cores;
-    let mut outcomes = Vec::with_capacity(alloc, steps.len())?;
-    for step in steps {
-        let reply = tallies.make(kernel, meter, step);
-        outcomes.push((reply, row_of(kernel, cores)))?;
+    let segment = Segment::replay(alloc, kernel, steps, meter)?;
+    segments.push(segment)?;
+    Ok(())
+}
+
+// Replays two spans of steps or more into two segments, of which the first has a span.
+fn push_two(
+    alloc: Global,
+    kernel: &mut Kernel,
+    segments: &mut Vec<Segment>,
+    span: usize,
+    steps: &[Step],
+    meter: &mut Meter,
+) -> Result<(), AllocError>
+    requires stands { StandsForSome kernel.old }
+    requires few { kernel.old.settings.cores ≤ max_cores }
+    requires steps { All (IsCheckedStep kernel.old.settings) steps.now }
+    requires few_steps { length steps.now ≤ max_steps }
+    requires within { span ≤ length steps.now }
+    requires none { segments.old.items ≡ [] }
+    ensures made { OnOk result ((table : Table) → StandsFor kernel.old table
+        → AreMade table (take span steps.now ∷ drop span steps.now ∷ []) segments.new.items) }
+    ensures state { OnOk result ((table : Table) → StandsFor kernel.old table
+        → StandsFor kernel.new (state_after table steps.now)) }
+    ensures settings { kernel.new.settings ≡ kernel.old.settings }
+    ensures meter { OnOk result (meter.new ≡ meter_after (length steps.now) meter.old) }
+    ensures some { OnErr result (CountsUpTo (length steps.now) meter.old meter.new) }
+{
+    push_segment(alloc, kernel, segments, &steps[..span], meter)?;
+    push_segment(alloc, kernel, segments, &steps[span..], meter)
+}
+
+// Replays edited steps, two spans or more of them into two segments. Where there are none, they
+// are a segment only as the last one.
+fn push_cut(
+    alloc: Global,
+    kernel: &mut Kernel,
+    segments: &mut Vec<Segment>,
+    span: u32,
+    is_last: bool,
+    steps: &[Step],
+    meter: &mut Meter,
+) -> Result<(), AllocError>
+    requires stands { StandsForSome kernel.old }
+    requires few { kernel.old.settings.cores ≤ max_cores }
+    requires steps { All (IsCheckedStep kernel.old.settings) steps.now }
+    requires few_steps { length steps.now ≤ max_steps }
+    requires span { span ≤ max_span }
+    requires none { segments.old.items ≡ [] }
+    ensures made { OnOk result ((table : Table) → StandsFor kernel.old table
+        → AreMade table (cut span is_last steps.now) segments.new.items) }
+    ensures state { OnOk result ((table : Table) → StandsFor kernel.old table
+        → StandsFor kernel.new (state_after table steps.now)) }
+    ensures settings { kernel.new.settings ≡ kernel.old.settings }
+    ensures meter { OnOk result (meter.new ≡ meter_after (length steps.now) meter.old) }
+    ensures some { OnErr result (CountsUpTo (length steps.now) meter.old meter.new) }
+{
+    let span = span as usize;
+    if 2 * span <= steps.len() {
+        return push_two(alloc, kernel, segments, span, steps, meter);
     }
-    Ok(outcomes)
+    if steps.is_empty() && !is_last {
+        return Ok(());
+    }
+    push_segment(alloc, kernel, segments, steps, meter)
 }
 
-// The outcomes of the steps from the start, and their tallies.
-fn outcomes_from_start(
+// Replays the segments after the steps, up to the first that begins with a kernel that is equal to
+// the one that the replay has come to, and returns how many it replayed.
+fn push_later(
     alloc: Global,
-    header: &Header,
-    steps: &[Step],
+    kernel: &mut Kernel,
+    segments: &mut Vec<Segment>,
+    after: &[Segment],
     meter: &mut Meter,
-) -> Result<(Vec<(Reply, Row)>, Tallies), AllocError>
-    requires session { IsSession (record { header = header.now; steps = steps.now }) }
-    requires few { length steps.now ≤ max_steps }
-    ensures outcomes { IfOk result
-        (λ kept. map shown kept.0.items ≡ trace (start header.now) steps.now) }
-    ensures tallies { IfOk result (λ kept. kept.1 ≡ tallies header.now steps.now) }
-    ensures meter { OnOk result (meter.new ≡ meter_after (length steps.now) meter.old) }
-    ensures some { OnErr result (CountsUpTo (length steps.now) meter.old meter.new) }
+) -> Result<usize, AllocError>
+    requires stands { StandsForSome kernel.old }
+    requires few { kernel.old.settings.cores ≤ max_cores }
+    requires settings { All (HasSettings kernel.old.settings) after.now }
+    ensures later { IfOk result
+        (λ count. (table : Table) → StandsFor kernel.old table
+        → HasLater table after.now segments.old.items segments.new.items count) }
+    ensures meter { IfOk result
+        (λ count. meter.new
+        ≡ meter_after (length (all_steps (take count after.now))) meter.old) }
+    ensures some { OnErr result ((table : Table) → StandsFor kernel.old table
+        → GivesUp table [] after.now meter.old meter.new) }
 {
-    let mut kernel = started(alloc, header)?;
-    let mut tallies = Tallies::begin(alloc, &kernel)?;
-    let outcomes = outcomes_of(alloc, &mut kernel, &mut tallies, steps, meter)?;
-    Ok((outcomes, tallies))
+    for (count, segment) in after.iter().enumerate() {
+        if segment.begins_with(kernel) {
+            return Ok(count);
+        }
+        push_segment(alloc, kernel, segments, segment.steps(), meter)?;
+    }
+    Ok(after.len())
 }
 
-/// A kernel at the start, the outcomes of the steps from there, and their tallies.
-pub(crate) fn replayed(
+/// Replays the steps of an edited segment, which are cut where they are too many, and the segments
+/// after it as long as the edited session differs. Returns the segments that this made, and how
+/// many of those after it were replayed.
+pub(crate) fn go_on(
     alloc: Global,
-    header: &Header,
+    kernel: &mut Kernel,
+    span: u32,
     steps: &[Step],
+    after: &[Segment],
     meter: &mut Meter,
-) -> Result<(Kernel, Vec<(Reply, Row)>, Tallies), AllocError>
-    requires session { IsSession (record { header = header.now; steps = steps.now }) }
-    requires few { length steps.now ≤ max_steps }
-    ensures stands { IfOk result (λ kept. StandsFor kept.0 (start header.now)) }
-    ensures shape { IfOk result (λ kept. kept.0.settings ≡ settings_of header.now) }
-    ensures outcomes { IfOk result
-        (λ kept. map shown kept.1.items ≡ trace (start header.now) steps.now) }
-    ensures tallies { IfOk result (λ kept. kept.2 ≡ tallies header.now steps.now) }
-    ensures meter { OnOk result (meter.new ≡ meter_after (length steps.now) meter.old) }
-    ensures some { OnErr result (CountsUpTo (length steps.now) meter.old meter.new) }
+) -> Result<(Vec<Segment>, usize), AllocError>
+    requires stands { StandsForSome kernel.old }
+    requires few { kernel.old.settings.cores ≤ max_cores }
+    requires steps { All (IsCheckedStep kernel.old.settings) steps.now }
+    requires few_steps { length steps.now ≤ max_steps }
+    requires span { span ≤ max_span }
+    requires settings { All (HasSettings kernel.old.settings) after.now }
+    ensures replayed { IfOk result
+        (λ replayed. (table : Table) → StandsFor kernel.old table
+        → AreReplayed span table steps.now after.now replayed.0.items replayed.1) }
+    ensures meter { IfOk result
+        (λ replayed. meter.new
+        ≡ meter_after
+        (length steps.now + length (all_steps (take replayed.1 after.now))) meter.old) }
+    ensures some { OnErr result ((table : Table) → StandsFor kernel.old table
+        → GivesUp table steps.now after.now meter.old meter.new) }
 {
-    let kernel = started(alloc, header)?;
-    let (outcomes, tallies) = outcomes_from_start(alloc, header, steps, meter)?;
-    Ok((kernel, outcomes, tallies))
+    let mut segments = Vec::new(alloc);
+    push_cut(
+        alloc,
+        kernel,
+        &mut segments,
+        span,
+        after.is_empty(),
+        steps,
+        meter,
+    )?;
+    let count = push_later(alloc, kernel, &mut segments, after, meter)?;
+    Ok((segments, count))
 }

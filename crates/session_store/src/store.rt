@@ -1,71 +1,61 @@
-ghost use Rattle.std.specs.Prelude.{◌≡◌, ◌≤◌, ◌<◌, ◌+◌, ◌-◌, ◌^◌, ◌↔◌, min, [], ◌∷◌, length, List, Ok, Err, Some, None, IfOk, IfErr, IfSome, IsSome, OnOk, OnErr, option_map, unwrap_or, slice_get};
-ghost use Rattle.bench_types.specs.Header.{header_check};
+ghost use Rattle.std.specs.Prelude.{◌≡◌, ◌≤◌, ◌<◌, ◌+◌, ◌-◌, ◌^◌, ◌↔◌, length, List, Ok, Err, Some, None, IfOk, IfErr, IfSome, IsSome, OnOk, OnErr, option_map, option_and_then, slice_get};
 ghost use Rattle.bench_types.specs.Step.{settings_of};
 ghost use Rattle.bench_types.specs.Limits.{max_steps};
 ghost use Rattle.bench_types.specs.declared.edit.EditFault.{EditFault as Why};
-ghost use Rattle.bench_model.specs.Edits.{accepted, edited, after_edit, after_edits};
 ghost use Rattle.bench_types.specs.Session.{IsSession};
-ghost use Rattle.bench_model.specs.Tally.{tallies};
+ghost use Rattle.bench_model.specs.Edits.{accepted};
 ghost use Rattle.bench_model.specs.Equal.{StandsFor};
+ghost use Rattle.bench_model.specs.Meeting.{first_kept, kept_after, last_place, replayed};
 ghost use Rattle.bench_model.specs.Session.{state_at, reply_at, running_at};
+ghost use Rattle.bench_model.specs.Tally.{tallies};
+ghost use Rattle.meeting_laws.specs.CheckpointLaws.{AreCheckpoints};
+ghost use Rattle.session_segments.specs.Counting.{meter_after, CountsUpTo};
 ghost use Rattle.session_store.specs.declared.fault.Refused.{Refused as Refusal};
-ghost use Rattle.session_store.specs.Counting.{meter_after, CountsUpTo};
 ghost use Rattle.session_store.specs.Opening.{open_check, handed_back, no_memory};
-ghost use Rattle.session_store.specs.Outcomes.{answer, answers, all_replayed, replayed_for, whole_replay};
-ghost use Rattle.session_store.specs.StoreView.{opened, row_items, distance};
+ghost use Rattle.session_store.specs.Outcomes.{outcome_of, row_items, distance};
 
 use crate::checks::{check_edit, check_opening};
-use crate::edited::{edited_header, edited_steps};
+use crate::edit::{EditReplay, replay_edit};
 use crate::fault::Refused;
-use crate::replay::{advance, copy_row, replayed, row_of, started};
+use crate::opening::opened;
 use crate::{OpenFault, OpenRefusal, Outcome, StoreFault};
 use bench_reports::Tallies;
-use bench_types::{Edit, EditFault, Header, Items, Reply, Row, Step};
+use bench_types::{Edit, Header, Items, MAX_STEPS, Reply, Row, Step};
+use session_segments::Segments;
 use smp_kernel::{Kernel, Meter};
 use std::alloc::{AllocError, Global};
 use std::marker::Model;
 
-/// The steps from one checkpoint to the next or to the end, with the kernel at the first.
-#[derive(Debug, Drop)]
-pub(crate) struct Segment {
-    /// The place of the checkpoint.
-    from: u32,
-    kernel: Kernel,
-    steps: Vec<Step>,
-    /// Each step's reply, and the tasks that run after it.
-    outcomes: Vec<(Reply, Row)>,
-}
-
-/// A session that was replayed, with its replies, the tasks that run at each place, and how each
-/// task fared.
+/// A session that was replayed, in segments that begin at its checkpoints: with its replies, the
+/// tasks that run at each place, and how each task fared.
 #[derive(Debug, Drop)]
 pub struct Store {
     header: Header,
+    /// About how many steps are to lie between two checkpoints.
     span: u32,
-    segment: Segment,
-    tallies: Tallies,
+    segments: Segments,
 }
 
 impl Model for Store {
-    ghost use Rattle.std.specs.Prelude.{[], ◌∷◌};
-    ghost use Rattle.session_store.specs.StoreView.{StoreView};
+    ghost use Rattle.bench_model.specs.Meeting.{CheckpointedSession};
 
-    ghost Value = { StoreView };
+    ghost Value = { CheckpointedSession };
 
-    ghost use Rattle.session_store.specs.Kept.{IsKept};
+    ghost use Rattle.session_store.specs.Kept.{kept_of, IsKept};
 
-    ghost view = { λ store. record {
-      session = record { header = store.header; steps = store.segment.steps.items };
-      span = store.span;
-      checkpoints = store.segment.from ∷ [];
-    } };
+    ghost view = { λ store. kept_of store.header store.span store.segments };
 
-    ghost invariant = { λ store. IsKept store.header store.span store.segment store.tallies };
+    ghost invariant = { λ store. IsKept store.header store.span store.segments };
+}
+
+fn step_at(steps: &[Step], index: u32) -> Option<Step>
+    ensures { result ≡ slice_get steps.now index }
+{
+    steps.get(index as usize).copied()
 }
 
 impl Store {
-    /// Replays the session from its start and keeps it. Every `span` steps are to have a
-    /// checkpoint.
+    /// Replays the session from its start and keeps it, with a checkpoint every `span` steps.
     ///
     /// A refusal gives the session back: F1, else J3, else J2, else the first fault of a step, with
     /// the step's index.
@@ -77,7 +67,8 @@ impl Store {
         meter: &mut Meter,
     ) -> Result<Store, OpenFault>
         ensures opened { IfOk result
-            (λ store. store ≡ opened (record { header = header; steps = steps.items }) span) }
+            (λ store. store
+            ≡ first_kept span (record { header = header; steps = steps.items })) }
         ensures accepted { OnOk result (open_check header steps.items span ≡ Ok tt) }
         ensures refused { (refusal : Refusal) → open_check header steps.items span ≡ Err refusal
             → result ≡ Err (handed_back header steps.items refusal) }
@@ -96,17 +87,11 @@ impl Store {
                 why,
             });
         }
-        match replayed(alloc, &header, steps.as_slice(), meter) {
-            Ok((kernel, outcomes, tallies)) => Ok(Store {
+        match opened(alloc, &header, steps.as_slice(), span, meter) {
+            Ok(segments) => Ok(Store {
                 header,
                 span,
-                segment: Segment {
-                    from: 0,
-                    kernel,
-                    steps,
-                    outcomes,
-                },
-                tallies,
+                segments,
             }),
             Err(_) => Err(OpenFault {
                 header,
@@ -117,7 +102,8 @@ impl Store {
         }
     }
 
-    /// Makes an edit: the edited session is replayed beside the kept one, which it then replaces.
+    /// Makes an edit: the session is replayed from the last checkpoint before the edit, up to the
+    /// first after it from which the edited session goes on as it did.
     ///
     /// A refusal leaves the store as it was: F1 to F5 of [`Edit::check`], else J1, else J2, else
     /// want of memory.
@@ -129,46 +115,26 @@ impl Store {
     ) -> Result<Outcome, StoreFault>
         ensures refused { (why : Why)
             → (result ≡ Err (StoreFault.Edit why)) ↔ (accepted self.old.session edit ≡ Err why) }
-        ensures session { OnOk result
-            (self.new ≡ record self.old { session = edited edit self.old.session }) }
-        ensures outcome { IfOk result
-            (λ outcome. outcome ≡ whole_replay (length (edited edit self.old.session).steps)) }
+        ensures kept { OnOk result (self.new ≡ kept_after edit self.old) }
+        ensures outcome { IfOk result (λ outcome. outcome ≡ outcome_of self.old edit) }
         ensures unchanged { OnErr result (self.new ≡ self.old) }
-        ensures meter { IfOk result
-            (λ outcome. meter.new ≡ meter_after outcome.replayed meter.old) }
+        ensures meter { OnOk result (meter.new ≡ meter_after (replayed self.old edit) meter.old) }
         ensures uncounted { (why : Why) → result ≡ Err (StoreFault.Edit why)
             → meter.new ≡ meter.old }
         ensures some { OnErr result
-            (CountsUpTo (length (edited edit self.old.session).steps) meter.old meter.new) }
+            (CountsUpTo (replayed self.old edit) meter.old meter.new) }
     {
-        *self = self.edited(alloc, edit, meter)?;
-        Ok(Outcome::whole(self.len()))
-    }
-
-    /// Makes edits one after another, each of the session that those before it left. An edit that
-    /// is not accepted is passed over.
-    ///
-    /// Returns for each edit what [`Store::apply`] would. Where memory is wanting, none of the
-    /// edits was made.
-    pub fn apply_all(
-        &mut self,
-        alloc: Global,
-        edits: &[Edit],
-        meter: &mut Meter,
-    ) -> Result<Vec<Result<Outcome, EditFault>>, AllocError>
-        ensures session { OnOk result
-            (self.new ≡ record self.old { session = after_edits self.old.session edits.now }) }
-        ensures answers { IfOk result (λ given. given.items ≡ answers self.old.session edits.now) }
-        ensures unchanged { OnErr result (self.new ≡ self.old) }
-        ensures meter { OnOk result
-            (meter.new ≡ meter_after (all_replayed self.old.session edits.now) meter.old) }
-        ensures some { OnErr result
-            (CountsUpTo (all_replayed self.old.session edits.now) meter.old meter.new) }
-    {
-        let mut last = None;
-        let given = self.edited_by_all(alloc, &mut last, edits, meter)?;
-        self.take_up(last);
-        Ok(given)
+        check_edit(&self.header, self.len(), &edit)?;
+        let EditReplay {
+            header,
+            made,
+            before,
+            after,
+            outcome,
+        } = replay_edit(alloc, &self.header, self.span, &self.segments, &edit, meter)?;
+        self.segments.replace(alloc, before, after, made)?;
+        self.header = header;
+        Ok(outcome)
     }
 
     /// The number of steps, which is the last place.
@@ -176,7 +142,8 @@ impl Store {
         ensures steps { result ≡ length self.now.session.steps }
         ensures few { result ≤ max_steps }
     {
-        self.segment.steps.len() as u32
+        let (index, from) = self.segments.locate(MAX_STEPS);
+        from + self.segments.as_slice()[index].steps().len() as u32
     }
 
     /// The settings and tasks of the session as it stands after all edits.
@@ -192,15 +159,27 @@ impl Store {
     pub fn step(&self, i: u32) -> Option<Step>
         ensures { result ≡ slice_get self.now.session.steps i }
     {
-        self.segment.steps.get(i as usize).copied()
+        let (index, from) = self.segments.locate(i);
+        step_at(self.segments.as_slice()[index].steps(), i - from)
     }
 
     /// The reply of the step at index `i`; `None` past the last.
     pub fn reply(&self, i: u32) -> Option<Reply>
         ensures { result ≡ reply_at self.now.session.header self.now.session.steps i }
     {
-        let (reply, _row) = self.segment.outcomes.get(i as usize)?;
-        Some(*reply)
+        let (index, from) = self.segments.locate(i);
+        self.segments.as_slice()[index].reply(i - from)
+    }
+
+    /// The current task of the core at the place; `None` past the last place, and where there is no
+    /// such core.
+    pub fn running(&self, place: u32, core: u32) -> Option<u32>
+        ensures { result
+            ≡ option_and_then (λ row. slice_get row core)
+            (running_at self.now.session.header self.now.session.steps place) }
+    {
+        let (index, from) = self.segments.locate(place);
+        self.segments.as_slice()[index].running(place - from, core)
     }
 
     /// The current tasks at the place, core 0 first; `None` past the last place.
@@ -208,20 +187,20 @@ impl Store {
         ensures { option_map row_items result
             ≡ running_at self.now.session.header self.now.session.steps place }
     {
-        if place == 0 {
-            return Some(row_of(&self.segment.kernel, self.header.config.cores));
+        let mut row = Row::new();
+        for core in 0..self.header.config.cores {
+            row.push(self.running(place, core)?);
         }
-        let (_reply, row) = self.segment.outcomes.get(place as usize - 1)?;
-        Some(copy_row(row))
+        Some(row)
     }
 
-    /// The place of checkpoint `k`, counted from 0; `None` past the last. So far the start is the
-    /// one checkpoint.
+    /// The place of checkpoint `k`, counted from 0; `None` past the last. The first is the start.
     pub fn checkpoint(&self, k: u32) -> Option<u32>
         ensures place { result ≡ slice_get self.now.checkpoints k }
-        ensures start { self.now.checkpoints ≡ 0 ∷ [] }
+        ensures checkpoints { AreCheckpoints self.now.span (last_place self.now.session)
+            self.now.checkpoints }
     {
-        (k == 0).then_some(self.segment.from)
+        self.segments.checkpoint(k)
     }
 
     /// A kernel that stands for the state at the place, `None` past the last. It is replayed from
@@ -236,23 +215,21 @@ impl Store {
             (λ found. IfSome found
             (λ kernel. StandsFor kernel
             (state_at self.now.session.header self.now.session.steps place))) }
-        ensures shape { IfOk result
+        ensures settings { IfOk result
             (λ found. IfSome found
             (λ kernel. kernel.settings ≡ settings_of self.now.session.header)) }
         ensures within { place ≤ length self.now.session.steps
             → IfOk result (λ found. IsSome found) }
         ensures past { length self.now.session.steps < place → result ≡ Ok None }
-        ensures meter { OnOk result
-            (meter.new ≡ meter_after (distance self.now.session.steps place) meter.old) }
-        ensures some { OnErr result
-            (CountsUpTo (distance self.now.session.steps place) meter.old meter.new) }
+        ensures meter { OnOk result (meter.new ≡ meter_after (distance self.now place) meter.old) }
+        ensures unmade { OnErr result (meter.new ≡ meter.old) }
     {
-        let steps = self.segment.steps.as_slice();
-        if place as usize > steps.len() {
+        if place > self.len() {
             return Ok(None);
         }
-        let mut kernel = started(alloc, &self.header)?;
-        advance(&mut kernel, &steps[..place as usize], meter);
+        let (index, from) = self.segments.locate(place);
+        let segment = &self.segments.as_slice()[index];
+        let kernel = segment.kernel_after(alloc, place - from, meter)?;
         Ok(Some(kernel))
     }
 
@@ -261,117 +238,11 @@ impl Store {
         ensures { IfOk result
             (λ tallied. tallied ≡ tallies self.now.session.header self.now.session.steps) }
     {
-        self.tallies.copy(alloc)
-    }
-
-    // Becomes the store made last, where one was made.
-    fn take_up(&mut self, last: Option<Store>)
-        ensures { self.new ≡ unwrap_or last self.old }
-    {
-        if let Some(next) = last {
-            *self = next;
+        let segments = self.segments.as_slice();
+        let mut total = Tallies::begin(alloc, segments[0].kernel())?;
+        for segment in segments {
+            total.add(segment.tallies());
         }
-    }
-
-    // The store after the edit, beside this one.
-    fn edited(&self, alloc: Global, edit: Edit, meter: &mut Meter) -> Result<Store, StoreFault>
-        ensures refused { (why : Why)
-            → (result ≡ Err (StoreFault.Edit why)) ↔ (accepted self.now.session edit ≡ Err why) }
-        ensures session { IfOk result
-            (λ next. next ≡ record self.now { session = edited edit self.now.session }) }
-        ensures taken { OnOk result (accepted self.now.session edit ≡ Ok tt) }
-        ensures wanting { result ≡ Err StoreFault.NoMemory
-            → accepted self.now.session edit ≡ Ok tt }
-        ensures meter { OnOk result
-            (meter.new ≡ meter_after (length (edited edit self.now.session).steps) meter.old) }
-        ensures uncounted { (why : Why) → result ≡ Err (StoreFault.Edit why)
-            → meter.new ≡ meter.old }
-        ensures some { OnErr result
-            (CountsUpTo (length (edited edit self.now.session).steps) meter.old meter.new) }
-    {
-        let kept = self.segment.steps.as_slice();
-        check_edit(&self.header, kept, &edit)?;
-        let header = edited_header(alloc, &self.header, &edit)?;
-        let steps = edited_steps(alloc, kept, &edit)?;
-        let (kernel, outcomes, tallies) = replayed(alloc, &header, steps.as_slice(), meter)?;
-        let segment = Segment {
-            from: 0,
-            kernel,
-            steps,
-            outcomes,
-        };
-        Ok(Store {
-            header,
-            span: self.span,
-            segment,
-            tallies,
-        })
-    }
-
-    // The answer to an edit of the store that was made last, or of this one where none was. What
-    // the edit makes is then the store made last.
-    fn edited_last(
-        &self,
-        alloc: Global,
-        last: &mut Option<Store>,
-        edit: Edit,
-        meter: &mut Meter,
-    ) -> Result<Result<Outcome, EditFault>, AllocError>
-        ensures answer { IfOk result
-            (λ given. given ≡ answer (unwrap_or last.old self.now).session edit) }
-        ensures session { OnOk result
-            (let old
-            = unwrap_or last.old self.now in unwrap_or last.new self.now
-            ≡ record old { session = after_edit old.session edit }) }
-        ensures meter { OnOk result
-            (meter.new
-            ≡ meter_after
-            (replayed_for (answer (unwrap_or last.old self.now).session edit)) meter.old) }
-        ensures some { OnErr result
-            (CountsUpTo
-            (replayed_for (answer (unwrap_or last.old self.now).session edit)) meter.old
-            meter.new) }
-    {
-        let store = last.as_ref().unwrap_or(self);
-        match store.edited(alloc, edit, meter) {
-            Ok(next) => {
-                let outcome = Outcome::whole(next.len());
-                *last = Some(next);
-                Ok(Ok(outcome))
-            }
-            Err(StoreFault::Edit(why)) => Ok(Err(why)),
-            Err(StoreFault::NoMemory) => Err(AllocError),
-        }
-    }
-
-    // The answers to the edits, the first of which is of the store that was made last, or of this
-    // one where none was.
-    fn edited_by_all(
-        &self,
-        alloc: Global,
-        last: &mut Option<Store>,
-        edits: &[Edit],
-        meter: &mut Meter,
-    ) -> Result<Vec<Result<Outcome, EditFault>>, AllocError>
-        ensures answers { IfOk result
-            (λ given. given.items ≡ answers (unwrap_or last.old self.now).session edits.now) }
-        ensures session { OnOk result
-            (let old
-            = unwrap_or last.old self.now in unwrap_or last.new self.now
-            ≡ record old { session = after_edits old.session edits.now }) }
-        ensures meter { OnOk result
-            (meter.new
-            ≡ meter_after
-            (all_replayed (unwrap_or last.old self.now).session edits.now) meter.old) }
-        ensures some { OnErr result
-            (CountsUpTo
-            (all_replayed (unwrap_or last.old self.now).session edits.now) meter.old meter.new) }
-    {
-        let mut given = Vec::with_capacity(alloc, edits.len())?;
-        for edit in edits {
-            let answer = self.edited_last(alloc, last, *edit, meter)?;
-            given.push(answer)?;
-        }
-        Ok(given)
+        Ok(total)
     }
 }

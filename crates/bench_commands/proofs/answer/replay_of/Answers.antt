@@ -3,4 +3,4 @@ use Rattle.bench_commands.proofs.Refused.{refused_output}
 use Rattle.bench_commands.proofs.answer.replay_of.Goals as goal
 
 pub returns-in-Err : goal.returns-in-Err
-returns-in-Err c = refused_output (bench_replay c.args.tally) c.args.input.now c.in-Err.fault c.refused_for.result c.in-Err.ensures.reading c.refused_for.ensures.line c.refused_for.ensures.memory
+returns-in-Err c = refused_output (bench_replay c.args.span c.args.tally) c.args.input.now c.in-Err.fault c.refused_for.result c.in-Err.ensures.reading c.refused_for.ensures.line c.refused_for.ensures.memory

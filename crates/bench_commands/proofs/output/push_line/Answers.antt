@@ -1,7 +1,7 @@
 use Rattle.std.proofs.Common.{◌≡◌, ◌++◌, List, ℕ, Some, None, string_bytes, ap, sym, subst, ◌∙◌}
 use Rattle.std.specs.Prelude.{OnOk}
 use Rattle.std.proofs.lemmas.List.{append-nil}
-use Rattle.session_store.specs.StoreView.{row_items}
+use Rattle.session_store.specs.Outcomes.{row_items}
 use Rattle.bench_commands.specs.Lines.{step_line}
 use Rattle.bench_commands.proofs.Replays.{line_of}
 use Rattle.bench_commands.proofs.output.push_line.Goals as goal

@@ -1,6 +1,6 @@
 use Rattle.std.proofs.Common.{◌≡◌, ◌++◌, List, ℕ, string_bytes, ap, subst, ◌∙◌}
 use Rattle.std.specs.Prelude.{OnOk}
-use Rattle.session_store.specs.StoreView.{row_items}
+use Rattle.session_store.specs.Outcomes.{row_items}
 use Rattle.bench_commands.specs.Lines.{start_line}
 use Rattle.bench_commands.proofs.Replays.{start_shown, start_not_none}
 use Rattle.bench_commands.proofs.output.push_start.Goals as goal

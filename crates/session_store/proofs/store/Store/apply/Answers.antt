@@ -1,10 +1,24 @@
-use Rattle.std.proofs.Common.{◌≡◌, Err, rules}
+use Rattle.std.proofs.Common.{rules, ◌≡◌, Ok}
+use Rattle.bench_types.specs.Edit.{IsEditOfWords}
 use Rattle.bench_model.specs.Edits.{accepted}
-use Rattle.session_store.proofs.Views.{passed_on}
+use Rattle.session_store.specs.Kept.{session_of}
+use Rattle.session_store.proofs.EditTold.{few_parts, kept_next, some_parts}
 use Rattle.session_store.proofs.store.Store.apply.Goals as goal
 
-pub returns-in_err-self-clause-refused : goal.returns-in_err-self-clause-refused
-returns-in_err-self-clause-refused c = passed_on c.from_residual.result c.in_err-self.field-0.0 (λ why. accepted c.args.self.now.session c.args.edit ≡ Err why) (search rules) c.in_err-self.ensures.refused
+pub replace-requires-clause-some : goal.replace-requires-clause-some
+replace-requires-clause-some c =
+    let words : IsEditOfWords c.args.edit = search rules in
+    let accepts : accepted (session_of c.self.inside.header c.self.inside.segments) c.args.edit ≡ Ok tt = search rules in
+    some_parts c.self.inside.header c.self.inside.span c.self.inside.segments c.args.edit c.self.invariant words accepts c.in_ok-header.field-0.made.items c.in_ok-header.field-0.before c.in_ok-header.field-0.after c.in_ok-header.ensures.replay
 
-pub returns-clause-refused : goal.returns-clause-refused
-returns-clause-refused c = λ why. (λ r. absurd (cc r), λ refuses. absurd (let given = (c.in_ok-self.ensures.refused why).1 refuses in cc given))
+pub replace-requires-clause-few : goal.replace-requires-clause-few
+replace-requires-clause-few c =
+    let words : IsEditOfWords c.args.edit = search rules in
+    let accepts : accepted (session_of c.self.inside.header c.self.inside.segments) c.args.edit ≡ Ok tt = search rules in
+    few_parts c.self.inside.header c.self.inside.span c.self.inside.segments c.args.edit c.self.invariant words accepts c.in_ok-header.field-0.made.items c.in_ok-header.field-0.before c.in_ok-header.field-0.after c.in_ok-header.ensures.replay
+
+pub invariant_of-self-2 : goal.invariant_of-self-2
+invariant_of-self-2 c =
+    let words : IsEditOfWords c.args.edit = search rules in
+    let accepts : accepted (session_of c.self.inside.header c.self.inside.segments) c.args.edit ≡ Ok tt = search rules in
+    kept_next c.self.inside.header c.self.inside.span c.self.inside.segments c.args.edit c.self.invariant words accepts c.in_ok-header.field-0.made.items c.in_ok-header.field-0.before c.in_ok-header.field-0.after c.in_ok-header.ensures.replay c.in_ok-header.field-0.header c.replace.new.self c.in_ok-header.ensures.header c.in_ok-replace.ensures.replaced

@@ -1,21 +1,14 @@
-use Rattle.std.proofs.Common.{◌≡◌, ap, ◌∙◌, map}
-use Rattle.bench_model.specs.Session.{reply_at, trace}
-use Rattle.bench_types.specs.Reply.{shown}
-use Rattle.bench_model.specs.Start.{start}
-use Rattle.session_store.specs.StoreView.{StoreView}
-use Rattle.session_store.proofs.Places.{reply_past, reply_read}
+use Rattle.std.proofs.Common.{ap, ◌∙◌}
+use Rattle.bench_model.specs.Meeting.{CheckpointedSession}
+use Rattle.bench_model.specs.Session.{reply_at}
+use Rattle.session_store.proofs.StoreReads.{lent_at, reply_read}
 use Rattle.session_store.proofs.store.Store.reply.Goals as goal
-
-pub returns-in_err-reply : goal.returns-in_err-reply
-returns-in_err-reply c =
-    let inside = c.self.inside in
-    let whole : map shown c.deref.result.now ≡ trace (start inside.header) inside.segment.steps.items = ap (map shown) c.deref.ensures.value ∙ c.self.invariant.replay.outcomes in
-    c.from_residual.ensures ∙ reply_past inside.header inside.segment.steps.items c.deref.result.now c.args.i whole c.in_err-reply.ensures.lookup.3
-    ∙ ap (λ (view : StoreView). reply_at view.session.header view.session.steps c.args.i) c.self.view_is
 
 pub returns : goal.returns
 returns c =
     let inside = c.self.inside in
-    let whole : map shown c.deref.result.now ≡ trace (start inside.header) inside.segment.steps.items = ap (map shown) c.deref.ensures.value ∙ c.self.invariant.replay.outcomes in
-    reply_read inside.header inside.segment.steps.items c.deref.result.now c.args.i c.in_ok-reply.field-0.now whole c.in_ok-reply.ensures.lookup.3.0 c.in_ok-reply.ensures.lookup.1
-    ∙ ap (λ (view : StoreView). reply_at view.session.header view.session.steps c.args.i) c.self.view_is
+    let index = c.locate-index.result.0 in
+    let segment = c.index-as_slice-index.result in
+    let found = lent_at inside.segments c.as_slice.result.now index segment c.as_slice.ensures.segments c.locate-index.ensures.within c.index-as_slice-index.is in
+    reply_read inside.header inside.span inside.segments c.self.invariant c.args.i index c.locate-index.result.1 segment c.locate-index.ensures.index found c.reply.result c.reply.ensures
+    ∙ ap (λ (kept : CheckpointedSession). reply_at kept.session.header kept.session.steps c.args.i) c.self.view_is

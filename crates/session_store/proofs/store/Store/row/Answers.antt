@@ -1,39 +1,31 @@
-use Rattle.std.proofs.Common.{◌≡◌, ℕ, suc, ◌-◌, List, Option, Some, sym, ap, ◌∙◌, map, arith}
+use Rattle.std.proofs.Common.{◌≡◌, ℕ, List, Option, Some, length, ap, subst, ◌∙◌, arith}
 use Rattle.std.specs.Prelude.{option_map}
 use Rattle.arrayvec.specs.ArrayVec.{ArrayVec}
-use Rattle.bench_model.specs.Session.{running_at, trace}
-use Rattle.bench_types.specs.Reply.{shown}
-use Rattle.bench_model.specs.Start.{start}
-use Rattle.session_store.specs.StoreView.{StoreView, row_items}
-use Rattle.session_store.proofs.Places.{row_past, row_read, row_at_start}
-use Rattle.session_store.proofs.Replays.{runs}
+use Rattle.bench_model.specs.Meeting.{CheckpointedSession}
+use Rattle.bench_model.specs.Session.{running_at}
+use Rattle.session_store.specs.Outcomes.{row_items}
+use Rattle.session_store.proofs.StoreReads.{row_length, some_cores, front_goes, front_none, front_ends}
 use Rattle.session_store.proofs.store.Store.row.Goals as goal
 
-pub returns-then-place-eq0 : goal.returns-then-place-eq0
-returns-then-place-eq0 c =
+pub returns-in_err-running : goal.returns-in_err-running
+returns-in_err-running c =
     let inside = c.self.inside in
-    let first : c.args.place ≡ 0 = omega (arith, c.if-place-eq0.true) in
-    ap (λ (row : List ℕ). Some row) (c.row_of.ensures ∙ runs inside.segment.kernel (start inside.header) c.self.invariant.replay.stands)
-    ∙ row_at_start inside.header inside.segment.steps.items
-    ∙ ap (λ place. running_at inside.header inside.segment.steps.items place) (sym first)
-    ∙ ap (λ (view : StoreView). running_at view.session.header view.session.steps c.args.place) c.self.view_is
-
-pub returns-in_err-_reply : goal.returns-in_err-_reply
-returns-in_err-_reply c =
-    let inside = c.self.inside in
-    let whole : map shown c.deref.result.now ≡ trace (start inside.header) inside.segment.steps.items = ap (map shown) c.deref.ensures.value ∙ c.self.invariant.replay.outcomes in
-    let later : suc (c.args.place - 1) ≡ c.args.place = omega (arith, c.if-place-eq0.false) in
+    let told = running_at c.args.self.now.session.header c.args.self.now.session.steps c.args.place in
+    let sized = subst (λ (kept : CheckpointedSession). (row : List ℕ) → running_at kept.session.header kept.session.steps c.args.place ≡ Some row → length row ≡ inside.header.config.cores) c.self.view_is (row_length inside.header inside.span inside.segments c.self.invariant c.args.place) in
     ap (λ (row : Option (ArrayVec ℕ)). option_map row_items row) c.from_residual.ensures
-    ∙ row_past inside.header inside.segment.steps.items c.deref.result.now (c.args.place - 1) whole c.in_err-_reply.ensures.lookup.3
-    ∙ ap (λ place. running_at inside.header inside.segment.steps.items place) later
-    ∙ ap (λ (view : StoreView). running_at view.session.header view.session.steps c.args.place) c.self.view_is
+    ∙ front_none told c.loop-core.core inside.header.config.cores c.loop-core-test.true sized c.in_err-running.ensures
+
+pub loop-core-preserved : goal.loop-core-preserved
+loop-core-preserved c =
+    let told = running_at c.args.self.now.session.header c.args.self.now.session.steps c.args.place in
+    record {
+      so_far = front_goes told c.loop-core.core c.in_ok-running.field-0 c.loop-core.row.items c.push.new.self.items c.in_ok-running.ensures c.push.ensures.items c.loop-core.invariant.so_far;
+      sized = omega (arith, c.push.ensures.len, c.loop-core.invariant.sized);
+    }
 
 pub returns : goal.returns
 returns c =
     let inside = c.self.inside in
-    let whole : map shown c.deref.result.now ≡ trace (start inside.header) inside.segment.steps.items = ap (map shown) c.deref.ensures.value ∙ c.self.invariant.replay.outcomes in
-    let later : suc (c.args.place - 1) ≡ c.args.place = omega (arith, c.if-place-eq0.false) in
-    ap (λ (row : List ℕ). Some row) c.copy_row.ensures
-    ∙ row_read inside.header inside.segment.steps.items c.deref.result.now (c.args.place - 1) c.in_ok-_reply.field-0.now whole c.in_ok-_reply.ensures.lookup.3.0 c.in_ok-_reply.ensures.lookup.1
-    ∙ ap (λ place. running_at inside.header inside.segment.steps.items place) later
-    ∙ ap (λ (view : StoreView). running_at view.session.header view.session.steps c.args.place) c.self.view_is
+    let told = running_at c.args.self.now.session.header c.args.self.now.session.steps c.args.place in
+    let sized = subst (λ (kept : CheckpointedSession). (row : List ℕ) → running_at kept.session.header kept.session.steps c.args.place ≡ Some row → length row ≡ inside.header.config.cores) c.self.view_is (row_length inside.header inside.span inside.segments c.self.invariant c.args.place) in
+    front_ends told c.loop-core.core inside.header.config.cores c.loop-core.row.items c.loop-core-test.false (some_cores inside.header inside.span inside.segments c.self.invariant) sized c.loop-core.invariant.so_far

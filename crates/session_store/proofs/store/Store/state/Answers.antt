@@ -1,26 +1,41 @@
-use Rattle.std.proofs.Common.{◌≡◌, Ok, sym, ap, subst, ◌∙◌, take}
-use Rattle.std.specs.Prelude.{All}
-use Rattle.std.proofs.lemmas.List.Elements.{All-take}
-use Rattle.bench_types.specs.Step.{settings_of, step_check}
+use Rattle.std.proofs.Common.{◌≤◌, length, ap, subst, sym, ◌∙◌, arith}
+use Rattle.bench_types.specs.Step.{settings_of}
 use Rattle.bench_model.specs.Equal.{StandsFor}
-use Rattle.bench_model.specs.Session.{state_after, state_at}
-use Rattle.bench_model.specs.Start.{start}
-use Rattle.session_store.specs.StoreView.{StoreView}
-use Rattle.session_store.proofs.Places.{state_at_place}
+use Rattle.bench_model.specs.Meeting.{CheckpointedSession}
+use Rattle.bench_model.specs.Session.{state_at}
+use Rattle.session_segments.specs.Counting.{meter_after}
+use Rattle.segment_laws.specs.Segments.{all_steps}
+use Rattle.session_store.specs.Outcomes.{distance}
+use Rattle.session_store.proofs.StoreReads.{lent_at}
+use Rattle.session_store.proofs.StoreStates.{state_read, settings_read, within_read, distance_read}
 use Rattle.session_store.proofs.store.Store.state.Goals as goal
 
-pub advance-requires : goal.advance-requires
-advance-requires c =
-    let steps = c.as_slice-steps.result.now in
-    let pass : All (λ step. step_check (settings_of c.self.inside.header) step ≡ Ok tt) steps =
-    subst (λ ss. All (λ step. step_check (settings_of c.self.inside.header) step ≡ Ok tt) ss) (sym c.as_slice-steps.ensures.value) (λ k d short. (c.self.invariant.session.steps k d short).passes) in
-    subst (λ settings. All (λ step. step_check settings step ≡ Ok tt) (take c.args.place steps)) (sym c.in_ok-kernel.ensures.shape) (All-take (λ step. step_check (settings_of c.self.inside.header) step ≡ Ok tt) c.args.place steps pass)
+pub kernel_after-requires : goal.kernel_after-requires
+kernel_after-requires c =
+    let inside = c.self.inside in
+    let found = lent_at inside.segments c.as_slice.result.now c.locate-index.result.0 c.index-as_slice-index.result c.as_slice.ensures.segments c.locate-index.ensures.within c.index-as_slice-index.is in
+    let within : c.args.place ≤ length (all_steps inside.segments) = omega (arith, c.if-place-len.false, c.len.ensures.steps, ap (λ (kept : CheckpointedSession). length kept.session.steps) c.self.view_is) in
+    within_read inside.header inside.span inside.segments c.self.invariant c.args.place c.locate-index.result.0 c.locate-index.result.1 c.index-as_slice-index.result c.locate-index.ensures.index found within
 
 pub returns-clause-stands : goal.returns-clause-stands
 returns-clause-stands c =
-    let header = c.self.inside.header in
-    let kept = c.self.inside.segment.steps.items in
-    subst (λ table. StandsFor c.advance.new.kernel table)
-    (ap (λ steps. state_after (start header) (take c.args.place steps)) c.as_slice-steps.ensures.value ∙ state_at_place header kept c.args.place
-    ∙ ap (λ (view : StoreView). state_at view.session.header view.session.steps c.args.place) c.self.view_is)
-    (c.advance.ensures.state (start header) c.in_ok-kernel.ensures.stands)
+    let inside = c.self.inside in
+    let found = lent_at inside.segments c.as_slice.result.now c.locate-index.result.0 c.index-as_slice-index.result c.as_slice.ensures.segments c.locate-index.ensures.within c.index-as_slice-index.is in
+    subst (λ (kept : CheckpointedSession). StandsFor c.in_ok-kernel.kernel (state_at kept.session.header kept.session.steps c.args.place)) c.self.view_is
+    (state_read inside.header inside.span inside.segments c.self.invariant c.args.place c.locate-index.result.0 c.locate-index.result.1 c.index-as_slice-index.result c.locate-index.ensures.index found c.in_ok-kernel.kernel c.in_ok-kernel.ensures.stands)
+
+pub returns-clause-settings : goal.returns-clause-settings
+returns-clause-settings c =
+    let inside = c.self.inside in
+    let found = lent_at inside.segments c.as_slice.result.now c.locate-index.result.0 c.index-as_slice-index.result c.as_slice.ensures.segments c.locate-index.ensures.within c.index-as_slice-index.is in
+    c.in_ok-kernel.ensures.settings
+    ∙ settings_read inside.header inside.span inside.segments c.self.invariant c.args.place c.locate-index.result.0 c.locate-index.result.1 c.index-as_slice-index.result c.locate-index.ensures.index found
+    ∙ ap (λ (kept : CheckpointedSession). settings_of kept.session.header) c.self.view_is
+
+pub returns-clause-meter : goal.returns-clause-meter
+returns-clause-meter c =
+    let inside = c.self.inside in
+    let found = lent_at inside.segments c.as_slice.result.now c.locate-index.result.0 c.index-as_slice-index.result c.as_slice.ensures.segments c.locate-index.ensures.within c.index-as_slice-index.is in
+    let within : c.args.place ≤ length (all_steps inside.segments) = omega (arith, c.if-place-len.false, c.len.ensures.steps, ap (λ (kept : CheckpointedSession). length kept.session.steps) c.self.view_is) in
+    let far = distance_read inside.header inside.span inside.segments c.self.invariant c.args.place c.locate-index.result.0 c.locate-index.result.1 c.index-as_slice-index.result c.locate-index.ensures.index found within in
+    c.in_ok-kernel.ensures.meter ∙ ap (λ steps. meter_after steps c.args.meter.now) (sym far ∙ ap (λ (kept : CheckpointedSession). distance kept c.args.place) c.self.view_is)

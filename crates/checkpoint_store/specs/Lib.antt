@@ -1,4 +1,0 @@
-pub mod Kept
-pub mod Opening
-pub mod Outcomes
-pub mod Replays

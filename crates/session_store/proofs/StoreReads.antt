@@ -1,0 +1,129 @@
+-- What a store reads of the segment that a place is in.
+use Rattle.std.proofs.Common.{◌≡◌, ℕ, ◌+◌, ◌-◌, ◌<◌, ◌≤◌, List, [], ◌∷◌, ◌++◌, length, take, drop, get_or, Option, Some, None, refl, sym, ap, subst, ◌∙◌, arith, length-append, add-one}
+use Rattle.std.specs.Prelude.{slice_get, option_and_then, Bool, true, false, nat_le, if◌then◌else◌}
+use Rattle.std.proofs.lemmas.List.{take-append-drop, take_all, length-map}
+use Rattle.std.proofs.lemmas.Option.{slice_get-get_or, same_Some}
+use Rattle.bench_types.specs.declared.edit.Edit.TheVariants.{Remove}
+use Rattle.bench_types.specs.declared.header.Header.{Header}
+use Rattle.bench_types.specs.declared.kernel_data.CoreLook.{CoreLook}
+use Rattle.bench_types.specs.declared.kernel_data.Settings.{Settings}
+use Rattle.bench_types.specs.declared.reply.Reply.{Reply}
+use Rattle.bench_types.specs.declared.step.Step.{Step}
+use Rattle.bench_types.specs.Limits.{max_steps}
+use Rattle.bench_types.specs.Step.{settings_of}
+use Rattle.bench_model.specs.Control.{running}
+use Rattle.bench_model.specs.Equal.{StandsFor}
+use Rattle.bench_model.specs.Session.{state_after, state_at, reply_at, running_at}
+use Rattle.bench_model.specs.Start.{start}
+use Rattle.bench_model.specs.Table.{Table}
+use Rattle.step_laws.proofs.Starts.{start_sound}
+use Rattle.segment_laws.specs.SegmentLaws.{IsReadAt, IsFoundPart}
+use Rattle.segment_laws.specs.Segments.{SegmentView, all_steps, lengths, starts, AreSegments, IsIndexOf, reply_after, running_after}
+use Rattle.segment_laws.proofs.Following.{take_with, all_more}
+use Rattle.segment_laws.proofs.Reading.{start_settings, front_sound, front_settings, places_are_read, parts_are_found}
+use Rattle.session_store.specs.Kept.{session_of, kept_of, IsKept}
+
+-- the segment at an index, as a slice tells it
+pub lent_at : (segments lent : List SegmentView) (index : ℕ) (segment : SegmentView) → lent ≡ segments → index < length segments → segment ≡ get_or lent index segment → slice_get segments index ≡ Some segment
+lent_at segments lent index segment are early is =
+    let there : get_or segments index segment ≡ segment = ap (λ (xs : List SegmentView). get_or xs index segment) (sym are) ∙ sym is in
+    slice_get-get_or segments index segment early ∙ ap (λ (one : SegmentView). Some one) there
+
+-- the steps of a session in parts
+parted_steps : (segments before : List SegmentView) (part : SegmentView) (after : List SegmentView) → segments ≡ before ++ part ∷ after → length (all_steps segments) ≡ length (all_steps before) + length part.steps + length (all_steps after)
+parted_steps segments before part after whole =
+    ap (λ (xs : List SegmentView). length (all_steps xs)) whole ∙ omega (arith, ap (λ (steps : List Step). length steps) (all_more before (part ∷ after)), length-append (all_steps before) (part.steps ++ all_steps after), length-append part.steps (all_steps after))
+
+module _ (header : Header) (span : ℕ) (segments : List SegmentView) (kept : IsKept header span segments) where
+  pub are_segments : AreSegments (kept_of header span segments) segments
+  are_segments = record { steps = refl; places = refl; follow = kept.follow }
+
+  -- the segment that a place is in
+  module _ (place index from : ℕ) (segment : SegmentView) (is : IsIndexOf (starts 0 (lengths segments)) place index from) (found : slice_get segments index ≡ Some segment) where
+    pub read_at : IsReadAt (session_of header segments) place from segment
+    read_at = places_are_read (kept_of header span segments) segments place index from segment are_segments is found
+
+    pub step_read : (told : Option Step) → told ≡ slice_get segment.steps (place - from) → told ≡ slice_get (all_steps segments) place
+    step_read told so = so ∙ sym read_at.step
+
+    pub reply_read : (told : Option Reply) → ((table : Table) → StandsFor segment.kernel table → told ≡ reply_after table segment.steps (place - from)) → told ≡ reply_at header (all_steps segments) place
+    reply_read told so = so (state_at header (all_steps segments) from) read_at.stands ∙ sym read_at.reply
+
+    pub running_read : (told : Option ℕ) (core : ℕ) → ((table : Table) → StandsFor segment.kernel table → told ≡ option_and_then (λ row. slice_get row core) (running_after table segment.steps (place - from)))
+        → told ≡ option_and_then (λ row. slice_get row core) (running_at header (all_steps segments) place)
+    running_read told core so =
+        so (state_at header (all_steps segments) from) read_at.stands ∙ ap (option_and_then (λ (row : List ℕ). slice_get row core)) (sym read_at.row)
+
+    pub part_at : IsFoundPart (Remove place) segments index from segment
+    part_at = parts_are_found (kept_of header span segments) segments (Remove place) index from segment are_segments is found
+
+    -- the segment of the greatest place is the last
+    pub steps_end : max_steps ≤ place → length (all_steps segments) ≡ from + length segment.steps
+    steps_end late = at (drop (index + 1) segments) refl
+      where
+        at : (after : List SegmentView) → drop (index + 1) segments ≡ after → length (all_steps segments) ≡ from + length segment.steps
+        at [] drops =
+            let none : length (all_steps (drop (index + 1) segments)) ≡ 0 = ap (λ (xs : List SegmentView). length (all_steps xs)) drops in
+            omega (arith, parted_steps segments (take index segments) segment (drop (index + 1) segments) part_at.parted.whole, part_at.begins, none)
+        at (next ∷ rest) drops =
+            let early = part_at.parted.within next rest drops in
+            absurd (omega (arith, parted_steps segments (take index segments) segment (drop (index + 1) segments) part_at.parted.whole, early, late, kept.few_steps))
+
+  -- at a place a task runs on each core
+  cores_of : (table : Table) (settings : Settings) → table.settings ≡ settings → length table.control.cores ≡ table.settings.cores → length (running table.control) ≡ settings.cores
+  cores_of table settings same sized = length-map table.control.cores (λ (core : CoreLook). core.current) ∙ sized ∙ ap (λ (s : Settings). s.cores) same
+
+  state_cores : (place : ℕ) → length (running (state_at header (all_steps segments) place).control) ≡ header.config.cores
+  unfolding state_at
+  state_cores place =
+      let steps = all_steps segments in
+      let whole = sym (take-append-drop place steps) in
+      let session = session_of header segments in
+      let sound = front_sound session (take place steps) (drop place steps) kept.session whole in
+      cores_of (state_after (start header) (take place steps)) (settings_of header) (front_settings session (take place steps) (drop place steps) kept.session whole) sound.consistent.sized.cores
+
+  pub row_length : (place : ℕ) (row : List ℕ) → running_at header (all_steps segments) place ≡ Some row → length row ≡ header.config.cores
+  unfolding running_at
+  row_length place row told = at (nat_le place (length (all_steps segments))) told
+    where
+      at : (b : Bool) → (if b then Some (running (state_at header (all_steps segments) place).control) else None) ≡ Some row → length row ≡ header.config.cores
+      at true is = ap (λ (xs : List ℕ). length xs) (sym (same_Some (running (state_at header (all_steps segments) place).control) row is)) ∙ state_cores place
+      at false is = absurd (cc is)
+
+  -- there are some cores
+  pub some_cores : 0 < header.config.cores
+  some_cores =
+      let sound = start_sound header kept.session.header.passes in
+      omega (arith, sound.consistent.sized.some_core, ap (λ (s : Settings). s.cores) (start_settings header))
+
+-- ---- a row, core by core
+
+-- the tasks of the first cores
+pub record IsFront (told : Option (List ℕ)) (core : ℕ) (items : List ℕ) : Type 0 where
+  pub some : 0 < core → (row : List ℕ) × (told ≡ Some row)
+  pub front : (row : List ℕ) → told ≡ Some row → items ≡ take core row
+
+pub front_goes : (told : Option (List ℕ)) (core task : ℕ) (items next : List ℕ) → Some task ≡ option_and_then (λ row. slice_get row core) told → next ≡ items ++ task ∷ [] → IsFront told core items → IsFront told (core + 1) next
+front_goes None core task items next is push so_far = absurd (cc is)
+front_goes (Some row) core task items next is push so_far = record {
+  some = λ low. (row, refl);
+  front = λ other same.
+      let one : row ≡ other = same_Some row other same in
+      subst (λ (xs : List ℕ). next ≡ take (core + 1) xs) one (push ∙ ap (λ xs. xs ++ task ∷ []) (so_far.front row refl) ∙ sym (taken row core task (sym is)));
+}
+  where
+    taken : (xs : List ℕ) (k x : ℕ) → slice_get xs k ≡ Some x → take (k + 1) xs ≡ take k xs ++ x ∷ []
+    taken xs k x there = ap (λ n. take n xs) (add-one k) ∙ take_with xs k x there
+
+-- there is no row where one of its tasks is not there
+pub front_none : (told : Option (List ℕ)) (core cores : ℕ) → core < cores → ((row : List ℕ) → told ≡ Some row → length row ≡ cores) → None ≡ option_and_then (λ row. slice_get row core) told → None ≡ told
+front_none None core cores early sized is = refl
+front_none (Some row) core cores early sized is =
+    let low : core < length row = omega (arith, early, sized row refl) in
+    absurd (cc (is ∙ slice_get-get_or row core 0 low))
+
+pub front_ends : (told : Option (List ℕ)) (core cores : ℕ) (items : List ℕ) → cores ≤ core → 0 < cores → ((row : List ℕ) → told ≡ Some row → length row ≡ cores) → IsFront told core items → Some items ≡ told
+front_ends told core cores items all some sized so_far =
+    let there = so_far.some (omega (arith, all, some)) in
+    let row = there.0 in
+    ap (λ (xs : List ℕ). Some xs) (so_far.front row there.1 ∙ take_all core row (omega (arith, all, sized row there.1))) ∙ sym there.1

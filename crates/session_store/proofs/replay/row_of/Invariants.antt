@@ -1,6 +1,0 @@
-use Rattle.std.proofs.Common.{◌≡◌, map, take}
-use Rattle.bench_types.specs.declared.kernel_data.CoreLook.{CoreLook}
-use Rattle.session_store.proofs.replay.row_of.Given as goal
-
-abbrev pub invariant-loop-core : goal.invariant-loop-core
-invariant-loop-core l = l.row.items ≡ map (λ (core : CoreLook). core.current) (take l.core l.kernel.control.cores)

@@ -1,5 +1,5 @@
 -- What a recording has read and written when it ends.
-use Rattle.std.specs.Prelude.{◌≡◌, ◌≤◌, ◌++◌, ℕ, List, [], length, codes, nat_lt, Option, None, Bool, true, false, Result, Ok, Err, if◌then◌else◌}
+use Rattle.std.specs.Prelude.{◌≡◌, ◌≤◌, ◌++◌, ℕ, List, [], length, codes, nat_lt, Option, None, Bool, true, false, Result, Ok, Err}
 use Rattle.std.specs.Io.KnownBytes.{Appends}
 use Rattle.bench_types.specs.declared.entry.Entry.{Entry}
 use Rattle.bench_types.specs.declared.header.Header.{Header}

@@ -1,5 +1,4 @@
-use Rattle.std.proofs.Common.{refl, string_bytes}
-use Rattle.bench_commands.proofs.EditsMade.{made_more, made_all}
+use Rattle.std.proofs.Common.{refl}
 use Rattle.bench_commands.proofs.output.push_edits.Goals as goal
 
 pub loop-index-init : goal.loop-index-init

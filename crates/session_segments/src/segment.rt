@@ -1,4 +1,4 @@
-ghost use Rattle.std.specs.Prelude.{◌≡◌, ◌↔◌, ◌<◌, ◌≤◌, ◌+◌, ◌-◌, ◌*◌, All, true, Ok, Some, None, IfOk, OnOk, OnErr, length, take, map, option_map, option_and_then, slice_get};
+ghost use Rattle.std.specs.Prelude.{◌≡◌, ◌↔◌, suc, ◌<◌, ◌≤◌, ◌+◌, ◌-◌, ◌*◌, All, true, Ok, Some, None, IfOk, IfSome, IsSome, OnOk, OnErr, length, take, map, option_map, option_and_then, slice_get};
 ghost use Rattle.std.specs.List.{flat_map};
 ghost use Rattle.bench_types.specs.Limits.{max_cores, max_steps};
 ghost use Rattle.bench_types.specs.Step.{IsCheckedStep};
@@ -174,6 +174,20 @@ impl Segment {
             return Some(self.kernel.running(core));
         }
         Some(self.row_of(count)[core as usize])
+    }
+
+    /// The current tasks after the step at the index, core 0 first; `None` past the last step.
+    pub fn row_after(&self, index: u32) -> Option<&[u32]>
+        ensures there { index < length self.now.steps → IsSome result }
+        ensures past { length self.now.steps ≤ index → result ≡ None }
+        ensures row { IfSome result
+            (λ row. (table : Table) → StandsFor self.now.kernel table
+            → Some row.now ≡ running_after table self.now.steps (suc index)) }
+    {
+        if index as usize >= self.steps.len() {
+            return None;
+        }
+        Some(self.row_of(index + 1))
     }
 
     // The current tasks after so many steps, core 0 first.

@@ -21,10 +21,10 @@ fn push_line(text: &mut String, store: &Store, place: u32) -> Result<(), AllocEr
     let Some(reply) = store.reply(place) else {
         return Ok(());
     };
-    let Some(row) = store.row(place + 1) else {
+    let Some(row) = store.row_after(place) else {
         return Ok(());
     };
-    push_step_line(text, store.header(), place, reply, row.as_slice())
+    push_step_line(text, store.header(), place, reply, row)
 }
 
 // The tasks that run at the start.

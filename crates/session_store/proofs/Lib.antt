@@ -7,6 +7,7 @@ mod Openings
 pub mod Parted
 mod Partings
 mod Spans
+mod StepRows
 mod StoreReads
 mod StoreStates
 mod StoreTallies

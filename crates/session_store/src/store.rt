@@ -1,4 +1,4 @@
-ghost use Rattle.std.specs.Prelude.{◌≡◌, ◌≤◌, ◌<◌, ◌+◌, ◌-◌, ◌^◌, ◌↔◌, length, List, Ok, Err, Some, None, IfOk, IfErr, IfSome, IsSome, OnOk, OnErr, option_map, option_and_then, slice_get};
+ghost use Rattle.std.specs.Prelude.{◌≡◌, suc, ◌≤◌, ◌<◌, ◌+◌, ◌-◌, ◌^◌, ◌↔◌, length, List, Ok, Err, Some, None, IfOk, IfErr, IfSome, IsSome, OnOk, OnErr, option_map, option_and_then, slice_get};
 ghost use Rattle.bench_types.specs.Step.{settings_of};
 ghost use Rattle.bench_types.specs.Limits.{max_steps};
 ghost use Rattle.bench_types.specs.declared.edit.EditFault.{EditFault as Why};
@@ -192,6 +192,19 @@ impl Store {
             row.push(self.running(place, core)?);
         }
         Some(row)
+    }
+
+    /// The current tasks after the step at index `i`, core 0 first; `None` past the last step. They
+    /// are lent, and [`Store::row`] gives a row of one's own.
+    pub fn row_after(&self, i: u32) -> Option<&[u32]>
+        ensures there { i < length self.now.session.steps → IsSome result }
+        ensures past { length self.now.session.steps ≤ i → result ≡ None }
+        ensures row { IfSome result
+            (λ row. Some row.now
+            ≡ running_at self.now.session.header self.now.session.steps (suc i)) }
+    {
+        let (index, from) = self.segments.locate(i);
+        self.segments.as_slice()[index].row_after(i - from)
     }
 
     /// The place of checkpoint `k`, counted from 0; `None` past the last. The first is the start.

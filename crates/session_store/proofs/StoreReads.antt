@@ -1,7 +1,8 @@
 -- What a store reads of the segment that a place is in.
 use Rattle.std.proofs.Common.{◌≡◌, ℕ, ◌+◌, ◌-◌, ◌<◌, ◌≤◌, List, [], ◌∷◌, ◌++◌, length, take, drop, get_or, Option, Some, None, refl, sym, ap, subst, ◌∙◌, arith, length-append, add-one}
-use Rattle.std.specs.Prelude.{slice_get, option_and_then, Bool, true, false, nat_le, if◌then◌else◌}
-use Rattle.std.proofs.lemmas.List.{take-append-drop, take_all, length-map}
+use Rattle.std.specs.Prelude.{All, slice_get, option_and_then, Bool, true, false, nat_le, if◌then◌else◌}
+use Rattle.std.proofs.lemmas.List.{take_all, length-map}
+use Rattle.std.proofs.lemmas.List.Elements.{All-take}
 use Rattle.std.proofs.lemmas.Option.{slice_get-get_or, same_Some}
 use Rattle.bench_types.specs.declared.edit.Edit.TheVariants.{Remove}
 use Rattle.bench_types.specs.declared.header.Header.{Header}
@@ -10,17 +11,17 @@ use Rattle.bench_types.specs.declared.kernel_data.Settings.{Settings}
 use Rattle.bench_types.specs.declared.reply.Reply.{Reply}
 use Rattle.bench_types.specs.declared.step.Step.{Step}
 use Rattle.bench_types.specs.Limits.{max_steps}
-use Rattle.bench_types.specs.Step.{settings_of}
+use Rattle.bench_types.specs.Step.{IsCheckedStep}
 use Rattle.bench_model.specs.Control.{running}
 use Rattle.bench_model.specs.Equal.{StandsFor}
+use Rattle.bench_model.specs.Lists.{View}
 use Rattle.bench_model.specs.Session.{state_after, state_at, reply_at, running_at}
-use Rattle.bench_model.specs.Start.{start}
 use Rattle.bench_model.specs.Table.{Table}
-use Rattle.step_laws.proofs.Starts.{start_sound}
+use Rattle.meeting_laws.proofs.Runs.{sound_along, settings_along}
 use Rattle.segment_laws.specs.SegmentLaws.{IsReadAt, IsFoundPart}
 use Rattle.segment_laws.specs.Segments.{SegmentView, all_steps, lengths, starts, AreSegments, IsIndexOf, reply_after, running_after}
 use Rattle.segment_laws.proofs.Following.{take_with, all_more}
-use Rattle.segment_laws.proofs.Reading.{start_settings, front_sound, front_settings, places_are_read, parts_are_found}
+use Rattle.segment_laws.proofs.Reading.{places_are_read, parts_are_found}
 use Rattle.session_store.specs.Kept.{session_of, kept_of, IsKept}
 
 -- the segment at an index, as a slice tells it
@@ -54,6 +55,9 @@ module _ (header : Header) (span : ℕ) (segments : List SegmentView) (kept : Is
     running_read told core so =
         so (state_at header (all_steps segments) from) read_at.stands ∙ ap (option_and_then (λ (row : List ℕ). slice_get row core)) (sym read_at.row)
 
+    pub row_read : (told : Option (List ℕ)) → ((table : Table) → StandsFor segment.kernel table → told ≡ running_after table segment.steps (place - from)) → told ≡ running_at header (all_steps segments) place
+    row_read told so = so (state_at header (all_steps segments) from) read_at.stands ∙ sym read_at.row
+
     pub part_at : IsFoundPart (Remove place) segments index from segment
     part_at = parts_are_found (kept_of header span segments) segments (Remove place) index from segment are_segments is found
 
@@ -69,32 +73,30 @@ module _ (header : Header) (span : ℕ) (segments : List SegmentView) (kept : Is
             let early = part_at.parted.within next rest drops in
             absurd (omega (arith, parted_steps segments (take index segments) segment (drop (index + 1) segments) part_at.parted.whole, early, late, kept.few_steps))
 
-  -- at a place a task runs on each core
-  cores_of : (table : Table) (settings : Settings) → table.settings ≡ settings → length table.control.cores ≡ table.settings.cores → length (running table.control) ≡ settings.cores
-  cores_of table settings same sized = length-map table.control.cores (λ (core : CoreLook). core.current) ∙ sized ∙ ap (λ (s : Settings). s.cores) same
+-- after so many of its steps a task runs on each core of a segment's kernel
+module _ (kernel : View) (steps : List Step) (cores : ℕ) (sized : cores ≡ kernel.settings.cores) (table : Table) (stands : StandsFor kernel table) where
+  same_settings : table.settings ≡ kernel.settings
+  same_settings = ap (λ (view : View). view.settings) stands.shows
 
-  state_cores : (place : ℕ) → length (running (state_at header (all_steps segments) place).control) ≡ header.config.cores
-  unfolding state_at
-  state_cores place =
-      let steps = all_steps segments in
-      let whole = sym (take-append-drop place steps) in
-      let session = session_of header segments in
-      let sound = front_sound session (take place steps) (drop place steps) kept.session whole in
-      cores_of (state_after (start header) (take place steps)) (settings_of header) (front_settings session (take place steps) (drop place steps) kept.session whole) sound.consistent.sized.cores
+  pub some_cores : 0 < cores
+  some_cores = omega (arith, stands.sound.consistent.sized.some_core, ap (λ (s : Settings). s.cores) same_settings, sized)
 
-  pub row_length : (place : ℕ) (row : List ℕ) → running_at header (all_steps segments) place ≡ Some row → length row ≡ header.config.cores
-  unfolding running_at
-  row_length place row told = at (nat_le place (length (all_steps segments))) told
+  row_after : All (IsCheckedStep kernel.settings) steps → (count : ℕ) → length (running (state_after table (take count steps)).control) ≡ cores
+  row_after checked count =
+      let own = subst (λ settings. All (IsCheckedStep settings) steps) (sym same_settings) checked in
+      let front = All-take (IsCheckedStep table.settings) count steps own in
+      let after = state_after table (take count steps) in
+      length-map after.control.cores (λ (core : CoreLook). core.current)
+      ∙ (sound_along (take count steps) table stands.sound front).consistent.sized.cores
+      ∙ ap (λ (s : Settings). s.cores) (settings_along (take count steps) table stands.sound front ∙ same_settings)
+      ∙ sym sized
+
+  pub row_length : All (IsCheckedStep kernel.settings) steps → (count : ℕ) (row : List ℕ) → running_after table steps count ≡ Some row → length row ≡ cores
+  row_length checked count row told = at (nat_le count (length steps)) told
     where
-      at : (b : Bool) → (if b then Some (running (state_at header (all_steps segments) place).control) else None) ≡ Some row → length row ≡ header.config.cores
-      at true is = ap (λ (xs : List ℕ). length xs) (sym (same_Some (running (state_at header (all_steps segments) place).control) row is)) ∙ state_cores place
+      at : (b : Bool) → (if b then Some (running (state_after table (take count steps)).control) else None) ≡ Some row → length row ≡ cores
+      at true is = ap (λ (xs : List ℕ). length xs) (sym (same_Some (running (state_after table (take count steps)).control) row is)) ∙ row_after checked count
       at false is = absurd (cc is)
-
-  -- there are some cores
-  pub some_cores : 0 < header.config.cores
-  some_cores =
-      let sound = start_sound header kept.session.header.passes in
-      omega (arith, sound.consistent.sized.some_core, ap (λ (s : Settings). s.cores) (start_settings header))
 
 -- ---- a row, core by core
 

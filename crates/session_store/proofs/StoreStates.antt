@@ -1,11 +1,12 @@
 -- The states of a session that a store gives, and how far each is from the checkpoint before it.
 use Rattle.std.proofs.Common.{◌≡◌, ℕ, suc, ◌+◌, ◌-◌, ◌<◌, ◌≤◌, Bool, true, false, leb, List, [], ◌∷◌, length, take, drop, Some, refl, sym, ap, subst, ◌∙◌, arith}
-use Rattle.std.specs.Prelude.{slice_get}
+use Rattle.std.specs.Prelude.{All, slice_get}
 use Rattle.std.proofs.lemmas.Bool.Decides.{nat_tests}
 use Rattle.std.proofs.lemmas.List.{length-drop, length-append, append-nil}
 use Rattle.std.proofs.lemmas.Option.{slice_get_within}
 use Rattle.bench_types.specs.declared.header.Header.{Header}
-use Rattle.bench_types.specs.Step.{settings_of}
+use Rattle.bench_types.specs.declared.kernel_data.Settings.{Settings}
+use Rattle.bench_types.specs.Step.{settings_of, IsCheckedStep}
 use Rattle.list_orders.specs.Search.{has}
 use Rattle.bench_model.specs.Equal.{StandsFor}
 use Rattle.bench_model.specs.Lists.{View}
@@ -15,7 +16,7 @@ use Rattle.bench_model.specs.Table.{Table}
 use Rattle.meeting_laws.proofs.Checkpoints.{before_is_last}
 use Rattle.segment_laws.specs.Segments.{SegmentView, all_steps, lengths, starts, IsIndexOf}
 use Rattle.segment_laws.proofs.Following.{take_with, all_more}
-use Rattle.segment_laws.proofs.Reading.{segment_kernel_settings}
+use Rattle.segment_laws.proofs.Reading.{segment_checked, segment_kernel_settings}
 use Rattle.segment_laws.proofs.Shifts.{start_listed}
 use Rattle.segment_laws.proofs.Starts.{start_at, start_found, more_steps}
 use Rattle.session_store.specs.Kept.{kept_of, IsKept}
@@ -31,6 +32,15 @@ module _ (header : Header) (span : ℕ) (segments : List SegmentView) (kept : Is
 
     pub settings_read : segment.kernel.settings ≡ settings_of header
     settings_read = segment_kernel_settings (kept_of header span segments) segments index segment (are_segments header span segments kept) found kept.session
+
+    pub checked_read : All (IsCheckedStep segment.kernel.settings) segment.steps
+    checked_read =
+        subst (λ settings. All (IsCheckedStep settings) segment.steps) (sym settings_read)
+        (segment_checked (kept_of header span segments) segments index segment (are_segments header span segments kept) found kept.session)
+
+    -- its kernel has the cores of the header
+    pub cores_read : header.config.cores ≡ segment.kernel.settings.cores
+    cores_read = ap (λ (s : Settings). s.cores) (sym settings_read)
 
     pub within_read : place ≤ length (all_steps segments) → place - from ≤ length segment.steps
     within_read within = (read_at header span segments kept place index from segment is found).within within

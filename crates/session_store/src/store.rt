@@ -1,14 +1,16 @@
-ghost use Rattle.std.specs.Prelude.{◌≡◌, suc, ◌≤◌, ◌<◌, ◌+◌, ◌-◌, ◌^◌, ◌↔◌, length, List, Ok, Err, Some, None, IfOk, IfErr, IfSome, IsSome, OnOk, OnErr, option_map, option_and_then, slice_get};
-ghost use Rattle.bench_types.specs.Step.{settings_of};
-ghost use Rattle.bench_types.specs.Limits.{max_steps};
+ghost use Rattle.std.specs.Prelude.{◌≡◌, suc, ◌≤◌, ◌<◌, ◌+◌, ◌-◌, ◌^◌, ◌↔◌, All, length, List, Ok, Err, Some, None, IfOk, IfErr, IfSome, IsSome, OnOk, OnErr, option_map, option_and_then, slice_get};
+ghost use Rattle.bench_types.specs.Step.{settings_of, IsCheckedStep};
+ghost use Rattle.bench_types.specs.Limits.{max_cores, max_steps};
 ghost use Rattle.bench_types.specs.declared.edit.EditFault.{EditFault as Why};
 ghost use Rattle.bench_types.specs.Session.{IsSession};
 ghost use Rattle.bench_model.specs.Edits.{accepted};
 ghost use Rattle.bench_model.specs.Equal.{StandsFor};
 ghost use Rattle.bench_model.specs.Meeting.{first_kept, kept_after, last_place, replayed};
 ghost use Rattle.bench_model.specs.Session.{state_at, reply_at, running_at};
+ghost use Rattle.bench_model.specs.Table.{Table};
 ghost use Rattle.bench_model.specs.Tally.{tallies};
 ghost use Rattle.meeting_laws.specs.CheckpointLaws.{AreCheckpoints};
+ghost use Rattle.segment_laws.specs.Segments.{running_after};
 ghost use Rattle.session_segments.specs.Counting.{meter_after, CountsUpTo};
 ghost use Rattle.session_store.specs.declared.fault.Refused.{Refused as Refusal};
 ghost use Rattle.session_store.specs.Opening.{open_check, handed_back, no_memory};
@@ -21,7 +23,7 @@ use crate::opening::opened;
 use crate::{OpenFault, OpenRefusal, Outcome, StoreFault};
 use bench_reports::Tallies;
 use bench_types::{Edit, Header, Items, MAX_STEPS, Reply, Row, Step};
-use session_segments::Segments;
+use session_segments::{Segment, Segments};
 use smp_kernel::{Kernel, Meter};
 use std::alloc::{AllocError, Global};
 use std::marker::Model;
@@ -52,6 +54,21 @@ fn step_at(steps: &[Step], index: u32) -> Option<Step>
     ensures { result ≡ slice_get steps.now index }
 {
     steps.get(index as usize).copied()
+}
+
+// The current tasks after so many of the segment's steps, core 0 first; `None` past the last.
+fn row_in(segment: &Segment, count: u32, cores: u32) -> Option<Row>
+    requires cores { cores ≡ segment.now.kernel.settings.cores }
+    requires few { cores ≤ max_cores }
+    requires checked { All (IsCheckedStep segment.now.kernel.settings) segment.now.steps }
+    ensures { (table : Table) → StandsFor segment.now.kernel table
+        → option_map row_items result ≡ running_after table segment.now.steps count }
+{
+    let mut row = Row::new();
+    for core in 0..cores {
+        row.push(segment.running(count, core)?);
+    }
+    Some(row)
 }
 
 impl Store {
@@ -187,11 +204,9 @@ impl Store {
         ensures { option_map row_items result
             ≡ running_at self.now.session.header self.now.session.steps place }
     {
-        let mut row = Row::new();
-        for core in 0..self.header.config.cores {
-            row.push(self.running(place, core)?);
-        }
-        Some(row)
+        let (index, from) = self.segments.locate(place);
+        let segment = &self.segments.as_slice()[index];
+        row_in(segment, place - from, self.header.config.cores)
     }
 
     /// The current tasks after the step at index `i`, core 0 first; `None` past the last step. They

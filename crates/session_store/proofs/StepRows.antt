@@ -1,6 +1,7 @@
 -- The row after a step, which the segment with the step tells.
-use Rattle.std.proofs.Common.{◌≡◌, ℕ, suc, ◌+◌, ◌-◌, ◌<◌, ◌≤◌, List, [], ◌∷◌, length, take, get_or, Option, Some, None, refl, sym, ap, ap₂, ◌∙◌, arith}
-use Rattle.std.specs.Prelude.{slice_get, Bool, true, false, nat_le, nat_lt, if◌then◌else◌}
+use Rattle.std.proofs.Common.{◌≡◌, ℕ, suc, ◌-◌, ◌<◌, ◌≤◌, List, [], ◌∷◌, length, take, get_or, Option, Some, None, refl, sym, ap, ap₂, ◌∙◌, arith}
+use Rattle.std.specs.Prelude.{slice_get, Bool, true, false, nat_le, nat_lt, if◌then◌else◌, IfSome}
+use Rattle.std.specs.Borrow.{Bor}
 use Rattle.std.proofs.lemmas.Bool.Decides.{nat_tests}
 use Rattle.std.proofs.lemmas.Option.{slice_get-get_or, slice_get_past, slice_get_within}
 use Rattle.bench_types.specs.declared.header.Header.{Header}
@@ -70,3 +71,14 @@ module _ (header : Header) (span : ℕ) (segments : List SegmentView) (kept : Is
       let there : slice_get (all_steps segments) place ≡ Some step = slice_get-get_or (all_steps segments) place Tick early in
       told (state_at header (all_steps segments) from) reads.stands
       ∙ both_rows header (all_steps segments) (state_at header (all_steps segments) from) segment.steps place (place - from) step there (sym same_step ∙ there) reads.state
+
+-- what is lent of a row, where there is one
+pub lent_row : (lent : Option (Bor (List ℕ))) (place : ℕ) (steps : List Step) (P Q : Bor (List ℕ) → Type 0) → (length steps ≤ place → lent ≡ None) → ((row : Bor (List ℕ)) → place < length steps → P row → Q row) → IfSome lent P → IfSome lent Q
+lent_row None place steps P Q past goes told = tt
+lent_row (Some row) place steps P Q past goes told = goes row (at (nat_lt place (length steps)) refl) told
+  where
+    at : (b : Bool) → nat_lt place (length steps) ≡ b → place < length steps
+    at true is = grind (arith, nat_tests, is)
+    at false is =
+        let late : length steps ≤ place = grind (arith, nat_tests, is) in
+        absurd (cc (past late))

@@ -1,6 +1,6 @@
 -- The replay of an edit: what its parts need, and what it makes.
-use Rattle.std.proofs.Common.{◌≡◌, ℕ, ◌+◌, ◌-◌, ◌<◌, ◌≤◌, List, ◌++◌, length, take, drop, Ok, refl, sym, ap, ap₂, subst, ◌∙◌, arith}
-use Rattle.std.specs.Prelude.{All, true}
+use Rattle.std.proofs.Common.{◌≡◌, ℕ, ◌+◌, ◌≤◌, List, ◌++◌, length, take, drop, Ok, refl, sym, ap, ap₂, subst, ◌∙◌, arith}
+use Rattle.std.specs.Prelude.{All}
 use Rattle.std.proofs.lemmas.Bool.Decides.{nat_tests}
 use Rattle.std.proofs.lemmas.List.{length-append, length-drop, drop-drop}
 use Rattle.std.proofs.lemmas.List.Elements.{All-drop}
@@ -17,8 +17,8 @@ use Rattle.session_laws.proofs.EditedSessions.{edited_session, edited_room}
 use Rattle.bench_model.specs.Edits.{accepted, edited}
 use Rattle.bench_model.specs.Equal.{StandsFor}
 use Rattle.bench_model.specs.Lists.{View}
-use Rattle.bench_model.specs.Meeting.{CheckpointedSession, met, replayed, replayed_from}
-use Rattle.bench_model.specs.Session.{state_at, state_after}
+use Rattle.bench_model.specs.Meeting.{met, replayed, replayed_from}
+use Rattle.bench_model.specs.Session.{state_at}
 use Rattle.bench_model.specs.Start.{start}
 use Rattle.bench_model.specs.Table.{Table}
 use Rattle.segment_laws.specs.EditedSegments.{AreReplayed}
@@ -27,7 +27,7 @@ use Rattle.segment_laws.specs.Segments.{SegmentView, all_steps, AreSegments}
 use Rattle.segment_laws.proofs.EditedSegments.{edited_segments_stand, unequal_are_replayed}
 use Rattle.segment_laws.proofs.EditedPlaces.{begins_there}
 use Rattle.segment_laws.proofs.EditedSteps.{made_steps, parted_steps}
-use Rattle.segment_laws.proofs.Following.{All_front, all_more, all_parted}
+use Rattle.segment_laws.proofs.Following.{All_front, all_parted}
 use Rattle.segment_laws.proofs.Reading.{state_front, start_settings, front_settings, back_checked}
 use Rattle.segment_laws.proofs.Shifts.{shifts}
 use Rattle.session_segments.specs.Counting.{meter_after, CountsUpTo}

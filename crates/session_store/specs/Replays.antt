@@ -21,7 +21,8 @@ abbrev pub HasSettings : Settings → SegmentView → Type 0
 HasSettings settings segment = segment.kernel.settings ≡ settings
 
 -- segments of these steps, each from the state that the one before it left
-pub record AreMade (table : Table) (parts : List (List Step)) (made : List SegmentView) : Type 0 where
+pub record AreMade (table : Table) (parts : List (List Step))
+    (made : List SegmentView) : Type 0 where
   pub parts_are : map steps_of made ≡ parts
   pub follow : Follow table made
 
@@ -86,8 +87,8 @@ pub record IsParting (session : Session) (edit : Edit) (segments : List SegmentV
   pub settings : kernel.settings ≡ settings_of session.header
 
 -- the segments that take the place of those between the two indices
-pub record IsEditReplay (kept : CheckpointedSession) (edit : Edit) (segments made : List SegmentView)
-    (before after : ℕ) : Type 0 where
+pub record IsEditReplay (kept : CheckpointedSession) (edit : Edit)
+    (segments made : List SegmentView) (before after : ℕ) : Type 0 where
   pub order : before ≤ after
   pub within : after ≤ length segments
   pub edited : IsEdited kept edit (take before segments) made (drop after segments)

@@ -1,6 +1,5 @@
-use Rattle.std.proofs.Common.{◌≡◌, ◌<◌, ◌≤◌, List, Result, Ok, Err, length, sym, ap, subst, ◌∙◌, arith}
+use Rattle.std.proofs.Common.{List, length, sym, ap, subst, ◌∙◌, arith}
 use Rattle.std.specs.Prelude.{All}
-use Rattle.std.proofs.lemmas.List.{length-drop}
 use Rattle.bench_types.specs.Step.{IsCheckedStep}
 use Rattle.segment_laws.specs.Segments.{SegmentView, all_steps}
 use Rattle.session_store.specs.Replays.{HasSettings}

@@ -130,19 +130,17 @@ pub fn between(from: u32, met: u32) -> Outcome {
 pub fn make_edit(rt: &impl Abort, alloc: Global, opened: &mut Opened, edit: &(Edit, u32, u32)) {
     let (edit, from, met) = *edit;
     let wanted = between(from, met);
-    let count = opened.meter.count().saturating_add(u64::from(wanted.replayed));
+    let count = opened
+        .meter
+        .count()
+        .saturating_add(u64::from(wanted.replayed));
     let answer = opened.store.apply(alloc, edit, &mut opened.meter);
     assert_eq!(rt; answer, Ok(wanted), "{edit:?}");
     assert_eq!(rt; opened.meter.count(), count, "{edit:?}");
 }
 
 /// Makes the edits in their order.
-pub fn make_edits(
-    rt: &impl Abort,
-    alloc: Global,
-    opened: &mut Opened,
-    edits: &[(Edit, u32, u32)],
-) {
+pub fn make_edits(rt: &impl Abort, alloc: Global, opened: &mut Opened, edits: &[(Edit, u32, u32)]) {
     for edit in edits {
         make_edit(rt, alloc, opened, edit);
     }

@@ -155,7 +155,11 @@ fn check_order(rt: &impl Abort, alloc: Global, opened: &mut Opened) -> Result<()
         Edit::Remove { at: 4 },
         insert(1, SWITCH_0),
     ];
-    let answers = [Ok(between(0, 4)), Err(EditFault::NoPlace), Ok(between(0, 5))];
+    let answers = [
+        Ok(between(0, 4)),
+        Err(EditFault::NoPlace),
+        Ok(between(0, 5)),
+    ];
     check_answers(rt, alloc, opened, &edits, &answers)?;
     assert_eq!(rt; opened.meter.count(), 12);
     assert_row(rt, &opened.store, 5, [4, 3]);
@@ -259,7 +263,12 @@ fn check_fullness(rt: &impl Abort, alloc: Global, opened: &mut Opened) {
         refuse_edit(rt, alloc, opened, insert(*at, Step::Tick), *why);
     }
     let (last, from) = (MAX_STEPS - 1, MAX_STEPS - MAX_STEPS % 64);
-    make_edit(rt, alloc, opened, &(replace(last, SWITCH_0), from, MAX_STEPS));
+    make_edit(
+        rt,
+        alloc,
+        opened,
+        &(replace(last, SWITCH_0), from, MAX_STEPS),
+    );
     assert_eq!(rt; opened.store.len(), MAX_STEPS);
     assert_eq!(rt; opened.store.reply(last), Some(NOT_DUE));
 }

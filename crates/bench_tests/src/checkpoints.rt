@@ -59,6 +59,7 @@ fn edited(rt: &impl Abort, host: &HostRuntime, case: &Case<'_>) -> Result<Opened
 
 /// The store has these checkpoints and no more.
 fn assert_checkpoints(rt: &impl Abort, store: &Store, places: &[u32]) {
+    assert!(rt; places.len() <= store.len() as usize + 1);
     for (k, place) in places.iter().enumerate() {
         assert_eq!(rt; store.checkpoint(k as u32), Some(*place), "checkpoint {k}");
     }
@@ -78,10 +79,10 @@ fn check_replies(rt: &impl Abort, store: &Store, replies: &[Reply]) {
 }
 
 fn check_rows(rt: &impl Abort, store: &Store, rows: &[[u32; 2]]) {
+    assert_eq!(rt; store.len() as usize + 1, rows.len());
     for (place, row) in rows.iter().enumerate() {
         assert_row(rt, store, place as u32, *row);
     }
-    assert_eq!(rt; store.len() as usize + 1, rows.len());
 }
 
 /// The replies where A clears and then nothing is due.

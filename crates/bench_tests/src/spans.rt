@@ -145,10 +145,9 @@ fn edit_at_random(
 // Some edit at one of the steps, or of some task. One step in two is a switch, which mostly is not
 // due.
 fn random_edit(seed: &mut u32, steps: &[Step]) -> Edit {
-    let at = number(seed) % (steps.len() as u32).max(1);
-    let other = steps
-        .get(number(seed) as usize % steps.len().max(1))
-        .copied();
+    let count = steps.len().clamp(1, 65_536) as u32;
+    let at = number(seed) % count;
+    let other = steps.get((number(seed) % count) as usize).copied();
     let switch = Step::Switch {
         core: number(seed) % 8,
     };

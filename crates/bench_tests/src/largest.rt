@@ -2,7 +2,7 @@
 //! 100,000 steps.
 
 use crate::replays::check_store;
-use crate::samples::{Opened, SWITCH_0, Started, ticks, whole};
+use crate::samples::{Opened, SWITCH_0, Started, make_edit, ticks};
 use bench_samples::{LARGEST, crowd};
 use bench_types::{Edit, Header, MAX_CORES, MAX_MUTEXES, MAX_SPAN, MAX_STEPS, MAX_TASKS};
 use session_store::Store;
@@ -59,27 +59,25 @@ fn opened(host: &HostRuntime) -> Result<Opened, Fail> {
     opened_with(host, crowd(host.alloc(), LARGEST, MAX_TASKS as usize)?)
 }
 
+// Twice, since the second one is of segments that the first one made.
 fn replace_last(rt: &impl Abort, alloc: Global, opened: &mut Opened) {
-    let edits = [Edit::Replace {
-        at: MAX_STEPS - 1,
-        step: SWITCH_0,
-    }];
-    let Opened { store, meter } = opened;
-    assert_eq!(rt; store.apply(alloc, edits[0], meter), Ok(whole(MAX_STEPS)));
-    match store.apply_all(alloc, &edits, meter) {
-        Ok(answers) => assert_eq!(rt; answers.as_slice(), [Ok(whole(MAX_STEPS))].as_slice()),
-        Err(_) => panic!(rt; "memory was refused"),
-    }
+    let at = MAX_STEPS - 1;
+    let edit = Edit::Replace { at, step: SWITCH_0 };
+    let from = MAX_STEPS - MAX_SPAN;
+    make_edit(rt, alloc, opened, &(edit, from, MAX_STEPS));
+    make_edit(rt, alloc, opened, &(edit, from, MAX_STEPS));
 }
 
 // The tick count wraps once, and the last step is no tick.
 fn check_last_place(rt: &impl Abort, alloc: Global, opened: &mut Opened) -> Result<(), Fail> {
     let Opened { store, meter } = opened;
     assert_eq!(rt; store.step(MAX_STEPS - 1), Some(SWITCH_0));
+    let count = meter.count();
     match store.state(alloc, MAX_STEPS, meter)? {
         Some(kernel) => assert_eq!(rt; kernel.tick(), MAX_STEPS - 2),
         None => panic!(rt; "the last place has no state"),
     }
+    assert_eq!(rt; meter.count(), count.saturating_add(u64::from(MAX_SPAN)));
     Ok(())
 }
 

@@ -3,6 +3,8 @@
 #![tactic(auto)]
 
 #[cfg(test)]
+mod checkpoints;
+#[cfg(test)]
 mod digest;
 #[cfg(test)]
 mod kernel;
@@ -16,6 +18,10 @@ mod replays;
 mod reports;
 #[cfg(test)]
 mod samples;
+#[cfg(test)]
+mod segments;
+#[cfg(test)]
+mod spans;
 #[cfg(test)]
 mod store_edits;
 #[cfg(test)]

@@ -125,8 +125,8 @@ fn numbered_task(alloc: Global, task: u32) -> Result<TaskArgs, Fail>
     })
 }
 
-// A number of 16 bits, from a seed that moves on.
-fn number(seed: &mut u32) -> u32
+/// A number of 16 bits, from a seed that moves on.
+pub fn number(seed: &mut u32) -> u32
     ensures { result < 2 ^ 16 }
 {
     *seed = seed.wrapping_mul(1_664_525).wrapping_add(1_013_904_223);

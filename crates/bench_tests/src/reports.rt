@@ -156,18 +156,70 @@ fn tallies_of_a_session(rt: HostRuntime) -> Result<(), Fail> {
     check_session(&rt, &rt, low_and_high(alloc)?, &RUN_OUT, RUN_OUT_TALLIES)
 }
 
-fn insert(rt: &HostRuntime, opened: &mut Opened, at: u32, step: Step) -> Result<(), Fail> {
-    let edit = Edit::Insert { at, step };
-    opened.store.apply(rt.alloc(), edit, &mut opened.meter)?;
+fn insert(at: u32, step: Step) -> Edit {
+    Edit::Insert { at, step }
+}
+
+/// After a switch that is refused has come and gone, and a tick has come at the end.
+const LONGER_TALLIES: &str = "\
+task IDLE0 run 0 0 wait 3 inverted 0 in 0 displaced 0 timeouts 0 top 0
+task IDLE1 run 0 0 wait 3 inverted 0 in 0 displaced 0 timeouts 0 top 0
+task A run 1 0 wait 0 inverted 0 in 1 displaced 0 timeouts 0 top 2
+task B run 0 2 wait 1 inverted 0 in 0 displaced 0 timeouts 0 top 1
+task C run 2 1 wait 0 inverted 0 in 2 displaced 0 timeouts 0 top 1
+";
+
+/// After A yields in place of its delay.
+const YIELDED_TALLIES: &str = "\
+task IDLE0 run 0 0 wait 2 inverted 0 in 0 displaced 0 timeouts 0 top 0
+task IDLE1 run 0 0 wait 2 inverted 0 in 0 displaced 0 timeouts 0 top 0
+task A run 2 0 wait 0 inverted 0 in 0 displaced 0 timeouts 0 top 2
+task B run 0 1 wait 1 inverted 0 in 1 displaced 0 timeouts 0 top 1
+task C run 0 1 wait 1 inverted 0 in 1 displaced 0 timeouts 0 top 1
+";
+
+const A_YIELDS: Step = Step::Call {
+    core: 0,
+    task: 2,
+    call: Call::Yield,
+};
+
+#[test]
+fn tallies_of_edited_sessions(rt: HostRuntime) -> Result<(), Fail> {
+    let displaced = [insert(0, A_DELAYS), insert(1, SWITCH_0)];
+    let (more, less) = (insert(3, SWITCH_1), Edit::Remove { at: 3 });
+    let longer = [more, less, insert(8, Step::Tick)];
+    let (at, step) = (0, A_YIELDS);
+    for (span, steps, edits, wanted) in &[
+        (
+            1,
+            THEN_DISPLACED.as_slice(),
+            displaced.as_slice(),
+            DISPLACED_TALLIES,
+        ),
+        (2, &THEN_DISPLACED, &displaced, DISPLACED_TALLIES),
+        (64, &THEN_DISPLACED, &displaced, DISPLACED_TALLIES),
+        (3, &SHARED, &longer[..2], SHARED_TALLIES),
+        (3, &SHARED, &longer, LONGER_TALLIES),
+        (2, &SHARED, &[Edit::Replace { at, step }], YIELDED_TALLIES),
+    ] {
+        let mut opened = Opened::by_span(&rt, true, steps, *span)?;
+        check_edits(&rt, rt.alloc(), &mut opened, edits, wanted)?;
+    }
     Ok(())
 }
 
-#[test]
-fn tallies_of_an_edited_session(rt: HostRuntime) -> Result<(), Fail> {
-    let mut opened = Opened::new(&rt, true, &THEN_DISPLACED)?;
-    insert(&rt, &mut opened, 0, A_DELAYS)?;
-    insert(&rt, &mut opened, 1, SWITCH_0)?;
-    assert_tallies(&rt, rt.alloc(), &opened.store, DISPLACED_TALLIES)
+fn check_edits(
+    rt: &impl Abort,
+    alloc: Global,
+    opened: &mut Opened,
+    edits: &[Edit],
+    wanted: &str,
+) -> Result<(), Fail> {
+    for edit in edits {
+        opened.store.apply(alloc, *edit, &mut opened.meter)?;
+    }
+    assert_tallies(rt, alloc, &opened.store, wanted)
 }
 
 // What the steps take, each made and counted at once.

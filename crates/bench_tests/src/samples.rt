@@ -2,8 +2,8 @@
 ghost use Rattle.std.specs.Prelude.{◌≡◌};
 ghost use Rattle.bench_types.specs.Step.{settings_of};
 
-use bench_types::{Call, Config, Header, Items, Name, Reply, Step, TaskArgs};
-use session_store::{Outcome, Store};
+use bench_types::{Call, Config, Edit, EditFault, Header, Items, Name, Reply, Step, TaskArgs};
+use session_store::{Outcome, Store, StoreFault};
 use smp_kernel::{Kernel, Meter};
 use std::alloc::{AllocError, Global};
 use std::process::Abort;
@@ -86,8 +86,18 @@ pub struct Opened {
 impl Opened {
     /// Of these steps of A, B and C on two cores.
     pub fn new(rt: &HostRuntime, slicing: bool, steps: &[Step]) -> Result<Self, Fail> {
+        Opened::by_span(rt, slicing, steps, 64)
+    }
+
+    /// Of these steps of A, B and C on two cores, with a checkpoint every so many steps.
+    pub fn by_span(
+        rt: &HostRuntime,
+        slicing: bool,
+        steps: &[Step],
+        span: u32,
+    ) -> Result<Self, Fail> {
         let header = three_tasks(rt.alloc(), 2, slicing)?;
-        Opened::of(rt, header, Vec::from_slice(rt.alloc(), steps)?, 64)
+        Opened::of(rt, header, Vec::from_slice(rt.alloc(), steps)?, span)
     }
 
     /// Of the session, with a checkpoint every so many steps.
@@ -107,13 +117,47 @@ pub fn ticks(alloc: Global, count: u32) -> Result<Vec<Step>, AllocError> {
     Ok(steps)
 }
 
-/// What a whole replay of so many steps led to.
-pub fn whole(steps: u32) -> Outcome {
+/// What a replay between the two places led to.
+pub fn between(from: u32, met: u32) -> Outcome {
     Outcome {
-        from: 0,
-        met: steps,
-        replayed: steps,
+        from,
+        met,
+        replayed: met.saturating_sub(from),
     }
+}
+
+/// Makes the edit, whose replay is between the two places and is counted on the meter.
+pub fn make_edit(rt: &impl Abort, alloc: Global, opened: &mut Opened, edit: &(Edit, u32, u32)) {
+    let (edit, from, met) = *edit;
+    let wanted = between(from, met);
+    let count = opened
+        .meter
+        .count()
+        .saturating_add(u64::from(wanted.replayed));
+    let answer = opened.store.apply(alloc, edit, &mut opened.meter);
+    assert_eq!(rt; answer, Ok(wanted), "{edit:?}");
+    assert_eq!(rt; opened.meter.count(), count, "{edit:?}");
+}
+
+/// Makes the edits in their order.
+pub fn make_edits(rt: &impl Abort, alloc: Global, opened: &mut Opened, edits: &[(Edit, u32, u32)]) {
+    for edit in edits {
+        make_edit(rt, alloc, opened, edit);
+    }
+}
+
+/// The edit is refused for this, and no step is counted.
+pub fn refuse_edit(
+    rt: &impl Abort,
+    alloc: Global,
+    opened: &mut Opened,
+    edit: Edit,
+    why: EditFault,
+) {
+    let count = opened.meter.count();
+    let answer = opened.store.apply(alloc, edit, &mut opened.meter);
+    assert_eq!(rt; answer, Err(StoreFault::Edit(why)), "{edit:?}");
+    assert_eq!(rt; opened.meter.count(), count, "{edit:?}");
 }
 
 /// The store has these replies and no more, and these tasks run at the last place.

@@ -1,7 +1,7 @@
 //! The edits that a store makes and refuses, and its meter.
 use crate::samples::{
-    A_DELAYS, Opened, SWITCH_0, SWITCH_1, assert_replay, assert_row, assert_steps, three_tasks,
-    ticks, whole,
+    A_DELAYS, Opened, SWITCH_0, SWITCH_1, assert_replay, assert_row, assert_steps, between,
+    make_edit, make_edits, refuse_edit, three_tasks, ticks,
 };
 use Reply::{Blocked, Done};
 use bench_types::{Call, Edit, EditFault, Fault, MAX_STEPS, Refusal, Reply, Step};
@@ -12,21 +12,21 @@ use std::test::Fail;
 
 const NOT_DUE: Reply = Reply::Refused(Refusal::NotDue);
 
-const A_YIELDS: Step = Step::Call {
+pub(crate) const A_YIELDS: Step = Step::Call {
     core: 0,
     task: 2,
     call: Call::Yield,
 };
 
-fn insert(at: u32, step: Step) -> Edit {
+pub(crate) fn insert(at: u32, step: Step) -> Edit {
     Edit::Insert { at, step }
 }
 
-fn replace(at: u32, step: Step) -> Edit {
+pub(crate) fn replace(at: u32, step: Step) -> Edit {
     Edit::Replace { at, step }
 }
 
-fn change(task: u32, priority: u32) -> Edit {
+pub(crate) fn change(task: u32, priority: u32) -> Edit {
     Edit::ChangeTask {
         task,
         priority,
@@ -34,12 +34,13 @@ fn change(task: u32, priority: u32) -> Edit {
     }
 }
 
-/// A session, its edits with how many steps each replays, and the replies and the last tasks then.
+/// A session, its edits with where their replays begin and end, and the replies and the last tasks
+/// then.
 #[derive(Clone, Copy)]
 struct Case<'a> {
     slicing: bool,
     steps: &'a [Step],
-    edits: &'a [(Edit, u32)],
+    edits: &'a [(Edit, u32, u32)],
     replies: &'a [Reply],
     last: [u32; 2],
 }
@@ -52,19 +53,6 @@ fn check_case(rt: &impl Abort, host: &HostRuntime, case: &Case<'_>) -> Result<()
     Ok(())
 }
 
-fn make_edits(rt: &impl Abort, alloc: Global, opened: &mut Opened, edits: &[(Edit, u32)]) {
-    for (edit, replayed) in edits {
-        make_edit(rt, alloc, opened, *edit, *replayed);
-    }
-}
-
-fn make_edit(rt: &impl Abort, alloc: Global, opened: &mut Opened, edit: Edit, replayed: u32) {
-    let count = opened.meter.count().saturating_add(u64::from(replayed));
-    let answer = opened.store.apply(alloc, edit, &mut opened.meter);
-    assert_eq!(rt; answer, Ok(whole(replayed)), "{edit:?}");
-    assert_eq!(rt; opened.meter.count(), count, "{edit:?}");
-}
-
 #[test]
 fn replays_edited_sessions(rt: HostRuntime) -> Result<(), Fail> {
     let due = Reply::Refused(Refusal::SwitchDue);
@@ -75,9 +63,9 @@ fn replays_edited_sessions(rt: HostRuntime) -> Result<(), Fail> {
     let turns = [
         A_DELAYS, SWITCH_0, tick, SWITCH_0, SWITCH_1, tick, SWITCH_0, SWITCH_1,
     ];
-    let (delay, switch) = ((insert(0, A_DELAYS), 4), (insert(1, SWITCH_0), 5));
-    let (remove, again) = ((Edit::Remove { at: 1 }, 2), (replace(1, SWITCH_0), 2));
-    let yields = (replace(0, A_YIELDS), 8);
+    let (delay, switch) = ((insert(0, A_DELAYS), 0, 4), (insert(1, SWITCH_0), 0, 5));
+    let (remove, again) = ((Edit::Remove { at: 1 }, 0, 2), (replace(1, SWITCH_0), 0, 2));
+    let yields = (replace(0, A_YIELDS), 0, 8);
     for case in &[
         Case {
             slicing: true,
@@ -131,21 +119,21 @@ fn replays_edited_sessions(rt: HostRuntime) -> Result<(), Fail> {
         Case {
             slicing: true,
             steps: &[],
-            edits: &[(change(3, 3), 0)],
+            edits: &[(change(3, 3), 0, 0)],
             replies: &[],
             last: [3, 2],
         },
         Case {
             slicing: true,
             steps: &[],
-            edits: &[(change(3, 1), 0)],
+            edits: &[(change(3, 1), 0, 0)],
             replies: &[],
             last: [2, 3],
         },
         Case {
             slicing: false,
             steps: &[],
-            edits: &[(insert(0, tick), 1)],
+            edits: &[(insert(0, tick), 0, 1)],
             replies: &[Done],
             last: [2, 3],
         },
@@ -167,13 +155,17 @@ fn check_order(rt: &impl Abort, alloc: Global, opened: &mut Opened) -> Result<()
         Edit::Remove { at: 4 },
         insert(1, SWITCH_0),
     ];
-    let answers = [Ok(whole(4)), Err(EditFault::NoPlace), Ok(whole(5))];
+    let answers = [
+        Ok(between(0, 4)),
+        Err(EditFault::NoPlace),
+        Ok(between(0, 5)),
+    ];
     check_answers(rt, alloc, opened, &edits, &answers)?;
     assert_eq!(rt; opened.meter.count(), 12);
     assert_row(rt, &opened.store, 5, [4, 3]);
     let made = [A_DELAYS, SWITCH_0, Step::Tick, SWITCH_1, A_DELAYS];
     assert_steps(rt, &opened.store, &made);
-    make_edit(rt, alloc, opened, Edit::Remove { at: 1 }, 4);
+    make_edit(rt, alloc, opened, &(Edit::Remove { at: 1 }, 0, 4));
     let left = [A_DELAYS, Step::Tick, SWITCH_1, A_DELAYS];
     assert_steps(rt, &opened.store, &left);
     Ok(())
@@ -186,9 +178,34 @@ fn check_answers(
     edits: &[Edit],
     answers: &[Result<Outcome, EditFault>],
 ) -> Result<(), Fail> {
-    let given = opened.store.apply_all(alloc, edits, &mut opened.meter)?;
+    let given = answers_to(alloc, opened, edits)?;
     assert_eq!(rt; given.as_slice(), answers);
     Ok(())
+}
+
+/// Makes the edits in their order; one that is not accepted is passed over.
+fn answers_to(
+    alloc: Global,
+    opened: &mut Opened,
+    edits: &[Edit],
+) -> Result<Vec<Result<Outcome, EditFault>>, AllocError> {
+    let mut answers = Vec::with_capacity(alloc, edits.len())?;
+    for edit in edits {
+        answers.push(answer_to(alloc, opened, *edit)?)?;
+    }
+    Ok(answers)
+}
+
+fn answer_to(
+    alloc: Global,
+    opened: &mut Opened,
+    edit: Edit,
+) -> Result<Result<Outcome, EditFault>, AllocError> {
+    match opened.store.apply(alloc, edit, &mut opened.meter) {
+        Ok(outcome) => Ok(Ok(outcome)),
+        Err(StoreFault::Edit(why)) => Ok(Err(why)),
+        Err(StoreFault::NoMemory) => Err(AllocError),
+    }
 }
 
 #[test]
@@ -213,14 +230,6 @@ fn check_refusals(rt: &impl Abort, alloc: Global, opened: &mut Opened) {
         refuse_edit(rt, alloc, opened, *edit, *why);
         assert_replay(rt, &opened.store, &[Done, NOT_DUE], [2, 3]);
     }
-}
-
-/// The edit is refused for this, and no step is counted.
-fn refuse_edit(rt: &impl Abort, alloc: Global, opened: &mut Opened, edit: Edit, why: EditFault) {
-    let count = opened.meter.count();
-    let answer = opened.store.apply(alloc, edit, &mut opened.meter);
-    assert_eq!(rt; answer, Err(StoreFault::Edit(why)), "{edit:?}");
-    assert_eq!(rt; opened.meter.count(), count, "{edit:?}");
 }
 
 #[test]
@@ -253,8 +262,13 @@ fn check_fullness(rt: &impl Abort, alloc: Global, opened: &mut Opened) {
     ] {
         refuse_edit(rt, alloc, opened, insert(*at, Step::Tick), *why);
     }
-    let last = MAX_STEPS - 1;
-    make_edit(rt, alloc, opened, replace(last, SWITCH_0), MAX_STEPS);
+    let (last, from) = (MAX_STEPS - 1, MAX_STEPS - MAX_STEPS % 64);
+    make_edit(
+        rt,
+        alloc,
+        opened,
+        &(replace(last, SWITCH_0), from, MAX_STEPS),
+    );
     assert_eq!(rt; opened.store.len(), MAX_STEPS);
     assert_eq!(rt; opened.store.reply(last), Some(NOT_DUE));
 }
@@ -264,17 +278,16 @@ fn check_fullness(rt: &impl Abort, alloc: Global, opened: &mut Opened) {
 fn stays_where_memory_is_wanting(rt: HostRuntime) -> Result<(), Fail> {
     let mut opened = Opened::new(&rt, false, &[Step::Tick, SWITCH_1])?;
     assert_replay(&rt, &opened.store, &[Done, NOT_DUE], [2, 3]);
-    remove_both(&rt, rt.alloc(), &mut opened);
+    remove_first(&rt, rt.alloc(), &mut opened);
     insert_one(&rt, rt.alloc(), &mut opened);
     Ok(())
 }
 
-fn remove_both(rt: &impl Abort, alloc: Global, opened: &mut Opened) {
-    let edits = [Edit::Remove { at: 0 }, Edit::Remove { at: 0 }];
-    let made = opened.store.apply_all(alloc, &edits, &mut opened.meter);
-    let replies = match made {
-        Ok(_) => [].as_slice(),
-        Err(AllocError) => [Done, NOT_DUE].as_slice(),
+fn remove_first(rt: &impl Abort, alloc: Global, opened: &mut Opened) {
+    let edit = Edit::Remove { at: 0 };
+    let replies = match opened.store.apply(alloc, edit, &mut opened.meter) {
+        Ok(_) => [NOT_DUE].as_slice(),
+        Err(_) => [Done, NOT_DUE].as_slice(),
     };
     assert_replay(rt, &opened.store, replies, [2, 3]);
 }
@@ -285,7 +298,7 @@ fn insert_one(rt: &impl Abort, alloc: Global, opened: &mut Opened) {
         .store
         .apply(alloc, insert(0, SWITCH_1), &mut opened.meter);
     match made {
-        Ok(outcome) => assert_eq!(rt; outcome, whole(before + 1)),
+        Ok(outcome) => assert_eq!(rt; outcome, between(0, before + 1)),
         Err(fault) => assert_eq!(rt; fault, StoreFault::NoMemory),
     }
     assert_eq!(rt; opened.store.len(), before + u32::from(made.is_ok()));

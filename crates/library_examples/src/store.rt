@@ -11,10 +11,10 @@ use std::alloc::{AllocError, Global};
 use std::process::Abort;
 use std::test::Fail;
 
-/// Opens a store of the session, which replays it.
+/// Opens a store of the session, which replays it, with a checkpoint every two steps.
 fn opened(rt: &HostRuntime, meter: &mut Meter) -> Result<Store, Fail> {
     let (header, steps) = session_of(rt.alloc(), SESSION)?;
-    Ok(Store::open(rt.alloc(), header, steps, 64, meter)?)
+    Ok(Store::open(rt.alloc(), header, steps, 2, meter)?)
 }
 
 /// The tasks that run at the place, core 0 first.
@@ -31,7 +31,8 @@ fn a_store_is_edited(rt: HostRuntime) -> Result<(), Fail> {
     let mut store = opened(&rt, &mut meter)?;
     check_row(&rt, &store, 4, &[2, 3]);
     // Without the tick A still waits, so its core is not due, and the idle task runs on.
-    store.apply(rt.alloc(), Edit::Remove { at: 2 }, &mut meter)?;
+    let outcome = store.apply(rt.alloc(), Edit::Remove { at: 2 }, &mut meter)?;
+    assert_eq!(rt; (outcome.from, outcome.met, outcome.replayed), (2, 3, 1));
     assert_eq!(rt; store.reply(2), Some(Reply::Refused(Refusal::NotDue)));
     check_row(&rt, &store, 3, &[0, 3]);
     Ok(())

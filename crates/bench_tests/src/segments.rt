@@ -1,0 +1,218 @@
+//! The calls of segments, each once: a session in two segments, the second of which begins after
+//! the first tick.
+ghost use Rattle.std.specs.Prelude.{◌≡◌, ◌≤◌, ◌+◌, ◌++◌, ◌∷◌, [], All, IsTrue, IfOk, OnOk, length};
+ghost use Rattle.bench_types.specs.Limits.{max_cores, max_steps};
+ghost use Rattle.bench_types.specs.Step.{settings_of, IsCheckedStep};
+ghost use Rattle.segment_laws.specs.Segments.{all_steps};
+ghost use Rattle.smp_kernel.specs.Kernel.{StandsForSome};
+
+use crate::samples::{A_DELAYS, SWITCH_0, SWITCH_1, three_tasks};
+use bench_types::{Header, MAX_CORES, Reply, Step};
+use session_segments::{Segment, Segments, advance};
+use smp_kernel::{Kernel, Meter};
+use std::alloc::{AllocError, Global};
+use std::process::Abort;
+use std::test::Fail;
+
+/// A leaves its core for two ticks.
+const STEPS: [Step; 8] = [
+    A_DELAYS,
+    SWITCH_0,
+    Step::Tick,
+    SWITCH_0,
+    SWITCH_1,
+    Step::Tick,
+    SWITCH_0,
+    SWITCH_1,
+];
+
+/// Of the last five steps.
+const TALLIES: &str = "\
+task IDLE0 run 0 0 wait 1 inverted 0 in 0 displaced 0 timeouts 0 top 0
+task IDLE1 run 0 0 wait 1 inverted 0 in 0 displaced 0 timeouts 0 top 0
+task A run 0 0 wait 0 inverted 0 in 1 displaced 0 timeouts 0 top 2
+task B run 0 1 wait 0 inverted 0 in 0 displaced 0 timeouts 0 top 1
+task C run 1 0 wait 0 inverted 0 in 1 displaced 0 timeouts 0 top 1
+";
+
+fn is_checked(header: &Header, step: &Step) -> bool
+    ensures { IsTrue result → IsCheckedStep (settings_of header.now) step.now }
+{
+    step.check(header).is_ok()
+}
+
+fn are_checked(header: &Header, steps: &[Step]) -> bool
+    ensures { IsTrue result → All (IsCheckedStep (settings_of header.now)) steps.now }
+{
+    steps.iter().all(|step| is_checked(header, step))
+}
+
+/// A kernel at the start of the header.
+fn started(rt: &impl Abort, alloc: Global, header: &Header) -> Result<Kernel, Fail>
+    ensures stands { IfOk result StandsForSome }
+    ensures settings { IfOk result (λ kernel. kernel.settings ≡ settings_of header.now) }
+    ensures few { IfOk result (λ kernel. kernel.settings.cores ≤ max_cores) }
+{
+    let kernel = Kernel::start(alloc, header)?;
+    assert!(rt; kernel.settings().cores <= MAX_CORES);
+    Ok(kernel)
+}
+
+/// Replays the steps into one segment more.
+fn push_segment(
+    alloc: Global,
+    kernel: &mut Kernel,
+    segments: &mut Vec<Segment>,
+    steps: &[Step],
+    meter: &mut Meter,
+) -> Result<(), AllocError>
+    requires stands { StandsForSome kernel.old }
+    requires few { kernel.old.settings.cores ≤ max_cores }
+    requires steps { All (IsCheckedStep kernel.old.settings) steps.now }
+    requires few_steps { length steps.now ≤ max_steps }
+    ensures segment { OnOk result
+        (segments.new.items
+        ≡ segments.old.items ++ record { kernel = kernel.old; steps = steps.now } ∷ []) }
+    ensures stands { OnOk result (StandsForSome kernel.new) }
+    ensures settings { kernel.new.settings ≡ kernel.old.settings }
+{
+    let segment = Segment::replay(alloc, kernel, steps, meter)?;
+    segments.push(segment)?;
+    Ok(())
+}
+
+/// Both parts of a session, a segment each.
+fn two_segments(
+    alloc: Global,
+    kernel: &mut Kernel,
+    first: &[Step],
+    second: &[Step],
+    meter: &mut Meter,
+) -> Result<Vec<Segment>, AllocError>
+    requires stands { StandsForSome kernel.old }
+    requires few { kernel.old.settings.cores ≤ max_cores }
+    requires first { All (IsCheckedStep kernel.old.settings) first.now }
+    requires second { All (IsCheckedStep kernel.old.settings) second.now }
+    requires short { length first.now + length second.now ≤ 8 }
+    ensures two { IfOk result (λ segments. length segments.items ≡ 2) }
+    ensures short { IfOk result (λ segments. length (all_steps segments.items) ≤ 8) }
+{
+    let mut segments = Vec::with_capacity(alloc, 2)?;
+    push_segment(alloc, kernel, &mut segments, first, meter)?;
+    push_segment(alloc, kernel, &mut segments, second, meter)?;
+    Ok(segments)
+}
+
+/// The steps in two segments: three of them, and then five.
+fn in_two(rt: &impl Abort, host: &HostRuntime, header: &Header) -> Result<Vec<Segment>, Fail>
+    ensures two { IfOk result (λ segments. length segments.items ≡ 2) }
+    ensures short { IfOk result (λ segments. length (all_steps segments.items) ≤ 8) }
+{
+    let (first, second) = STEPS.split_at(3);
+    assert!(rt; are_checked(header, first) && are_checked(header, second));
+    let (mut kernel, mut meter) = (started(rt, host.alloc(), header)?, Meter::new(host));
+    let segments = two_segments(host.alloc(), &mut kernel, first, second, &mut meter)?;
+    assert_eq!(rt; meter.count(), 8);
+    Ok(segments)
+}
+
+#[test]
+fn a_segment_shows_its_steps(rt: HostRuntime) -> Result<(), Fail> {
+    let header = three_tasks(rt.alloc(), 2, true)?;
+    let segments = in_two(&rt, &rt, &header)?;
+    check_shown(&rt, &segments[1]);
+    check_tallies(&rt, rt.alloc(), &header, &segments[1])?;
+    check_states(&rt, &rt, &header, &segments[1])
+}
+
+fn check_shown(rt: &impl Abort, segment: &Segment) {
+    assert_eq!(rt; segment.kernel().tick(), 1);
+    assert_eq!(rt; segment.steps(), &STEPS[3..]);
+    for (index, reply) in &[(0, Some(Reply::Done)), (4, Some(Reply::Done)), (5, None)] {
+        assert_eq!(rt; segment.reply(*index), *reply, "step {index}");
+    }
+    for (count, core, task) in &[
+        (0, 0, Some(4)),
+        (0, 1, Some(3)),
+        (4, 0, Some(2)),
+        (5, 1, Some(4)),
+        (6, 0, None),
+        (0, 2, None),
+    ] {
+        assert_eq!(rt;
+            segment.running(*count, *core),
+            *task,
+            "core {core} after {count}"
+        );
+    }
+}
+
+fn check_tallies(
+    rt: &impl Abort,
+    alloc: Global,
+    header: &Header,
+    segment: &Segment,
+) -> Result<(), Fail> {
+    let text = segment.tallies().text(alloc, header)?;
+    assert_eq!(rt; text.as_str(), TALLIES);
+    Ok(())
+}
+
+fn check_states(
+    rt: &impl Abort,
+    host: &HostRuntime,
+    header: &Header,
+    segment: &Segment,
+) -> Result<(), Fail> {
+    let kernel = advanced(rt, host, header)?;
+    assert!(rt; segment.begins_with(&kernel));
+    check_after(rt, host, segment)
+}
+
+/// A kernel after the first segment.
+fn advanced(rt: &impl Abort, host: &HostRuntime, header: &Header) -> Result<Kernel, Fail> {
+    assert!(rt; are_checked(header, &STEPS[..3]));
+    let (mut kernel, mut meter) = (started(rt, host.alloc(), header)?, Meter::new(host));
+    advance(&mut kernel, &STEPS[..3], &mut meter);
+    assert_eq!(rt; meter.count(), 3);
+    Ok(kernel)
+}
+
+fn check_after(rt: &impl Abort, host: &HostRuntime, segment: &Segment) -> Result<(), Fail> {
+    let mut meter = Meter::new(host);
+    assert!(rt; 3 <= segment.steps().len());
+    let kernel = segment.kernel_after(host.alloc(), 3, &mut meter)?;
+    assert_eq!(rt; (kernel.tick(), meter.count()), (2, 3));
+    assert!(rt; !segment.begins_with(&kernel));
+    Ok(())
+}
+
+#[test]
+fn segments_are_found_and_replaced(rt: HostRuntime) -> Result<(), Fail> {
+    let header = three_tasks(rt.alloc(), 2, true)?;
+    let mut segments = Segments::new(rt.alloc(), in_two(&rt, &rt, &header)?)?;
+    check_places(&rt, &segments);
+    let made = in_two(&rt, &rt, &header)?;
+    replace_all(rt.alloc(), &mut segments, made)?;
+    check_places(&rt, &segments);
+    Ok(())
+}
+
+fn check_places(rt: &impl Abort, segments: &Segments) {
+    assert_eq!(rt; (segments.len(), segments.as_slice().len()), (2, 2));
+    for (k, place) in &[(0, Some(0)), (1, Some(3)), (2, None)] {
+        assert_eq!(rt; segments.checkpoint(*k), *place, "segment {k}");
+    }
+    for (place, index, from) in &[(0, 0, 0), (2, 0, 0), (3, 1, 3), (100, 1, 3)] {
+        assert_eq!(rt; segments.locate(*place), (*index, *from), "place {place}");
+    }
+}
+
+fn replace_all(alloc: Global, segments: &mut Segments, made: Vec<Segment>) -> Result<(), AllocError>
+    requires two { length made.items ≡ 2 }
+    requires short { length (all_steps made.items) ≤ 8 }
+    ensures { OnOk result (segments.new ≡ made.items) }
+{
+    let count = segments.len();
+    segments.replace(alloc, 0, count, made)
+}

@@ -1,5 +1,6 @@
-ghost use Rattle.std.specs.Prelude.{◌≡◌, ◌+◌, ◌-◌, ◌<◌, ◌%◌, ◌^◌, ◌↔◌, nat_lt, true, option_map, IsErr, IfOk, IfSome, Ok, Err, min};
+ghost use Rattle.std.specs.Prelude.{◌≡◌, ◌+◌, ◌-◌, ◌<◌, ◌≤◌, ◌%◌, ◌^◌, ◌↔◌, nat_lt, true, option_map, IsErr, IfOk, IfSome, Ok, Err, min};
 ghost use Rattle.bench_types.specs.Header.{header_check};
+ghost use Rattle.bench_types.specs.Limits.{max_cores};
 ghost use Rattle.bench_types.specs.Step.{settings_of, step_check};
 ghost use Rattle.bench_model.specs.Control.{core_at, current, is_allowed, task_at};
 ghost use Rattle.bench_model.specs.State.{holder_at};
@@ -118,6 +119,7 @@ impl Kernel {
     /// What the kernel started with.
     pub fn settings(&self) -> Settings
         ensures settings { result ≡ self.now.settings }
+        ensures few { self.now.settings.cores ≤ max_cores }
         ensures sound { StandsForSome self.now }
     {
         self.scheduler.settings()

@@ -108,7 +108,8 @@ impl Scheduler {
 
     /// What the kernel started with.
     pub fn settings(&self) -> Settings
-        ensures { result ≡ self.now.settings }
+        ensures settings { result ≡ self.now.settings }
+        ensures few { self.now.settings.cores ≤ max_cores }
     {
         self.settings
     }

@@ -3,6 +3,7 @@ pub mod Begins
 pub mod InPlace
 pub mod Parts
 pub mod Rooms
+pub mod Runs
 pub mod TickCounts
 pub mod TickFinds
 pub mod TickLoop

@@ -24,11 +24,33 @@ found_as before task =
     else if is_ready task before.orders then Waiting (outranks_some before.control task)
     else Blocked
 
+-- the task's tally with a tick that found it so, but for the core that it was on
+abbrev pub waited_as : Found → TaskTally → TaskTally
+waited_as (Waiting inverted) tally = record tally {
+  counts = record tally.counts {
+    wait = tally.counts.wait + 1;
+    inverted = tally.counts.inverted + one_if inverted;
+  };
+}
+waited_as found tally = tally
+
 -- the ticks that each core ran, with one more where the task is its current one
 abbrev pub runs_after : Control → ℕ → List ℕ → List ℕ
 runs_after control task run =
     map (λ core. slice_index_or run core 0 + one_if (current control core == task))
     (numbers (length run))
+
+-- the tallies with one tick more on each core for its current task
+unfoldable pub ran : Control → List TaskTally → List TaskTally
+ran control tallies =
+    map (λ task. record (tally_at tallies task) {
+      run = runs_after control task (tally_at tallies task).run;
+    }) (numbers (length tallies))
+
+-- the tallies with one tick more of each task that waits
+unfoldable pub waited : View → List TaskTally → List TaskTally
+waited before tallies =
+    map (λ task. waited_as (found_as before task) (tally_at tallies task)) (numbers (length tallies))
 
 -- the task is ready and on no core
 abbrev pub is_waiting : View → ℕ → Bool
@@ -130,3 +152,8 @@ pub record HasEventRoom (tally : TaskTally) : Type 0 where
   pub switched : tally.counts.switched < 2 ^ 32 - 1
   pub displaced : tally.counts.displaced < 2 ^ 32 - 1
   pub timeouts : tally.counts.timeouts < 2 ^ 32 - 1
+
+-- one more tick can be counted in which the task waits
+pub record HasWaitRoom (tally : TaskTally) : Type 0 where
+  pub wait : tally.counts.wait < 2 ^ 32 - 1
+  pub inverted : tally.counts.inverted < 2 ^ 32 - 1

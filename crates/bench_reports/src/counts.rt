@@ -1,21 +1,24 @@
-ghost use Rattle.std.specs.Prelude.{◌≡◌, ◌<◌, ◌+◌, ◌-◌, ◌^◌, Some, length, map, replicate, All, IfOk};
-ghost use Rattle.list_orders.specs.Search.{numbers};
-ghost use Rattle.bench_model.specs.Tallied.{added_tally, no_counts, CountsBelow};
-ghost use Rattle.bench_types.specs.declared.step.Step.TheVariants.{Tick};
-ghost use Rattle.bench_reports.specs.Counting.{event_tally, found_as, found_tally, runs_after, task_of, top_tally, HasEventRoom};
+ghost use Rattle.std.specs.Prelude.{◌≡◌, ◌<◌, ◌≤◌, ◌+◌, ◌-◌, ◌^◌, Some, length, replicate, slice_set, All, IfOk};
+ghost use Rattle.bench_types.specs.Limits.{max_cores};
+ghost use Rattle.bench_model.specs.Tallied.{added_tally, no_counts, run_at, CountsBelow};
+ghost use Rattle.bench_reports.specs.Counting.{event_tally, task_of, top_tally, waited_as, HasEventRoom, HasWaitRoom};
 ghost use Rattle.bench_reports.specs.Sums.{sums_of};
 
 use crate::event::Event;
 use crate::found::Found;
-use bench_types::Tally;
+use arrayvec::ArrayVec;
+use bench_types::{MAX_CORES, Tally};
 use smp_kernel::Kernel;
-use std::alloc::{AllocError, Global};
+use std::alloc::AllocError;
 use std::marker::Model;
+
+// For how many cores there is room.
+const ROOM: usize = MAX_CORES as usize;
 
 /// The numbers of one task: the ticks that it ran on each core, core 0 first, and the others.
 #[derive(Debug, Drop)]
 pub(crate) struct TaskCounts {
-    run: Vec<u32>,
+    run: ArrayVec<u32, ROOM>,
     counts: Tally,
 }
 
@@ -29,13 +32,13 @@ impl Model for TaskCounts {
 
 impl TaskCounts {
     /// Zeros, and this priority in use.
-    pub(crate) fn zeros(alloc: Global, cores: u32, top: u32) -> Result<Self, AllocError>
-        ensures { IfOk result
-            (λ task. task ≡ record { run = replicate cores 0; counts = no_counts top }) }
+    pub(crate) fn zeros(cores: u32, top: u32) -> Self
+        requires { cores ≤ max_cores }
+        ensures { result ≡ record { run = replicate cores 0; counts = no_counts top } }
     {
-        let mut run = Vec::new(alloc);
-        run.resize(cores as usize, 0)?;
-        Ok(TaskCounts {
+        let mut run = ArrayVec::from([0; ROOM]);
+        run.truncate(cores as usize);
+        TaskCounts {
             run,
             counts: Tally {
                 wait: 0,
@@ -45,14 +48,14 @@ impl TaskCounts {
                 timeouts: 0,
                 top,
             },
-        })
+        }
     }
 
-    pub(crate) fn copy(&self, alloc: Global) -> Result<Self, AllocError>
+    pub(crate) fn copy(&self) -> Result<Self, AllocError>
         ensures { IfOk result (λ copy. copy ≡ self.now) }
     {
         Ok(TaskCounts {
-            run: Vec::from_slice(alloc, &self.run)?,
+            run: self.run.clone()?,
             counts: self.counts,
         })
     }
@@ -70,21 +73,24 @@ impl TaskCounts {
         self.run.as_slice()
     }
 
-    /// Adds a tick, which found the task so.
-    pub(crate) fn add_tick(&mut self, kernel: &Kernel, task: u32, found: Found)
-        requires run { length self.old.run ≡ kernel.now.settings.cores }
-        requires cores { length kernel.now.control.cores ≡ kernel.now.settings.cores }
-        requires found { found ≡ found_as kernel.now task }
-        requires room { CountsBelow (2 ^ 32 - 1) self.old }
-        ensures { self.new ≡ found_tally kernel.now Tick task self.old }
+    /// Adds a tick that found the task on the core.
+    pub(crate) fn add_run(&mut self, core: u32)
+        requires core { core < length self.old.run }
+        requires room { run_at self.old core < 2 ^ 32 - 1 }
+        ensures { self.new
+            ≡ record self.old { run = slice_set self.old.run core (run_at self.old core + 1) } }
     {
-        match found {
-            Found::Running => add_run(&mut self.run, kernel, task),
-            Found::Waiting(inverted) => {
-                self.counts.wait += 1;
-                self.counts.inverted += u32::from(inverted);
-            }
-            Found::Blocked => {}
+        self.run[core as usize] += 1;
+    }
+
+    /// Adds a tick that found the task so, but for the core that it was on.
+    pub(crate) fn add_wait(&mut self, found: Found)
+        requires { HasWaitRoom self.old }
+        ensures { self.new ≡ waited_as found self.old }
+    {
+        if let Found::Waiting(inverted) = found {
+            self.counts.wait += 1;
+            self.counts.inverted += u32::from(inverted);
         }
     }
 
@@ -125,17 +131,6 @@ impl TaskCounts {
         counts.displaced += more.displaced;
         counts.timeouts += more.timeouts;
         counts.top = counts.top.max(more.top);
-    }
-}
-
-/// The ticks that each core ran, and one more where the task is its current one.
-fn add_run(run: &mut [u32], kernel: &Kernel, task: u32)
-    requires cores { length run.old ≡ kernel.now.settings.cores }
-    requires room { All (λ ticks. ticks < 2 ^ 32 - 1) run.old }
-    ensures { run.new ≡ runs_after kernel.now.control task run.old }
-{
-    for core in 0..kernel.settings().cores {
-        run[core as usize] += u32::from(kernel.running(core) == task);
     }
 }
 

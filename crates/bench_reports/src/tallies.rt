@@ -7,7 +7,7 @@ ghost use Rattle.bench_model.specs.Session.{step_of};
 ghost use Rattle.bench_model.specs.Table.{Table};
 ghost use Rattle.bench_model.specs.Tallied.{added, first_tallies, run_at, shape, shape_of, tallied, tally_at, AllCountsBelow};
 ghost use Rattle.smp_kernel.specs.Kernel.{StandsForSome};
-ghost use Rattle.bench_reports.specs.Counting.{found, topped, with_event, HasEventRoom};
+ghost use Rattle.bench_reports.specs.Counting.{found, ran, topped, waited, with_event, HasEventRoom, HasWaitRoom};
 ghost use Rattle.bench_reports.specs.Lines.{tally_lines};
 ghost use Rattle.bench_reports.specs.Tops.{HasTops, HasOtherTops};
 
@@ -50,7 +50,7 @@ impl Tallies {
         let settings = kernel.settings();
         let mut tasks = Vec::with_capacity(alloc, settings.tasks as usize)?;
         for task in 0..settings.tasks {
-            tasks.push(TaskCounts::zeros(alloc, settings.cores, kernel.look(task).in_use)?)?;
+            tasks.push_reserved(TaskCounts::zeros(settings.cores, kernel.in_use(task)));
         }
         Ok(Tallies { tasks })
     }
@@ -155,7 +155,7 @@ impl Tallies {
     {
         let mut tasks = Vec::with_capacity(alloc, self.tasks.len())?;
         for task in &self.tasks {
-            tasks.push(task.copy(alloc)?)?;
+            tasks.push(task.copy()?)?;
         }
         Ok(Tallies { tasks })
     }
@@ -245,16 +245,37 @@ impl Tallies {
 }
 
 // Adds a tick.
-#[tactic(auto, unfolding(crate::specs::Counting::found))]
 fn add_tick(tasks: &mut [TaskCounts], kernel: &Kernel)
     requires shape { shape tasks.old ≡ shape_of kernel.now.settings }
     requires room { AllCountsBelow (2 ^ 32 - 1) tasks.old }
     ensures { tasks.new ≡ found kernel.now Tick tasks.old }
 {
+    add_runs(tasks, kernel);
+    add_waits(tasks, kernel);
+}
+
+// Each core's task ran for one tick more.
+#[tactic(auto, unfolding(crate::specs::Counting::ran))]
+fn add_runs(tasks: &mut [TaskCounts], kernel: &Kernel)
+    requires shape { shape tasks.old ≡ shape_of kernel.now.settings }
+    requires room { AllCountsBelow (2 ^ 32 - 1) tasks.old }
+    ensures { tasks.new ≡ ran kernel.now.control tasks.old }
+{
+    for core in 0..kernel.settings().cores {
+        tasks[kernel.running(core) as usize].add_run(core);
+    }
+}
+
+// Each ready task that is on no core waited for one tick more.
+#[tactic(auto, unfolding(crate::specs::Counting::waited))]
+fn add_waits(tasks: &mut [TaskCounts], kernel: &Kernel)
+    requires tasks { length tasks.old ≡ kernel.now.settings.tasks }
+    requires room { All HasWaitRoom tasks.old }
+    ensures { tasks.new ≡ waited kernel.now tasks.old }
+{
     let lowest = lowest_current(kernel);
     for task in 0..kernel.settings().tasks {
-        let found = found_as(kernel, lowest, task);
-        tasks[task as usize].add_tick(kernel, task, found);
+        tasks[task as usize].add_wait(found_as(kernel, lowest, task));
     }
 }
 

@@ -11,20 +11,24 @@ use Rattle.bench_reports.proofs.tallies.Tallies.begin.Goals as goal
 pub loop-task-preserved : goal.loop-task-preserved
 loop-task-preserved c =
     let kernel = c.args.kernel.now in
-    c.in_ok-push.ensures.items
-    ∙ ap (λ tally. c.loop-task.tasks.items ++ tally ∷ []) (c.in_ok-zeros.ensures)
-    ∙ rw (c.settings-settings.ensures.settings) (firsts_more kernel c.loop-task.task c.loop-task.tasks.items c.look.result c.loop-task.invariant c.settings-settings.ensures.sound c.look.ensures)
+    record {
+      tallies = c.push_reserved.ensures.items
+          ∙ ap (λ tally. c.loop-task.tasks.items ++ tally ∷ []) (c.zeros.ensures)
+          ∙ rw (c.settings-settings.ensures.settings) (firsts_more kernel.settings kernel.control c.loop-task.task c.loop-task.tasks.items c.in_use.result c.loop-task.invariant.tallies c.in_use.ensures);
+      len = omega (arith, c.push_reserved.ensures.len, c.loop-task.invariant.len);
+      room = omega (arith, c.push_reserved.ensures.capacity, c.loop-task.invariant.room);
+    }
 
 pub invariant_of-result : goal.invariant_of-result
 invariant_of-result c =
     let kernel = c.args.kernel.now in
-    omega (arith, ap length c.loop-task.invariant, firsts_length kernel.settings kernel.control c.loop-task.task)
+    omega (arith, ap length c.loop-task.invariant.tallies, firsts_length kernel.settings kernel.control c.loop-task.task)
 
 pub returns-clause-tallies : goal.returns-clause-tallies
 returns-clause-tallies c =
     let kernel = c.args.kernel.now in
     let all : c.loop-task.task ≡ kernel.settings.tasks = omega (arith, ap (λ (s : Settings). s.tasks) c.settings-settings.ensures.settings) in
-    c.loop-task.invariant ∙ ap (λ n. map (first_tally kernel.settings kernel.control) (numbers n)) all
+    c.loop-task.invariant.tallies ∙ ap (λ n. map (first_tally kernel.settings kernel.control) (numbers n)) all
 
 pub returns-clause-shape : goal.returns-clause-shape
 returns-clause-shape c = ap shape (returns-clause-tallies c) ∙ first_shape c.args.kernel.now.settings c.args.kernel.now.control

@@ -1,5 +1,6 @@
 ghost use Rattle.std.specs.Prelude.{◌≡◌, ◌++◌, ◌<◌, ◌≤◌, ◌+◌, ◌-◌, ◌^◌, min, All, Ok, IfOk, OnOk, OnErr, length, map};
 ghost use Rattle.std.specs.List.{flat_map};
+ghost use Rattle.std.specs.Vec.{vec_capacity, vec_len};
 ghost use Rattle.bench_types.specs.Limits.{max_cores, max_steps};
 ghost use Rattle.bench_types.specs.Step.{step_check, IsCheckedStep};
 ghost use Rattle.bench_model.specs.Control.{running};
@@ -29,16 +30,18 @@ pub fn advance(kernel: &mut Kernel, steps: &[Step], meter: &mut Meter)
     }
 }
 
-// Adds the tasks that run, core 0 first.
-fn push_row(rows: &mut Vec<u32>, kernel: &Kernel, cores: u32) -> Result<(), AllocError>
+// Adds the tasks that run, core 0 first. There is room for them.
+fn push_row(rows: &mut Vec<u32>, kernel: &Kernel, cores: u32)
     requires stands { StandsForSome kernel.now }
     requires cores { cores ≡ kernel.now.settings.cores }
-    ensures { OnOk result (rows.new.items ≡ rows.old.items ++ running kernel.now.control) }
+    requires room { vec_len rows.old + cores ≤ vec_capacity rows.old }
+    ensures rows { rows.new.items ≡ rows.old.items ++ running kernel.now.control }
+    ensures len { vec_len rows.new ≡ vec_len rows.old + cores }
+    ensures room { vec_capacity rows.new ≡ vec_capacity rows.old }
 {
     for core in 0..cores {
-        rows.push(kernel.running(core))?;
+        rows.push_reserved(kernel.running(core));
     }
-    Ok(())
 }
 
 /// The replies that the kernel gives to the steps, and the tasks that run after each, one row
@@ -76,9 +79,8 @@ pub(crate) fn outcomes_of(
     let mut replies = Vec::with_capacity(alloc, steps.len())?;
     let mut rows = Vec::with_capacity(alloc, steps.len() * cores as usize)?;
     for step in steps {
-        let reply = tallies.make_next(kernel, meter, step);
-        replies.push(reply)?;
-        push_row(&mut rows, kernel, cores)?;
+        replies.push_reserved(tallies.make_next(kernel, meter, step));
+        push_row(&mut rows, kernel, cores);
     }
     Ok((replies, rows))
 }

@@ -1,4 +1,5 @@
-use Rattle.std.proofs.Common.{◌≡◌}
+use Rattle.std.proofs.Common.{◌≡◌, ◌*◌, ◌≤◌, length}
+use Rattle.std.specs.Vec.{vec_capacity, vec_len}
 use Rattle.bench_model.specs.Table.{Table}
 use Rattle.bench_model.specs.Equal.{StandsFor}
 use Rattle.bench_reports.specs.Tops.{HasTops}
@@ -13,5 +14,9 @@ invariant-loop-step l = record {
   counted : (table : Table) → StandsFor l.fn.kernel table → IsTallied l.fn.kernel.settings table l.steps l.step-index l.tallies;
   settings : l.kernel.settings ≡ l.fn.kernel.settings;
   tops : HasTops l.kernel.control l.tallies;
+  replied : vec_len l.replies ≡ l.step-index;
+  reply_room : length l.steps ≤ vec_capacity l.replies;
+  shown : vec_len l.rows ≡ l.step-index * l.fn.kernel.settings.cores;
+  row_room : length l.steps * l.fn.kernel.settings.cores ≤ vec_capacity l.rows;
   meter : l.meter ≡ meter_after l.step-index l.fn.meter;
 }

@@ -1,6 +1,11 @@
-use Rattle.std.proofs.Common.{◌≡◌, ◌++◌, map, take}
+use Rattle.std.proofs.Common.{◌≡◌, ◌+◌, ◌++◌, map, take}
+use Rattle.std.specs.Vec.{vec_capacity, vec_len}
 use Rattle.bench_types.specs.declared.kernel_data.CoreLook.{CoreLook}
 use Rattle.session_segments.proofs.replay.push_row.Given as goal
 
 abbrev pub invariant-loop-core : goal.invariant-loop-core
-invariant-loop-core l = l.rows.items ≡ l.fn.rows.items ++ map (λ (core : CoreLook). core.current) (take l.core l.kernel.control.cores)
+invariant-loop-core l = record {
+  rows : l.rows.items ≡ l.fn.rows.items ++ map (λ (core : CoreLook). core.current) (take l.core l.kernel.control.cores);
+  len : vec_len l.rows ≡ vec_len l.fn.rows + l.core;
+  room : vec_capacity l.rows ≡ vec_capacity l.fn.rows;
+}

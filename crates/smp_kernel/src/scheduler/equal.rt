@@ -27,7 +27,14 @@ impl Scheduler {
     pub fn same(&self, other: &Self) -> bool
         ensures { IsTrue result ↔ (self.now ≡ other.now) }
     {
-        // Nested, so that each test is proved where those before it hold.
+        // The tick counts first, since a tick more or less keeps them apart from there on. Nested, so
+        // that each test is proved where those before it hold.
+        self.tick_count() == other.tick_count() && self.has_same_parts(other)
+    }
+
+    fn has_same_parts(&self, other: &Self) -> bool
+        ensures { IsTrue result ↔ (self.now ≡ other.now) }
+    {
         have_same_settings(self.settings, other.settings)
             && (have_same_hold(self.hold, other.hold)
                 && (have_same_calls(&self.calls, &other.calls)

@@ -1,7 +1,5 @@
-use Rattle.std.proofs.Common.{ℕ, ◌-◌, ◌^◌, ◌<◌, ◌≡◌, List, length, get_or, ap, sym, ◌∙◌, arith}
+use Rattle.std.proofs.Common.{◌-◌, ◌^◌, ◌<◌, length, get_or, ap, arith}
 use Rattle.bench_types.specs.declared.kernel_data.Settings.{Settings}
-use Rattle.bench_model.specs.Tallied.{tally_at}
-use Rattle.bench_reports.specs.Counting.{ran}
 use Rattle.bench_reports.proofs.Runs.{kept_at, kept_cores, kept_ticks, run_all, run_none, run_on}
 use Rattle.bench_reports.proofs.TickLoop.{shape_length, shape_runs}
 use Rattle.bench_reports.proofs.tallies.add_runs.Goals as goal

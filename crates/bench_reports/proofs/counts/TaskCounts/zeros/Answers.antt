@@ -1,4 +1,4 @@
-use Rattle.std.proofs.Common.{ℕ, List, take, ap, ◌∙◌, arith}
+use Rattle.std.proofs.Common.{ℕ, List, take, ap, ◌∙◌}
 use Rattle.std.proofs.lemmas.List.{take-replicate}
 use Rattle.bench_model.specs.Tally.{TaskTally}
 use Rattle.bench_model.specs.Tallied.{no_counts}

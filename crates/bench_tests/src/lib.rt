@@ -26,3 +26,5 @@ mod spans;
 mod store_edits;
 #[cfg(test)]
 mod store_openings;
+#[cfg(test)]
+mod trials;

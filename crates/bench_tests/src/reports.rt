@@ -40,7 +40,7 @@ fn tallies_as_text(rt: HostRuntime) -> Result<(), Fail> {
 }
 
 /// A goes to the core of another task, and C twice; ticks find the idle tasks waiting.
-const SHARED: [Step; 8] = [
+pub(crate) const SHARED: [Step; 8] = [
     A_DELAYS,
     SWITCH_0,
     Step::Tick,
@@ -170,7 +170,7 @@ task C run 2 1 wait 0 inverted 0 in 2 displaced 0 timeouts 0 top 1
 ";
 
 /// After A yields in place of its delay.
-const YIELDED_TALLIES: &str = "\
+pub(crate) const YIELDED_TALLIES: &str = "\
 task IDLE0 run 0 0 wait 2 inverted 0 in 0 displaced 0 timeouts 0 top 0
 task IDLE1 run 0 0 wait 2 inverted 0 in 0 displaced 0 timeouts 0 top 0
 task A run 2 0 wait 0 inverted 0 in 0 displaced 0 timeouts 0 top 2

@@ -1,5 +1,5 @@
 -- What is counted and told of an edit, and what the store keeps after it.
-use Rattle.std.proofs.Common.{◌≡◌, ℕ, ◌+◌, ◌^◌, ◌<◌, ◌≤◌, List, [], ◌∷◌, ◌++◌, length, take, drop, get_or, Ok, sym, ap, subst, ◌∙◌, arith}
+use Rattle.std.proofs.Common.{◌≡◌, ℕ, ◌+◌, ◌^◌, ◌<◌, ◌≤◌, List, [], ◌∷◌, ◌++◌, length, take, drop, get_or, Ok, refl, sym, ap, subst, ◌∙◌, arith}
 use Rattle.std.specs.Prelude.{Result, Err, OnErr, Some, slice_get}
 use Rattle.std.proofs.lemmas.Bool.Decides.{nat_tests}
 use Rattle.std.proofs.lemmas.List.{length-append, take_more, append-nil}
@@ -80,3 +80,7 @@ module _ (header : Header) (span : ℕ) (segments : List SegmentView) (edit : Ed
         checkpoints = subst (λ all. AreCheckpoints span (length all) (starts 0 (lengths parts))) (sym are.steps) (subst (AreCheckpoints span (last_place next)) (sym are.places) fit);
         follow = are.follow;
       }))
+
+  -- the segments that stay and those that are made, under the header that is made
+  pub kept_parts : (header_next : Header) → header_next ≡ next.header → IsKept header_next span parts
+  kept_parts header_next headers = kept_next header_next parts headers refl

@@ -2,3 +2,4 @@ pub mod Kept
 pub mod Opening
 pub mod Outcomes
 pub mod Replays
+pub mod Trials

@@ -11,6 +11,7 @@ mod outcome;
 mod parting;
 mod replay;
 mod store;
+mod tallying;
 
 pub use fault::{OpenFault, OpenRefusal, StoreFault};
 pub use outcome::Outcome;

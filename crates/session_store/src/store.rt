@@ -15,11 +15,13 @@ ghost use Rattle.session_segments.specs.Counting.{meter_after, CountsUpTo};
 ghost use Rattle.session_store.specs.declared.fault.Refused.{Refused as Refusal};
 ghost use Rattle.session_store.specs.Opening.{open_check, handed_back, no_memory};
 ghost use Rattle.session_store.specs.Outcomes.{outcome_of, row_items, distance};
+ghost use Rattle.session_store.specs.Trials.{IsTried};
 
 use crate::checks::{check_edit, check_opening};
 use crate::edit::{EditReplay, replay_edit};
 use crate::fault::Refused;
 use crate::opening::opened;
+use crate::tallying::{add_segments, tallies_after};
 use crate::{OpenFault, OpenRefusal, Outcome, StoreFault};
 use bench_reports::Tallies;
 use bench_types::{Edit, Header, Items, MAX_STEPS, Reply, Row, Step};
@@ -154,6 +156,29 @@ impl Store {
         Ok(outcome)
     }
 
+    /// What [`Store::apply`] would answer, and how each task would fare then. The store stays as it
+    /// is, and the meter counts what is replayed.
+    ///
+    /// The refusals are those of [`Store::apply`].
+    pub fn trial(
+        &self,
+        alloc: Global,
+        edit: Edit,
+        meter: &mut Meter,
+    ) -> Result<(Outcome, Tallies), StoreFault>
+        ensures tried { IsTried self.now edit result }
+        ensures meter { OnOk result (meter.new ≡ meter_after (replayed self.now edit) meter.old) }
+        ensures uncounted { (why : Why) → result ≡ Err (StoreFault.Edit why)
+            → meter.new ≡ meter.old }
+        ensures some { OnErr result
+            (CountsUpTo (replayed self.now edit) meter.old meter.new) }
+    {
+        check_edit(&self.header, self.len(), &edit)?;
+        let replay = replay_edit(alloc, &self.header, self.span, &self.segments, &edit, meter)?;
+        let tallies = tallies_after(alloc, &self.segments, &replay)?;
+        Ok((replay.outcome, tallies))
+    }
+
     /// The number of steps, which is the last place.
     pub fn len(&self) -> u32
         ensures steps { result ≡ length self.now.session.steps }
@@ -268,9 +293,7 @@ impl Store {
     {
         let segments = self.segments.as_slice();
         let mut total = Tallies::begin(alloc, segments[0].kernel())?;
-        for segment in segments {
-            total.add(segment.tallies());
-        }
+        add_segments(&mut total, segments);
         Ok(total)
     }
 }

@@ -1,0 +1,52 @@
+-- What an edit that is tried is answered, and how the tallies of segments add up.
+use Rattle.std.specs.Prelude.{◌≡◌, ◌↔◌, ◌≤◌, List, ◌++◌, length, Result, Err, IfOk}
+use Rattle.bench_types.specs.declared.edit.Edit.{Edit}
+use Rattle.bench_types.specs.declared.edit.EditFault.{EditFault}
+use Rattle.bench_types.specs.declared.header.Header.{Header}
+use Rattle.bench_types.specs.Limits.{max_steps}
+use Rattle.bench_types.specs.Session.{Session, IsSession}
+use Rattle.bench_types.specs.Step.{settings_of}
+use Rattle.bench_model.specs.Edits.{accepted, edited}
+use Rattle.bench_model.specs.Meeting.{CheckpointedSession}
+use Rattle.bench_model.specs.Start.{start}
+use Rattle.bench_model.specs.Tallied.{part_tallies, shape, shape_of}
+use Rattle.bench_model.specs.Tally.{TaskTally, tallies}
+use Rattle.segment_laws.specs.Segments.{SegmentView, all_steps, Follow}
+use Rattle.session_store.specs.declared.fault.StoreFault.{StoreFault}
+use Rattle.session_store.specs.declared.fault.StoreFault.TheVariants as fault
+use Rattle.session_store.specs.declared.outcome.Outcome.{Outcome}
+use Rattle.session_store.specs.Kept.{session_of}
+use Rattle.session_store.specs.Outcomes.{outcome_of}
+
+-- how each task fares in the edited session
+abbrev pub tallies_after : Edit → Session → List TaskTally
+tallies_after edit session = let next = edited edit session in tallies next.header next.steps
+
+-- The answer to an edit that is made of the session alone. It is `NoMemory` where memory was
+-- wanting, which an accepted edit may be answered.
+pub record IsTried (kept : CheckpointedSession) (edit : Edit)
+    (result : Result (Outcome × List TaskTally) StoreFault) : Type 0 where
+  pub refused :
+      (why : EditFault) → (result ≡ Err (fault.Edit why)) ↔ (accepted kept.session edit ≡ Err why)
+  pub outcome : IfOk result (λ tried. tried.0 ≡ outcome_of kept edit)
+  pub tallies : IfOk result (λ tried. tried.1 ≡ tallies_after edit kept.session)
+
+-- the tallies of the steps of segments, from the start of a header on
+pub record AreTallied (header : Header) (segments : List SegmentView)
+    (total : List TaskTally) : Type 0 where
+  pub counts : total ≡ part_tallies (settings_of header) (start header) (all_steps segments)
+  pub sizes : shape total ≡ shape_of (settings_of header)
+
+-- the replay of a session that is not too long, from its start in segments
+pub record IsReplay (header : Header) (segments : List SegmentView) : Type 0 where
+  pub session : IsSession (session_of header segments)
+  pub few_steps : length (all_steps segments) ≤ max_steps
+  pub follow : Follow (start header) segments
+
+-- the tallies of those segments of a replay that come before these
+pub record AreTalliedBefore (total : List TaskTally) (segments : List SegmentView) : Type 0 where
+  pub header : Header
+  pub earlier : List SegmentView
+  pub later : List SegmentView
+  pub replay : IsReplay header (earlier ++ segments ++ later)
+  pub tallied : AreTallied header earlier total

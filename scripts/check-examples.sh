@@ -1,6 +1,7 @@
 #!/usr/bin/env bash
 # Runs the built program over every document of examples/ and compares its whole output with the file beside it: NAME.out for
-# `replay`, and NAME.tally, where there is one, for `replay --tally`. A rig document is recorded, and the recording replayed. Then it
+# `replay`, NAME.tally, where there is one, for `replay --tally`, and NAME.whatif, which may stand alone, for `whatif`. A rig
+# document is recorded, and the recording replayed. Then it
 # looks at what README.md and docs/ show of these documents and outputs, and at the texts and refusals of docs/FORMATS.md. One line where something differs, then a total;
 # status 1 where something does.
 # With --write it writes the outputs anew instead; look at what `git diff` shows before you keep them.
@@ -88,13 +89,16 @@ while IFS= read -r -d '' document; do
         hold_rig "$document"
         continue
     fi
-    hold "$document" "${document%.json}.out" replay
+    if [ -e "${document%.json}.out" ] || ! [ -e "${document%.json}.whatif" ]; then
+        hold "$document" "${document%.json}.out" replay
+    fi
     ! [ -e "${document%.json}.tally" ] || hold "$document" "${document%.json}.tally" replay --tally
+    ! [ -e "${document%.json}.whatif" ] || hold "$document" "${document%.json}.whatif" whatif
 done < <(find examples -name '*.json' -print0 | sort -z)
 
 while IFS= read -r -d '' file; do
     [ -e "${file%.*}.json" ] || wrong "$file: no such document"
-done < <(find examples \( -name '*.out' -o -name '*.tally' \) -print0 | sort -z)
+done < <(find examples \( -name '*.out' -o -name '*.tally' -o -name '*.whatif' \) -print0 | sort -z)
 
 # A table of a folder names each document in it.
 while IFS= read -r -d '' document; do
@@ -107,7 +111,7 @@ done < <(find examples -mindepth 2 -name '*.json' -print0 | sort -z)
 # lines that begin with a brace, are lines of it, but for spaces in front and a comma at the end. Indented lines of output are lines
 # of its output, one after the other; two spaces begin a remark, and `..` stands for lines that are left out. A block with the
 # title `as it was` has two columns, the outputs of the two documents that are named last.
-mapfile -d '' files < <(find examples \( -name '*.json' -o -name '*.out' -o -name '*.tally' \) -print0 | sort -z)
+mapfile -d '' files < <(find examples \( -name '*.json' -o -name '*.out' -o -name '*.tally' -o -name '*.whatif' \) -print0 | sort -z)
 awk '
     function bare(line) {
         sub(/^ +/, "", line)
@@ -131,7 +135,9 @@ awk '
         }
         return 0
     }
-    function output(name) { return (name ".tally") in lines ? name ".tally" : name ".out" }
+    function output(name) {
+        return (name ".tally") in lines ? name ".tally" : (name ".out") in lines ? name ".out" : name ".whatif"
+    }
     function look(file, line) {
         held += 1
         if (!stands(file, line, first || gap)) strange(line)

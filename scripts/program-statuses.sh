@@ -103,6 +103,54 @@ task B run 0 1 wait 0 inverted 0 in 0 displaced 0 timeouts 0 top 1
 task C run 0 0 wait 1 inverted 0 in 0 displaced 1 timeouts 0 top 1
 " '' replay --tally
 
+# ---- trials of edits
+
+tried='edit 0 from 0 met 5 replayed 5
+task IDLE0 run 0 0 wait 1 inverted 0 in 0 displaced 0 timeouts 0 top 0
+task IDLE1 run 0 0 wait 1 inverted 0 in 0 displaced 0 timeouts 0 top 0
+task A run 1 0 wait 0 inverted 0 in 0 displaced 0 timeouts 0 top 2
+task B run 0 1 wait 0 inverted 0 in 0 displaced 0 timeouts 0 top 1
+task C run 0 0 wait 1 inverted 0 in 0 displaced 1 timeouts 0 top 1
+edit 1 refused J1
+'
+run 'whatif' 0 "$tried" '' whatif
+run 'whatif, with the end of the options marked' 0 "$tried" '' whatif --
+run 'whatif, with a span' 0 "$tried" '' whatif --span 2
+run 'whatif, with a span behind an equals sign' 0 "$tried" '' whatif --span=+007 --
+session '' ''
+run 'whatif of a session, which has no edits' 0 '' '' whatif
+
+# What one run prints, whatever the number of parts: of documents with edits, refused ones, and one with none.
+in_parts() { # NAME WORD..: the document is the file `in`
+    local name="$1" parts whole want
+    shift
+    "$program" whatif "$@" <"$folder/in" >"$folder/whole"
+    want=$?
+    whole="$(cat "$folder/whole" && echo .)"
+    whole="${whole%.}"
+    for parts in 1 3 8; do
+        bash scripts/whatif-many.sh "$@" "$folder/in" "$parts" >"$folder/out" 2>"$folder/err"
+        status=$?
+        compare "$name, in $parts parts" "$want" "$whole" ''
+    done
+}
+if command -v parallel >/dev/null && command -v jq >/dev/null; then
+    cp examples/what-if/ends-an-inversion.json "$folder/in"
+    in_parts 'trials of an inversion'
+    in_parts 'trials of an inversion, with a span' --span 2
+    cp examples/another-call.json "$folder/in"
+    in_parts 'trials of two edits'
+    ticks="$(printf '%0100d' 0 | sed 's/0/{"edit": "insert", "at": 3, "step": {"do": "tick"}}, /g')"
+    sed "s/\"edits\": \[/&$ticks/" examples/rigs/slower-device.json >"$folder/in"
+    in_parts 'trials of 102 edits'
+    sed -i 's/"at": 3}/"at": 3e0}/' "$folder/in"
+    in_parts 'a refused document'
+    session '' ''
+    in_parts 'trials of no edits'
+else
+    printf 'left out, since parallel or jq is not here: scripts/whatif-many.sh\n'
+fi
+
 # ---- rigs
 
 # Only one core has a script, so the recording is the same each time.
@@ -175,6 +223,7 @@ session '"steps": [' "\"steps\": [$ticks"
 run 'more steps than a session may have' 1 $'refused J2\n' '' replay
 
 : >"$folder/in"
+run 'no document' 1 $'refused H1\n' '' whatif
 run 'no rig' 1 $'refused H1\n' '' record
 session '' ''
 run 'a session in place of a rig' 1 $'refused H2 session\n' '' record
@@ -204,10 +253,19 @@ Usage: smp_bench <COMMAND>
 
 Commands:
   replay  Replays the session on standard input, and prints the tasks that run after each step
+  whatif  Tries each edit of the document on standard input alone, and prints what it would change
   record  Plays the scripts of the rig on standard input, one thread a core, and prints the session
 
 Options:
   -h, --help  Print help
+'
+what_if_help='Tries each edit of the document on standard input alone, and prints what it would change
+
+Usage: smp_bench whatif [OPTIONS]
+
+Options:
+      --span <STEPS>  Steps from one checkpoint to the next, 1 to 1000, or 64 if left out
+  -h, --help          Print help
 '
 record_help='Plays the scripts of the rig on standard input, one thread a core, and prints the session
 
@@ -233,6 +291,8 @@ run 'replay --help' 0 "$replay_help" '' replay --help
 run 'replay -h' 0 "$replay_help" '' replay -h
 run 'replay --help, then more words' 0 "$replay_help" '' replay --help again
 run 'replay with a span, then --help' 0 "$replay_help" '' replay --span 5 --help
+run 'whatif --help' 0 "$what_if_help" '' whatif --help
+run 'whatif with a span, then -h' 0 "$what_if_help" '' whatif --span 5 -h again
 run 'record --help' 0 "$record_help" '' record --help
 run 'record -h, then more words' 0 "$record_help" '' record -h again
 
@@ -268,6 +328,10 @@ run 'a span before the command' 2 '' "error: unexpected argument '--span' found"
 run 'replay with a word' 2 '' "error: unexpected argument 'again' found" replay again
 run 'replay twice' 2 '' "error: unexpected argument 'replay' found" replay replay
 run 'replay, the end of the options, and a word' 2 '' "error: unexpected argument 'again' found" replay -- again
+run 'whatif with tallies' 2 '' "error: unexpected argument '--tally' found" whatif --tally
+run 'whatif with a span of 0' 2 '' "error: invalid value '0' for '--span <STEPS>'" whatif --span 0
+run 'whatif with a word' 2 '' "error: unexpected argument 'again' found" whatif again
+run 'whatif, then replay' 2 '' "error: unexpected argument 'replay' found" whatif replay
 run 'record with tallies' 2 '' "error: unexpected argument '--tally' found" record --tally
 run 'record with a span' 2 '' "error: unexpected argument '--span' found" record --span 5
 run 'record with a word' 2 '' "error: unexpected argument 'again' found" record again
@@ -277,7 +341,7 @@ run 'a word that is not UTF-8' 2 '' 'error: invalid UTF-8 was detected in one or
 run 'replay and a word that is not UTF-8' 2 '' 'error: invalid UTF-8 was detected in one or more arguments' replay $'re\300'
 
 # The command line is read before the input: what is left of that is the whole session.
-for words in '' --help 'replay again' 'record again'; do
+for words in '' --help 'replay again' 'whatif again' 'record again'; do
     # shellcheck disable=SC2086
     { "$program" $words >/dev/null 2>&1; cat >"$folder/out"; } <examples/first-run.json
     status=0
@@ -296,6 +360,9 @@ compare 'a folder as input' 3 '' $'fault read\n'
 "$program" record </ >"$folder/out" 2>"$folder/err"
 status=$?
 compare 'record of a folder' 3 '' $'fault read\n'
+"$program" whatif </ >"$folder/out" 2>"$folder/err"
+status=$?
+compare 'whatif of a folder' 3 '' $'fault read\n'
 "$program" replay <&- >"$folder/out" 2>"$folder/err"
 status=$?
 compare 'closed input' 3 '' $'fault read\n'
@@ -307,6 +374,9 @@ compare 'a full device as output' 3 '' $'fault write\n'
 printf '%s' "$rig" | "$program" record >/dev/full 2>"$folder/err"
 status=$?
 compare 'record to a full device' 3 '' $'fault write\n'
+"$program" whatif <examples/another-call.json >/dev/full 2>"$folder/err"
+status=$?
+compare 'whatif to a full device' 3 '' $'fault write\n'
 "$program" --help >/dev/full 2>"$folder/err"
 status=$?
 compare '--help to a full device' 3 '' $'fault write\n'

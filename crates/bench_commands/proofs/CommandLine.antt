@@ -17,7 +17,8 @@ use Rattle.bench_types.specs.Name.{is_within}
 use Rattle.bench_types.specs.Limits.{max_span}
 use Rattle.bench_commands.specs.declared.command.Request.{Request}
 use Rattle.bench_commands.specs.declared.command.Request.TheVariants.{Bad, Help, Record, Run}
-use Rattle.bench_commands.specs.Command.{AreTaken, Asked, a_mistake, a_recording, a_run, asked_by, asked_for, asked_in, asked_in_words, asked_of, bench_app, can_run, default_span, help, is_flag, is_span, mode_of, number_of}
+use Rattle.bench_commands.specs.declared.execution.Mode.TheVariants.{Replay, WhatIf}
+use Rattle.bench_commands.specs.Command.{AreTaken, Asked, a_mistake, a_recording, a_run, asked_by, asked_for, asked_in, asked_in_words, asked_of, bench_app, can_run, default_span, help, is_flag, is_span, number_of, span_in, tally_in}
 use Rattle.bench_commands.specs.Run.{has_span}
 use Rattle.bench_commands.proofs.ClapAnswers.{AskOne, Every, Reads, RowsFit, RuleFits, ShapeFits, Yields, app_yields, one_fits}
 use Rattle.bench_commands.proofs.SpanTexts.{span_is_within, span_taken}
@@ -43,7 +44,7 @@ top_fits = record { rules = (as_told _ refl, tt); helpless = refl }
 
 commands_fit : Every (ShapeFits Value Read) (built bench_app).subs
 commands_fit =
-    (record { rules = (as_told _ refl, (as_told _ refl, (as_told _ refl, tt))); helpless = refl }, (record { rules = (as_told _ refl, tt); helpless = refl }, tt))
+    (record { rules = (as_told _ refl, (as_told _ refl, (as_told _ refl, tt))); helpless = refl }, (record { rules = (as_told _ refl, (as_told _ refl, tt)); helpless = refl }, (record { rules = (as_told _ refl, tt); helpless = refl }, tt)))
 
 taken : (rows : List Row) → RowsFit Value Read rows → AreTaken rows
 taken rows fit = record {
@@ -124,11 +125,12 @@ met_asked words found request matched is = go found matched.are_taken is (ap₂ 
     within (Some text) taken = span_is_within text taken
 
     opens : (name : Text) (options : List Row) → AreTaken options → may_open (asked_for name options) ≡ true
-    opens name options taken = by_name (bytes_eq name (codes "record"))
+    opens name options taken = by_name (bytes_eq name (codes "record")) (bytes_eq name (codes "whatif"))
       where
-        by_name : (is : Bool) → may_open (if is then a_recording else a_run (mode_of options)) ≡ true
-        by_name true = refl
-        by_name false = within (one_of (codes "span") options) taken.span
+        by_name : (records tries : Bool) → may_open (if records then a_recording else a_run (if tries then WhatIf (span_in options) else Replay (span_in options) (tally_in options))) ≡ true
+        by_name true tries = refl
+        by_name false true = within (one_of (codes "span") options) taken.span
+        by_name false false = within (one_of (codes "span") options) taken.span
 
     go : (found : Option (Text × List Row)) → MetTaken found → IfSome found (λ met. asked_in request ≡ asked_for met.0 met.1) → asked_of [] found ≡ asked_in_words words
         → (can_run request ≡ true) × (asked_in request ≡ asked_in_words words)

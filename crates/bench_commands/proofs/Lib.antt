@@ -9,4 +9,5 @@ mod Opened
 mod SpanTexts
 mod CommandLines
 mod Recordings
+mod TrialLines
 mod EditsMade

@@ -13,7 +13,8 @@ use Rattle.session_text.specs.declared.fault.TextFault.{TextFault}
 use Rattle.session_text.specs.declared.fault.Why.TheVariants.{NoMemory}
 use Rattle.session_text.specs.Bench.{bench_text, IsCheckedBench}
 use Rattle.bench_model.specs.Meeting.{CheckpointedSession, first_kept}
-use Rattle.bench_commands.specs.Answer.{why_text, refused, edited_text, bench_replay, output_of, output_of_bench, Output}
+use Rattle.bench_commands.specs.declared.execution.Mode.{Mode}
+use Rattle.bench_commands.specs.Answer.{why_text, refused, bench_output, output_of, output_of_bench, span_of, store_text, Output}
 use Rattle.bench_commands.proofs.Opened.{few_steps, opens}
 
 pub refused_output : {E : Type 0} (text : Bench → List ℕ) (input : List ℕ) (fault : TextFault) (result : Result Output E) → (bench_text input ≡ Err fault) ⊎ (fault ≡ record { why = NoMemory; path = [] })
@@ -40,9 +41,11 @@ not_opened_output text bench why (Err e) long line told = tt
 not_opened_output text bench why (Ok answer) long line told = line ∙ told long
 
 -- what is told of a session that was opened
-pub opened_output : {E : Type 0} (tally : Bool) (bench : Bench) (span : ℕ) (kept : CheckpointedSession) (result : Result Output E) → open_check bench.header bench.steps span ≡ Ok tt → kept ≡ first_kept span (record { header = bench.header; steps = bench.steps })
-    → IfOk result (λ answer. answer ≡ record { is_refused = false; text = edited_text tally kept bench.edits }) → IfOk result (λ answer. answer ≡ output_of_bench (bench_replay span tally) bench)
-opened_output tally bench span kept (Err e) accepted same told = tt
-opened_output tally bench span kept (Ok answer) accepted same told =
+pub opened_output : {E : Type 0} (mode : Mode) (bench : Bench) (span : ℕ) (kept : CheckpointedSession) (result : Result Output E) → span ≡ span_of mode → open_check bench.header bench.steps span ≡ Ok tt
+    → kept ≡ first_kept span (record { header = bench.header; steps = bench.steps })
+    → IfOk result (λ answer. answer ≡ record { is_refused = false; text = store_text mode kept bench.edits }) → IfOk result (λ answer. answer ≡ output_of_bench (bench_output mode) bench)
+opened_output mode bench span kept (Err e) is accepted same told = tt
+opened_output mode bench span kept (Ok answer) is accepted same told =
     let few = few_steps bench.header bench.steps span accepted in
-    told ∙ ap (λ (k : CheckpointedSession). record { is_refused = false; text = edited_text tally k bench.edits }) same ∙ sym (ap (λ (many : Bool). if many then refused (codes "J2") [] else record { is_refused = false; text = bench_replay span tally bench }) few)
+    let begin = same ∙ ap (λ n. first_kept n (record { header = bench.header; steps = bench.steps })) is in
+    told ∙ ap (λ (k : CheckpointedSession). record { is_refused = false; text = store_text mode k bench.edits }) begin ∙ sym (ap (λ (many : Bool). if many then refused (codes "J2") [] else record { is_refused = false; text = bench_output mode bench }) few)

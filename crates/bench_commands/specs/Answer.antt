@@ -1,5 +1,5 @@
 -- What a run writes for the bytes that it read.
-use Rattle.std.specs.Prelude.{ℕ, List, [], ◌∷◌, ◌++◌, length, flat_map, codes, Bool, true, false, nat_lt, if◌then◌else◌, Result, Ok, Err}
+use Rattle.std.specs.Prelude.{ℕ, suc, List, [], ◌∷◌, ◌++◌, length, flat_map, codes, Bool, true, false, is_ok, nat_lt, if◌then◌else◌, Result, Ok, Err}
 use Rattle.std.specs.Option.{option_map_or}
 use Rattle.bench_types.specs.Codes.{fault_code}
 use Rattle.bench_types.specs.declared.edit.Edit.{Edit}
@@ -9,12 +9,14 @@ use Rattle.bench_types.specs.Limits.{max_input, max_steps}
 use Rattle.list_orders.specs.Search.{numbers}
 use Rattle.bench_model.specs.Control.{running}
 use Rattle.bench_model.specs.Start.{start}
-use Rattle.bench_model.specs.Edits.{after_edits}
+use Rattle.bench_types.specs.Session.{Session}
+use Rattle.bench_model.specs.Edits.{accepted, after_edits}
 use Rattle.bench_model.specs.Meeting.{CheckpointedSession, first_kept}
 use Rattle.bench_model.specs.Session.{outcome_at}
 use Rattle.bench_model.specs.Tally.{tallies}
 use Rattle.bench_reports.specs.Lines.{tally_lines}
-use Rattle.session_store.specs.Outcomes.{answers}
+use Rattle.session_store.specs.Outcomes.{answer, answers}
+use Rattle.session_store.specs.Trials.{tallies_after}
 use Rattle.session_text.specs.declared.bench.Bench.{Bench}
 use Rattle.session_text.specs.declared.fault.Why.{Why}
 use Rattle.session_text.specs.declared.fault.Why.TheVariants.{NotJson, BadShape, NoMemory}
@@ -22,8 +24,8 @@ use Rattle.session_text.specs.declared.fault.Why.TheVariants as why
 use Rattle.session_text.specs.declared.fault.TextFault.{TextFault}
 use Rattle.session_text.specs.Bench.{bench_text}
 use Rattle.bench_commands.specs.declared.execution.Mode.{Mode}
-use Rattle.bench_commands.specs.declared.execution.Mode.TheVariants.{Replay}
-use Rattle.bench_commands.specs.Lines.{spaced, edit_lines, start_line, step_line}
+use Rattle.bench_commands.specs.declared.execution.Mode.TheVariants.{Replay, WhatIf}
+use Rattle.bench_commands.specs.Lines.{spaced, edit_line, edit_lines, start_line, step_line}
 
 -- the line of the step at a place
 abbrev pub line_at : Header → List Step → ℕ → List ℕ
@@ -74,11 +76,38 @@ edited_text tally kept edits =
     edit_lines 0 (answers kept edits) ++ replay_text last.header last.steps
     ++ tally_text tally last.header last.steps
 
--- what a replay with a checkpoint every span writes for a bench document
-abbrev pub bench_replay : ℕ → Bool → Bench → List ℕ
-bench_replay span tally bench =
-    edited_text tally (first_kept span (record { header = bench.header; steps = bench.steps }))
-    bench.edits
+-- how the tasks fare in the edited session, where the edit is accepted; no edit renames a task
+abbrev pub tallies_text : Session → Edit → List ℕ
+tallies_text session edit =
+    if is_ok (accepted session edit) then tally_lines session.header 0 (tallies_after edit session)
+    else []
+
+-- an edit that is tried alone: what it leads to, then how the tasks fare
+abbrev pub trial_text : CheckpointedSession → ℕ → Edit → List ℕ
+trial_text kept index edit =
+    edit_line index (answer kept edit) ++ tallies_text kept.session edit
+
+-- edits that are each tried alone, the first of which has the index
+abbrev pub trials_text : CheckpointedSession → ℕ → List Edit → List ℕ
+trials_text kept index [] = []
+trials_text kept index (edit ∷ edits) =
+    trial_text kept index edit ++ trials_text kept (suc index) edits
+
+-- about how many steps are to lie between two checkpoints
+abbrev pub span_of : Mode → ℕ
+span_of (Replay span tally) = span
+span_of (WhatIf span) = span
+
+-- by the mode, what is written of a session that was opened, and of edits
+abbrev pub store_text : Mode → CheckpointedSession → List Edit → List ℕ
+store_text (Replay span tally) kept edits = edited_text tally kept edits
+store_text (WhatIf span) kept edits = trials_text kept 0 edits
+
+-- by the mode, what is written for a bench document
+abbrev pub bench_output : Mode → Bench → List ℕ
+bench_output mode bench =
+    store_text mode
+    (first_kept (span_of mode) (record { header = bench.header; steps = bench.steps })) bench.edits
 
 -- by what is written for a bench document; J2 comes after all other refusals
 abbrev pub output_of_bench : (Bench → List ℕ) → Bench → Output
@@ -90,10 +119,8 @@ abbrev pub output_of : (Bench → List ℕ) → Result Bench TextFault → Outpu
 output_of text (Ok bench) = output_of_bench text bench
 output_of text (Err fault) = refused (why_text fault.why) fault.path
 
--- by the mode, the output for an input that is not too long
-abbrev pub output_by : Mode → List ℕ → Output
-output_by (Replay span tally) input = output_of (bench_replay span tally) (bench_text input)
-
+-- by the mode, the output for an input; H3 where that is too long
 unfoldable pub output : Mode → List ℕ → Output
 output mode input =
-    if nat_lt max_input (length input) then refused (codes "H3") [] else output_by mode input
+    if nat_lt max_input (length input) then refused (codes "H3") []
+    else output_of (bench_output mode) (bench_text input)

@@ -13,7 +13,7 @@ use Rattle.clap.specs.declared.error.kind.ErrorKind.TheVariants as kind
 use Rattle.bench_types.specs.Name.{is_within}
 use Rattle.bench_types.specs.Limits.{max_span}
 use Rattle.bench_commands.specs.declared.execution.Mode.{Mode}
-use Rattle.bench_commands.specs.declared.execution.Mode.TheVariants.{Replay}
+use Rattle.bench_commands.specs.declared.execution.Mode.TheVariants.{Replay, WhatIf}
 use Rattle.bench_commands.specs.declared.command.Request.{Request}
 use Rattle.bench_commands.specs.declared.command.Request.TheVariants.{Run, Record, Help, Bad}
 use Rattle.bench_commands.specs.Run.{has_span}
@@ -42,6 +42,10 @@ tally_rule =
 abbrev pub replay_app : App
 replay_app = with_rule (with_rule (new_app (codes "replay")) span_rule) tally_rule
 
+-- the command `whatif` with its option
+abbrev pub what_if_app : App
+what_if_app = with_rule (new_app (codes "whatif")) span_rule
+
 -- the command `record`, which has no options
 abbrev pub record_app : App
 record_app = new_app (codes "record")
@@ -57,11 +61,13 @@ program_app = record (new_app (codes "smp_bench")) {
 
 -- the program with its commands
 abbrev pub bench_app : App
-bench_app = with_subcommand (with_subcommand program_app replay_app.top) record_app.top
+bench_app =
+    with_subcommand (with_subcommand (with_subcommand program_app replay_app.top) what_if_app.top)
+    record_app.top
 
 -- ---- what its answers mean
 
--- the span of a replay where none is given
+-- the span where none is given
 abbrev pub default_span : ℕ
 default_span = 64
 
@@ -77,14 +83,16 @@ span_in options = option_map_or number_of (one_of (codes "span") options) defaul
 abbrev pub tally_in : List Row → Bool
 tally_in options = option_map_or (bytes_eq (codes "true")) (one_of (codes "tally") options) false
 
--- the run that a command with these options asks for
-abbrev pub mode_of : List Row → Mode
-mode_of options = Replay (span_in options) (tally_in options)
+-- the run that a command with this name and these options asks for
+abbrev pub mode_of : Text → List Row → Mode
+mode_of name options =
+    if bytes_eq name (codes "whatif") then WhatIf (span_in options)
+    else Replay (span_in options) (tally_in options)
 
 -- what a command with this name and these options asks for
 abbrev pub asked_for : Text → List Row → Asked
 asked_for name options =
-    if bytes_eq name (codes "record") then a_recording else a_run (mode_of options)
+    if bytes_eq name (codes "record") then a_recording else a_run (mode_of name options)
 
 -- by the kind of an error, of which `--help` and `-h` make one too
 abbrev pub asked_by : ErrorKind → Asked

@@ -1,7 +1,7 @@
 -- Worked command lines.
 use Rattle.std.specs.Prelude.{◌≡◌, List, [], ◌∷◌, Some, None, true, false, codes}
 use Rattle.clap.specs.Words.{Text}
-use Rattle.bench_commands.specs.declared.execution.Mode.TheVariants.{Replay}
+use Rattle.bench_commands.specs.declared.execution.Mode.TheVariants.{Replay, WhatIf}
 use Rattle.bench_commands.specs.Command.{Asked, a_run, a_recording, help, a_mistake, asked}
 
 -- by the words after the program's name
@@ -21,6 +21,12 @@ pub record WorkedRuns : Type 0 where
   pub end_of_options :
       asked_after (codes "replay" ∷ codes "--tally" ∷ codes "--" ∷ []) ≡ a_run (Replay 64 true)
 
+pub record WorkedTrials : Type 0 where
+  pub bare : asked_after (codes "whatif" ∷ []) ≡ a_run (WhatIf 64)
+  pub span : asked_after (codes "whatif" ∷ codes "--span" ∷ codes "7" ∷ []) ≡ a_run (WhatIf 7)
+  pub span_with_plus : asked_after (codes "whatif" ∷ codes "--span=+5" ∷ []) ≡ a_run (WhatIf 5)
+  pub end_of_options : asked_after (codes "whatif" ∷ codes "--" ∷ []) ≡ a_run (WhatIf 64)
+
 pub record WorkedRecordings : Type 0 where
   pub bare : asked_after (codes "record" ∷ []) ≡ a_recording
   pub end_of_options : asked_after (codes "record" ∷ codes "--" ∷ []) ≡ a_recording
@@ -29,6 +35,7 @@ pub record WorkedHelp : Type 0 where
   pub of_program : asked_after (codes "--help" ∷ []) ≡ help
   pub by_letter : asked_after (codes "-h" ∷ codes "again" ∷ []) ≡ help
   pub of_replay : asked_after (codes "replay" ∷ codes "--tally" ∷ codes "--help" ∷ []) ≡ help
+  pub of_what_if : asked_after (codes "whatif" ∷ codes "--help" ∷ []) ≡ help
   pub of_record : asked_after (codes "record" ∷ codes "--help" ∷ []) ≡ help
 
 pub record WorkedMistakes : Type 0 where
@@ -42,6 +49,10 @@ pub record WorkedMistakes : Type 0 where
       asked_after (codes "replay" ∷ codes "--span" ∷ codes "7" ∷ codes "--span=7" ∷ []) ≡ a_mistake
   pub two_tallies : asked_after (codes "replay" ∷ codes "--tally" ∷ codes "--tally" ∷ []) ≡ a_mistake
   pub tally_with_value : asked_after (codes "replay" ∷ codes "--tally=x" ∷ []) ≡ a_mistake
+  pub tally_of_what_if : asked_after (codes "whatif" ∷ codes "--tally" ∷ []) ≡ a_mistake
+  pub span_of_none_of_what_if :
+      asked_after (codes "whatif" ∷ codes "--span" ∷ codes "0" ∷ []) ≡ a_mistake
+  pub word_of_what_if : asked_after (codes "whatif" ∷ codes "again" ∷ []) ≡ a_mistake
   pub span_of_record : asked_after (codes "record" ∷ codes "--span" ∷ codes "7" ∷ []) ≡ a_mistake
   pub tally_of_record : asked_after (codes "record" ∷ codes "--tally" ∷ []) ≡ a_mistake
   pub word_of_record : asked_after (codes "record" ∷ codes "again" ∷ []) ≡ a_mistake

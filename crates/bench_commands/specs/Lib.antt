@@ -6,3 +6,4 @@ pub mod Lines
 pub mod Program
 pub mod Record
 pub mod Run
+pub mod TrialLaws

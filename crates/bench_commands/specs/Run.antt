@@ -4,16 +4,15 @@ use Rattle.std.specs.Io.KnownBytes.{Appends}
 use Rattle.bench_types.specs.Name.{is_within}
 use Rattle.bench_types.specs.Limits.{max_input, max_span}
 use Rattle.bench_commands.specs.declared.execution.Mode.{Mode}
-use Rattle.bench_commands.specs.declared.execution.Mode.TheVariants.{Replay}
 use Rattle.bench_commands.specs.declared.execution.Status.{Status}
 use Rattle.bench_commands.specs.declared.execution.Status.TheVariants.{Fine, Refused, Fault}
 use Rattle.bench_commands.specs.declared.execution.RunFault.TheVariants.{Memory, Read, Write}
 use Rattle.bench_commands.specs.Device.{ReadsInput, ReadsSome, AppendsPrefix}
-use Rattle.bench_commands.specs.Answer.{output}
+use Rattle.bench_commands.specs.Answer.{output, span_of}
 
 -- a span of checkpoints that a session may be opened with
 abbrev pub has_span : Mode → Bool
-has_span (Replay span tally) = is_within 1 max_span span
+has_span mode = is_within 1 max_span (span_of mode)
 
 -- the input was read, and its whole output written
 pub record Wrote (mode : Mode) (read_old read_new write_old write_new : Option (List ℕ))

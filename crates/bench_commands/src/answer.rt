@@ -1,21 +1,21 @@
 ghost use Rattle.std.specs.Prelude.{◌≡◌, ◌++◌, [], IfOk, OnOk, codes, string_bytes, true, false, IsErr};
-ghost use Rattle.bench_types.specs.Name.{is_within};
-ghost use Rattle.bench_types.specs.Limits.{max_span};
 ghost use Rattle.session_store.specs.declared.fault.OpenRefusal.TheVariants.{TooLong};
 ghost use Rattle.session_text.specs.declared.fault.Why.TheVariants.{NoMemory};
 ghost use Rattle.session_text.specs.Bench.{IsCheckedBench, bench_text};
-ghost use Rattle.bench_commands.specs.Answer.{why_text, path_text, refusal_line, refused, edited_text, bench_replay, output, output_of, output_of_bench, Output};
+ghost use Rattle.bench_commands.specs.Answer.{why_text, path_text, refusal_line, refused, bench_output, output, output_of, output_of_bench, store_text, Output};
 ghost use Rattle.bench_commands.specs.Run.{has_span};
 
 use crate::execution::Mode;
 use crate::lines::push_spaced;
 use crate::output::edited_replay;
+use crate::trials::trial_lines;
 use bench_types::{Edit, EditFault, MAX_INPUT};
 use session_store::{OpenRefusal, Store};
 use session_text::{Bench, TextFault, Why, read_bench};
 use smp_kernel::Meter;
 use std::alloc::{AllocError, Global};
 use std::marker::Model;
+use std::thread::Threads;
 
 /// What the program writes, and whether its input was refused.
 #[derive(Drop)]
@@ -57,19 +57,39 @@ pub(crate) fn refused_for(alloc: Global, fault: TextFault) -> Result<Answer, All
     }
 }
 
-// The lines of the edits and of the edited session.
-fn answer_of_store(
+// What is written of a session that was opened, and of its edits.
+fn text_of_store<T: Threads + Sync>(
+    rt: &T,
+    host: &HostRuntime,
     alloc: Global,
     meter: &mut Meter,
     store: &mut Store,
     edits: &[Edit],
-    tally: bool,
+    mode: Mode,
+) -> Result<String, AllocError>
+    ensures { IfOk result (λ text. string_bytes text ≡ store_text mode store.old edits.now) }
+{
+    match mode {
+        Mode::Replay { span: _, tally } => edited_replay(alloc, meter, store, edits, tally),
+        Mode::WhatIf { .. } => trial_lines(rt, host, alloc, store, edits),
+    }
+}
+
+// The same as an answer.
+fn answer_of_store<T: Threads + Sync>(
+    rt: &T,
+    host: &HostRuntime,
+    alloc: Global,
+    meter: &mut Meter,
+    store: &mut Store,
+    edits: &[Edit],
+    mode: Mode,
 ) -> Result<Answer, AllocError>
     ensures { IfOk result
         (λ answer. answer
-        ≡ record { is_refused = false; text = edited_text tally store.old edits.now }) }
+        ≡ record { is_refused = false; text = store_text mode store.old edits.now }) }
 {
-    let text = edited_replay(alloc, meter, store, edits, tally)?;
+    let text = text_of_store(rt, host, alloc, meter, store, edits, mode)?;
     Ok(Answer {
         is_refused: false,
         text,
@@ -89,51 +109,61 @@ fn not_opened(alloc: Global, why: OpenRefusal) -> Result<Answer, AllocError>
 
 // The output of a bench document that was read. Texts may have any number of steps, so J2 is found
 // here.
-fn answer_of_bench(
+fn answer_of_bench<T: Threads + Sync>(
+    rt: &T,
+    host: &HostRuntime,
     alloc: Global,
-    meter: &mut Meter,
     bench: Bench,
-    span: u32,
-    tally: bool,
+    mode: Mode,
 ) -> Result<Answer, AllocError>
     requires checked { IsCheckedBench bench }
-    requires span { is_within 1 max_span span ≡ true }
-    ensures { IfOk result (λ answer. answer ≡ output_of_bench (bench_replay span tally) bench) }
+    requires span { has_span mode ≡ true }
+    ensures { IfOk result (λ answer. answer ≡ output_of_bench (bench_output mode) bench) }
 {
     let Bench {
         header,
         steps,
         edits,
     } = bench;
-    match Store::open(alloc, header, steps.into_vec(), span, meter) {
-        Ok(mut store) => answer_of_store(alloc, meter, &mut store, edits.as_slice(), tally),
+    let mut meter = Meter::new(host);
+    match Store::open(alloc, header, steps.into_vec(), mode.span(), &mut meter) {
+        Ok(mut store) => answer_of_store(
+            rt,
+            host,
+            alloc,
+            &mut meter,
+            &mut store,
+            edits.as_slice(),
+            mode,
+        ),
         Err(fault) => not_opened(alloc, fault.why),
     }
 }
 
-// The output of a replay, but for H3.
-fn replay_of(
+// The output, but for H3.
+fn answer_to_text<T: Threads + Sync>(
+    rt: &T,
+    host: &HostRuntime,
     alloc: Global,
-    meter: &mut Meter,
     input: &[u8],
-    span: u32,
-    tally: bool,
+    mode: Mode,
 ) -> Result<Answer, AllocError>
-    requires { is_within 1 max_span span ≡ true }
+    requires { has_span mode ≡ true }
     ensures { IfOk result
-        (λ answer. answer ≡ output_of (bench_replay span tally) (bench_text input.now)) }
+        (λ answer. answer ≡ output_of (bench_output mode) (bench_text input.now)) }
 {
     match read_bench(alloc, input) {
         Err(fault) => refused_for(alloc, fault),
-        Ok(bench) => answer_of_bench(alloc, meter, bench, span, tally),
+        Ok(bench) => answer_of_bench(rt, host, alloc, bench, mode),
     }
 }
 
 /// The whole output of a run for the input.
 #[tactic(auto, unfolding(crate::specs::Answer::output))]
-pub(crate) fn answer_to(
+pub(crate) fn answer_to<T: Threads + Sync>(
+    rt: &T,
+    host: &HostRuntime,
     alloc: Global,
-    meter: &mut Meter,
     input: &[u8],
     mode: Mode,
 ) -> Result<Answer, AllocError>
@@ -143,9 +173,7 @@ pub(crate) fn answer_to(
     if input.len() > MAX_INPUT {
         return refused(alloc, "H3", "");
     }
-    match mode {
-        Mode::Replay { span, tally } => replay_of(alloc, meter, input, span, tally),
-    }
+    answer_to_text(rt, host, alloc, input, mode)
 }
 
 fn why_text(why: Why) -> &'static str

@@ -1,8 +1,8 @@
-ghost use Rattle.std.specs.Prelude.{◌≡◌, IfOk, IfSome, IsErr, map, option_map, true};
+ghost use Rattle.std.specs.Prelude.{◌≡◌, IfOk, IfSome, IsErr, map, option_map, false, true};
 ghost use Rattle.std.specs.Option.{IsSomeAnd};
-ghost use Rattle.clap.specs.Words.{app_of, found_of, kind_of, rows_of, rule_of, subcommand_rows_of};
+ghost use Rattle.clap.specs.Words.{app_of, fields_of, found_of, kind_of, rows_of, rule_of, subcommand_rows_of};
 ghost use Rattle.clap.specs.declared.error.kind.ErrorKind.TheVariants.{OutOfMemory};
-ghost use Rattle.bench_commands.specs.Command.{AreTaken, a_mistake, asked, asked_by, asked_in, asked_for, asked_in_words, bench_app, can_run, span_in, span_rule, tally_in, tally_rule};
+ghost use Rattle.bench_commands.specs.Command.{AreTaken, a_mistake, asked, asked_by, asked_in, asked_for, asked_in_words, bench_app, can_run, record_app, replay_app, span_in, span_rule, tally_in, tally_rule, what_if_app};
 
 use crate::execution::Mode;
 use bench_types::MAX_SPAN;
@@ -11,7 +11,7 @@ use clap::{Arg, ArgAction, ArgMatches, Command, Error, value_parser};
 use std::alloc::{AllocError, Global};
 use std::convert::AsStr;
 
-/// The span of a replay where the command line gives none.
+/// The span of checkpoints where the command line gives none.
 pub const DEFAULT_SPAN: u32 = 64;
 
 /// What a command line asks for.
@@ -46,25 +46,52 @@ fn tally_flag<'a>(alloc: Global) -> Arg<'a>
         .action(ArgAction::SetTrue)
 }
 
+fn replay_command<'a>(alloc: Global) -> Result<Command<'a>, AllocError>
+    ensures app { IfOk result (λ command. app_of command ≡ replay_app) }
+    ensures local { IfOk result (λ command. (fields_of command).has_globals ≡ false) }
+{
+    Command::new(alloc, "replay")
+        .about(
+            "Replays the session on standard input, and prints the tasks that run after each step",
+        )
+        .arg(span_option(alloc))?
+        .arg(tally_flag(alloc))
+}
+
+fn what_if_command<'a>(alloc: Global) -> Result<Command<'a>, AllocError>
+    ensures app { IfOk result (λ command. app_of command ≡ what_if_app) }
+    ensures local { IfOk result (λ command. (fields_of command).has_globals ≡ false) }
+{
+    Command::new(alloc, "whatif")
+        .about(
+            "Tries each edit of the document on standard input alone, and prints what it would change",
+        )
+        .arg(span_option(alloc))
+}
+
+fn record_command<'a>(alloc: Global) -> Command<'a>
+    ensures app { app_of result ≡ record_app }
+    ensures local { (fields_of result).has_globals ≡ false }
+{
+    Command::new(alloc, "record").about(
+        "Plays the scripts of the rig on standard input, one thread a core, and prints the session",
+    )
+}
+
 // The program's commands. Help for one of them is asked for by its `--help`, so `help` is no
 // command.
 fn command<'a>(alloc: Global) -> Result<Command<'a>, AllocError>
     ensures { IfOk result (λ command. app_of command ≡ bench_app) }
 {
-    let replay = Command::new(alloc, "replay")
-        .about(
-            "Replays the session on standard input, and prints the tasks that run after each step",
-        )
-        .arg(span_option(alloc))?
-        .arg(tally_flag(alloc))?;
-    let record = Command::new(alloc, "record").about(
-        "Plays the scripts of the rig on standard input, one thread a core, and prints the session",
-    );
+    let replay = replay_command(alloc)?;
+    let what_if = what_if_command(alloc)?;
+    let record = record_command(alloc);
     Command::new(alloc, "smp_bench")
         .about("Records and replays FreeRTOS SMP scheduling sessions")
         .disable_help_subcommand(true)
         .subcommand_required(true)
         .subcommand(replay)?
+        .subcommand(what_if)?
         .subcommand(record)
 }
 
@@ -115,6 +142,11 @@ fn asked_for(matches: &ArgMatches) -> Request
     let (name, options) = matches.subcommand().unwrap();
     if name == "record" {
         return Request::Record;
+    }
+    if name == "whatif" {
+        return Request::Run(Mode::WhatIf {
+            span: span_in(options),
+        });
     }
     Request::Run(Mode::Replay {
         span: span_in(options),

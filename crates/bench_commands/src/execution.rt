@@ -1,13 +1,14 @@
 ghost use Rattle.std.specs.Prelude.{◌≡◌, true};
 ghost use Rattle.bench_commands.specs.Device.{failures_after};
 ghost use Rattle.bench_commands.specs.Run.{Ran, has_span, reads_well, writes_well};
+ghost use Rattle.bench_commands.specs.Answer.{span_of};
 
 use crate::answer::{Answer, answer_to};
 use crate::device::{CountedRead, CountedWrite};
 use crate::input::{InputFault, read_input};
 use crate::writing::write_text;
-use smp_kernel::Meter;
 use std::alloc::Global;
+use std::thread::Threads;
 use thiserror::Error;
 
 /// What the program is asked to do with its input.
@@ -17,6 +18,21 @@ pub enum Mode {
     /// `tally` then how each task fared. A checkpoint is to be kept every `span` steps, 1 to
     /// [`MAX_SPAN`](bench_types::MAX_SPAN).
     Replay { span: u32, tally: bool },
+    /// Try each edit of a bench document alone, and print what it leads to and, where it is
+    /// accepted, how each task fares then. No edit is kept, and of the session nothing else is
+    /// printed. The span is that of a replay.
+    WhatIf { span: u32 },
+}
+
+impl Mode {
+    /// How many steps a checkpoint is to stand after the one before it.
+    pub fn span(self) -> u32
+        ensures { result ≡ span_of self }
+    {
+        match self {
+            Mode::Replay { span, tally: _ } | Mode::WhatIf { span } => span,
+        }
+    }
 }
 
 /// What kept a run from its end.
@@ -44,9 +60,10 @@ pub enum Status {
 }
 
 /// Reads the input to its end, or one byte past the most that is a bench document, then writes its
-/// whole output.
-pub fn run<R: CountedRead, W: CountedWrite>(
-    rt: &HostRuntime,
+/// whole output. Edits that are each tried alone are tried in several threads.
+pub fn run<T: Threads + Sync, R: CountedRead, W: CountedWrite>(
+    rt: &T,
+    host: &HostRuntime,
     alloc: Global,
     reader: &mut R,
     writer: &mut W,
@@ -65,8 +82,7 @@ pub fn run<R: CountedRead, W: CountedWrite>(
         Err(InputFault::Memory) => return Status::Fault(RunFault::Memory),
         Err(InputFault::Read) => return Status::Fault(RunFault::Read),
     };
-    let mut meter = Meter::new(rt);
-    let Ok(answer) = answer_to(alloc, &mut meter, &input, *mode) else {
+    let Ok(answer) = answer_to(rt, host, alloc, &input, *mode) else {
         return Status::Fault(RunFault::Memory);
     };
     if write_text(writer, answer.text.as_bytes()).is_err() {

@@ -12,6 +12,7 @@ mod lines;
 mod output;
 mod program;
 mod recording;
+mod trials;
 mod writing;
 
 pub use command::{DEFAULT_SPAN, Request, request_of};
@@ -21,3 +22,4 @@ pub use examples::examples_of_command_lines;
 pub use execution::{Mode, RunFault, Status, run};
 pub use program::{Ending, carry_out, run_program};
 pub use recording::record;
+pub use trials::laws_of_trials;

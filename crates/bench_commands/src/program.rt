@@ -87,7 +87,7 @@ pub fn carry_out<T: Threads + Wait + Sync, S: AsStr, R: CountedRead, W: CountedW
         ≡ failures_after (all_writes_well result) (W.CountedWrite.failures writer.old) }
 {
     match request_of(alloc, words) {
-        Ok(Request::Run(mode)) => Ending::Ran(run(host, alloc, reader, writer, &mode)),
+        Ok(Request::Run(mode)) => Ending::Ran(run(rt, host, alloc, reader, writer, &mode)),
         Ok(Request::Record) => Ending::Ran(record(rt, host, alloc, reader, writer, &OpenGate)),
         Ok(Request::Help(text)) => Ending::Ran(show_help(writer, text.as_str())),
         Ok(Request::Bad(text)) => Ending::BadCommandLine(text),

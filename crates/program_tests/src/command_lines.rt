@@ -7,8 +7,8 @@ use std::sync::Wait;
 use std::test::Fail;
 use std::thread::Threads;
 
-/// Command lines, and what each asks for: a replay with this span, and tallies or not, a recording,
-/// help that begins so, or nothing that the program does.
+/// Command lines, and what each asks for: a replay with this span, and tallies or not, trials with
+/// this span, a recording, help that begins so, or nothing that the program does.
 const COMMAND_LINES: &str = "\
 smp_bench replay => 64
 smp_bench replay -- => 64
@@ -27,6 +27,10 @@ smp_bench replay --tally --span 7 => 7 tally
 smp_bench replay --span 7 --tally => 7 tally
 smp_bench replay --span=7 --tally -- => 7 tally
 smp_bench replay --tally --span=7 => 7 tally
+smp_bench whatif => 64 trials
+smp_bench whatif -- => 64 trials
+smp_bench whatif --span 7 => 7 trials
+smp_bench whatif --span=+0005 -- => 5 trials
 smp_bench record => a recording
 smp_bench record -- => a recording
 smp_bench --help => Records and replays
@@ -37,6 +41,8 @@ smp_bench replay --span=5 -hx => Replays the session
 smp_bench replay --help --span 0 => Replays the session
 smp_bench replay --tally --help => Replays the session
 smp_bench replay --span 5 --tally -h => Replays the session
+smp_bench whatif --help => Tries each edit
+smp_bench whatif --span 5 -h again => Tries each edit
 smp_bench record --help => Plays the scripts
 smp_bench record -hx again => Plays the scripts
 smp_bench => a mistake
@@ -84,6 +90,17 @@ smp_bench replay -- --tally => a mistake
 smp_bench replay -t => a mistake
 smp_bench replay --tall => a mistake
 smp_bench --tally replay => a mistake
+smp_bench whatif again => a mistake
+smp_bench whatif --tally => a mistake
+smp_bench whatif --span => a mistake
+smp_bench whatif --span 0 => a mistake
+smp_bench whatif --span 1001 => a mistake
+smp_bench whatif --span 5 --span 5 => a mistake
+smp_bench whatif --span 5 --tally => a mistake
+smp_bench whatif replay => a mistake
+smp_bench replay whatif => a mistake
+smp_bench what-if => a mistake
+smp_bench what => a mistake
 smp_bench record again => a mistake
 smp_bench record -- again => a mistake
 smp_bench record --tally => a mistake
@@ -100,6 +117,7 @@ smp_bench records => a mistake
 #[derive(Clone, Copy, Debug, PartialEq, Eq)]
 enum Task {
     Replay(u32, bool),
+    Trials(u32),
     Recording,
     Nothing,
 }
@@ -116,6 +134,7 @@ struct Wanted<'a> {
 fn task_of(request: &Request) -> Task {
     match request {
         Request::Run(Mode::Replay { span, tally }) => Task::Replay(*span, *tally),
+        Request::Run(Mode::WhatIf { span }) => Task::Trials(*span),
         Request::Record => Task::Recording,
         _ => Task::Nothing,
     }
@@ -176,18 +195,16 @@ fn check_line<R: Threads + Wait + Abort + Sync>(
     Ok(())
 }
 
-/// What a row names: a replay by its span, and by `tally` after it.
+/// What a row names: a replay by its span, and by `tally` after it, and trials by `trials`.
 fn task_named(asked: &str) -> Task {
     if asked == "a recording" {
         return Task::Recording;
     }
-    let (span, tally) = match asked.split_once(' ') {
-        Some((span, "tally")) => (span, true),
-        _ => (asked, false),
-    };
-    match span.parse() {
-        Ok(span) => Task::Replay(span, tally),
-        Err(_) => Task::Nothing,
+    let (span, what) = asked.split_once(' ').unwrap_or((asked, ""));
+    match (span.parse(), what) {
+        (Ok(span), "trials") => Task::Trials(span),
+        (Ok(span), _) => Task::Replay(span, what == "tally"),
+        (Err(_), _) => Task::Nothing,
     }
 }
 

@@ -4,6 +4,7 @@ ghost use Rattle.bench_commands.specs.Run.{has_span};
 
 use bench_commands::{Counted, CountedRead, CountedWrite, DEFAULT_SPAN, Mode, Status, run};
 use std::io::{self, Read, Write};
+use std::thread::Threads;
 
 const MAX_OUTPUT: usize = 4096;
 
@@ -81,8 +82,9 @@ impl Write for Sink {
 }
 
 /// A replay with the usual span: how it ends, and how many reads and writes failed.
-pub(crate) fn ran<R: Read, W: Write>(
-    rt: &HostRuntime,
+pub(crate) fn ran<T: Threads + Sync, R: Read, W: Write>(
+    rt: &T,
+    host: &HostRuntime,
     reader: &mut R,
     writer: &mut W,
 ) -> (Status, u64, u64) {
@@ -90,12 +92,13 @@ pub(crate) fn ran<R: Read, W: Write>(
         span: DEFAULT_SPAN,
         tally: false,
     };
-    ran_in(rt, reader, writer, &mode)
+    ran_in(rt, host, reader, writer, &mode)
 }
 
 /// The same in a mode.
-pub(crate) fn ran_in<R: Read, W: Write>(
-    rt: &HostRuntime,
+pub(crate) fn ran_in<T: Threads + Sync, R: Read, W: Write>(
+    rt: &T,
+    host: &HostRuntime,
     reader: &mut R,
     writer: &mut W,
     mode: &Mode,
@@ -104,6 +107,13 @@ pub(crate) fn ran_in<R: Read, W: Write>(
 {
     let mut reader = Counted::new(reader);
     let mut writer = Counted::new(writer);
-    let status = run(rt, rt.alloc(), &mut reader, &mut writer, mode);
+    let status = run(
+        rt,
+        host,
+        host.alloc(),
+        &mut reader,
+        &mut writer,
+        mode,
+    );
     (status, reader.failures(), writer.failures())
 }

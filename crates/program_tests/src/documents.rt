@@ -6,6 +6,7 @@ use std::alloc::{AllocError, Global};
 use std::io::{self, Read};
 use std::process::Abort;
 use std::test::Fail;
+use std::thread::Threads;
 
 /// The members of a header that stand for `$ABC` in a document.
 const ABC: &str = r#""format":1,"cores":2,"priorities":5,"slicing":false,"tick":0,"mutexes":0,
@@ -303,14 +304,19 @@ const BAD_EDIT: &str = r#"{"edit":"insert","at":0,"step":{"do":"switch","core":2
 
 /// Asks that a run over this input writes this output, and ends by its status as refused where
 /// the output says so.
-fn expect<R: Read>(rt: &impl Abort, host: &HostRuntime, reader: &mut R, output: &str) {
+fn expect<T: Threads + Abort + Sync, R: Read>(
+    rt: &T,
+    host: &HostRuntime,
+    reader: &mut R,
+    output: &str,
+) {
     let mut sink = Sink::wide();
     let status = if output.starts_with("refused") {
         Status::Refused
     } else {
         Status::Fine
     };
-    assert_eq!(rt; ran(host, reader, &mut sink), (status, 0, 0), "{output}");
+    assert_eq!(rt; ran(rt, host, reader, &mut sink), (status, 0, 0), "{output}");
     assert_eq!(rt; sink.taken(), output.as_bytes(), "{output}");
 }
 
@@ -320,7 +326,11 @@ fn filled(alloc: Global, text: &str) -> Result<String, AllocError> {
     text.as_str().replace(alloc, "$FIRST", FIRST)
 }
 
-fn check_documents(rt: &impl Abort, host: &HostRuntime, documents: &str) -> Result<(), AllocError> {
+fn check_documents<T: Threads + Abort + Sync>(
+    rt: &T,
+    host: &HostRuntime,
+    documents: &str,
+) -> Result<(), AllocError> {
     for document in documents.split("==\n") {
         let (text, output) = document.split_once("\n=>\n").unwrap_or((document, ""));
         let input = filled(host.alloc(), text)?;

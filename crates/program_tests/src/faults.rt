@@ -32,7 +32,7 @@ fn little_reads_and_failed_ones(rt: HostRuntime) -> Result<(), Fail> {
     for (piece, reads, ended, output) in table {
         let mut sink = Sink::new(1, LINES.len(), false);
         let mut source = source_of(piece, reads);
-        assert_eq!(rt; ran(&rt, &mut source, &mut sink), ended, "{reads} reads");
+        assert_eq!(rt; ran(&rt, &rt, &mut source, &mut sink), ended, "{reads} reads");
         assert_eq!(rt; sink.taken(), output.as_bytes(), "{reads} reads");
     }
     Ok(())
@@ -45,7 +45,7 @@ fn a_write_that_fails(rt: HostRuntime) -> Result<(), Fail> {
         for fails in [false, true] {
             let mut sink = Sink::new(7, room, fails);
             let mut source = source_of(1000, 1000);
-            assert_eq!(rt; ran(&rt, &mut source, &mut sink), failed, "room for {room}");
+            assert_eq!(rt; ran(&rt, &rt, &mut source, &mut sink), failed, "room for {room}");
             assert_eq!(rt; sink.taken(), &LINES.as_bytes()[..room]);
         }
     }
@@ -57,7 +57,7 @@ fn a_write_that_fails(rt: HostRuntime) -> Result<(), Fail> {
 fn memory_that_is_refused(rt: HostRuntime) -> Result<(), Fail> {
     let mut sink = Sink::wide();
     let mut source = source_of(1000, 1000);
-    let (status, failed_reads, failed_writes) = ran(&rt, &mut source, &mut sink);
+    let (status, failed_reads, failed_writes) = ran(&rt, &rt, &mut source, &mut sink);
     assert_eq!(rt; (failed_reads, failed_writes), (0, 0));
     let written = match status {
         Status::Fault(RunFault::Memory) => "",

@@ -16,3 +16,5 @@ mod processes;
 mod rigs;
 #[cfg(test)]
 mod tallies;
+#[cfg(test)]
+mod trials;

@@ -4,6 +4,7 @@ use bench_commands::{DEFAULT_SPAN, Mode, Status};
 use std::alloc::{AllocError, Global};
 use std::process::Abort;
 use std::test::Fail;
+use std::thread::Threads;
 
 /// The members of a header that stand for `$SLICED`, with time slices, and for `$ABC`, with none.
 const HEADER: &str = r#""format":1,"cores":2,"priorities":5,"slicing":$SLICING,"tick":0,
@@ -92,18 +93,22 @@ fn filled(alloc: Global, text: &str) -> Result<String, AllocError> {
     text.as_str().replace(alloc, "$ABC", plain.as_str())
 }
 
-fn expect(rt: &impl Abort, host: &HostRuntime, input: &str, output: &str) {
+fn expect<T: Threads + Abort + Sync>(rt: &T, host: &HostRuntime, input: &str, output: &str) {
     let mode = Mode::Replay {
         span: DEFAULT_SPAN,
         tally: true,
     };
     let mut sink = Sink::wide();
-    let ended = ran_in(host, &mut input.as_bytes(), &mut sink, &mode);
+    let ended = ran_in(rt, host, &mut input.as_bytes(), &mut sink, &mode);
     assert_eq!(rt; ended, (Status::Fine, 0, 0), "{output}");
     assert_eq!(rt; sink.taken(), output.as_bytes(), "{output}");
 }
 
-fn check_documents(rt: &impl Abort, host: &HostRuntime, documents: &str) -> Result<(), AllocError> {
+fn check_documents<T: Threads + Abort + Sync>(
+    rt: &T,
+    host: &HostRuntime,
+    documents: &str,
+) -> Result<(), AllocError> {
     for document in documents.split("==\n") {
         let (text, output) = document.split_once("\n=>\n").unwrap_or((document, ""));
         let input = filled(host.alloc(), text)?;

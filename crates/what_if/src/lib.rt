@@ -1,0 +1,40 @@
+//! Many candidate edits of one session, tried side by side.
+#![tactic(auto)]
+
+ghost use Rattle.std.specs.Prelude.{IfOk};
+ghost use Rattle.std.specs.List.{AllZip};
+ghost use Rattle.session_store.specs.Trials.{IsTried};
+
+use bench_reports::Tallies;
+use bench_types::Edit;
+use rayon::prelude::*;
+use session_store::{Outcome, Store, StoreFault};
+use smp_kernel::Meter;
+use std::alloc::{AllocError, Global};
+use std::thread::Threads;
+
+/// For each edit, in order, what [`Store::trial`] gives for it alone: none of them builds upon
+/// another, and the store stays as it is. The work is split among as many threads as there are
+/// processors, and a thread that can't be started leaves its part to the one that would have.
+///
+/// Where memory is refused to one trial, its entry is [`StoreFault::NoMemory`]. It is an error only
+/// where the list of entries finds no room.
+pub fn try_all<R: Threads + Sync>(
+    rt: &R,
+    host: &HostRuntime,
+    alloc: Global,
+    store: &Store,
+    edits: &[Edit],
+) -> Result<Vec<Result<(Outcome, Tallies), StoreFault>>, AllocError>
+    ensures { IfOk result (λ tried. AllZip (IsTried store.now) edits.now tried.items) }
+{
+    edits
+        .par_iter()
+        .map(
+            |edit: &Edit| -> Result<(Outcome, Tallies), StoreFault>
+                ensures { IsTried store.entry.now edit.now result }
+            { store.trial(alloc, *edit, &mut Meter::new(host)) },
+        )
+        .with_min_len(1)
+        .collect(rt, alloc)
+}

@@ -79,8 +79,8 @@ module _ (control : Control) (old now : List TaskTally) (place : ℕ) (x : TaskT
     more_here : (task : ℕ) → run_at (tally_at more task) place ≡ run_at (tally_at old task) place + one_if (runner == task)
     more_here task = elim (cases_eq task runner) [
       | inl here ↦ subst (λ j. run_at (tally_at more j) place ≡ run_at (tally_at old j) place + one_if (runner == j)) (sym here)
-        (ap (λ (t : TaskTally). run_at t place) at_runner ∙ get_or-set_same x.run place (run_at x place + 1) 0 inside ∙ ap (λ (t : TaskTally). run_at t place + 1) is
-        ∙ ap (λ n. n + 1) (so_far.others runner place (omega arith)) ∙ ap (λ n. run_at (tally_at old runner) place + n) (sym (if_same runner runner refl)))
+          (ap (λ (t : TaskTally). run_at t place) at_runner ∙ get_or-set_same x.run place (run_at x place + 1) 0 inside ∙ ap (λ (t : TaskTally). run_at t place + 1) is
+          ∙ ap (λ n. n + 1) (so_far.others runner place (omega arith)) ∙ ap (λ n. run_at (tally_at old runner) place + n) (sym (if_same runner runner refl)))
       | inr away ↦ ap (λ (t : TaskTally). run_at t place) (at_other task away) ∙ so_far.others task place (omega arith) ∙ omega (arith, if_apart runner task away)
     ]
 
@@ -128,10 +128,10 @@ run_all control old now place so_far past =
     let each = λ (task : ℕ). record (tally_at old task) { run = runs_after control task (tally_at old task).run } in
     ext_get_or nothing now (map each (numbers (length old))) (so_far.size ∙ sym (length_each each (length old)))
     (λ task low.
-      let below : task < length old = omega (arith, low, so_far.size) in
-      let ticks = λ (core : ℕ). run_at (tally_at old task) core + one_if (current control core == task) in
-      let cores = length (tally_at old task).run in
-      same_parts (ext_get_or 0 (tally_at now task).run (map ticks (numbers cores)) (so_far.cores task ∙ sym (length_each ticks cores))
-        (λ core within. let inside : core < cores = omega (arith, within, so_far.cores task) in so_far.first task core (omega (arith, inside, past task below)) inside ∙ sym (each_at ticks cores core 0 inside)))
-      (so_far.counts task)
-      ∙ sym (each_at each (length old) task nothing below))
+    let below : task < length old = omega (arith, low, so_far.size) in
+    let ticks = λ (core : ℕ). run_at (tally_at old task) core + one_if (current control core == task) in
+    let cores = length (tally_at old task).run in
+    same_parts (ext_get_or 0 (tally_at now task).run (map ticks (numbers cores)) (so_far.cores task ∙ sym (length_each ticks cores))
+    (λ core within. let inside : core < cores = omega (arith, within, so_far.cores task) in so_far.first task core (omega (arith, inside, past task below)) inside ∙ sym (each_at ticks cores core 0 inside)))
+    (so_far.counts task)
+    ∙ sym (each_at each (length old) task nothing below))

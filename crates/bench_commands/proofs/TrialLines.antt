@@ -61,6 +61,24 @@ module _ (kept : CheckpointedSession) where
   last_lines (e ∷ es) (t ∷ ts) zero from all end = absurd (omega (arith, end))
   last_lines (e ∷ es) (t ∷ ts) (suc index) from all end = last_lines es ts index from all.1 (omega (arith, end))
 
+  -- the lines so far, and those of the edits that are left, are the lines of all
+  pub lines_more : (edits : List Edit) (tried items : List Tried) (index : ℕ) (item : Tried) (text next : List ℕ) → AllZip (IsTried kept) edits tried → items ≡ tried → index < length items → item ≡ get_or items index item
+      → ((edit : Edit) → IsTried kept edit item → next ≡ text ++ trial_text kept index edit) → text ++ trials_text kept index (drop index edits) ≡ trials_text kept 0 edits
+      → next ++ trials_text kept (index + 1) (drop (index + 1) edits) ≡ trials_text kept 0 edits
+  lines_more edits tried items index item text next all same within read told so_far =
+      let found = next_lines edits items index item (subst (AllZip (IsTried kept) edits) (sym same) all) within in
+      let edit = found.0 in
+      let line = told edit (subst (IsTried kept edit) (sym read) found.1) in
+      let one : suc index ≡ index + 1 = omega arith in
+      let left = λ n. trials_text kept n (drop n edits) in
+      ap (λ t. t ++ left (index + 1)) line ∙ append_assoc text (trial_text kept index edit) (left (index + 1))
+      ∙ ap (λ more. text ++ (trial_text kept index edit ++ more)) (ap left (sym one)) ∙ ap (λ lines. text ++ lines) (sym (found.2 index)) ∙ so_far
+
+  pub lines_end : (edits : List Edit) (tried items : List Tried) (index : ℕ) (text : List ℕ) → AllZip (IsTried kept) edits tried → items ≡ tried → index ≡ length items
+      → text ++ trials_text kept index (drop index edits) ≡ trials_text kept 0 edits → text ≡ trials_text kept 0 edits
+  lines_end edits tried items index text all same end so_far =
+      sym (append-nil text) ∙ ap (λ more. text ++ more) (sym (last_lines edits items index index (subst (AllZip (IsTried kept) edits) (sym same) all) end)) ∙ so_far
+
 -- ---- laws
 
 pub parts_are_whole : PartsAreWhole

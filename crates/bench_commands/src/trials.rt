@@ -44,7 +44,8 @@ fn push_trial(
 ) -> Result<(), AllocError>
     ensures { (kept : CheckpointedSession) (edit : Change) → kept.session.header ≡ header.now
         → IsTried kept edit tried.now
-        → OnOk result (string_bytes text.new ≡ string_bytes text.old ++ trial_text kept index edit) }
+        → OnOk result
+        (string_bytes text.new ≡ string_bytes text.old ++ trial_text kept index edit) }
 {
     match tried {
         Ok((outcome, tallies)) => push_accepted(alloc, text, header, index, *outcome, tallies),

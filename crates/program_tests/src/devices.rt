@@ -107,13 +107,6 @@ pub(crate) fn ran_in<T: Threads + Sync, R: Read, W: Write>(
 {
     let mut reader = Counted::new(reader);
     let mut writer = Counted::new(writer);
-    let status = run(
-        rt,
-        host,
-        host.alloc(),
-        &mut reader,
-        &mut writer,
-        mode,
-    );
+    let status = run(rt, host, host.alloc(), &mut reader, &mut writer, mode);
     (status, reader.failures(), writer.failures())
 }

@@ -316,7 +316,11 @@ fn expect<T: Threads + Abort + Sync, R: Read>(
     } else {
         Status::Fine
     };
-    assert_eq!(rt; ran(rt, host, reader, &mut sink), (status, 0, 0), "{output}");
+    assert_eq!(rt;
+        ran(rt, host, reader, &mut sink),
+        (status, 0, 0),
+        "{output}"
+    );
     assert_eq!(rt; sink.taken(), output.as_bytes(), "{output}");
 }
 

@@ -32,7 +32,11 @@ fn little_reads_and_failed_ones(rt: HostRuntime) -> Result<(), Fail> {
     for (piece, reads, ended, output) in table {
         let mut sink = Sink::new(1, LINES.len(), false);
         let mut source = source_of(piece, reads);
-        assert_eq!(rt; ran(&rt, &rt, &mut source, &mut sink), ended, "{reads} reads");
+        assert_eq!(rt;
+            ran(&rt, &rt, &mut source, &mut sink),
+            ended,
+            "{reads} reads"
+        );
         assert_eq!(rt; sink.taken(), output.as_bytes(), "{reads} reads");
     }
     Ok(())
@@ -45,7 +49,11 @@ fn a_write_that_fails(rt: HostRuntime) -> Result<(), Fail> {
         for fails in [false, true] {
             let mut sink = Sink::new(7, room, fails);
             let mut source = source_of(1000, 1000);
-            assert_eq!(rt; ran(&rt, &rt, &mut source, &mut sink), failed, "room for {room}");
+            assert_eq!(rt;
+                ran(&rt, &rt, &mut source, &mut sink),
+                failed,
+                "room for {room}"
+            );
             assert_eq!(rt; sink.taken(), &LINES.as_bytes()[..room]);
         }
     }

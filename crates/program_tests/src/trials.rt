@@ -229,7 +229,8 @@ fn too_many_steps(rt: HostRuntime) -> Result<(), Fail> {
     let header = HEADER.replace(rt.alloc(), "$SLICING", "true")?;
     let steps = r#"{"do":"tick"},"#.repeat(rt.alloc(), MAX_STEPS as usize)?;
     let input = format!(in rt.alloc();
-        r#"{{"session":{{{header},"steps":[{steps}{{"do":"tick"}}]}},"edits":[]}}"#)?;
+        r#"{{"session":{{{header},"steps":[{steps}{{"do":"tick"}}]}},"edits":[]}}"#
+    )?;
     expect(&rt, &rt, input.as_str(), "refused J2\n");
     Ok(())
 }
@@ -280,8 +281,13 @@ fn devices_that_fail(rt: HostRuntime) {
 fn memory_that_is_refused(rt: HostRuntime) -> Result<(), Fail> {
     let mode = Mode::WhatIf { span: DEFAULT_SPAN };
     let mut sink = Sink::wide();
-    let (status, failed_reads, failed_writes) =
-        ran_in(&rt, &rt, &mut REMOVED.as_bytes(), &mut sink, &mode);
+    let (status, failed_reads, failed_writes) = ran_in(
+        &rt,
+        &rt,
+        &mut REMOVED.as_bytes(),
+        &mut sink,
+        &mode,
+    );
     assert_eq!(rt; (failed_reads, failed_writes), (0, 0));
     let written = match status {
         Status::Fault(RunFault::Memory) => "",

@@ -12,7 +12,9 @@ use std::thread::Threads;
 use what_if::try_all;
 
 const TICK: Step = Step::Tick;
+
 const SWITCH_0: Step = Step::Switch { core: 0 };
+
 const SWITCH_1: Step = Step::Switch { core: 1 };
 
 /// A call of A on core 0.
@@ -43,13 +45,7 @@ type Trials = Vec<Result<(Outcome, Tallies), StoreFault>>;
 fn opened(rt: &HostRuntime, steps: &[Step], span: u32) -> Result<Store, Fail> {
     let header = three_tasks(rt.alloc(), true)?;
     let steps = Vec::from_slice(rt.alloc(), steps)?;
-    Ok(Store::open(
-        rt.alloc(),
-        header,
-        steps,
-        span,
-        &mut Meter::new(rt),
-    )?)
+    Ok(Store::open(rt.alloc(), header, steps, span, &mut Meter::new(rt))?)
 }
 
 /// Of each trial its outcome, or why it was refused.
@@ -112,7 +108,10 @@ fn each_edit_is_tried_alone(rt: HostRuntime) -> Result<(), Fail> {
     ];
     let trials = try_all(&rt, &rt, rt.alloc(), &store, &edits)?;
     let given = answers(&rt, &trials)?;
-    assert_eq!(rt; given.as_slice(), &[between(0, 8), refused(EditFault::NoPlace)]);
+    assert_eq!(rt;
+        given.as_slice(),
+        &[between(0, 8), refused(EditFault::NoPlace)]
+    );
     check_lines(&rt, &rt, &store, &trials)?;
     assert_eq!(rt; store.len(), 8);
     match store.row(8) {

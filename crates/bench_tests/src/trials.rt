@@ -23,10 +23,9 @@ fn a_trial_leaves_the_store(rt: HostRuntime) -> Result<(), Fail> {
 
 /// A yields in place of its delay: all is replayed, and counted.
 fn check_yield(rt: &impl Abort, alloc: Global, opened: &mut Opened) -> Result<(), Fail> {
-    let (outcome, tallies) =
-        opened
-            .store
-            .trial(alloc, replace(0, A_YIELDS), &mut opened.meter)?;
+    let (outcome, tallies) = opened
+        .store
+        .trial(alloc, replace(0, A_YIELDS), &mut opened.meter)?;
     assert_eq!(rt; outcome, between(0, 8));
     assert_eq!(rt; opened.meter.count(), 16);
     let text = tallies.text(alloc, opened.store.header())?;
@@ -84,9 +83,16 @@ fn check_trial(
     let before = tallies_text(alloc, &opened.store)?;
     let (outcome, tallies) = opened.store.trial(alloc, edit, &mut opened.meter)?;
     let told = tallies.text(alloc, opened.store.header())?;
-    assert_eq!(rt; tallies_text(alloc, &opened.store)?.as_str(), before.as_str());
+    assert_eq!(rt;
+        tallies_text(alloc, &opened.store)?.as_str(),
+        before.as_str()
+    );
     let answer = opened.store.apply(alloc, edit, &mut opened.meter)?;
     assert_eq!(rt; outcome, answer, "{edit:?}");
-    assert_eq!(rt; tallies_text(alloc, &opened.store)?.as_str(), told.as_str(), "{edit:?}");
+    assert_eq!(rt;
+        tallies_text(alloc, &opened.store)?.as_str(),
+        told.as_str(),
+        "{edit:?}"
+    );
     Ok(())
 }

@@ -70,7 +70,7 @@ module _ (kept : CheckpointedSession) where
       let edit = found.0 in
       let line = told edit (subst (IsTried kept edit) (sym read) found.1) in
       let one : suc index ≡ index + 1 = omega arith in
-      let left = λ n. trials_text kept n (drop n edits) in
+      let left : ℕ → List ℕ = λ n. trials_text kept n (drop n edits) in
       ap (λ t. t ++ left (index + 1)) line ∙ append_assoc text (trial_text kept index edit) (left (index + 1))
       ∙ ap (λ more. text ++ (trial_text kept index edit ++ more)) (ap left (sym one)) ∙ ap (λ lines. text ++ lines) (sym (found.2 index)) ∙ so_far
 

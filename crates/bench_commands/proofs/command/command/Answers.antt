@@ -12,4 +12,4 @@ returns c =
     c.in_ok-subcommand.ensures.shape c.in_ok-replay.ensures.local ∙ ap₂ with_subcommand top (ap top_of c.in_ok-replay.ensures.app) in
     let tries : app_of c.in_ok-subcommand-2.field-0 ≡ with_subcommand (with_subcommand program_app replay_app.top) what_if_app.top =
     c.in_ok-subcommand-2.ensures.shape c.in_ok-what_if.ensures.local ∙ ap₂ with_subcommand replays (ap top_of c.in_ok-what_if.ensures.app) in
-    IfOk-weaker c.subcommand-3.result _ _ (λ command added. added.shape c.record_command.ensures.local ∙ ap₂ with_subcommand tries (ap top_of c.record_command.ensures.app)) c.subcommand-3.ensures
+    IfOk-weaker c.subcommand-3.result _ _ (λ command added. added.shape c.record_command-record.ensures.local ∙ ap₂ with_subcommand tries (ap top_of c.record_command-record.ensures.app)) c.subcommand-3.ensures

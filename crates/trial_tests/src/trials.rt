@@ -17,25 +17,23 @@ const SWITCH_0: Step = Step::Switch { core: 0 };
 
 const SWITCH_1: Step = Step::Switch { core: 1 };
 
-/// A call of A on core 0.
-const fn call_of_a(call: Call) -> Step {
-    Step::Call {
-        core: 0,
-        task: 2,
-        call,
-    }
-}
+/// A waits two ticks on core 0.
+const A_DELAYS: Step = Step::Call {
+    core: 0,
+    task: 2,
+    call: Call::Delay(2),
+};
+
+/// A yields on core 0.
+const A_YIELDS: Step = Step::Call {
+    core: 0,
+    task: 2,
+    call: Call::Yield,
+};
 
 /// A leaves its core for two ticks, and comes back.
 const AWAY: [Step; 8] = [
-    call_of_a(Call::Delay(2)),
-    SWITCH_0,
-    TICK,
-    SWITCH_0,
-    SWITCH_1,
-    TICK,
-    SWITCH_0,
-    SWITCH_1,
+    A_DELAYS, SWITCH_0, TICK, SWITCH_0, SWITCH_1, TICK, SWITCH_0, SWITCH_1,
 ];
 
 /// What trials of some edits give.
@@ -102,7 +100,7 @@ fn each_edit_is_tried_alone(rt: HostRuntime) -> Result<(), Fail> {
     let edits = [
         Edit::Replace {
             at: 0,
-            step: call_of_a(Call::Yield),
+            step: A_YIELDS,
         },
         Edit::Insert { at: 9, step: TICK },
     ];
@@ -110,12 +108,12 @@ fn each_edit_is_tried_alone(rt: HostRuntime) -> Result<(), Fail> {
     let given = answers(&rt, &trials)?;
     assert_eq!(rt;
         given.as_slice(),
-        &[between(0, 8), refused(EditFault::NoPlace)]
+        [between(0, 8), refused(EditFault::NoPlace)].as_slice()
     );
     check_lines(&rt, &rt, &store, &trials)?;
     assert_eq!(rt; store.len(), 8);
     match store.row(8) {
-        Some(row) => assert_eq!(rt; row.as_slice(), &[2, 4]),
+        Some(row) => assert_eq!(rt; row.as_slice(), [2, 4].as_slice()),
         None => panic!(rt; "no place 8"),
     }
     Ok(())

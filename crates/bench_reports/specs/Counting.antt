@@ -50,7 +50,8 @@ ran control tallies =
 -- the tallies with one tick more of each task that waits
 unfoldable pub waited : View → List TaskTally → List TaskTally
 waited before tallies =
-    map (λ task. waited_as (found_as before task) (tally_at tallies task)) (numbers (length tallies))
+    map (λ task. waited_as (found_as before task) (tally_at tallies task))
+    (numbers (length tallies))
 
 -- the task is ready and on no core
 abbrev pub is_waiting : View → ℕ → Bool

@@ -27,8 +27,8 @@ impl Scheduler {
     pub fn same(&self, other: &Self) -> bool
         ensures { IsTrue result ↔ (self.now ≡ other.now) }
     {
-        // The tick counts first, since a tick more or less keeps them apart from there on. Nested, so
-        // that each test is proved where those before it hold.
+        // The tick counts first, since a tick more or less keeps them apart from there on. Nested,
+        // so that each test is proved where those before it hold.
         self.tick_count() == other.tick_count() && self.has_same_parts(other)
     }
 

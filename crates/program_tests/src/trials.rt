@@ -1,7 +1,7 @@
 //! Edits that are each tried alone: what is written for them, and by which span.
 use crate::devices::{Sink, Source, ran_in};
 use bench_commands::{DEFAULT_SPAN, Mode, RunFault, Status};
-use bench_types::MAX_STEPS;
+use bench_types::{MAX_SPAN, MAX_STEPS};
 use std::alloc::{AllocError, Global};
 use std::process::Abort;
 use std::test::Fail;
@@ -204,11 +204,14 @@ fn check_span<T: Threads + Abort + Sync>(
     rt: &T,
     host: &HostRuntime,
     input: &str,
-    mode: &Mode,
+    span: u32,
     lines: &[&str],
 ) {
+    assert!(rt; 1 <= span && span <= MAX_SPAN);
+    let mode = Mode::WhatIf { span };
+    assert_eq!(rt; mode.span(), span);
     let mut sink = Sink::wide();
-    let ended = ran_in(rt, host, &mut input.as_bytes(), &mut sink, mode);
+    let ended = ran_in(rt, host, &mut input.as_bytes(), &mut sink, &mode);
     assert_eq!(rt; ended, (Status::Fine, 0, 0));
     check_lines(rt, sink.taken(), lines);
 }
@@ -217,9 +220,7 @@ fn check_span<T: Threads + Abort + Sync>(
 fn spans_of_trials(rt: HostRuntime) -> Result<(), Fail> {
     let input = filled(rt.alloc(), YIELD)?;
     for (span, lines) in &BY_SPAN {
-        let mode = Mode::WhatIf { span: *span };
-        assert_eq!(rt; mode.span(), *span);
-        check_span(&rt, &rt, input.as_str(), &mode, lines);
+        check_span(&rt, &rt, input.as_str(), *span, lines);
     }
     Ok(())
 }

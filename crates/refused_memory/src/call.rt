@@ -106,8 +106,8 @@ impl Call {
             Call::ReadEdit => texts::edit(host.alloc()),
             Call::ReadRig => Some(texts::rig(host.alloc())),
             Call::WriteSession => texts::written(host.alloc()),
-            Call::Run => Some(commands::plain(host)),
-            Call::RunEdited => Some(commands::edited(host)),
+            Call::Run => Some(commands::plain(rt, host)),
+            Call::RunEdited => Some(commands::edited(rt, host)),
             Call::Record => Some(commands::recorded(rt, host)),
         }
     }

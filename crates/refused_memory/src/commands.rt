@@ -96,39 +96,45 @@ fn with_second(first: Outcome, second: Outcome) -> Outcome {
     }
 }
 
-fn replayed(rt: &HostRuntime, text: &str, mode: &Mode, lines: &str) -> Outcome
+fn replayed<R: Threads + Sync>(
+    rt: &R,
+    host: &HostRuntime,
+    text: &str,
+    mode: &Mode,
+    lines: &str,
+) -> Outcome
     requires { has_span mode.now ≡ true }
 {
     let mut sink = Sink::new();
     let mut bytes = text.as_bytes();
     let mut reader = Counted::new(&mut bytes);
     let mut writer = Counted::new(&mut sink);
-    let status = run(rt, rt.alloc(), &mut reader, &mut writer, mode);
+    let status = run(rt, host, host.alloc(), &mut reader, &mut writer, mode);
     outcome_of(status, &sink, lines)
 }
 
 /// The replay of a session.
-pub(crate) fn plain(rt: &HostRuntime) -> Outcome {
+pub(crate) fn plain<R: Threads + Sync>(rt: &R, host: &HostRuntime) -> Outcome {
     let mode = Mode::Replay {
         span: 64,
         tally: false,
     };
-    let first = replayed(rt, SESSION, &mode, LINES);
+    let first = replayed(rt, host, SESSION, &mode, LINES);
     match first {
-        Outcome::Refused => with_second(first, replayed(rt, SESSION, &mode, LINES)),
+        Outcome::Refused => with_second(first, replayed(rt, host, SESSION, &mode, LINES)),
         _ => first,
     }
 }
 
 /// The replay of a bench document, with tallies.
-pub(crate) fn edited(rt: &HostRuntime) -> Outcome {
+pub(crate) fn edited<R: Threads + Sync>(rt: &R, host: &HostRuntime) -> Outcome {
     let mode = Mode::Replay {
         span: 1,
         tally: true,
     };
-    let first = replayed(rt, BENCH, &mode, EDITED_LINES);
+    let first = replayed(rt, host, BENCH, &mode, EDITED_LINES);
     match first {
-        Outcome::Refused => with_second(first, replayed(rt, BENCH, &mode, EDITED_LINES)),
+        Outcome::Refused => with_second(first, replayed(rt, host, BENCH, &mode, EDITED_LINES)),
         _ => first,
     }
 }

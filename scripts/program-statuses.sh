@@ -327,6 +327,103 @@ status=$?
 : >"$folder/err"
 compare 'a bad command line, with a full device for standard error' 2 '' ''
 
+# ---- what a user does to a run
+
+# A session whose output is longer than what a pipe holds.
+ticks="$(printf '%020000d' 0 | sed 's/0/{"do":"tick"},/g')"
+session '"steps": [' "\"steps\": [$ticks"
+"$program" replay <"$folder/in" >"$folder/whole" 2>"$folder/err"
+
+# Asks of a run that was cut off that its status is not 0, and that it wrote some first bytes of the whole output, not all of it.
+cut_off() { # NAME STATUS
+    local size
+    size="$(stat -c %s "$folder/out")"
+    if [ "$status" = "$2" ] && [ "$status" != 0 ] && [ "$size" -lt "$(stat -c %s "$folder/whole")" ] &&
+        cmp -s -n "$size" "$folder/out" "$folder/whole"; then
+        good=$((good + 1))
+        printf 'ok    %d  %s: %d bytes\n' "$2" "$1" "$size"
+    else
+        bad=$((bad + 1))
+        printf 'WRONG %s (wanted %d)  %s: %d bytes\n' "$status" "$2" "$1" "$size"
+    fi
+}
+
+for bytes in 0 1 4096 65536 100000 200000; do
+    { "$program" replay <"$folder/in" 2>"$folder/err"; echo $? >"$folder/status"; } | head -c "$bytes" >"$folder/out"
+    status="$(cat "$folder/status")"
+    cut_off "a pipe that is closed after $bytes bytes" 3
+done
+
+half() { # SECONDS: the beginning of the input, and after so long the rest
+    head -c 1000 "$folder/in"
+    sleep "$1"
+    tail -c +1001 "$folder/in"
+}
+
+# The names of signals with the statuses that a shell gives them.
+for signal in HUP:129 INT:130 KILL:137 TERM:143; do
+    for command in replay record; do
+        timeout --preserve-status -s "${signal%:*}" 0.1 "$program" "$command" < <(half 0.4 2>/dev/null) >"$folder/out" 2>"$folder/err"
+        status=$?
+        cut_off "$command, stopped in mid-read by ${signal%:*}" "${signal#*:}"
+    done
+    {
+        timeout --preserve-status -s "${signal%:*}" 0.2 "$program" replay <"$folder/in" 2>"$folder/err"
+        echo $? >"$folder/status"
+    } | { sleep 0.4; cat; } >"$folder/out"
+    status="$(cat "$folder/status")"
+    cut_off "replay, stopped in mid-write by ${signal%:*}" "${signal#*:}"
+done
+timeout 0.1 "$program" replay < <(half 0.4 2>/dev/null) >"$folder/out" 2>"$folder/err"
+status=$?
+cut_off 'an input that does not come in time' 124
+
+"$program" replay < <(half 0.2) >"$folder/out" 2>"$folder/err" &
+halted=$!
+sleep 0.1
+kill -STOP "$halted"
+sleep 0.2
+kill -CONT "$halted"
+wait "$halted"
+status=$?
+compare 'a run that is halted in mid-read and goes on' 0 "$(cat "$folder/whole")
+" ''
+
+(
+    ulimit -f 100
+    exec "$program" replay <"$folder/in" >"$folder/out" 2>"$folder/err"
+) 2>/dev/null
+status=$?
+cut_off 'a file that may not grow' "$status"
+
+# With little memory, either the whole output and status 0, or no output and another status.
+little() { # NAME WORD..: with each of these amounts of memory
+    local name="$1" memory wholes=0 none=0 wrong=0
+    shift
+    for ((memory = 1000000; memory < 32000000; memory += 500000)); do
+        prlimit --as="$memory" "$program" "$@" <"$folder/in" >"$folder/out" 2>/dev/null
+        status=$?
+        if [ "$status" = 0 ] && cmp -s "$folder/out" "$folder/whole"; then
+            wholes=$((wholes + 1))
+        elif [ "$status" != 0 ] && ! [ -s "$folder/out" ]; then
+            none=$((none + 1))
+        else
+            wrong=$((wrong + 1))
+        fi
+    done
+    if [ "$wrong" = 0 ] && [ "$wholes" -gt 0 ] && [ "$none" -gt 0 ]; then
+        good=$((good + 1))
+        printf 'ok    %s: %d times the whole output, %d times none\n' "$name" "$wholes" "$none"
+    else
+        bad=$((bad + 1))
+        printf 'WRONG %s: %d times the whole output, %d times none, %d times neither\n' "$name" "$wholes" "$none" "$wrong"
+    fi
+}
+little 'replay with little memory' replay
+printf '%s' "$rig" >"$folder/in"
+"$program" record <"$folder/in" >"$folder/whole"
+little 'record with little memory' record
+
 # ---- want of memory
 
 {

@@ -1,0 +1,122 @@
+//! The calls that take memory, by name.
+use crate::outcome::{Outcome, Told};
+use crate::{commands, kernels, rigs, stores, texts};
+use std::alloc::{AllocError, Global};
+use std::sync::Wait;
+use std::thread::Threads;
+
+/// A call that takes memory.
+#[derive(Clone, Copy, Debug, PartialEq, Eq)]
+pub(crate) enum Call {
+    Start,
+    Copy,
+    Open,
+    Apply,
+    State,
+    Tallies,
+    LockPair,
+    Rig,
+    Steps,
+    ReadSession,
+    ReadBench,
+    ReadEdit,
+    ReadRig,
+    WriteSession,
+    Run,
+    RunEdited,
+    Record,
+}
+
+/// All of them.
+pub(crate) const ALL: [Call; 17] = [
+    Call::Start,
+    Call::Copy,
+    Call::Open,
+    Call::Apply,
+    Call::State,
+    Call::Tallies,
+    Call::LockPair,
+    Call::Rig,
+    Call::Steps,
+    Call::ReadSession,
+    Call::ReadBench,
+    Call::ReadEdit,
+    Call::ReadRig,
+    Call::WriteSession,
+    Call::Run,
+    Call::RunEdited,
+    Call::Record,
+];
+
+impl Call {
+    /// The name by which the input asks for it.
+    pub(crate) fn name(self) -> &'static str {
+        match self {
+            Call::Start => "Kernel::start",
+            Call::Copy => "Kernel::copy",
+            Call::Open => "Store::open",
+            Call::Apply => "Store::apply",
+            Call::State => "Store::state",
+            Call::Tallies => "Store::tallies",
+            Call::LockPair => "LockPair::new",
+            Call::Rig => "Rig::new",
+            Call::Steps => "Recorded::steps",
+            Call::ReadSession => "read_session",
+            Call::ReadBench => "read_bench",
+            Call::ReadEdit => "read_edit",
+            Call::ReadRig => "read_rig",
+            Call::WriteSession => "write_session",
+            Call::Run => "run",
+            Call::RunEdited => "run-edited",
+            Call::Record => "record",
+        }
+    }
+
+    /// Makes it, and says what came of it.
+    pub(crate) fn make<R: Threads + Wait + Sync>(self, rt: &R, host: &HostRuntime) -> Told {
+        Told(self.outcome(rt, host))
+    }
+
+    /// Makes it once so many blocks of memory were taken.
+    pub(crate) fn make_after<R: Threads + Wait + Sync>(
+        self,
+        rt: &R,
+        host: &HostRuntime,
+        blocks: u32,
+    ) -> Told {
+        match take_blocks(host.alloc(), blocks) {
+            Ok(()) => self.make(rt, host),
+            Err(AllocError) => Told(None),
+        }
+    }
+
+    fn outcome<R: Threads + Wait + Sync>(self, rt: &R, host: &HostRuntime) -> Option<Outcome> {
+        match self {
+            Call::Start => kernels::start(host),
+            Call::Copy => kernels::copy(host),
+            Call::Open => stores::open(host),
+            Call::Apply => stores::apply(host),
+            Call::State => stores::state(host),
+            Call::Tallies => stores::tallies(host),
+            Call::LockPair => rigs::lock_pair(host),
+            Call::Rig => rigs::rig(host),
+            Call::Steps => rigs::steps(host),
+            Call::ReadSession => Some(texts::session(host.alloc())),
+            Call::ReadBench => Some(texts::bench(host.alloc())),
+            Call::ReadEdit => texts::edit(host.alloc()),
+            Call::ReadRig => Some(texts::rig(host.alloc())),
+            Call::WriteSession => texts::written(host.alloc()),
+            Call::Run => Some(commands::plain(host)),
+            Call::RunEdited => Some(commands::edited(host)),
+            Call::Record => Some(commands::recorded(rt, host)),
+        }
+    }
+}
+
+/// Takes so many blocks of memory, one after another, and gives each back.
+fn take_blocks(alloc: Global, blocks: u32) -> Result<(), AllocError> {
+    for _ in 0..blocks {
+        Vec::<u64>::with_capacity(alloc, 1)?;
+    }
+    Ok(())
+}

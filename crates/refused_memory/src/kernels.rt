@@ -1,0 +1,51 @@
+//! Calls of a kernel.
+use crate::outcome::Outcome;
+use crate::worked::header;
+use bench_types::Header;
+use smp_kernel::{Kernel, StartFault};
+use std::alloc::Global;
+
+/// A kernel at the start of the worked session.
+fn started(alloc: Global) -> Option<Kernel> {
+    let header = header(alloc)?;
+    Kernel::start(alloc, &header).ok()
+}
+
+/// Whether A runs on core 0 and B on core 1.
+fn is_at_start(kernel: &Kernel) -> bool {
+    kernel.settings().cores == 2 && kernel.running(0) == 2 && kernel.running(1) == 3
+}
+
+pub(crate) fn start(rt: &HostRuntime) -> Option<Outcome> {
+    let header = header(rt.alloc())?;
+    Some(match Kernel::start(rt.alloc(), &header) {
+        Ok(kernel) => Outcome::answered(is_at_start(&kernel)),
+        Err(fault) => {
+            let is_want = fault == StartFault::NoMemory;
+            Outcome::refused(is_want && starts(rt.alloc(), &header))
+        }
+    })
+}
+
+fn starts(alloc: Global, header: &Header) -> bool {
+    match Kernel::start(alloc, header) {
+        Ok(kernel) => is_at_start(&kernel),
+        Err(_) => false,
+    }
+}
+
+pub(crate) fn copy(rt: &HostRuntime) -> Option<Outcome> {
+    let kernel = started(rt.alloc())?;
+    let twin = started(rt.alloc())?;
+    Some(match kernel.copy(rt.alloc()) {
+        Ok(copy) => Outcome::answered(kernel.same(&copy)),
+        Err(_) => Outcome::refused(kernel.same(&twin) && copies(rt.alloc(), &kernel)),
+    })
+}
+
+fn copies(alloc: Global, kernel: &Kernel) -> bool {
+    match kernel.copy(alloc) {
+        Ok(copy) => kernel.same(&copy),
+        Err(_) => false,
+    }
+}

@@ -373,7 +373,7 @@ for signal in HUP:129 INT:130 KILL:137 TERM:143; do
     } | { sleep 0.4; cat; } >"$folder/out"
     status="$(cat "$folder/status")"
     cut_off "replay, stopped in mid-write by ${signal%:*}" "${signal#*:}"
-done
+done 2>/dev/null
 timeout 0.1 "$program" replay < <(half 0.4 2>/dev/null) >"$folder/out" 2>"$folder/err"
 status=$?
 cut_off 'an input that does not come in time' 124
@@ -389,12 +389,14 @@ status=$?
 compare 'a run that is halted in mid-read and goes on' 0 "$(cat "$folder/whole")
 " ''
 
-(
-    ulimit -f 100
-    exec "$program" replay <"$folder/in" >"$folder/out" 2>"$folder/err"
-) 2>/dev/null
-status=$?
-cut_off 'a file that may not grow' "$status"
+{
+    (
+        ulimit -f 100
+        exec "$program" replay <"$folder/in" >"$folder/out" 2>"$folder/err"
+    )
+    status=$?
+} 2>/dev/null
+cut_off 'a file that may not grow' 153
 
 # With little memory, either the whole output and status 0, or no output and another status.
 little() { # NAME WORD..: with each of these amounts of memory

@@ -57,6 +57,10 @@ fn a_write_that_fails(rt: HostRuntime) -> Result<(), Fail> {
             assert_eq!(rt; sink.taken(), &LINES.as_bytes()[..room]);
         }
     }
+    let mut sink = Sink::new(7, LINES.len(), true);
+    let mut source = source_of(1000, 1000);
+    assert_eq!(rt; ran(&rt, &rt, &mut source, &mut sink), (Status::Fine, 0, 0));
+    assert_eq!(rt; sink.taken(), LINES.as_bytes());
     Ok(())
 }
 

@@ -1,6 +1,6 @@
 //! The calls that take memory, by name.
 use crate::outcome::{Outcome, Told};
-use crate::{commands, kernels, rigs, stores, texts};
+use crate::{commands, kernels, rigs, stores, texts, trials};
 use std::alloc::{AllocError, Global};
 use std::sync::Wait;
 use std::thread::Threads;
@@ -12,8 +12,10 @@ pub(crate) enum Call {
     Copy,
     Open,
     Apply,
+    Trial,
     State,
     Tallies,
+    TryAll,
     LockPair,
     Rig,
     Steps,
@@ -28,13 +30,15 @@ pub(crate) enum Call {
 }
 
 /// All of them.
-pub(crate) const ALL: [Call; 17] = [
+pub(crate) const ALL: [Call; 19] = [
     Call::Start,
     Call::Copy,
     Call::Open,
     Call::Apply,
+    Call::Trial,
     Call::State,
     Call::Tallies,
+    Call::TryAll,
     Call::LockPair,
     Call::Rig,
     Call::Steps,
@@ -56,8 +60,10 @@ impl Call {
             Call::Copy => "Kernel::copy",
             Call::Open => "Store::open",
             Call::Apply => "Store::apply",
+            Call::Trial => "Store::trial",
             Call::State => "Store::state",
             Call::Tallies => "Store::tallies",
+            Call::TryAll => "try_all",
             Call::LockPair => "LockPair::new",
             Call::Rig => "Rig::new",
             Call::Steps => "Recorded::steps",
@@ -96,8 +102,10 @@ impl Call {
             Call::Copy => kernels::copy(host),
             Call::Open => stores::open(host),
             Call::Apply => stores::apply(host),
+            Call::Trial => trials::trial(host),
             Call::State => stores::state(host),
             Call::Tallies => stores::tallies(host),
+            Call::TryAll => trials::all(rt, host),
             Call::LockPair => rigs::lock_pair(host),
             Call::Rig => rigs::rig(host),
             Call::Steps => rigs::steps(host),

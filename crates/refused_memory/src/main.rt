@@ -12,6 +12,7 @@ mod outcome;
 mod rigs;
 mod stores;
 mod texts;
+mod trials;
 mod worked;
 
 use call::{ALL, Call};

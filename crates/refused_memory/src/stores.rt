@@ -26,7 +26,7 @@ task C run 0 0 wait 4 inverted 0 in 0 displaced 0 timeouts 0 top 1
 ";
 
 /// The edits of the worked session, with what is replayed for each.
-fn edits() -> [(Edit, Replayed); 4] {
+pub(crate) fn edits() -> [(Edit, Replayed); 4] {
     let (at, step) = (0, A_CLEARS);
     [
         (Edit::Replace { at, step }, replay(0, 2)),
@@ -55,12 +55,12 @@ fn replay(from: u32, met: u32) -> Replayed {
 
 /// A store of the worked session, with the meter of its steps.
 #[derive(Drop)]
-struct Opened {
-    store: Store,
-    meter: Meter,
+pub(crate) struct Opened {
+    pub(crate) store: Store,
+    pub(crate) meter: Meter,
 }
 
-fn open_worked(rt: &HostRuntime) -> Option<Opened> {
+pub(crate) fn open_worked(rt: &HostRuntime) -> Option<Opened> {
     let header = header(rt.alloc())?;
     let steps = steps(rt.alloc())?;
     let mut meter = Meter::new(rt);
@@ -134,7 +134,7 @@ fn applied(
 }
 
 /// Whether both show the same steps, replies, running tasks, checkpoints and tallies.
-fn is_same(alloc: Global, one: &Store, two: &Store) -> Result<bool, AllocError> {
+pub(crate) fn is_same(alloc: Global, one: &Store, two: &Store) -> Result<bool, AllocError> {
     let places = 0..=one.len();
     let same = one.len() == two.len() && places.into_iter().all(|i| is_same_at(one, two, i));
     Ok(same && is_tallied_alike(alloc, one, two)?)

@@ -135,7 +135,11 @@ fn an_open_hold_keeps_a_rig_open(rt: HostRuntime) -> Result<(), Fail> {
 }
 
 /// The rig and its seats, which is not closed without the last of them.
-fn one_missing(rt: &impl Abort, rig: Rig, mut seats: Vec<CoreSeat>) -> (Rig, Vec<CoreSeat>)
+pub(crate) fn one_missing(
+    rt: &impl Abort,
+    rig: Rig,
+    mut seats: Vec<CoreSeat>,
+) -> (Rig, Vec<CoreSeat>)
     requires { All (IsSeatOf rig) seats.items }
     ensures rig { result.0 ≡ rig }
     ensures seats { All (IsSeatOf rig) result.1.items }

@@ -10,4 +10,6 @@ mod many;
 #[cfg(test)]
 mod rigs;
 #[cfg(test)]
+mod stopped;
+#[cfg(test)]
 mod together;

@@ -1,0 +1,81 @@
+//! Trials of edits, which leave a store as it was.
+use crate::outcome::Outcome;
+use crate::stores::{Opened, edits, is_same, open_worked};
+use bench_reports::Tallies;
+use bench_types::Edit;
+use session_store::{Outcome as Replayed, Store, StoreFault};
+use std::alloc::{AllocError, Global};
+use std::thread::Threads;
+use what_if::try_all;
+
+/// How each task fared in the session where A finds nothing to clear in place of its yield.
+const TALLIES: &str = "\
+task IDLE0 run 0 0 wait 4 inverted 0 in 0 displaced 0 timeouts 0 top 0
+task IDLE1 run 0 0 wait 4 inverted 0 in 0 displaced 0 timeouts 0 top 0
+task A run 4 0 wait 0 inverted 0 in 0 displaced 0 timeouts 0 top 2
+task B run 0 4 wait 0 inverted 0 in 0 displaced 0 timeouts 0 top 1
+task C run 0 0 wait 4 inverted 0 in 0 displaced 0 timeouts 0 top 1
+";
+
+pub(crate) fn trial(rt: &HostRuntime) -> Option<Outcome> {
+    let mut one = open_worked(rt)?;
+    let twin = open_worked(rt)?;
+    let [(edit, wanted), ..] = edits();
+    let most = one.meter.count().saturating_add(u64::from(wanted.replayed));
+    match one.store.trial(rt.alloc(), edit, &mut one.meter) {
+        Ok((outcome, tallies)) => {
+            let is_right = outcome == wanted && one.meter.count() == most;
+            let text = tallies.text(rt.alloc(), one.store.header()).ok()?;
+            Some(Outcome::answered(is_right && text.as_str() == TALLIES))
+        }
+        Err(fault) => {
+            let is_right = fault == StoreFault::NoMemory && one.meter.count() <= most;
+            let stays = is_same(rt.alloc(), &one.store, &twin.store).ok()?;
+            Some(Outcome::refused(is_right && stays && is_tried(rt.alloc(), &mut one)))
+        }
+    }
+}
+
+fn is_tried(alloc: Global, one: &mut Opened) -> bool {
+    let [(edit, wanted), ..] = edits();
+    match one.store.trial(alloc, edit, &mut one.meter) {
+        Ok((outcome, _)) => outcome == wanted,
+        Err(_) => false,
+    }
+}
+
+/// Two edits: one that is tried, and one that has no place.
+fn candidates() -> [Edit; 2] {
+    let [(edit, _), ..] = edits();
+    [edit, Edit::Remove { at: 6 }]
+}
+
+/// Where memory is refused to one trial, its entry says so, and else the call.
+pub(crate) fn all<R: Threads + Sync>(rt: &R, host: &HostRuntime) -> Option<Outcome> {
+    let one = open_worked(host)?;
+    let twin = open_worked(host)?;
+    let first = tried_all(rt, host, &one.store);
+    if first == Outcome::Answered {
+        return Some(first);
+    }
+    let stays = is_same(host.alloc(), &one.store, &twin.store).ok()?;
+    let again = tried_all(rt, host, &one.store);
+    Some(Outcome::refused(stays && first == Outcome::Refused && again == Outcome::Answered))
+}
+
+fn tried_all<R: Threads + Sync>(rt: &R, host: &HostRuntime, store: &Store) -> Outcome {
+    match try_all(rt, host, host.alloc(), store, &candidates()) {
+        Ok(tried) => outcome_of(&tried),
+        Err(AllocError) => Outcome::Refused,
+    }
+}
+
+fn outcome_of(tried: &[Result<(Replayed, Tallies), StoreFault>]) -> Outcome {
+    let [(_, wanted), ..] = edits();
+    match tried {
+        [Ok((outcome, _)), Err(StoreFault::Edit(_))] => Outcome::answered(*outcome == wanted),
+        [Err(StoreFault::NoMemory), Err(_)] => Outcome::Refused,
+        [Ok((outcome, _)), Err(StoreFault::NoMemory)] => Outcome::refused(*outcome == wanted),
+        _ => Outcome::Wrong,
+    }
+}

@@ -1,6 +1,5 @@
 -- What a tick finds of tasks: who stands above a current task.
-use Rattle.std.proofs.Common.{◌≡◌, ℕ, ◌<◌, ◌≤◌, Bool, true, false, ◌&&◌, nat_lt, length, Some, refl, sym, ap, ◌∙◌, arith}
-use Rattle.std.specs.List.{list_any}
+use Rattle.std.proofs.Common.{◌≡◌, ℕ, ◌<◌, ◌≤◌, Bool, true, false, ◌&&◌, nat_lt, length, refl, sym, ap, ◌∙◌, arith}
 use Rattle.std.proofs.lemmas.Bool.Decides.{nat_tests}
 use Rattle.std.proofs.lemmas.List.Elements.{All-from_recursion}
 use Rattle.std.proofs.lemmas.List.Folds.{list_any_none}
@@ -19,20 +18,14 @@ pub cores_stand : (view : View) → StandsForSome view → length view.control.c
 cores_stand view some =
     sym (ap (λ (v : View). length v.control.cores) some.1.shows) ∙ some.1.sound.consistent.sized.cores ∙ ap (λ (v : View). v.settings.cores) some.1.shows
 
--- where a current task than which none stands lower isn't below the task, the task stands above none
-pub outranks_none : (control : Control) (cores lowest task : ℕ) → length control.cores ≡ cores → IsLowest control cores (Some lowest) → nat_lt (effective control lowest) (effective control task) ≡ false
-    → false ≡ outranks_some control task
+-- a task whose effective priority is not above the lowest of the current tasks stands above none
+pub outranks_none : (control : Control) (cores lowest task : ℕ) → length control.cores ≡ cores → IsLowest control cores lowest → effective control task ≤ lowest → false ≡ outranks_some control task
 outranks_none control cores lowest task size lowest_is above =
     let test = λ (core : ℕ). is_allowed control core task && nat_lt (effective control (current control core)) (effective control task) in
     sym (list_any_none test (numbers (length control.cores))
     (All-from_recursion (λ core. test core ≡ false) (numbers (length control.cores)) (All-weaker (λ core. core < length control.cores) (λ core. test core ≡ false)
     (λ core low. at core (is_allowed control core task) (lowest_is core (omega (arith, low, size)))) (numbers (length control.cores)) (numbers_below (length control.cores)))))
   where
-    at : (core : ℕ) (b : Bool) → effective control lowest ≤ effective control (current control core) → (b && nat_lt (effective control (current control core)) (effective control task)) ≡ false
+    at : (core : ℕ) (b : Bool) → lowest ≤ effective control (current control core) → (b && nat_lt (effective control (current control core)) (effective control task)) ≡ false
     at core true low = grind (arith, nat_tests, low, above)
     at core false low = refl
-
-pub outranks_none_of_none : (control : Control) (cores task : ℕ) → length control.cores ≡ cores → cores ≡ 0 → false ≡ outranks_some control task
-outranks_none_of_none control cores task size none =
-    let test = λ (core : ℕ). is_allowed control core task && nat_lt (effective control (current control core)) (effective control task) in
-    ap (λ n. list_any test (numbers n)) (sym (size ∙ none))

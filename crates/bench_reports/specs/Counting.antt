@@ -1,6 +1,6 @@
 -- A step is counted in three parts: what a tick finds, the one event of another step, and the
 -- priorities in use after it.
-use Rattle.std.specs.Prelude.{ℕ, ◌+◌, ◌-◌, ◌^◌, ◌≤◌, ◌<◌, ◌≡◌, max, List, length, map, Bool, true, false, not, ◌&&◌, ◌==◌, nat_lt, Option, Some, None, if◌then◌else◌, slice_index_or}
+use Rattle.std.specs.Prelude.{ℕ, ◌+◌, ◌-◌, ◌^◌, ◌≤◌, ◌<◌, max, List, length, map, Bool, true, false, not, ◌&&◌, ◌==◌, nat_lt, Option, Some, None, if◌then◌else◌, slice_index_or}
 use Rattle.bench_types.specs.declared.reply.Reply.{Reply}
 use Rattle.bench_types.specs.declared.step.Call.{Call as KernelCall}
 use Rattle.bench_types.specs.declared.step.Call.TheVariants.{Finish}
@@ -142,11 +142,10 @@ unfoldable pub topped : Control → List TaskTally → List TaskTally
 topped control tallies =
     map (λ task. top_tally control task (tally_at tallies task)) (numbers (length tallies))
 
--- no current task stands lower than this one; there is none where there is no core
-abbrev pub IsLowest : Control → ℕ → Option ℕ → Type 0
-IsLowest control cores None = cores ≡ 0
-IsLowest control cores (Some lowest) =
-    (core : ℕ) → core < cores → effective control lowest ≤ effective control (current control core)
+-- no current task has a lower effective priority
+abbrev pub IsLowest : Control → ℕ → ℕ → Type 0
+IsLowest control cores lowest =
+    (core : ℕ) → core < cores → lowest ≤ effective control (current control core)
 
 -- one more event can be counted
 pub record HasEventRoom (tally : TaskTally) : Type 0 where

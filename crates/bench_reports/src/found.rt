@@ -1,5 +1,4 @@
 ghost use Rattle.std.specs.Prelude.{◌≡◌, ◌<◌, ◌≤◌, length};
-ghost use Rattle.std.specs.Option.{ForSome};
 ghost use Rattle.bench_model.specs.Seek.{effective};
 ghost use Rattle.bench_model.specs.Tally.{outranks_some};
 ghost use Rattle.bench_reports.specs.Counting.{found_as, IsLowest};
@@ -18,38 +17,34 @@ pub(crate) enum Found {
     Blocked,
 }
 
-/// Of the current tasks one than which none stands lower; none where there is no core.
-pub(crate) fn lowest_current(kernel: &Kernel) -> Option<u32>
-    ensures lowest { IsLowest kernel.now.control kernel.now.settings.cores result }
-    ensures task { ForSome result (λ task. task < kernel.now.settings.tasks) }
+// The effective priority of the task: an idle task has 0, and the priorities in use count from 1.
+fn effective(kernel: &Kernel, task: u32) -> u64
+    requires task { task < kernel.now.settings.tasks }
+    requires cores { length kernel.now.control.cores ≡ kernel.now.settings.cores }
+    ensures { result ≡ effective kernel.now.control task }
 {
-    let mut lowest = None;
+    if task < kernel.settings().cores {
+        0
+    } else {
+        u64::from(kernel.in_use(task)) + 1
+    }
+}
+
+/// The lowest effective priority of the current tasks.
+pub(crate) fn lowest_current(kernel: &Kernel) -> u64
+    ensures { IsLowest kernel.now.control kernel.now.settings.cores result }
+{
+    let mut lowest = u64::MAX;
     for core in 0..kernel.settings().cores {
-        lowest = Some(lower_of(kernel, lowest, kernel.running(core)));
+        lowest = lowest.min(effective(kernel, kernel.running(core)));
     }
     lowest
 }
 
-// The lower of the two tasks, or the one that there is.
-fn lower_of(kernel: &Kernel, lowest: Option<u32>, task: u32) -> u32
-    requires task { task < kernel.now.settings.tasks }
-    requires lowest { ForSome lowest (λ lowest. lowest < kernel.now.settings.tasks) }
-    ensures below { result < kernel.now.settings.tasks }
-    ensures task { effective kernel.now.control result ≤ effective kernel.now.control task }
-    ensures lowest { ForSome lowest
-        (λ lowest. effective kernel.now.control result ≤ effective kernel.now.control lowest) }
-{
-    match lowest {
-        Some(lowest) if !kernel.stands_below(task, lowest) => lowest,
-        _ => task,
-    }
-}
-
 /// How a tick finds the task. Where no current task stands lower than this one, none of the cores
 /// is looked at.
-pub(crate) fn found_as(kernel: &Kernel, lowest: Option<u32>, task: u32) -> Found
+pub(crate) fn found_as(kernel: &Kernel, lowest: u64, task: u32) -> Found
     requires task { task < kernel.now.settings.tasks }
-    requires low { ForSome lowest (λ lowest. lowest < kernel.now.settings.tasks) }
     requires lowest { IsLowest kernel.now.control kernel.now.settings.cores lowest }
     requires cores { length kernel.now.control.cores ≡ kernel.now.settings.cores }
     ensures { result ≡ found_as kernel.now task }
@@ -63,17 +58,16 @@ pub(crate) fn found_as(kernel: &Kernel, lowest: Option<u32>, task: u32) -> Found
     }
 }
 
-fn outranks_some(kernel: &Kernel, lowest: Option<u32>, task: u32) -> bool
-    requires cores { length kernel.now.control.cores ≡ kernel.now.settings.cores }
+fn outranks_some(kernel: &Kernel, lowest: u64, task: u32) -> bool
     requires task { task < kernel.now.settings.tasks }
-    requires low { ForSome lowest (λ lowest. lowest < kernel.now.settings.tasks) }
     requires lowest { IsLowest kernel.now.control kernel.now.settings.cores lowest }
+    requires cores { length kernel.now.control.cores ≡ kernel.now.settings.cores }
     ensures { result ≡ outranks_some kernel.now.control task }
 {
-    match lowest {
-        Some(lowest) => kernel.stands_below(lowest, task) && has_lower_core(kernel, task),
-        None => false,
+    if effective(kernel, task) <= lowest {
+        return false;
     }
+    has_lower_core(kernel, task)
 }
 
 fn has_lower_core(kernel: &Kernel, task: u32) -> bool

@@ -6,6 +6,6 @@ mod replay;
 mod segment;
 mod segments;
 
-pub use replay::advance;
+pub use replay::{advance, tally_steps};
 pub use segment::Segment;
 pub use segments::Segments;

@@ -1,4 +1,4 @@
-ghost use Rattle.std.specs.Prelude.{◌≡◌, ◌++◌, ◌<◌, ◌≤◌, ◌+◌, ◌-◌, ◌^◌, min, All, Ok, IfOk, OnOk, OnErr, length, map};
+ghost use Rattle.std.specs.Prelude.{◌≡◌, ℕ, ◌++◌, ◌<◌, ◌≤◌, ◌+◌, ◌-◌, ◌^◌, min, All, Ok, IfOk, OnOk, OnErr, length, map};
 ghost use Rattle.std.specs.List.{flat_map};
 ghost use Rattle.std.specs.Vec.{vec_capacity, vec_len};
 ghost use Rattle.bench_types.specs.Limits.{max_cores, max_steps};
@@ -7,7 +7,7 @@ ghost use Rattle.bench_model.specs.Control.{running};
 ghost use Rattle.bench_model.specs.Equal.{StandsFor};
 ghost use Rattle.bench_model.specs.Session.{state_after, trace};
 ghost use Rattle.bench_model.specs.Table.{Table};
-ghost use Rattle.bench_model.specs.Tallied.{first_tallies, part_tallies, shape, shape_of};
+ghost use Rattle.bench_model.specs.Tallied.{first_tallies, part_tallies, shape, shape_of, tallied_after, AllCountsBelow};
 ghost use Rattle.smp_kernel.specs.Kernel.{StandsForSome};
 ghost use Rattle.bench_reports.specs.Tops.{HasTops};
 ghost use Rattle.session_segments.specs.Counting.{meter_after, CountsUpTo};
@@ -27,6 +27,29 @@ pub fn advance(kernel: &mut Kernel, steps: &[Step], meter: &mut Meter)
 {
     for step in steps {
         kernel.step(meter, step);
+    }
+}
+
+/// Makes the steps on the kernel and counts them, and keeps no reply.
+pub fn tally_steps(kernel: &mut Kernel, tallies: &mut Tallies, steps: &[Step], meter: &mut Meter)
+    requires steps { All (IsCheckedStep kernel.old.settings) steps.now }
+    requires few_steps { length steps.now ≤ max_steps }
+    requires sizes { shape tallies.old ≡ shape_of kernel.old.settings }
+    requires room { AllCountsBelow (2 ^ 32 - length steps.now) tallies.old }
+    requires tops { HasTops kernel.old.control tallies.old }
+    ensures state { (table : Table) → StandsFor kernel.old table
+        → StandsFor kernel.new (state_after table steps.now) }
+    ensures settings { kernel.new.settings ≡ kernel.old.settings }
+    ensures counted { (table : Table) → StandsFor kernel.old table
+        → tallies.new ≡ tallied_after table steps.now tallies.old }
+    ensures sizes { shape tallies.new ≡ shape_of kernel.old.settings }
+    ensures grown { (bound : ℕ) → AllCountsBelow bound tallies.old
+        → AllCountsBelow (bound + length steps.now) tallies.new }
+    ensures tops { HasTops kernel.new.control tallies.new }
+    ensures meter { meter.new ≡ meter_after (length steps.now) meter.old }
+{
+    for step in steps {
+        tallies.make_next(kernel, meter, step);
     }
 }
 

@@ -2,7 +2,7 @@
 use Rattle.std.proofs.Common.{◌≡◌, ℕ, ◌+◌, ◌≤◌, List, ◌++◌, length, take, drop, Ok, refl, sym, ap, ap₂, subst, ◌∙◌, arith}
 use Rattle.std.specs.Prelude.{All}
 use Rattle.std.proofs.lemmas.Bool.Decides.{nat_tests}
-use Rattle.std.proofs.lemmas.List.{length-append, length-drop, drop-drop}
+use Rattle.std.proofs.lemmas.List.{append_assoc, length-append, length-drop, drop-drop}
 use Rattle.std.proofs.lemmas.List.Elements.{All-drop}
 use Rattle.bench_types.specs.declared.edit.Edit.{Edit}
 use Rattle.bench_types.specs.declared.header.Header.{Header}
@@ -18,9 +18,11 @@ use Rattle.bench_model.specs.Edits.{accepted, edited}
 use Rattle.bench_model.specs.Equal.{StandsFor}
 use Rattle.bench_model.specs.Lists.{View}
 use Rattle.bench_model.specs.Meeting.{met, replayed, replayed_from}
-use Rattle.bench_model.specs.Session.{state_at}
+use Rattle.bench_model.specs.Session.{state_after, state_at}
 use Rattle.bench_model.specs.Start.{start}
 use Rattle.bench_model.specs.Table.{Table}
+use Rattle.bench_model.specs.Tallied.{part_tallies, shape, shape_of}
+use Rattle.bench_model.specs.Tally.{TaskTally, tallies}
 use Rattle.segment_laws.specs.EditedSegments.{AreReplayed}
 use Rattle.segment_laws.specs.SegmentLaws.{IsEdited}
 use Rattle.segment_laws.specs.Segments.{SegmentView, all_steps, AreSegments}
@@ -35,7 +37,11 @@ use Rattle.smp_kernel.specs.Kernel.{StandsForSome}
 use Rattle.session_store.specs.Kept.{kept_of, session_of, IsKept}
 use Rattle.session_store.specs.Outcomes.{outcome_of}
 use Rattle.session_store.specs.Replays.{HasSettings, GivesUp, IsParting, IsEditReplay}
+use Rattle.session_store.specs.Trials.{tallies_after, AreTalliedAfter, IsMeeting}
+use Rattle.session_store.proofs.EditTold.{kept_parts}
 use Rattle.session_store.proofs.Parted.{follow_settings}
+use Rattle.session_store.proofs.Retraces.{made_from, meeting_replayed}
+use Rattle.session_store.proofs.StoreTallies.{replay_of}
 
 -- the cores of a session are few
 pub few_cores : (session : Session) → IsSession session → (settings_of session.header).cores ≤ max_cores
@@ -74,11 +80,14 @@ module _ (header : Header) (span : ℕ) (segments : List SegmentView) (edit : Ed
     whole : next.steps ≡ all_steps front ++ (steps ++ all_steps rest)
     whole = parted_steps (kept_of header span segments) edit segments front steps rest accepts are parting.parted
 
-    kernel_next : kernel.settings ≡ settings_of next.header
-    kernel_next =
-        sym (ap (λ (view : View). view.settings) parting.stands.shows)
-        ∙ ap (λ (table : Table). table.settings) (state_front next.header next.steps (all_steps front) (steps ++ all_steps rest) whole)
-        ∙ front_settings next (all_steps front) (steps ++ all_steps rest) next_is whole
+    pub begin_is : begin ≡ state_after (start next.header) (all_steps front)
+    begin_is = state_front next.header next.steps (all_steps front) (steps ++ all_steps rest) whole
+
+    begin_next : begin.settings ≡ settings_of next.header
+    begin_next = ap (λ (table : Table). table.settings) begin_is ∙ front_settings next (all_steps front) (steps ++ all_steps rest) next_is whole
+
+    pub kernel_next : kernel.settings ≡ settings_of next.header
+    kernel_next = sym (ap (λ (view : View). view.settings) parting.stands.shows) ∙ begin_next
 
     pub kernel_some : StandsForSome kernel
     kernel_some = (begin, parting.stands)
@@ -98,6 +107,9 @@ module _ (header : Header) (span : ℕ) (segments : List SegmentView) (edit : Ed
 
     pub part_few : length steps ≤ max_steps
     part_few = omega (arith, lengths_whole, next_few)
+
+    pub all_few : length steps + length (all_steps rest) ≤ max_steps
+    all_few = omega (arith, lengths_whole, next_few)
 
     pub rest_settings : All (HasSettings kernel.settings) rest
     rest_settings =
@@ -122,10 +134,10 @@ module _ (header : Header) (span : ℕ) (segments : List SegmentView) (edit : Ed
         (up.counted.0, omega (arith, up.counted.1, within, front_is), up.counted.2)
 
     -- by what was lent of the steps and of the segments after them
-    module _ (given : List Step) (later made : List SegmentView) (count : ℕ) (same : given ≡ steps) (there : later ≡ rest) (told : (table : Table) → StandsFor kernel table → AreReplayed span table given later made count) where
-      runs : AreReplayed span begin steps rest made count
-      runs = subst (λ segments. AreReplayed span begin steps segments made count) there (subst (λ steps. AreReplayed span begin steps later made count) same (told begin parting.stands))
+    pub lent_runs : (given : List Step) (later made : List SegmentView) (count : ℕ) → given ≡ steps → later ≡ rest → ((table : Table) → StandsFor kernel table → AreReplayed span table given later made count) → AreReplayed span begin steps rest made count
+    lent_runs given later made count same there told = subst (λ segments. AreReplayed span begin steps segments made count) there (subst (λ steps. AreReplayed span begin steps later made count) same (told begin parting.stands))
 
+    module _ (made : List SegmentView) (count : ℕ) (runs : AreReplayed span begin steps rest made count) where
       pub made_length : length (all_steps made) ≡ length steps + length (all_steps (take count rest))
       made_length = ap length (made_steps span begin steps rest made count runs) ∙ length-append steps (all_steps (take count rest))
 
@@ -152,8 +164,8 @@ module _ (header : Header) (span : ℕ) (segments : List SegmentView) (edit : Ed
         edited = subst (IsEdited (kept_of header span segments) edit front made) (drop-drop count after segments) edited_is;
       }
 
-      pub counted : (old new : ℕ) → new ≡ meter_after (length given + length (all_steps (take count later))) old → new ≡ meter_after (replayed (kept_of header span segments) edit) old
-      counted old new count_is =
+      pub counted : (given : List Step) (later : List SegmentView) (old new : ℕ) → given ≡ steps → later ≡ rest → new ≡ meter_after (length given + length (all_steps (take count later))) old → new ≡ meter_after (replayed (kept_of header span segments) edit) old
+      counted given later old new same there count_is =
           count_is ∙ ap₂ (λ (ss : List Step) (after : List SegmentView). meter_after (length ss + length (all_steps (take count after))) old) same there
           ∙ ap (λ n. meter_after n old) (sym made_length ∙ replayed_is)
 
@@ -163,3 +175,55 @@ module _ (header : Header) (span : ℕ) (segments : List SegmentView) (edit : Ed
           let last : from + more ≡ met (kept_of header span segments) edit = omega (arith, begins, are_made, met_is) in
           let all = are_made ∙ replayed_is in
           cc (first, last, all)
+
+    -- only the tallies of the replay are kept, by what was lent of the steps and of the segments
+    module _ (given : List Step) (later : List SegmentView) (count : ℕ) (same : given ≡ steps) (there : later ≡ rest) (told : (table : Table) → StandsFor kernel table → IsMeeting table given later count) where
+      meets : IsMeeting begin steps rest count
+      meets = subst (λ segments. IsMeeting begin steps segments count) there (subst (λ steps. IsMeeting begin steps later count) same (told begin parting.stands))
+
+      -- segments that it could have made
+      abbrev pub traced : List SegmentView
+      traced = made_from span begin steps rest count
+
+      traced_checked : All (IsCheckedStep begin.settings) (steps ++ all_steps (take count rest))
+      traced_checked =
+          let own = settings_of next.header in
+          let cut : steps ++ all_steps rest ≡ steps ++ all_steps (take count rest) ++ all_steps (drop count rest) = ap (λ xs. steps ++ xs) (all_parted count rest) ∙ sym (append_assoc steps (all_steps (take count rest)) (all_steps (drop count rest))) in
+          let all = subst (All (IsCheckedStep own)) cut (back_checked next (all_steps front) (steps ++ all_steps rest) next_is whole) in
+          subst (λ settings. All (IsCheckedStep settings) (steps ++ all_steps (take count rest))) (sym begin_next)
+          (All_front (IsCheckedStep own) (steps ++ all_steps (take count rest)) (all_steps (drop count rest)) all)
+
+      pub traced_runs : AreReplayed span begin steps rest traced count
+      traced_runs = meeting_replayed span begin steps rest count parting.stands.sound traced_checked meets
+
+      pub traced_within : count ≤ length later
+      traced_within = subst (λ (segments : List SegmentView). count ≤ length segments) (sym there) meets.within
+
+      -- how many steps it made
+      pub traced_length : length given + length (all_steps (take count later)) ≡ length (all_steps traced)
+      traced_length =
+          ap₂ (λ (ss : List Step) (after : List SegmentView). length ss + length (all_steps (take count after))) same there
+          ∙ sym (made_length traced count traced_runs)
+
+      pub traced_few : length (all_steps front) + (length given + length (all_steps (take count later))) ≤ max_steps
+      traced_few = omega (arith, traced_length, made_few traced count traced_runs)
+
+      pub traced_replay : IsEditReplay (kept_of header span segments) edit segments traced before (after + count)
+      traced_replay = edit_replay traced count traced_runs
+
+      abbrev pub traced_tallies : (replayed : List TaskTally) → ((table : Table) → StandsFor kernel table → replayed ≡ part_tallies kernel.settings table (given ++ all_steps (take count later))) → shape replayed ≡ shape_of kernel.settings → AreTalliedAfter front replayed
+      traced_tallies replayed counts sized = record {
+        header = next.header;
+        made = traced;
+        later = drop (after + count) segments;
+        replay = replay_of next.header span (front ++ traced ++ drop (after + count) segments) (kept_parts header span segments edit kept words accepts traced before (after + count) traced_replay next.header refl);
+        counts =
+            counts begin parting.stands
+            ∙ ap₂ (λ (ss : List Step) (after : List SegmentView). part_tallies kernel.settings begin (ss ++ all_steps (take count after))) same there
+            ∙ ap (part_tallies kernel.settings begin) (sym (made_steps span begin steps rest traced count traced_runs))
+            ∙ ap₂ (λ (settings : Settings) (table : Table). part_tallies settings table (all_steps traced)) kernel_next begin_is;
+        sizes = sized ∙ ap shape_of kernel_next;
+      }
+
+      pub traced_total : (total : List TaskTally) → total ≡ tallies next.header (all_steps (front ++ traced ++ drop (after + count) segments)) → total ≡ tallies_after edit (session_of header segments)
+      traced_total total is = is ∙ ap (tallies next.header) traced_replay.edited.segments.steps

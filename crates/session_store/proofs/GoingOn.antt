@@ -28,10 +28,10 @@ use borrow.Author.Count.{below_more}
 -- ---- steps of segments
 
 -- the steps of parts, one part after another
-abbrev joined : List (List Step) → List Step
+abbrev pub joined : List (List Step) → List Step
 joined parts = flat_map (λ steps. steps) parts
 
-own_steps : (segments : List SegmentView) → joined (map steps_of segments) ≡ all_steps segments
+pub own_steps : (segments : List SegmentView) → joined (map steps_of segments) ≡ all_steps segments
 own_steps segments = flat_map-map (λ steps. steps) steps_of segments
 
 alike_steps : (made others : List SegmentView) → map steps_of made ≡ map steps_of others → all_steps made ≡ all_steps others
@@ -44,13 +44,13 @@ took_more after count segment found =
     ap (λ n. take n after) next ∙ take_with after count segment found
 
 -- and its steps
-more_steps : (after : List SegmentView) (count : ℕ) (segment : SegmentView) → slice_get after count ≡ Some segment → all_steps (take (count + 1) after) ≡ all_steps (take count after) ++ segment.steps
+pub more_steps : (after : List SegmentView) (count : ℕ) (segment : SegmentView) → slice_get after count ≡ Some segment → all_steps (take (count + 1) after) ≡ all_steps (take count after) ++ segment.steps
 more_steps after count segment found =
     ap all_steps (took_more after count segment found)
     ∙ all_more (take count after) (segment ∷ [])
     ∙ ap (λ steps. all_steps (take count after) ++ steps) (append-nil segment.steps)
 
-more_length : (after : List SegmentView) (count : ℕ) (segment : SegmentView) → slice_get after count ≡ Some segment → length (all_steps (take (count + 1) after)) ≡ length (all_steps (take count after)) + length segment.steps
+pub more_length : (after : List SegmentView) (count : ℕ) (segment : SegmentView) → slice_get after count ≡ Some segment → length (all_steps (take (count + 1) after)) ≡ length (all_steps (take count after)) + length segment.steps
 more_length after count segment found = ap length (more_steps after count segment found) ∙ length-append (all_steps (take count after)) segment.steps
 
 -- steps of a segment are fit for a kernel of the same settings
@@ -88,7 +88,7 @@ BeginsOtherwise segment kernel = (a b : Table) → StandsFor segment.kernel a �
 abbrev pub BeginsAlike : SegmentView → View → Type 0
 BeginsAlike segment kernel = (a b : Table) → StandsFor segment.kernel a → StandsFor kernel b → Same a b
 
-unequal_more : (table : Table) (after : List SegmentView) (count : ℕ) (segment : SegmentView) (kernel : View) → slice_get after count ≡ Some segment → BeginsOtherwise segment kernel → StandsFor kernel (state_after table (all_steps (take count after))) → AreUnequal table [] after count → AreUnequal table [] after (count + 1)
+pub unequal_more : (table : Table) (after : List SegmentView) (count : ℕ) (segment : SegmentView) (kernel : View) → slice_get after count ≡ Some segment → BeginsOtherwise segment kernel → StandsFor kernel (state_after table (all_steps (take count after))) → AreUnequal table [] after count → AreUnequal table [] after (count + 1)
 unequal_more table after count segment kernel found otherwise stands unequal =
     let reached = λ (i : ℕ). state_after table (all_steps (take i after)) in
     let apart = λ (i : ℕ). (one : SegmentView) (old : Table) → slice_get after i ≡ Some one → StandsFor one.kernel old → Same old (reached i) → ⊥ in
@@ -173,10 +173,10 @@ made_are_steps span table steps after made are = sym (own_steps made) ∙ ap joi
 
 module _ (table : Table) (steps : List Step) (after : List SegmentView) where
   -- the state after the steps and some of the segments
-  state_later : (i : ℕ) → state_after table (steps ++ all_steps (take i after)) ≡ state_after (state_after table steps) (all_steps (take i after))
+  pub state_later : (i : ℕ) → state_after table (steps ++ all_steps (take i after)) ≡ state_after (state_after table steps) (all_steps (take i after))
   state_later i = state_append table steps (all_steps (take i after))
 
-  unequal_later : (count : ℕ) → AreUnequal (state_after table steps) [] after count → AreUnequal table steps after count
+  pub unequal_later : (count : ℕ) → AreUnequal (state_after table steps) [] after count → AreUnequal table steps after count
   unequal_later count unequal = λ i segment old below found stands same. unequal i segment old below found stands (subst (Same old) (state_later i) same)
 
   pub goes_on : (span : ℕ) (first new : List SegmentView) (count : ℕ) → AreMade table (cut span (has_none after) steps) first → HasLater (state_after table steps) after first new count → AreReplayed span table steps after new count

@@ -6,6 +6,7 @@ mod Opened
 mod Openings
 pub mod Parted
 mod Partings
+mod Retraces
 mod Spans
 mod StepRows
 mod StoreReads

@@ -1,6 +1,7 @@
 -- The tallies of a session, one segment after another.
 use Rattle.std.proofs.Common.{◌≡◌, ℕ, suc, ◌+◌, ◌-◌, ◌^◌, ◌≤◌, List, [], ◌∷◌, ◌++◌, length, take, drop, Some, refl, sym, ap, subst, ◌∙◌, arith, add-one}
-use Rattle.std.specs.Prelude.{slice_get}
+use Rattle.std.specs.Prelude.{slice_get, true, ◌==◌}
+use Rattle.std.proofs.Math.Dec.{eqb-suc-zero}
 use Rattle.std.proofs.lemmas.List.{take_all, append_assoc, append-nil, length-append, length-drop}
 use Rattle.bench_types.specs.declared.header.Header.{Header}
 use Rattle.bench_types.specs.declared.kernel_data.Settings.{Settings}
@@ -20,7 +21,7 @@ use Rattle.segment_laws.specs.Segments.{SegmentView, all_steps, AreSegments, Fol
 use Rattle.segment_laws.proofs.Following.{all_more, follow_back, split_at, take_with}
 use Rattle.segment_laws.proofs.Reading.{kernel_settings, segment_kernel_settings}
 use Rattle.session_store.specs.Kept.{kept_of, IsKept}
-use Rattle.session_store.specs.Trials.{AreTallied, AreTalliedBefore, IsReplay}
+use Rattle.session_store.specs.Trials.{AreTallied, AreTalliedAfter, AreTalliedBefore, IsReplay}
 
 pub replay_of : (header : Header) (span : ℕ) (segments : List SegmentView) → IsKept header span segments → IsReplay header segments
 replay_of header span segments kept = record { session = kept.session; few_steps = kept.few_steps; follow = kept.follow }
@@ -45,43 +46,56 @@ module _ (header : Header) (segments : List SegmentView) (replay : IsReplay head
   pub all_tallied : (total : List TaskTally) → AreTallied header segments total → total ≡ tallies header (all_steps segments)
   all_tallied total so = so.counts ∙ sym (stepwise header (all_steps segments))
 
+  -- a run of segments has the tallies of one segment with the first's kernel and all their steps
+  module _ (front run rest : List SegmentView) (whole : segments ≡ front ++ run ++ rest) (part total : List TaskTally)
+      (told : part ≡ part_tallies (settings_of header) (state_after (start header) (all_steps front)) (all_steps run)) (so_far : AreTallied header front total) where
+    run_sum : added total part ≡ part_tallies (settings_of header) (start header) (all_steps (front ++ run))
+    run_sum =
+        ap (λ (a : List TaskTally). added a part) so_far.counts ∙ ap (added (part_tallies (settings_of header) (start header) (all_steps front))) told
+        ∙ sym (parts_added (settings_of header) (start header) (all_steps front) (all_steps run)) ∙ ap (part_tallies (settings_of header) (start header)) (sym (all_more front run))
+
+    pub run_shapes : shape part ≡ shape_of (settings_of header) → shape total ≡ shape part
+    run_shapes sized = so_far.sizes ∙ sym sized
+
+    few : suc (length (all_steps (front ++ run))) ≤ 2 ^ 32
+    few =
+        let all = ap (λ (xs : List SegmentView). all_steps xs) whole ∙ all_more (front ++ run) rest in
+        omega (arith, replay.few_steps, ap (λ (xs : List Step). length xs) all, length-append (all_steps (front ++ run)) (all_steps rest))
+
+    -- no count of few steps is near the end of its numbers
+    pub run_fits : AllCountsBelow (2 ^ 32) (added total part)
+    run_fits =
+        let steps = all_steps (front ++ run) in
+        subst (AllCountsBelow (2 ^ 32)) (sym run_sum) (wider_room (part_tallies (settings_of header) (start header) steps) few (part_few (settings_of header) (start header) steps))
+
+    pub run_goes : (next : List TaskTally) → next ≡ added total part → shape next ≡ shape total → AreTallied header (front ++ run) next
+    run_goes next sum sized = record {
+      counts = sum ∙ run_sum;
+      sizes = sized ∙ so_far.sizes;
+    }
+
   module _ (front : List SegmentView) (segment : SegmentView) (rest : List SegmentView) (whole : segments ≡ front ++ segment ∷ rest) (part total : List TaskTally)
       (told : (table : Table) → StandsFor segment.kernel table → part ≡ part_tallies segment.kernel.settings table segment.steps) (so_far : AreTallied header front total) where
     settings : segment.kernel.settings ≡ settings_of header
     settings = kernel_settings (kept_of header 0 segments) segments front segment rest are whole replay.session
 
-    part_is : part ≡ part_tallies (settings_of header) (state_after (start header) (all_steps front)) segment.steps
+    part_is : part ≡ part_tallies (settings_of header) (state_after (start header) (all_steps front)) (all_steps (segment ∷ []))
     part_is =
         let cut = state_after (start header) (all_steps front) in
         told cut (follow_back front (segment ∷ rest) (start header) (subst (Follow (start header)) whole replay.follow)).0 ∙ ap (λ (s : Settings). part_tallies s cut segment.steps) settings
+        ∙ ap (part_tallies (settings_of header) cut) (sym (append-nil segment.steps))
 
-    steps_are : all_steps (front ++ segment ∷ []) ≡ all_steps front ++ segment.steps
-    steps_are = all_more front (segment ∷ []) ∙ ap (λ xs. all_steps front ++ xs) (append-nil segment.steps)
-
-    sum_is : added total part ≡ part_tallies (settings_of header) (start header) (all_steps (front ++ segment ∷ []))
-    sum_is =
-        ap (λ (a : List TaskTally). added a part) so_far.counts ∙ ap (added (part_tallies (settings_of header) (start header) (all_steps front))) part_is
-        ∙ sym (parts_added (settings_of header) (start header) (all_steps front) segment.steps) ∙ ap (part_tallies (settings_of header) (start header)) (sym steps_are)
+    parted : segments ≡ front ++ segment ∷ [] ++ rest
+    parted = whole ∙ sym (append_assoc front (segment ∷ []) rest)
 
     pub sum_shapes : shape part ≡ shape_of segment.kernel.settings → shape total ≡ shape part
-    sum_shapes sized = so_far.sizes ∙ ap shape_of (sym settings) ∙ sym sized
+    sum_shapes sized = run_shapes front (segment ∷ []) rest parted part total part_is so_far (sized ∙ ap shape_of settings)
 
-    few : suc (length (all_steps (front ++ segment ∷ []))) ≤ 2 ^ 32
-    few =
-        let all = ap (λ (xs : List SegmentView). all_steps xs) whole ∙ all_more front (segment ∷ rest) in
-        omega (arith, replay.few_steps, ap (λ (xs : List Step). length xs) steps_are, ap (λ (xs : List Step). length xs) all, length-append (all_steps front) segment.steps, length-append (all_steps front) (segment.steps ++ all_steps rest), length-append segment.steps (all_steps rest))
-
-    -- no count of few steps is near the end of its numbers
     pub sum_fits : AllCountsBelow (2 ^ 32) (added total part)
-    sum_fits =
-        let steps = all_steps (front ++ segment ∷ []) in
-        subst (AllCountsBelow (2 ^ 32)) (sym sum_is) (wider_room (part_tallies (settings_of header) (start header) steps) few (part_few (settings_of header) (start header) steps))
+    sum_fits = run_fits front (segment ∷ []) rest parted part total part_is so_far
 
     pub tallied_goes : (next : List TaskTally) → next ≡ added total part → shape next ≡ shape total → AreTallied header (front ++ segment ∷ []) next
-    tallied_goes next sum sized = record {
-      counts = sum ∙ sum_is;
-      sizes = sized ∙ so_far.sizes;
-    }
+    tallied_goes = run_goes front (segment ∷ []) rest parted part total part_is so_far
 
 -- one of the segments after those that were counted
 module _ (before : List TaskTally) (segments : List SegmentView) (known : AreTalliedBefore before segments) (index : ℕ) (segment : SegmentView) (found : slice_get segments index ≡ Some segment) where
@@ -126,53 +140,72 @@ module _ (header : Header) (segments : List SegmentView) (replay : IsReplay head
   counted_all next are none counted =
       all_tallied header segments replay next (subst (λ (xs : List SegmentView). AreTallied header xs next) are (counted (before_lent are none)))
 
--- three parts of a replay are counted one after another
-module _ (header : Header) (first second third : List SegmentView) (total : List TaskTally) (replay : IsReplay header (first ++ second ++ third)) (none : AreTallied header [] total) where
-  abbrev pub before_first : AreTalliedBefore total first
-  before_first = record {
-    header = header;
-    earlier = [];
-    later = second ++ third;
-    replay = subst (IsReplay header) (append_assoc first second third) replay;
-    tallied = none;
+-- ---- what is replayed after the first segments of an edited session
+
+pub first_there : (front rest : List SegmentView) (first : SegmentView) → slice_get front 0 ≡ Some first → slice_get (front ++ rest) 0 ≡ Some first
+first_there [] rest first found = absurd (cc found)
+first_there (segment ∷ front) rest first found = found
+
+pub empty_front : (front : List SegmentView) → (length front == 0) ≡ true → front ≡ []
+empty_front [] none = refl
+empty_front (segment ∷ front) none = absurd (cc (none, eqb-suc-zero (length front)))
+
+module _ (front : List SegmentView) (replayed : List TaskTally) (known : AreTalliedAfter front replayed) where
+  abbrev all : List SegmentView
+  all = front ++ known.made ++ known.later
+
+  -- where there are none, that is all so far
+  pub only_replayed : front ≡ [] → AreTallied known.header (front ++ known.made) replayed
+  only_replayed none = record {
+    counts =
+        known.counts ∙ ap (λ (xs : List SegmentView). part_tallies (settings_of known.header) (state_after (start known.header) (all_steps xs)) (all_steps known.made)) none
+        ∙ ap (λ (xs : List SegmentView). part_tallies (settings_of known.header) (start known.header) (all_steps (xs ++ known.made))) (sym none);
+    sizes = known.sizes;
   }
 
-  module _ (total_1 : List TaskTally) (first_counted : Counts total first total_1) where
-    abbrev pub before_second : AreTalliedBefore total_1 second
-    before_second = record {
-      header = header;
-      earlier = first;
-      later = third;
-      replay = replay;
-      tallied = first_counted before_first;
+  -- no segment is counted yet
+  module _ (first : SegmentView) (kernel : View) (total : List TaskTally) (found : slice_get front 0 ≡ Some first) (lent : kernel ≡ first.kernel) (begun : total ≡ first_tallies kernel.settings kernel.control) (sized : shape total ≡ shape_of kernel.settings) where
+    abbrev pub before_front : AreTalliedBefore total front
+    before_front = record {
+      header = known.header;
+      earlier = [];
+      later = known.made ++ known.later;
+      replay = subst (IsReplay known.header) (append_assoc front known.made known.later) known.replay;
+      tallied = none_tallied known.header all known.replay first kernel total (sym (first_there (front ++ known.made) known.later first (first_there front known.made first found))) lent begun sized;
     }
 
-    module _ (total_2 : List TaskTally) (second_counted : Counts total_1 second total_2) where
-      abbrev pub before_third : AreTalliedBefore total_2 third
-      before_third = record {
-        header = header;
-        earlier = first ++ second;
-        later = [];
-        replay = subst (IsReplay header) (sym (append-nil (first ++ second ++ third))) replay;
-        tallied = second_counted before_second;
-      }
+    -- the segments are counted, and what is replayed is added
+    module _ (total_1 : List TaskTally) (counted : Counts total front total_1) where
+      pub replayed_shapes : shape total_1 ≡ shape replayed
+      replayed_shapes = run_shapes known.header all known.replay front known.made known.later refl replayed total_1 known.counts (counted before_front) known.sizes
 
-      pub three_tallied : (total_3 : List TaskTally) → Counts total_2 third total_3 → AreTallied header (first ++ second ++ third) total_3
-      three_tallied total_3 third_counted = third_counted before_third
+      pub replayed_fits : AllCountsBelow (2 ^ 32) (added total_1 replayed)
+      replayed_fits = run_fits known.header all known.replay front known.made known.later refl replayed total_1 known.counts (counted before_front)
 
--- the segments before an edit, those that it makes, and those after it, as slices tell them
-module _ (header : Header) (segments made kept lent : List SegmentView) (before after : ℕ) (all : kept ≡ segments) (new : lent ≡ made) (replay : IsReplay header (take before segments ++ made ++ drop after segments)) where
-  back : take (length kept - after) (drop after kept) ≡ drop after kept
-  back = take_all (length kept - after) (drop after kept) (omega (arith, length-drop after kept))
+      pub replayed_added : (total_2 : List TaskTally) → total_2 ≡ added total_1 replayed → shape total_2 ≡ shape total_1 → AreTallied known.header (front ++ known.made) total_2
+      replayed_added = run_goes known.header all known.replay front known.made known.later refl replayed total_1 known.counts (counted before_front)
 
-  cut_are : take before kept ++ lent ++ drop after kept ≡ take before segments ++ made ++ drop after segments
-  cut_are = ap (λ (xs : List SegmentView). take before xs ++ lent ++ drop after xs) all ∙ ap (λ (xs : List SegmentView). take before segments ++ xs ++ drop after segments) new
+-- the segments that come after them, as a slice tells them
+module _ (segments lent : List SegmentView) (before after : ℕ) (replayed : List TaskTally) (known : AreTalliedAfter (take before segments) replayed) (later : known.later ≡ drop after segments) (there : lent ≡ segments) where
+  abbrev pub back : List SegmentView
+  back = take (length lent - after) (drop after lent)
 
-  pub slices_are : take before kept ++ lent ++ take (length kept - after) (drop after kept) ≡ take before segments ++ made ++ drop after segments
-  slices_are = ap (λ (xs : List SegmentView). take before kept ++ lent ++ xs) back ∙ cut_are
+  pub back_is : back ≡ known.later
+  back_is = take_all (length lent - after) (drop after lent) (omega (arith, length-drop after lent)) ∙ ap (λ (xs : List SegmentView). drop after xs) there ∙ sym later
 
-  pub cut_replay : IsReplay header (take before kept ++ lent ++ drop after kept)
-  cut_replay = subst (IsReplay header) (sym cut_are) replay
+  module _ (total : List TaskTally) (so_far : AreTallied known.header (take before segments ++ known.made) total) where
+    abbrev pub before_back : AreTalliedBefore total back
+    before_back = record {
+      header = known.header;
+      earlier = take before segments ++ known.made;
+      later = [];
+      replay =
+          subst (IsReplay known.header) (ap (λ (xs : List SegmentView). take before segments ++ known.made ++ xs) (sym back_is) ∙ sym (append-nil (take before segments ++ known.made ++ back))) known.replay;
+      tallied = so_far;
+    }
 
-  pub slices_replay : IsReplay header (take before kept ++ lent ++ take (length kept - after) (drop after kept))
-  slices_replay = subst (IsReplay header) (sym slices_are) replay
+    pub all_counted : (next : List TaskTally) → Counts total back next → next ≡ tallies known.header (all_steps (take before segments ++ known.made ++ drop after segments))
+    all_counted next counted =
+        all_tallied known.header (take before segments ++ known.made ++ known.later) known.replay next
+        (subst (λ (xs : List SegmentView). AreTallied known.header (take before segments ++ known.made ++ xs) next) back_is (counted before_back))
+        ∙ ap (λ (xs : List SegmentView). tallies known.header (all_steps (take before segments ++ known.made ++ xs))) later

@@ -1,5 +1,5 @@
 -- What an edit that is tried is answered, and how the tallies of segments add up.
-use Rattle.std.specs.Prelude.{◌≡◌, ◌↔◌, ◌≤◌, List, ◌++◌, length, Result, Err, IfOk}
+use Rattle.std.specs.Prelude.{◌≡◌, ◌↔◌, ◌≤◌, ℕ, List, ◌++◌, length, Result, Err, IfOk}
 use Rattle.bench_types.specs.declared.edit.Edit.{Edit}
 use Rattle.bench_types.specs.declared.edit.EditFault.{EditFault}
 use Rattle.bench_types.specs.declared.header.Header.{Header}
@@ -8,9 +8,13 @@ use Rattle.bench_types.specs.Session.{Session, IsSession}
 use Rattle.bench_types.specs.Step.{settings_of}
 use Rattle.bench_model.specs.Edits.{accepted, edited}
 use Rattle.bench_model.specs.Meeting.{CheckpointedSession}
+use Rattle.bench_model.specs.Session.{state_after}
 use Rattle.bench_model.specs.Start.{start}
 use Rattle.bench_model.specs.Tallied.{part_tallies, shape, shape_of}
+use Rattle.bench_model.specs.Table.{Table}
 use Rattle.bench_model.specs.Tally.{TaskTally, tallies}
+use Rattle.bench_types.specs.declared.step.Step.{Step}
+use Rattle.segment_laws.specs.EditedSegments.{AreUnequal, IsEqualAt}
 use Rattle.segment_laws.specs.Segments.{SegmentView, all_steps, Follow}
 use Rattle.session_store.specs.declared.fault.StoreFault.{StoreFault}
 use Rattle.session_store.specs.declared.fault.StoreFault.TheVariants as fault
@@ -50,3 +54,23 @@ pub record AreTalliedBefore (total : List TaskTally) (segments : List SegmentVie
   pub later : List SegmentView
   pub replay : IsReplay header (earlier ++ segments ++ later)
   pub tallied : AreTallied header earlier total
+
+-- A replay of the steps from a table on and of so many of the segments after them ended at the
+-- first of these that begins with the kernel it came to, or after the last.
+pub record IsMeeting (table : Table) (steps : List Step) (after : List SegmentView)
+    (count : ℕ) : Type 0 where
+  pub within : count ≤ length after
+  pub unequal : AreUnequal table steps after count
+  pub equal : IsEqualAt table steps after count
+
+-- the tallies of what is replayed in an edited session after its first segments
+pub record AreTalliedAfter (front : List SegmentView) (replayed : List TaskTally) : Type 0 where
+  pub header : Header
+  pub made : List SegmentView
+  pub later : List SegmentView
+  pub replay : IsReplay header (front ++ made ++ later)
+  pub counts :
+      replayed
+      ≡ part_tallies (settings_of header) (state_after (start header) (all_steps front))
+      (all_steps made)
+  pub sizes : shape replayed ≡ shape_of (settings_of header)

@@ -31,8 +31,8 @@ pub(crate) struct EditReplay {
     pub outcome: Outcome,
 }
 
-// How many steps the segments have.
-fn count_steps(segments: &[Segment]) -> u32
+/// How many steps the segments have.
+pub(crate) fn count_steps(segments: &[Segment]) -> u32
     requires { length (all_steps segments.now) < 2 ^ 32 }
     ensures { result ≡ length (all_steps segments.now) }
 {
@@ -43,7 +43,8 @@ fn count_steps(segments: &[Segment]) -> u32
     count
 }
 
-fn later(segments: &Segments, after: usize) -> &[Segment]
+/// The segments from the index on.
+pub(crate) fn later(segments: &Segments, after: usize) -> &[Segment]
     requires { after ≤ length segments.now }
     ensures rest { result.now ≡ drop after segments.now }
     ensures fits { length segments.now < 2 ^ 64 }

@@ -12,6 +12,7 @@ mod parting;
 mod replay;
 mod store;
 mod tallying;
+mod trial;
 
 pub use fault::{OpenFault, OpenRefusal, StoreFault};
 pub use outcome::Outcome;

@@ -1,4 +1,5 @@
 ghost use Rattle.std.specs.Prelude.{◌≡◌, suc, ◌≤◌, ◌<◌, ◌+◌, ◌-◌, ◌^◌, ◌↔◌, All, length, List, Ok, Err, Some, None, IfOk, IfErr, IfSome, IsSome, OnOk, OnErr, option_map, option_and_then, slice_get};
+ghost use Rattle.bench_types.specs.Edit.{IsEditOfWords};
 ghost use Rattle.bench_types.specs.Step.{settings_of, IsCheckedStep};
 ghost use Rattle.bench_types.specs.Limits.{max_cores, max_steps};
 ghost use Rattle.bench_types.specs.declared.edit.EditFault.{EditFault as Why};
@@ -15,13 +16,16 @@ ghost use Rattle.session_segments.specs.Counting.{meter_after, CountsUpTo};
 ghost use Rattle.session_store.specs.declared.fault.Refused.{Refused as Refusal};
 ghost use Rattle.session_store.specs.Opening.{open_check, handed_back, no_memory};
 ghost use Rattle.session_store.specs.Outcomes.{outcome_of, row_items, distance};
-ghost use Rattle.session_store.specs.Trials.{IsTried};
+ghost use Rattle.session_store.specs.Trials.{tallies_after, IsTried};
 
 use crate::checks::{check_edit, check_opening};
-use crate::edit::{EditReplay, replay_edit};
+use crate::edit::{EditReplay, count_steps, later, replay_edit};
+use crate::edited::edited_header;
 use crate::fault::Refused;
 use crate::opening::opened;
+use crate::parting::{Parting, parted};
 use crate::tallying::{add_segments, tallies_after};
+use crate::trial::retrace;
 use crate::{OpenFault, OpenRefusal, Outcome, StoreFault};
 use bench_reports::Tallies;
 use bench_types::{Edit, Header, Items, MAX_STEPS, Reply, Row, Step};
@@ -174,9 +178,46 @@ impl Store {
             (CountsUpTo (replayed self.now edit) meter.old meter.new) }
     {
         check_edit(&self.header, self.len(), &edit)?;
-        let replay = replay_edit(alloc, &self.header, self.span, &self.segments, &edit, meter)?;
-        let tallies = tallies_after(alloc, &self.segments, &replay)?;
-        Ok((replay.outcome, tallies))
+        let tried = self.try_accepted(alloc, &edit, meter)?;
+        Ok(tried)
+    }
+
+    // What an accepted edit would lead to, and how each task would fare then.
+    fn try_accepted(
+        &self,
+        alloc: Global,
+        edit: &Edit,
+        meter: &mut Meter,
+    ) -> Result<(Outcome, Tallies), AllocError>
+        requires words { IsEditOfWords edit.now }
+        requires accepted { accepted self.now.session edit.now ≡ Ok tt }
+        ensures outcome { IfOk result (λ tried. tried.0 ≡ outcome_of self.now edit.now) }
+        ensures tallies { IfOk result
+            (λ tried. tried.1 ≡ tallies_after edit.now self.now.session) }
+        ensures meter { OnOk result
+            (meter.new ≡ meter_after (replayed self.now edit.now) meter.old) }
+        ensures some { OnErr result
+            (CountsUpTo (replayed self.now edit.now) meter.old meter.new) }
+    {
+        let next = edited_header(alloc, &self.header, edit)?;
+        let Parting {
+            mut kernel,
+            steps,
+            from,
+            before,
+            after,
+        } = parted(alloc, &self.header, &self.segments, &next, edit)?;
+        let steps = steps.as_slice();
+        let rest = later(&self.segments, after);
+        let (tallies, count) = retrace(alloc, &mut kernel, steps, rest, meter)?;
+        let replayed = steps.len() as u32 + count_steps(&rest[..count]);
+        let total = tallies_after(alloc, &self.segments, before, after + count, tallies)?;
+        let outcome = Outcome {
+            from,
+            met: from + replayed,
+            replayed,
+        };
+        Ok((outcome, total))
     }
 
     /// The number of steps, which is the last place.

@@ -1,9 +1,8 @@
-ghost use Rattle.std.specs.Prelude.{◌≡◌, ◌++◌, ◌≤◌, Some, IfOk, take, drop, slice_get, ◌<◌, length};
+ghost use Rattle.std.specs.Prelude.{◌≡◌, ◌++◌, ◌≤◌, IfOk, take, drop, length};
 ghost use Rattle.bench_model.specs.Tally.{tallies};
 ghost use Rattle.segment_laws.specs.Segments.{all_steps};
-ghost use Rattle.session_store.specs.Trials.{AreTallied, AreTalliedBefore, IsReplay};
+ghost use Rattle.session_store.specs.Trials.{AreTallied, AreTalliedAfter, AreTalliedBefore};
 
-use crate::edit::EditReplay;
 use bench_reports::Tallies;
 use session_segments::{Segment, Segments};
 use std::alloc::{AllocError, Global};
@@ -19,56 +18,44 @@ pub(crate) fn add_segments(total: &mut Tallies, segments: &[Segment])
     }
 }
 
-// The first of the segments after an edit.
-fn first_segment<'a>(
-    segments: &'a [Segment],
-    made: &'a [Segment],
-    before: usize,
-    after: usize,
-) -> &'a Segment
-    requires order { before ≤ after }
-    requires within { after ≤ length segments.now }
-    requires some { 0 < length (take before segments.now ++ made.now ++ drop after segments.now) }
-    ensures { Some result.now
-        ≡ slice_get (take before segments.now ++ made.now ++ drop after segments.now) 0 }
+// How the tasks fared in segments and in what is replayed after them.
+fn tallies_up_to(alloc: Global, front: &[Segment], replayed: Tallies) -> Result<Tallies, AllocError>
+    requires { AreTalliedAfter front.now replayed }
+    ensures { IfOk result
+        (λ total. (known : AreTalliedAfter front.now replayed)
+        → AreTallied known.header (front.now ++ known.made) total) }
 {
-    if before > 0 {
-        &segments[0]
-    } else if made.is_empty() {
-        &segments[after]
-    } else {
-        &made[0]
+    if front.is_empty() {
+        return Ok(replayed);
     }
+    let mut total = Tallies::begin(alloc, front[0].kernel())?;
+    add_segments(&mut total, front);
+    total.add(&replayed);
+    Ok(total)
 }
 
-/// How the tasks fare after an edit: in the segments that stay before it, in those that it makes,
-/// and in those that stay after it.
+/// How the tasks fare after an edit: in the segments that stay before it, in those that are
+/// replayed, and in those that stay after them.
 pub(crate) fn tallies_after(
     alloc: Global,
     segments: &Segments,
-    edit: &EditReplay,
+    before: usize,
+    after: usize,
+    replayed: Tallies,
 ) -> Result<Tallies, AllocError>
-    requires order { edit.now.before ≤ edit.now.after }
-    requires within { edit.now.after ≤ length segments.now }
-    requires some { 0 < length
-        (take edit.now.before segments.now ++ edit.now.made.items
-        ++ drop edit.now.after segments.now) }
-    requires replay { IsReplay edit.now.header
-        (take edit.now.before segments.now ++ edit.now.made.items
-        ++ drop edit.now.after segments.now) }
+    requires order { before ≤ after }
+    requires within { after ≤ length segments.now }
+    requires replayed { (known : AreTalliedAfter (take before segments.now) replayed)
+        × (known.later ≡ drop after segments.now) }
     ensures { IfOk result
-        (λ total. total
-        ≡ tallies edit.now.header
-        (all_steps
-        (take edit.now.before segments.now ++ edit.now.made.items
-        ++ drop edit.now.after segments.now))) }
+        (λ total. (known : AreTalliedAfter (take before segments.now) replayed)
+        → known.later ≡ drop after segments.now →
+        total
+        ≡ tallies known.header
+        (all_steps (take before segments.now ++ known.made ++ drop after segments.now))) }
 {
-    let kept = segments.as_slice();
-    let made = edit.made.as_slice();
-    let first = first_segment(kept, made, edit.before, edit.after);
-    let mut total = Tallies::begin(alloc, first.kernel())?;
-    add_segments(&mut total, &kept[..edit.before]);
-    add_segments(&mut total, made);
-    add_segments(&mut total, &kept[edit.after..]);
+    let segments = segments.as_slice();
+    let mut total = tallies_up_to(alloc, &segments[..before], replayed)?;
+    add_segments(&mut total, &segments[after..]);
     Ok(total)
 }

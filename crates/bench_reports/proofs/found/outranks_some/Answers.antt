@@ -1,10 +1,6 @@
-use Rattle.std.proofs.Common.{sym, subst, ◌∙◌}
-use Rattle.bench_reports.specs.Counting.{IsLowest}
+use Rattle.std.proofs.Common.{arith}
 use Rattle.bench_reports.proofs.TickFinds.{outranks_none}
 use Rattle.bench_reports.proofs.found.outranks_some.Goals as goal
 
-pub returns-else-stands_below : goal.returns-else-stands_below
-returns-else-stands_below c =
-    let kernel = c.args.kernel.now in
-    c.if-stands_below.false ∙ outranks_none kernel.control kernel.settings.cores c.in-Some.lowest c.args.task c.requires.cores
-    (subst (IsLowest kernel.control kernel.settings.cores) c.in-Some.is c.requires.lowest) (sym c.stands_below.ensures ∙ c.if-stands_below.false)
+pub returns-then-effective-lowest : goal.returns-then-effective-lowest
+returns-then-effective-lowest c = outranks_none c.args.kernel.now.control c.args.kernel.now.settings.cores c.args.lowest c.args.task c.requires.cores c.requires.lowest (omega (arith, c.effective.ensures, c.if-effective-lowest.true))

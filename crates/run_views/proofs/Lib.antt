@@ -1,0 +1,5 @@
+pub mod Each
+pub mod Leading
+pub mod Shown
+pub mod Telling
+pub mod Tests

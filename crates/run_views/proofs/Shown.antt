@@ -1,5 +1,5 @@
 -- What is shown of each core, task or mutex, one after another.
-use Rattle.std.proofs.Common.{◌≡◌, ℕ, ◌+◌, List, [], ◌∷◌, ◌++◌, length, map, refl, ap, ◌∙◌, arith, length-append}
+use Rattle.std.proofs.Common.{◌≡◌, ℕ, ◌+◌, List, [], ◌∷◌, ◌++◌, length, map, ap, ◌∙◌, length-append}
 use Rattle.std.proofs.lemmas.List.{map-append}
 use Rattle.list_orders.specs.Search.{numbers}
 use Rattle.list_orders.proofs.Stamped.{numbers_more}

@@ -1,5 +1,5 @@
 -- Each change names what it was and is, and these two differ.
-use Rattle.std.proofs.Common.{◌≡◌, ◌≢◌, ℕ, zero, suc, ◌+◌, List, [], ◌∷◌, ◌++◌, map, Bool, true, false, Option, Some, refl, sym, ap, subst, arith, true≢false}
+use Rattle.std.proofs.Common.{◌≡◌, ◌≢◌, ℕ, suc, ◌+◌, List, [], ◌∷◌, ◌++◌, map, Bool, true, false, Option, Some, refl, sym, subst, arith, true≢false}
 use Rattle.std.specs.Prelude.{All, nat_eq, slice_get}
 use Rattle.std.specs.List.{AllByRecursion}
 use Rattle.std.proofs.lemmas.Bool.Decides.{Decides-eqb}
@@ -15,7 +15,7 @@ use Rattle.run_views.specs.declared.change.TaskChange.{TaskChange}
 use Rattle.run_views.specs.declared.change.TaskChange.TheVariants.{Stands, InUse, Base, Mask, Preempt, InCall, Value, State}
 use Rattle.run_views.specs.declared.look.Look.{Look}
 use Rattle.run_views.specs.declared.look.TaskStatus.{TaskStatus}
-use Rattle.run_views.specs.Changes.{are_same_numbers, are_same_standings, changes, changes_each, core_changes, mutex_changes, task_changes, TellsOf, TellsOfCore, TellsOfItem, TellsOfMutex, TellsOfTask, unless}
+use Rattle.run_views.specs.Changes.{are_same_numbers, are_same_standings, changes, changes_each, core_changes, mutex_changes, task_changes, TellsOf, TellsOfCore, TellsOfMutex, TellsOfTask, unless}
 use Rattle.run_views.proofs.Tests.{Tells, bools_told, holds_told, numbers_told, standings_told, states_told}
 
 joined : {X : Type 0} (P : X → Type 0) (xs ys : List X) → AllByRecursion P xs → AllByRecursion P ys → AllByRecursion P (xs ++ ys)

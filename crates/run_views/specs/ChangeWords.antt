@@ -1,5 +1,5 @@
 -- A change in words.
-use Rattle.std.specs.Prelude.{ℕ, List, [], ◌++◌, codes, decimal, Bool, Option, Some, None, if◌then◌else◌}
+use Rattle.std.specs.Prelude.{ℕ, List, ◌++◌, codes, decimal, Bool, Option, Some, None, if◌then◌else◌}
 use Rattle.bench_types.specs.declared.header.Header.{Header}
 use Rattle.bench_types.specs.declared.kernel_data.Hold.{Hold}
 use Rattle.bench_types.specs.declared.note.NoteState.{NoteState}

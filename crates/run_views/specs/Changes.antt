@@ -1,5 +1,5 @@
 -- What changed from one look to another, and a look with changes made.
-use Rattle.std.specs.Prelude.{◌≡◌, ◌≢◌, ◌<◌, ◌^◌, ℕ, zero, suc, List, [], ◌∷◌, ◌++◌, length, map, fold, Bool, true, false, ◌==◌, Option, Some, None, if◌then◌else◌, slice_get}
+use Rattle.std.specs.Prelude.{◌≡◌, ◌≢◌, ◌<◌, ◌^◌, ℕ, zero, suc, List, [], ◌∷◌, ◌++◌, length, map, fold, Bool, true, false, ◌==◌, Option, Some, if◌then◌else◌, slice_get}
 use Rattle.bench_types.specs.declared.kernel_data.CoreLook.{CoreLook}
 use Rattle.bench_model.specs.SameTest.{are_same_bools, are_same_options, are_same_holds, are_same_states}
 use Rattle.run_views.specs.declared.change.Change.{Change}

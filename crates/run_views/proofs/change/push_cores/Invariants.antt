@@ -1,6 +1,6 @@
 use Rattle.std.proofs.Common.{◌≡◌, ◌++◌, drop}
-use Rattle.run_views.specs.declared.change.Change.TheVariants.{Core, Task, Mutex}
-use Rattle.run_views.specs.Changes.{changes_each, core_changes, task_changes, mutex_changes}
+use Rattle.run_views.specs.declared.change.Change.TheVariants.{Core}
+use Rattle.run_views.specs.Changes.{changes_each, core_changes}
 use Rattle.run_views.proofs.change.push_cores.Given as goal
 
 abbrev pub invariant-loop-core : goal.invariant-loop-core

@@ -1,6 +1,6 @@
 use Rattle.std.proofs.Common.{◌≡◌, ◌++◌, drop}
-use Rattle.run_views.specs.declared.change.Change.TheVariants.{Core, Task, Mutex}
-use Rattle.run_views.specs.Changes.{changes_each, core_changes, task_changes, mutex_changes}
+use Rattle.run_views.specs.declared.change.Change.TheVariants.{Mutex}
+use Rattle.run_views.specs.Changes.{changes_each, mutex_changes}
 use Rattle.run_views.proofs.change.push_mutexes.Given as goal
 
 abbrev pub invariant-loop-mutex : goal.invariant-loop-mutex

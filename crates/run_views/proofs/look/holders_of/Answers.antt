@@ -1,4 +1,4 @@
-use Rattle.std.proofs.Common.{◌≡◌, length, arith, ap}
+use Rattle.std.proofs.Common.{arith, ap}
 use Rattle.run_views.proofs.Shown.{none_shown, more_shown}
 use Rattle.run_views.proofs.look.holders_of.Goals as goal
 

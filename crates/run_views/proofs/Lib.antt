@@ -1,0 +1,6 @@
+pub mod Each
+pub mod Leading
+pub mod Runs
+pub mod Shown
+pub mod Telling
+pub mod Tests

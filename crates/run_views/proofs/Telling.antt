@@ -1,0 +1,85 @@
+-- Each change names what it was and is, and these two differ.
+use Rattle.std.proofs.Common.{◌≡◌, ◌≢◌, ℕ, suc, ◌+◌, List, [], ◌∷◌, ◌++◌, map, Bool, true, false, Option, Some, refl, sym, subst, arith, true≢false}
+use Rattle.std.specs.Prelude.{All, nat_eq, slice_get}
+use Rattle.std.specs.List.{AllByRecursion}
+use Rattle.std.proofs.lemmas.Bool.Decides.{Decides-eqb}
+use Rattle.std.proofs.lemmas.List.Elements.{All-from_recursion}
+use Rattle.bench_types.specs.declared.kernel_data.CoreLook.{CoreLook}
+use Rattle.bench_model.specs.SameTest.{are_same_bools, are_same_options, are_same_states, are_same_holds}
+use Rattle.run_views.specs.declared.change.Change.{Change}
+use Rattle.run_views.specs.declared.change.Change.TheVariants.{Tick, Hold, Core, Task, Mutex}
+use Rattle.run_views.specs.declared.change.CoreChange.{CoreChange}
+use Rattle.run_views.specs.declared.change.CoreChange.TheVariants.{Current, Pend, Asked}
+use Rattle.run_views.specs.declared.change.MutexChange.TheVariants.{Holder}
+use Rattle.run_views.specs.declared.change.TaskChange.{TaskChange}
+use Rattle.run_views.specs.declared.change.TaskChange.TheVariants.{Stands, InUse, Base, Mask, Preempt, InCall, Value, State}
+use Rattle.run_views.specs.declared.look.Look.{Look}
+use Rattle.run_views.specs.declared.look.TaskStatus.{TaskStatus}
+use Rattle.run_views.specs.Changes.{are_same_numbers, are_same_standings, changes, changes_each, core_changes, mutex_changes, task_changes, TellsOf, TellsOfCore, TellsOfMutex, TellsOfTask, unless}
+use Rattle.run_views.proofs.Tests.{Tells, bools_told, holds_told, numbers_told, standings_told, states_told}
+
+joined : {X : Type 0} (P : X → Type 0) (xs ys : List X) → AllByRecursion P xs → AllByRecursion P ys → AllByRecursion P (xs ++ ys)
+joined P [] ys first second = second
+joined P (x ∷ xs) ys first second = (first.0, joined P xs ys first.1 second)
+
+-- a change that is named unless the two are the same
+one_told : {C V : Type 0} (P : C → Type 0) (same : V → V → Bool) → Tells same → (old new : V) (change : C) → (old ≢ new → P change) → AllByRecursion P (unless (same old new) change)
+one_told P same tells old new change told = go (same old new) (tells old new).1
+  where
+    go : (b : Bool) → (old ≡ new → b ≡ true) → AllByRecursion P (unless b change)
+    go true equal = tt
+    go false equal = (told (λ e. true≢false (sym (equal e))), tt)
+
+core_told : (old new : CoreLook) → AllByRecursion (λ change. TellsOfCore change old new) (core_changes old new)
+core_told old new =
+    let P : CoreChange → Type 0 = λ change. TellsOfCore change old new in
+    joined P _ _ (joined P _ _
+    (one_told P nat_eq Decides-eqb old.current new.current (Current old.current new.current) (λ differ. (refl, refl, differ)))
+    (one_told P are_same_bools bools_told old.pend new.pend (Pend new.pend) (λ differ. (refl, differ))))
+    (one_told P are_same_bools bools_told old.asked new.asked (Asked new.asked) (λ differ. (refl, differ)))
+
+task_told : (old new : TaskStatus) → AllByRecursion (λ change. TellsOfTask change old new) (task_changes old new)
+task_told old new =
+    let P : TaskChange → Type 0 = λ change. TellsOfTask change old new in
+    joined P _ _
+    (joined P _ _ (joined P _ _ (joined P _ _ (joined P _ _
+    (one_told P are_same_standings standings_told old.standing new.standing (Stands old.standing new.standing) (λ differ. (refl, refl, differ)))
+    (one_told P nat_eq Decides-eqb old.in_use new.in_use (InUse old.in_use new.in_use) (λ differ. (refl, refl, differ))))
+    (one_told P nat_eq Decides-eqb old.base new.base (Base old.base new.base) (λ differ. (refl, refl, differ))))
+    (one_told P nat_eq Decides-eqb old.mask new.mask (Mask old.mask new.mask) (λ differ. (refl, refl, differ))))
+    (one_told P are_same_bools bools_told old.preempt new.preempt (Preempt new.preempt) (λ differ. (refl, differ))))
+    (joined P _ _ (joined P _ _
+    (one_told P are_same_bools bools_told old.in_call new.in_call (InCall new.in_call) (λ differ. (refl, differ)))
+    (one_told P nat_eq Decides-eqb old.value new.value (Value old.value new.value) (λ differ. (refl, refl, differ))))
+    (one_told P are_same_states states_told old.state new.state (State old.state new.state) (λ differ. (refl, refl, differ))))
+
+holder_told : (old new : Option ℕ) → AllByRecursion (λ change. TellsOfMutex change old new) (mutex_changes old new)
+holder_told old new = one_told (λ change. TellsOfMutex change old new) are_same_numbers numbers_told old new (Holder old new) (λ differ. (refl, refl, differ))
+
+module _ {X C : Type 0} (of_item : ℕ → C → Change) (changes_of : X → X → List C) (tells : C → X → X → Type 0) (told : (old new : X) → AllByRecursion (λ change. tells change old new) (changes_of old new)) (P : Change → Type 0) where
+  item_told : (number : ℕ) (some : List C) (old new : X) → ((change : C) → tells change old new → P (of_item number change)) → AllByRecursion (λ change. tells change old new) some → AllByRecursion P (map (of_item number) some)
+  item_told number [] old new are all = tt
+  item_told number (change ∷ more) old new are all = (are change all.0, item_told number more old new are all.1)
+
+  items_told : (number : ℕ) (olds news : List X) → ((k : ℕ) (old new : X) (change : C) → slice_get olds k ≡ Some old → slice_get news k ≡ Some new → tells change old new → P (of_item (k + number) change)) → AllByRecursion P (changes_each of_item changes_of number olds news)
+  items_told number [] news are = tt
+  items_told number (old ∷ olds) [] are = tt
+  items_told number (old ∷ olds) (new ∷ news) are =
+      joined P _ _
+      (item_told number (changes_of old new) old new (λ change tells. subst (λ n. P (of_item n change)) (let n : 0 + number ≡ number = omega arith in n) (are 0 old new change refl refl tells)) (told old new))
+      (items_told (suc number) olds news (λ k old new change was is tells. subst (λ n. P (of_item n change)) (let n : suc k + number ≡ k + suc number = omega arith in n) (are (suc k) old new change was is tells)))
+
+pub changes_told : (before after : Look) → All (TellsOf before after) (changes before after)
+unfolding changes
+changes_told before after =
+    let P = TellsOf before after in
+    All-from_recursion P (changes before after)
+    (joined P _ _ (joined P _ _ (joined P _ _ (joined P _ _
+    (one_told P nat_eq Decides-eqb before.tick after.tick (Tick before.tick after.tick) (λ differ. (refl, refl, differ)))
+    (one_told P (are_same_options are_same_holds) holds_told before.hold after.hold (Hold before.hold after.hold) (λ differ. (refl, refl, differ))))
+    (items_told Core core_changes TellsOfCore core_told P 0 before.cores after.cores (λ k old new change was is tells. subst (λ n. P (Core n change)) (at_zero k) (record { old = old; new = new; was = was; is = is; told = tells }))))
+    (items_told Task task_changes TellsOfTask task_told P 0 before.tasks after.tasks (λ k old new change was is tells. subst (λ n. P (Task n change)) (at_zero k) (record { old = old; new = new; was = was; is = is; told = tells }))))
+    (items_told Mutex mutex_changes TellsOfMutex holder_told P 0 before.holders after.holders (λ k old new change was is tells. subst (λ n. P (Mutex n change)) (at_zero k) (record { old = old; new = new; was = was; is = is; told = tells }))))
+  where
+    at_zero : (k : ℕ) → k ≡ k + 0
+    at_zero k = omega arith

@@ -1,0 +1,6 @@
+pub mod ChangeWords
+pub mod Changes
+pub mod Looks
+pub mod ReplyWords
+pub mod StepWords
+pub mod Trace

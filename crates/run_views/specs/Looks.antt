@@ -1,0 +1,50 @@
+-- What can be seen of a table.
+use Rattle.std.specs.Prelude.{◌≡◌, ℕ, length, ◌+◌, ◌%◌, ◌^◌, map, option_map, if◌then◌else◌}
+use Rattle.bench_types.specs.declared.kernel_data.Settings.{Settings}
+use Rattle.bench_types.specs.declared.kernel_data.TaskLook.{TaskLook}
+use Rattle.list_orders.specs.Search.{numbers}
+use Rattle.bench_model.specs.Control.{core_at}
+use Rattle.bench_model.specs.Looks.{task_look}
+use Rattle.bench_model.specs.State.{holder_at}
+use Rattle.bench_model.specs.Table.{Table, tick_count}
+use Rattle.run_views.specs.declared.look.Look.{Look}
+use Rattle.run_views.specs.declared.look.Standing.{Standing}
+use Rattle.run_views.specs.declared.look.Standing.TheVariants.{Ready, Blocked}
+use Rattle.run_views.specs.declared.look.TaskStatus.{TaskStatus}
+
+-- how the task stands at a tick count: one that waits for some ticks is to wake that much later
+abbrev pub standing_in : ℕ → TaskLook → Standing
+standing_in tick look =
+    if look.ready then Ready
+    else Blocked (option_map (λ left. (tick + left) % 2 ^ 32) look.left)
+
+abbrev pub status_in : ℕ → TaskLook → TaskStatus
+status_in tick look = record {
+  standing = standing_in tick look;
+  in_use = look.in_use;
+  base = look.base;
+  mask = look.mask;
+  preempt = look.preempt;
+  in_call = look.in_call;
+  value = look.value;
+  state = look.state;
+}
+
+abbrev pub status_of : Table → ℕ → TaskStatus
+status_of table task = status_in (tick_count table.orders) (task_look table task)
+
+-- what can be seen of a table
+unfoldable pub look_of : Table → Look
+look_of table = record {
+  tick = tick_count table.orders;
+  hold = table.hold;
+  cores = map (core_at table.control) (numbers table.settings.cores);
+  tasks = map (status_of table) (numbers table.settings.tasks);
+  holders = map (holder_at table.holders) (numbers table.settings.mutexes);
+}
+
+-- as many cores, tasks and mutexes as the settings say
+pub record HasShape (settings : Settings) (look : Look) : Type 0 where
+  pub cores : length look.cores ≡ settings.cores
+  pub tasks : length look.tasks ≡ settings.tasks
+  pub mutexes : length look.holders ≡ settings.mutexes

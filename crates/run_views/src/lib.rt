@@ -1,0 +1,18 @@
+//! A run that explains itself: what can be seen of a kernel at each place, and what each step
+//! changed, in words.
+#![tactic(auto)]
+
+mod change;
+mod change_words;
+mod look;
+mod places;
+mod reply_words;
+mod same;
+mod step_words;
+mod trace_lines;
+mod watch;
+
+pub use change::{Change, CoreChange, MutexChange, TaskChange};
+pub use look::{Look, Standing, TaskStatus};
+pub use places::Places;
+pub use trace_lines::trace;

@@ -1,0 +1,166 @@
+ghost use Rattle.std.specs.Prelude.{◌≡◌, ◌<◌, ◌^◌, IfOk, length, map};
+ghost use Rattle.list_orders.specs.Search.{numbers};
+ghost use Rattle.bench_model.specs.Control.{core_at};
+ghost use Rattle.bench_model.specs.Equal.{StandsFor};
+ghost use Rattle.bench_model.specs.State.{holder_at};
+ghost use Rattle.bench_model.specs.Table.{Table, tick_count};
+ghost use Rattle.run_views.specs.Changes.{IsNumbered};
+ghost use Rattle.run_views.specs.Looks.{look_of, standing_in, status_in, status_of, HasShape};
+
+use bench_types::{CoreLook, Hold, Items, NoteState, TaskLook};
+use smp_kernel::Kernel;
+use std::alloc::{AllocError, Global};
+
+/// Whether a task is ready, and until when it waits.
+#[derive(Clone, Copy, Debug, PartialEq, Eq)]
+pub enum Standing {
+    /// In a ready list (`eReady`, or `eRunning` on a core).
+    Ready,
+    /// Waits until this tick count (`eBlocked`), or without end (`eSuspended`).
+    Blocked(Option<u32>),
+}
+
+/// What can be seen of a task.
+#[derive(Clone, Copy, Debug, PartialEq, Eq)]
+pub struct TaskStatus {
+    pub standing: Standing,
+    /// The priority in use, that of its ready list (`uxPriority`).
+    pub in_use: u32,
+    /// The base priority (`uxBasePriority`).
+    pub base: u32,
+    /// The core affinity mask, cut to the bits that mean a core (`uxCoreAffinityMask`).
+    pub mask: u32,
+    /// Whether a core may be asked to give it up for another task (`xPreemptionDisable` is false).
+    pub preempt: bool,
+    /// Whether it made a call that has not returned.
+    pub in_call: bool,
+    /// The notification value (`ulNotifiedValue`).
+    pub value: u32,
+    /// The state of its notification (`ucNotifyState`).
+    pub state: NoteState,
+}
+
+/// What can be seen of a kernel.
+///
+/// How long a task waits is told by the tick count at which it is to wake, which stays while the
+/// ticks go by; how many mutexes it holds is told by the holders.
+#[derive(Debug, Drop)]
+pub struct Look {
+    /// The tick count, as a number of 32 bits.
+    pub tick: u32,
+    /// The open hold, if there is one.
+    pub hold: Option<Hold>,
+    /// The cores, core 0 first.
+    pub cores: Items<CoreLook>,
+    /// The tasks, task 0 first.
+    pub tasks: Items<TaskStatus>,
+    /// Per mutex the task that holds it, if there is one.
+    pub holders: Items<Option<u32>>,
+}
+
+impl Look {
+    /// What can be seen of the kernel now.
+    #[tactic(auto, unfolding(crate::specs::Looks::look_of))]
+    pub fn of_kernel(alloc: Global, kernel: &Kernel) -> Result<Look, AllocError>
+        ensures look { IfOk result
+            (λ look. (table : Table) → StandsFor kernel.now table → look ≡ look_of table) }
+        ensures shape { IfOk result (λ look. HasShape kernel.now.settings look) }
+        ensures numbered { IfOk result (λ look. IsNumbered look) }
+    {
+        Ok(Look {
+            tick: kernel.tick(),
+            hold: hold_of(kernel),
+            cores: Items::new(cores_of(alloc, kernel)?),
+            tasks: Items::new(statuses_of(alloc, kernel)?),
+            holders: Items::new(holders_of(alloc, kernel)?),
+        })
+    }
+}
+
+fn hold_of(kernel: &Kernel) -> Option<Hold>
+    ensures { (table : Table) → StandsFor kernel.now table → result ≡ table.hold }
+{
+    match kernel.hold() {
+        Some((core, depth)) => Some(Hold { core, depth }),
+        None => None,
+    }
+}
+
+fn standing_in(tick: u32, look: TaskLook) -> Standing
+    ensures { result ≡ standing_in tick look }
+{
+    if look.ready {
+        return Standing::Ready;
+    }
+    match look.left {
+        Some(left) => Standing::Blocked(Some(tick.wrapping_add(left))),
+        None => Standing::Blocked(None),
+    }
+}
+
+fn status_in(tick: u32, look: TaskLook) -> TaskStatus
+    ensures { result ≡ status_in tick look }
+{
+    TaskStatus {
+        standing: standing_in(tick, look),
+        in_use: look.in_use,
+        base: look.base,
+        mask: look.mask,
+        preempt: look.preempt,
+        in_call: look.in_call,
+        value: look.value,
+        state: look.state,
+    }
+}
+
+fn status_of(kernel: &Kernel, task: u32) -> TaskStatus
+    requires { task < kernel.now.settings.tasks }
+    ensures { (table : Table) → StandsFor kernel.now table → result ≡ status_of table task }
+{
+    status_in(kernel.tick(), kernel.look(task))
+}
+
+fn cores_of(alloc: Global, kernel: &Kernel) -> Result<Vec<CoreLook>, AllocError>
+    ensures cores { IfOk result
+        (λ cores. (table : Table) → StandsFor kernel.now table
+        → cores.items ≡ map (core_at table.control) (numbers kernel.now.settings.cores)) }
+    ensures count { IfOk result (λ cores. length cores.items ≡ kernel.now.settings.cores) }
+    ensures few { IfOk result (λ cores. length cores.items < 2 ^ 32) }
+{
+    let count = kernel.settings().cores;
+    let mut cores = Vec::with_capacity(alloc, count as usize)?;
+    for core in 0..count {
+        cores.push(kernel.core_look(core))?;
+    }
+    Ok(cores)
+}
+
+fn statuses_of(alloc: Global, kernel: &Kernel) -> Result<Vec<TaskStatus>, AllocError>
+    ensures tasks { IfOk result
+        (λ tasks. (table : Table) → StandsFor kernel.now table
+        → tasks.items ≡ map (status_of table) (numbers kernel.now.settings.tasks)) }
+    ensures count { IfOk result (λ tasks. length tasks.items ≡ kernel.now.settings.tasks) }
+    ensures few { IfOk result (λ tasks. length tasks.items < 2 ^ 32) }
+{
+    let count = kernel.settings().tasks;
+    let mut tasks = Vec::with_capacity(alloc, count as usize)?;
+    for task in 0..count {
+        tasks.push(status_of(kernel, task))?;
+    }
+    Ok(tasks)
+}
+
+fn holders_of(alloc: Global, kernel: &Kernel) -> Result<Vec<Option<u32>>, AllocError>
+    ensures holders { IfOk result
+        (λ holders. (table : Table) → StandsFor kernel.now table
+        → holders.items ≡ map (holder_at table.holders) (numbers kernel.now.settings.mutexes)) }
+    ensures count { IfOk result (λ holders. length holders.items ≡ kernel.now.settings.mutexes) }
+    ensures few { IfOk result (λ holders. length holders.items < 2 ^ 32) }
+{
+    let count = kernel.settings().mutexes;
+    let mut holders = Vec::with_capacity(alloc, count as usize)?;
+    for mutex in 0..count {
+        holders.push(kernel.holder(mutex))?;
+    }
+    Ok(holders)
+}

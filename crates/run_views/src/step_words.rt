@@ -1,0 +1,136 @@
+//! A step in the words of a document.
+ghost use Rattle.std.specs.Prelude.{◌≡◌, ◌++◌, OnOk, codes, string_bytes};
+ghost use Rattle.run_views.specs.StepWords.{action_text, call_members, call_word, clear_text, core_text, note_text, number_text, step_text, task_text, to_text};
+
+use bench_types::{Action, Call, Header, Note, Step};
+use std::alloc::AllocError;
+
+fn push_number(text: &mut String, member: &str, n: u32) -> Result<(), AllocError>
+    ensures { OnOk result
+        (string_bytes text.new ≡ string_bytes text.old ++ number_text member.now n) }
+{
+    write!(text, " {member} {n}")
+}
+
+fn push_task(text: &mut String, header: &Header, member: &str, task: u32) -> Result<(), AllocError>
+    ensures { OnOk result
+        (string_bytes text.new ≡ string_bytes text.old ++ task_text header.now member.now task) }
+{
+    write!(text, " {member} ")?;
+    header.push_name(text, task)
+}
+
+fn push_to(text: &mut String, header: &Header, task: u32) -> Result<(), AllocError>
+    ensures { OnOk result
+        (string_bytes text.new ≡ string_bytes text.old ++ to_text header.now task) }
+{
+    push_task(text, header, "to", task)
+}
+
+fn push_clear(text: &mut String, clear: bool) -> Result<(), AllocError>
+    ensures { OnOk result (string_bytes text.new ≡ string_bytes text.old ++ clear_text clear) }
+{
+    write!(text, " clear {clear}")
+}
+
+fn push_action(text: &mut String, action: Action) -> Result<(), AllocError>
+    ensures { OnOk result (string_bytes text.new ≡ string_bytes text.old ++ action_text action) }
+{
+    match action {
+        Action::Nothing => text.push_str(" action none"),
+        Action::SetBits(bits) => write!(text, " action set_bits value {bits}"),
+        Action::Increment => text.push_str(" action increment"),
+        Action::Set(value) => write!(text, " action set value {value}"),
+        Action::SetNew(value) => write!(text, " action set_new value {value}"),
+    }
+}
+
+fn push_note(text: &mut String, header: &Header, note: Note) -> Result<(), AllocError>
+    ensures { OnOk result
+        (string_bytes text.new ≡ string_bytes text.old ++ note_text header.now note) }
+{
+    push_to(text, header, note.task)?;
+    push_action(text, note.action)
+}
+
+fn call_word(call: Call) -> &'static str
+    ensures { result.now ≡ call_word call }
+{
+    match call {
+        Call::Yield => "yield",
+        Call::Delay(_) => "delay",
+        Call::DelayUntil { .. } => "delay_until",
+        Call::PrioritySet { .. } => "priority_set",
+        Call::AffinitySet { .. } => "affinity_set",
+        Call::PreemptOff(_) => "preempt_off",
+        Call::PreemptOn(_) => "preempt_on",
+        Call::Notify(_) => "notify",
+        Call::NotifyWait { .. } => "notify_wait",
+        Call::NotifyTake { .. } => "notify_take",
+        Call::StateClear(_) => "state_clear",
+        Call::ValueClear { .. } => "value_clear",
+        Call::MutexTake { .. } => "mutex_take",
+        Call::MutexGive(_) => "mutex_give",
+        Call::Finish => "finish",
+        Call::HoldOpen => "hold_open",
+        Call::HoldClose => "hold_close",
+    }
+}
+
+fn push_members(text: &mut String, header: &Header, call: Call) -> Result<(), AllocError>
+    ensures { OnOk result
+        (string_bytes text.new ≡ string_bytes text.old ++ call_members header.now call) }
+{
+    match call {
+        Call::Yield | Call::Finish | Call::HoldOpen | Call::HoldClose => Ok(()),
+        Call::Delay(ticks) => push_number(text, "ticks", ticks),
+        Call::DelayUntil { prev, inc } => write!(text, " prev {prev} inc {inc}"),
+        Call::PrioritySet { task, priority } => {
+            push_to(text, header, task)?;
+            push_number(text, "priority", priority)
+        }
+        Call::AffinitySet { task, mask } => {
+            push_to(text, header, task)?;
+            push_number(text, "mask", mask)
+        }
+        Call::PreemptOff(task) | Call::PreemptOn(task) | Call::StateClear(task) => {
+            push_to(text, header, task)
+        }
+        Call::Notify(note) => push_note(text, header, note),
+        Call::NotifyWait { entry, exit, ticks } => {
+            write!(text, " entry {entry} exit {exit} ticks {ticks}")
+        }
+        Call::NotifyTake { clear, ticks } => {
+            push_clear(text, clear)?;
+            push_number(text, "ticks", ticks)
+        }
+        Call::ValueClear { task, bits } => {
+            push_to(text, header, task)?;
+            push_number(text, "bits", bits)
+        }
+        Call::MutexTake { mutex, ticks } => write!(text, " mutex {mutex} ticks {ticks}"),
+        Call::MutexGive(mutex) => push_number(text, "mutex", mutex),
+    }
+}
+
+/// Writes the step: what it does, and its members in their order, each with its name.
+#[tactic(auto, unfolding(crate::specs::StepWords::step_text))]
+pub(crate) fn push_step(text: &mut String, header: &Header, step: Step) -> Result<(), AllocError>
+    ensures { OnOk result
+        (string_bytes text.new ≡ string_bytes text.old ++ step_text header.now step) }
+{
+    match step {
+        Step::Tick => text.push_str("tick"),
+        Step::Switch { core } => write!(text, "switch core {core}"),
+        Step::Call { core, task, call } => {
+            text.push_str(call_word(call))?;
+            push_number(text, "core", core)?;
+            push_task(text, header, "by", task)?;
+            push_members(text, header, call)
+        }
+        Step::Interrupt { core, note } => {
+            write!(text, "isr_notify core {core}")?;
+            push_note(text, header, note)
+        }
+    }
+}

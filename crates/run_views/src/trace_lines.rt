@@ -1,0 +1,233 @@
+ghost use Rattle.std.specs.Prelude.{◌≡◌, ◌++◌, ◌+◌, ◌<◌, ◌^◌, All, IfOk, OnOk, flat_map, length, string_bytes};
+ghost use Rattle.bench_types.specs.Header.{IsCheckedHeader};
+ghost use Rattle.bench_types.specs.Step.{settings_of, IsCheckedStep};
+ghost use Rattle.bench_model.specs.Equal.{StandsFor};
+ghost use Rattle.bench_model.specs.Start.{start};
+ghost use Rattle.run_views.specs.Trace.{change_line, core_part, cores_part, due_text, hold_part, place_line, place_part, step_lines, step_part, trace_text, IsTold, Shows};
+
+use crate::change_words::{push_change, push_hold};
+use crate::reply_words::push_reply;
+use crate::step_words::push_step;
+use crate::watch::Watch;
+use crate::{Change, Look, Places};
+use bench_types::{CoreLook, Header, Hold, Reply, Step};
+use smp_kernel::Meter;
+use std::alloc::{AllocError, Global};
+
+fn due_text(pend: bool, asked: bool) -> &'static str
+    ensures { result.now ≡ due_text pend asked }
+{
+    match (pend, asked) {
+        (true, true) => ", due by pend and asked",
+        (true, false) => ", due by pend",
+        (false, true) => ", due by asked",
+        (false, false) => "",
+    }
+}
+
+fn push_core(
+    text: &mut String,
+    header: &Header,
+    core: u32,
+    look: CoreLook,
+) -> Result<(), AllocError>
+    ensures { OnOk result
+        (string_bytes text.new ≡ string_bytes text.old ++ core_part header.now core look) }
+{
+    write!(text, "; core {core} ")?;
+    header.push_name(text, look.current)?;
+    text.push_str(due_text(look.pend, look.asked))
+}
+
+fn push_cores(text: &mut String, header: &Header, cores: &[CoreLook]) -> Result<(), AllocError>
+    requires { length cores.now < 2 ^ 32 }
+    ensures { OnOk result
+        (string_bytes text.new ≡ string_bytes text.old ++ cores_part header.now 0 cores.now) }
+{
+    for (core, look) in cores.iter().enumerate() {
+        push_core(text, header, core as u32, *look)?;
+    }
+    Ok(())
+}
+
+fn push_open_hold(text: &mut String, hold: Option<Hold>) -> Result<(), AllocError>
+    ensures { OnOk result (string_bytes text.new ≡ string_bytes text.old ++ hold_part hold) }
+{
+    match hold {
+        None => Ok(()),
+        Some(hold) => {
+            text.push_str("; held by ")?;
+            push_hold(text, hold)
+        }
+    }
+}
+
+#[tactic(auto, unfolding(crate::specs::Trace::place_line))]
+fn push_place_line(
+    text: &mut String,
+    header: &Header,
+    place: u32,
+    look: &Look,
+) -> Result<(), AllocError>
+    requires { length look.now.cores < 2 ^ 32 }
+    ensures { OnOk result
+        (string_bytes text.new ≡ string_bytes text.old ++ place_line header.now place look.now) }
+{
+    write!(text, "place {place}, tick {}", look.tick)?;
+    push_cores(text, header, look.cores.as_slice())?;
+    push_open_hold(text, look.hold)?;
+    text.push_str("\n")
+}
+
+// The line of a place that is to be shown.
+#[tactic(auto, unfolding(crate::specs::Trace::place_part))]
+fn push_place(
+    text: &mut String,
+    places: Places,
+    header: &Header,
+    place: u32,
+    look: &Look,
+) -> Result<(), AllocError>
+    requires { length look.now.cores < 2 ^ 32 }
+    ensures { OnOk result
+        (string_bytes text.new
+        ≡ string_bytes text.old ++ place_part places header.now place look.now) }
+{
+    if places.shows(place) {
+        push_place_line(text, header, place, look)?;
+    }
+    Ok(())
+}
+
+fn push_change_line(text: &mut String, header: &Header, change: Change) -> Result<(), AllocError>
+    ensures { OnOk result
+        (string_bytes text.new ≡ string_bytes text.old ++ change_line header.now change) }
+{
+    text.push_str("  ")?;
+    push_change(text, header, change)?;
+    text.push_str("\n")
+}
+
+fn push_changes(text: &mut String, header: &Header, changes: &[Change]) -> Result<(), AllocError>
+    ensures { OnOk result
+        (string_bytes text.new
+        ≡ string_bytes text.old ++ flat_map (change_line header.now) changes.now) }
+{
+    for change in changes {
+        push_change_line(text, header, *change)?;
+    }
+    Ok(())
+}
+
+#[tactic(auto, unfolding(crate::specs::Trace::step_lines))]
+fn push_step_lines(
+    text: &mut String,
+    header: &Header,
+    place: u32,
+    step: Step,
+    reply: Reply,
+    changes: &[Change],
+) -> Result<(), AllocError>
+    ensures { OnOk result
+        (string_bytes text.new
+        ≡ string_bytes text.old ++ step_lines header.now place step reply changes.now) }
+{
+    write!(text, "step {place}: ")?;
+    push_step(text, header, step)?;
+    text.push_str("\n  ")?;
+    push_reply(text, header, step, reply)?;
+    text.push_str("\n")?;
+    push_changes(text, header, changes)
+}
+
+// The lines of a step between two places that are to be shown.
+#[tactic(auto, unfolding(crate::specs::Trace::step_part))]
+fn push_told_step(
+    text: &mut String,
+    places: Places,
+    header: &Header,
+    place: u32,
+    step: Step,
+    reply: Reply,
+    changes: &[Change],
+) -> Result<(), AllocError>
+    requires { place + 1 < 2 ^ 32 }
+    ensures { OnOk result
+        (string_bytes text.new
+        ≡ string_bytes text.old ++ step_part places header.now place step reply changes.now) }
+{
+    if places.shows(place) && places.shows(place + 1) {
+        push_step_lines(text, header, place, step, reply, changes)?;
+    }
+    Ok(())
+}
+
+// Makes the steps, and tells each place and each step.
+fn push_steps(
+    alloc: Global,
+    meter: &mut Meter,
+    text: &mut String,
+    places: Places,
+    header: &Header,
+    watch: &mut Watch,
+    steps: &[Step],
+) -> Result<(), AllocError>
+    requires checked { All (IsCheckedStep watch.old.kernel.settings) steps.now }
+    requires shows { Shows watch.old.kernel watch.old.look }
+    requires few { length steps.now + 1 < 2 ^ 32 }
+    ensures told { OnOk result
+        (IsTold places header.now watch.old.kernel watch.new.kernel steps.now
+        (string_bytes text.old) (string_bytes text.new)) }
+    ensures shows { OnOk result (Shows watch.new.kernel watch.new.look) }
+{
+    for (place, step) in steps.iter().enumerate() {
+        push_place(text, places, header, place as u32, &watch.look)?;
+        let (reply, changes) = watch.step(alloc, meter, step)?;
+        push_told_step(text, places, header, place as u32, *step, reply, &changes)?;
+    }
+    Ok(())
+}
+
+fn push_trace(
+    alloc: Global,
+    meter: &mut Meter,
+    text: &mut String,
+    places: Places,
+    header: &Header,
+    watch: &mut Watch,
+    steps: &[Step],
+) -> Result<(), AllocError>
+    requires checked { All (IsCheckedStep watch.old.kernel.settings) steps.now }
+    requires shows { Shows watch.old.kernel watch.old.look }
+    requires started { StandsFor watch.old.kernel (start header.now) }
+    requires few { length steps.now + 1 < 2 ^ 32 }
+    ensures { OnOk result
+        (string_bytes text.new
+        ≡ string_bytes text.old ++ trace_text places header.now steps.now) }
+{
+    push_steps(alloc, meter, text, places, header, watch, steps)?;
+    push_place(text, places, header, steps.len() as u32, &watch.look)?;
+    Ok(())
+}
+
+/// The run of a checked session, told place by place and step by step: at each place the tick count
+/// and the cores, of each step its words, its reply and all that it changed.
+pub fn trace(
+    alloc: Global,
+    meter: &mut Meter,
+    places: Places,
+    header: &Header,
+    steps: &[Step],
+) -> Result<String, AllocError>
+    requires header { IsCheckedHeader header.now }
+    requires steps { All (IsCheckedStep (settings_of header.now)) steps.now }
+    requires few { length steps.now + 1 < 2 ^ 32 }
+    ensures { IfOk result (λ text. string_bytes text ≡ trace_text places header.now steps.now) }
+{
+    let Ok(mut watch) = Watch::start(alloc, header) else {
+        return Err(AllocError);
+    };
+    let mut text = String::new(alloc);
+    push_trace(alloc, meter, &mut text, places, header, &mut watch, steps)?;
+    Ok(text)
+}

@@ -1,0 +1,62 @@
+ghost use Rattle.std.specs.Prelude.{◌≡◌, IfOk, OnOk, Ok};
+ghost use Rattle.bench_types.specs.Step.{settings_of, step_check};
+ghost use Rattle.bench_model.specs.Equal.{StandsFor};
+ghost use Rattle.bench_model.specs.Session.{step_of};
+ghost use Rattle.bench_model.specs.Start.{start};
+ghost use Rattle.bench_model.specs.Table.{Table};
+ghost use Rattle.run_views.specs.Changes.{changes};
+ghost use Rattle.run_views.specs.Looks.{look_of};
+ghost use Rattle.run_views.specs.Trace.{Shows};
+
+use crate::{Change, Look};
+use bench_types::{Header, Reply, Step};
+use smp_kernel::{Kernel, Meter, StartFault};
+use std::alloc::{AllocError, Global};
+
+/// A kernel with what can be seen of it.
+#[derive(Drop)]
+pub(crate) struct Watch {
+    pub(crate) kernel: Kernel,
+    pub(crate) look: Look,
+}
+
+impl Watch {
+    /// A kernel at the start of the header.
+    pub(crate) fn start(alloc: Global, header: &Header) -> Result<Watch, StartFault>
+        ensures started { IfOk result (λ watch. StandsFor watch.kernel (start header.now)) }
+        ensures settings { IfOk result
+            (λ watch. watch.kernel.settings ≡ settings_of header.now) }
+        ensures shows { IfOk result (λ watch. Shows watch.kernel watch.look) }
+    {
+        let kernel = Kernel::start(alloc, header)?;
+        let look = Look::of_kernel(alloc, &kernel)?;
+        Ok(Watch { kernel, look })
+    }
+
+    /// Makes the step, and gives its reply with all that it changed.
+    pub(crate) fn step(
+        &mut self,
+        alloc: Global,
+        meter: &mut Meter,
+        step: &Step,
+    ) -> Result<(Reply, Vec<Change>), AllocError>
+        requires checked { step_check self.old.kernel.settings step.now ≡ Ok tt }
+        requires shows { Shows self.old.kernel self.old.look }
+        ensures reply { IfOk result
+            (λ told. (table : Table) → StandsFor self.old.kernel table
+            → told.0 ≡ (step_of step.now table).0) }
+        ensures changes { IfOk result
+            (λ told. (table : Table) → StandsFor self.old.kernel table
+            → told.1.items ≡ changes (look_of table) (look_of (step_of step.now table).1)) }
+        ensures state { (table : Table) → StandsFor self.old.kernel table
+            → StandsFor self.new.kernel (step_of step.now table).1 }
+        ensures shows { OnOk result (Shows self.new.kernel self.new.look) }
+        ensures settings { self.new.kernel.settings ≡ self.old.kernel.settings }
+    {
+        let reply = self.kernel.step(meter, step);
+        let look = Look::of_kernel(alloc, &self.kernel)?;
+        let changes = self.look.changes_to(alloc, &look)?;
+        self.look = look;
+        Ok((reply, changes))
+    }
+}

@@ -330,7 +330,6 @@ impl Scheduler {
     }
 
     // A delay of no ticks is a yield; any other blocks.
-    #[inline(always)]
     #[tactic(auto, unfolding(bench_model::specs::Steps::called))]
     fn delay(&mut self, core: u32, task: u32, ticks: u32) -> Reply
         requires core { core < self.old.settings.cores }
@@ -347,7 +346,6 @@ impl Scheduler {
     }
 
     // The task waits until its next wake, or where that has passed only asks its core to switch.
-    #[inline(always)]
     #[tactic(auto, unfolding(bench_model::specs::Steps::delayed_until))]
     fn delay_until(&mut self, core: u32, task: u32, prev: u32, inc: u32) -> Reply
         requires core { core < self.old.settings.cores }

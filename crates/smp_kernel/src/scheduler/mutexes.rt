@@ -17,7 +17,6 @@ use bench_types::{Reply, Unfinished};
 
 impl Scheduler {
     // Takes a free mutex. For one that is held the task waits, where it has some ticks to wait.
-    #[inline(always)]
     #[tactic(auto, unfolding(bench_model::specs::Mutexes::mutex_take, bench_model::specs::Mutexes::taken))]
     pub(super) fn take_mutex(&mut self, core: u32, task: u32, mutex: u32, ticks: u32) -> Reply
         requires core { core < self.old.settings.cores }
@@ -60,7 +59,6 @@ impl Scheduler {
 
     // The unfinished call of the task returns, or the task waits again for the mutex that its call
     // takes.
-    #[inline(always)]
     #[tactic(auto, unfolding(bench_model::specs::Steps::after_finish))]
     pub(super) fn finish(&mut self, core: u32, task: u32) -> Reply
         requires core { core < self.old.settings.cores }

@@ -11,7 +11,6 @@ use bench_types::{Call, Note, Reply};
 impl Scheduler {
     // Notifies a task, by the acting core; one that waits for it is woken. Returns whether the
     // notification passed.
-    #[inline(always)]
     #[tactic(auto, unfolding(bench_model::specs::Notifying::notify, bench_model::specs::Seek::wake))]
     pub(super) fn notify(&mut self, acting: u32, note: Note) -> bool
         requires { note.task < self.old.settings.tasks }
@@ -90,7 +89,6 @@ impl Scheduler {
         self.complete(task, call)
     }
 
-    #[inline(always)]
     #[tactic(auto, unfolding(bench_model::specs::Notifying::awaited))]
     pub(super) fn wait(&mut self, core: u32, task: u32, call: Call, entry: u32, ticks: u32) -> Reply
         requires core { core < self.old.settings.cores }
@@ -104,7 +102,6 @@ impl Scheduler {
         self.await_note(core, task, call, ticks, begun)
     }
 
-    #[inline(always)]
     #[tactic(auto, unfolding(bench_model::specs::Notifying::awaited))]
     pub(super) fn take(&mut self, core: u32, task: u32, call: Call, ticks: u32) -> Reply
         requires core { core < self.old.settings.cores }

@@ -170,6 +170,7 @@ impl CoreSeat {
     }
 
     // An interrupt of the core, or a tick.
+    #[inline(always)]
     fn act_by_interrupt<R: Wait>(
         &mut self,
         rt: &R,
@@ -181,7 +182,9 @@ impl CoreSeat {
         ensures seat { IsSameSeat self.old self.new }
         ensures answered { IsAnswered act self.old self.new result }
     {
-        act.check(self.core(), &rig.header)
+        // A copy goes out by reference, so that of the act itself it stays known which it is.
+        let copy = act;
+        copy.check(self.core(), &rig.header)
             .map_err(RigRefusal::Fault)?;
         enter(rt, &rig.pair, &mut self.seat);
         let stretch = act_and_leave(&rig.pair, &mut self.seat, self.made, act);
@@ -192,6 +195,7 @@ impl CoreSeat {
 
     // A call of the core's current task, or a switch while the core holds nothing. The core keeps
     // the task word by one take for as long as it holds the kernel.
+    #[inline(always)]
     fn act_by_task<R: Wait>(&mut self, rt: &R, rig: &Rig, act: Act) -> Result<Answer, RigRefusal>
         requires own { IsSeatOf rig.now self.old }
         requires kind { is_by_task act ≡ true }
@@ -199,7 +203,9 @@ impl CoreSeat {
         ensures seat { IsSameSeat self.old self.new }
         ensures answered { IsAnswered act self.old self.new result }
     {
-        act.check(self.core(), &rig.header)
+        // A copy goes out by reference, so that of the act itself it stays known which it is.
+        let copy = act;
+        copy.check(self.core(), &rig.header)
             .map_err(RigRefusal::Fault)?;
         enter_task(rt, &rig.pair, &mut self.seat);
         enter(rt, &rig.pair, &mut self.seat);

@@ -28,6 +28,7 @@ pub(crate) struct Stretch {
 }
 
 /// The interrupt word of a seat that does not own it.
+#[inline(always)]
 pub(crate) fn enter<R: Wait>(rt: &R, pair: &LockPair<Recording>, seat: &mut Seat<Recording>)
     requires own { IsSeatOf pair.now seat.old }
     requires outside { seat.old.interrupt_depth ≡ 0 }
@@ -39,6 +40,7 @@ pub(crate) fn enter<R: Wait>(rt: &R, pair: &LockPair<Recording>, seat: &mut Seat
 }
 
 /// Acts on the recording in hand, and gives it back with the interrupt word.
+#[inline(always)]
 pub(crate) fn act_and_leave(
     pair: &LockPair<Recording>,
     seat: &mut Seat<Recording>,
@@ -80,6 +82,7 @@ pub(crate) fn act_and_leave(
 }
 
 /// The task word once more.
+#[inline(always)]
 pub(crate) fn enter_task<R: Wait>(rt: &R, pair: &LockPair<Recording>, seat: &mut Seat<Recording>)
     requires own { IsSeatOf pair.now seat.old }
     requires outside { seat.old.interrupt_depth ≡ 0 }
@@ -92,6 +95,7 @@ pub(crate) fn enter_task<R: Wait>(rt: &R, pair: &LockPair<Recording>, seat: &mut
 }
 
 /// The task word once less than for a call, and free of the core where it holds the kernel no more.
+#[inline(always)]
 pub(crate) fn leave_task(
     pair: &LockPair<Recording>,
     seat: &mut Seat<Recording>,

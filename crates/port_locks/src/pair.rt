@@ -40,6 +40,7 @@ impl<V: Kept> Model for LockPair<V> {
 
 impl<V: Kept> LockPair<V> {
     // One try at the interrupt word of a seat that does not own it.
+    #[inline(always)]
     fn enter(&self, seat: &mut Seat<V>) -> bool
         requires own { IsSeatOf self.now seat.old }
         requires outside { seat.old.interrupt_depth ≡ 0 }
@@ -61,6 +62,7 @@ impl<V: Kept> LockPair<V> {
     }
     /// Takes the interrupt word, waiting until no other seat owns it. The first time over, the seat
     /// has the value in hand from then on. L2 where the seat has taken it 255 times over.
+    #[inline(always)]
     pub fn take_interrupt<R: Wait>(&self, rt: &R, seat: &mut Seat<V>) -> Result<(), Deep>
         requires own { IsSeatOf self.now seat.old }
         ensures deep { IsErr result ↔ (seat.old.interrupt_depth ≡ 255) }
@@ -106,6 +108,7 @@ impl<V: Kept> LockPair<V> {
 
     /// Gives the interrupt word up once. With the last time the value goes back, its entries are
     /// published, and the word is free, in this order.
+    #[inline(always)]
     pub fn free_interrupt(&self, seat: &mut Seat<V>)
         requires own { IsSeatOf self.now seat.old }
         requires taken { 0 < seat.old.interrupt_depth }
@@ -121,6 +124,7 @@ impl<V: Kept> LockPair<V> {
         }
     }
 
+    #[inline(always)]
     fn leave(&self, seat: &mut Seat<V>)
         requires own { IsSeatOf self.now seat.old }
         requires last { seat.old.interrupt_depth ≡ 1 }
@@ -139,6 +143,7 @@ impl<V: Kept> LockPair<V> {
         seat.interrupt_depth = 0;
     }
     // One try at the task word of a seat that owns neither word.
+    #[inline(always)]
     fn enter_task(&self, seat: &mut Seat<V>) -> bool
         requires own { IsSeatOf self.now seat.old }
         requires outside { (seat.old.task_depth ≡ 0) × (seat.old.interrupt_depth ≡ 0) }
@@ -158,6 +163,7 @@ impl<V: Kept> LockPair<V> {
     /// times over.
     ///
     /// A seat takes the task word before the interrupt word.
+    #[inline(always)]
     pub fn take_task<R: Wait>(&self, rt: &R, seat: &mut Seat<V>) -> Result<(), Deep>
         requires own { IsSeatOf self.now seat.old }
         requires before { seat.old.task_depth ≡ 0 → seat.old.interrupt_depth ≡ 0 }
@@ -180,6 +186,7 @@ impl<V: Kept> LockPair<V> {
 
     /// Gives the task word up once, and frees it with the last time: then the seat has no hold
     /// open, and does not own the interrupt word.
+    #[inline(always)]
     pub fn free_task(&self, seat: &mut Seat<V>)
         requires own { IsSeatOf self.now seat.old }
         requires taken { 0 < seat.old.task_depth }

@@ -1,10 +1,12 @@
 -- The best core so far, core by core, is the core that is asked.
-use Rattle.std.proofs.Common.{◌≡◌, ℕ, ◌+◌, ◌<◌, Bool, true, false, cond, not, ◌&&◌, length, Option, Some, None, refl, sym, ap, ◌∙◌, arith, inl, inr}
+use Rattle.std.proofs.Common.{◌≡◌, ℕ, ◌+◌, ◌<◌, Bool, true, false, cond, not, eqb, ◌&&◌, length, Option, Some, None, refl, sym, ap, ◌∙◌, arith, inl, inr}
 use Rattle.std.specs.Option.{option_map_or}
 use Rattle.std.proofs.lemmas.Bool.{cases_eq}
 use Rattle.std.proofs.lemmas.Bool.Decides.{nat_tests}
 use Rattle.bench_model.specs.Control.{Control, ask}
-use Rattle.bench_model.specs.Seek.{is_running, yields_first, core_to_yield, seek}
+use Rattle.std.proofs.lemmas.Nat.Bits.{bit_at-zero}
+use Rattle.bench_model.specs.Cores.{has_core}
+use Rattle.bench_model.specs.Seek.{is_preemptible_by, is_running, yields_first, core_to_yield, seek}
 use Rattle.order_laws.specs.AskedCores.{IsCandidate, IsAnswer}
 use Rattle.order_laws.proofs.AskedCores.{best_core}
 use Rattle.list_orders.specs.Scans.{better_of}
@@ -99,3 +101,18 @@ asked_agrees control task among others same = one_answer control task others (co
 pub seek_agrees : (acting : ℕ) (control : Control) (task : ℕ) (among others : ℕ → Bool) → ((core : ℕ) → core < length control.cores → among core ≡ others core) → seek acting task among control ≡ seek acting task others control
 unfolding seek
 seek_agrees acting control task among others same = ap (λ o. cond (is_running control task) control (option_map_or (λ core. ask acting core control) o control)) (asked_agrees control task among others same)
+
+-- among no cores none is asked
+pub asks_none : (acting task none : ℕ) (control : Control) → none ≡ 0 → control ≡ seek acting task (has_core none) control
+unfolding seek
+asks_none acting task none control is = at (is_running control task)
+  where
+    empty : (d : ℕ) → has_core none d ≡ false
+    empty d = ap (λ n. has_core n d) is ∙ ap (λ b. eqb b 1) (bit_at-zero d)
+
+    asked : None ≡ core_to_yield control task (has_core none)
+    asked = best_is_asked control task (has_core none) None (λ d low. ap (λ b. b && is_preemptible_by control task d) (empty d))
+
+    at : (b : Bool) → control ≡ cond b control (option_map_or (λ core. ask acting core control) (core_to_yield control task (has_core none)) control)
+    at true = refl
+    at false = ap (λ o. option_map_or (λ core. ask acting core control) o control) asked

@@ -465,14 +465,15 @@ impl Cores {
         true
     }
 
-    // Whether the bit of the core is set. The first test always holds: it shows that there are
-    // fewer cores than bits.
+    // Whether the bit of the core is set.
     fn has_bit(&self, mask: u32, core: u32) -> bool
         requires { core < length self.now.control.cores }
         ensures bit { result ≡ has_core mask core }
         ensures few { length self.now.control.cores ≤ max_cores }
     {
-        core < self.core_numbers().end && (mask >> core) & 1 == 1
+        // Which says that there are fewer cores than bits.
+        let _cores = self.core_numbers();
+        (mask >> core) & 1 == 1
     }
 
     fn is_idle(&self, task: u32) -> bool
@@ -515,7 +516,8 @@ impl Cores {
     {
         let look = self.flags(core);
         let runs = self.running(core);
-        !look.pend && !look.asked && self.preempt(runs) && self.stands_below(runs, task)
+        // First what most cores fail.
+        self.stands_below(runs, task) && self.preempt(runs) && !look.pend && !look.asked
     }
 
     // The core that is asked of those below this one and it.
@@ -550,8 +552,22 @@ impl Cores {
         best
     }
 
-    #[tactic(auto, unfolding(bench_model::specs::Seek::seek))]
+    // A core is sought for the task among those whose bit is set. A task that lost its core to one
+    // that may run anywhere has none left.
     fn seek(&mut self, acting: u32, task: u32, among: u32)
+        requires { task < length self.old.control.tasks }
+        ensures { self.new
+            ≡ record self.old { control = seek acting task (has_core among) self.old.control } }
+    {
+        if among != 0 {
+            self.seek_among(acting, task, among);
+        }
+    }
+
+    // Not inlined, so that a switch that seeks no core doesn't pay for it.
+    #[inline(never)]
+    #[tactic(auto, unfolding(bench_model::specs::Seek::seek))]
+    fn seek_among(&mut self, acting: u32, task: u32, among: u32)
         requires { task < length self.old.control.tasks }
         ensures { self.new
             ≡ record self.old { control = seek acting task (has_core among) self.old.control } }
@@ -569,8 +585,9 @@ impl Cores {
         requires task { task < length self.now.control.tasks }
         ensures { result ≡ is_elsewhere self.now.control core task }
     {
-        let seats = self.seats(task);
-        core < self.core_numbers().end && seats & !(1 << core) != 0
+        // Which says that there are fewer cores than bits.
+        let _cores = self.core_numbers();
+        self.seats(task) & !(1 << core) != 0
     }
 
     // Whether the core may select the task where it is ready.
@@ -579,7 +596,8 @@ impl Cores {
         requires task { task < length self.now.control.tasks }
         ensures { result ≡ may_select self.now.control core task }
     {
-        self.is_allowed(core, task) && !self.is_elsewhere(core, task)
+        // Most that are passed over run elsewhere.
+        !self.is_elsewhere(core, task) && self.is_allowed(core, task)
     }
 
     // The first task of the ready list of the priority that the core may select.
@@ -590,12 +608,12 @@ impl Cores {
             ≡ find (may_select self.now.control core) (ready_list priority self.now) }
         ensures task { IfSome result (λ task. task < length self.now.control.tasks) }
     {
-        let mut next = self.lists.first(priority);
+        let mut task = self.lists.first(priority)?;
         for _place in 0..self.lists.len(priority) {
-            match next {
-                Some(task) if !self.is_selectable(core, task) => next = self.lists.next(task),
-                _ => return next,
+            if self.is_selectable(core, task) {
+                return Some(task);
             }
+            task = self.lists.next(task)?;
         }
         None
     }

@@ -70,6 +70,7 @@ impl Model for Recording {
         (vec_capacity recording.parts.value.entries) recording.parts.value.kernel };
 }
 
+#[inline(always)]
 fn core_of(step: &Step) -> u32
     ensures { result ≡ made_on step.now }
 {
@@ -113,6 +114,7 @@ impl Recording {
     /// The step is checked, a call is made by the current task of its core, no hold keeps the step
     /// out, and there is room for it: [`Step::check`], [`Recording::running`],
     /// [`Recording::is_kept_out`], [`Recording::places`] and [`Recording::room`] tell.
+    #[inline(always)]
     pub fn record(&mut self, step: Step) -> Answer
         requires checked { step_check (settings_of self.old.header) step ≡ Ok tt }
         requires current { IsByCurrent (table_of self.old).control step }
@@ -134,6 +136,7 @@ impl Recording {
     }
 
     // Makes the step and records it where there is room, else refuses it with G1.
+    #[inline(always)]
     fn record_in_room(&mut self, step: Step) -> Result<Answer, RecordRefusal>
         requires checked { step_check (settings_of self.old.header) step ≡ Ok tt }
         requires current { IsByCurrent (table_of self.old).control step }
@@ -153,6 +156,7 @@ impl Recording {
     /// It is refused with G2 where that is an idle task, else with G1 where there is no room for
     /// it: `HoldOpen` needs two places, a `HoldClose` of the core's own hold none, every other call
     /// one. A refused call changes nothing.
+    #[inline(always)]
     pub fn call(&mut self, core: u32, call: Call) -> Result<Answer, RecordRefusal>
         requires core { core < self.old.header.config.cores }
         requires call { call_check (settings_of self.old.header) call ≡ Ok tt }
@@ -171,6 +175,7 @@ impl Recording {
 
     /// Interrupts the core, whose handler notifies a task (`xTaskNotifyFromISR`), and records it;
     /// G1 where there is no room for that, which changes nothing.
+    #[inline(always)]
     pub fn interrupt(&mut self, core: u32, note: Note) -> Result<Answer, RecordRefusal>
         requires core { core < self.old.header.config.cores }
         requires task { task_check (settings_of self.old.header) note.task ≡ Ok tt }
@@ -184,6 +189,7 @@ impl Recording {
 
     /// Makes the tick interrupt, which core 0 serves (`xTaskIncrementTick`), and records it; G1
     /// where there is no room for that, which changes nothing.
+    #[inline(always)]
     pub fn tick(&mut self) -> Result<Answer, RecordRefusal>
         ensures answer { result ≡ answer_in_room Step.Tick self.old }
         ensures history { OnOk result (self.new ≡ with_step Step.Tick self.old) }
@@ -195,6 +201,7 @@ impl Recording {
 
     /// Switches the core to the task that it selects (`vTaskSwitchContext`), and records it; G1
     /// where there is no room for that, which changes nothing.
+    #[inline(always)]
     pub fn switch(&mut self, core: u32) -> Result<Answer, RecordRefusal>
         requires core { core < self.old.header.config.cores }
         requires unheld { is_some (hold_of self.old) ≡ false }
@@ -208,6 +215,7 @@ impl Recording {
 
     /// Does what the core would do next, as [`Recording::call`], [`Recording::interrupt`],
     /// [`Recording::tick`] or [`Recording::switch`], with their refusals.
+    #[inline(always)]
     pub fn act(&mut self, core: u32, act: Act) -> Result<Answer, RecordRefusal>
         requires core { core < self.old.header.config.cores }
         requires act { act_check (settings_of self.old.header) core act ≡ Ok tt }

@@ -102,6 +102,7 @@ impl Kernel {
     }
 
     /// Makes a step, counts it on the meter, refused or not, and gives its reply.
+    #[inline(always)]
     pub fn step(&mut self, meter: &mut Meter, step: &Step) -> Reply
         requires { step_check self.old.settings step.now ≡ Ok tt }
         ensures reply { (table : Table) → StandsFor self.old table

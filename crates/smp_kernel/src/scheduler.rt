@@ -211,6 +211,7 @@ impl Scheduler {
     }
 
     /// The step: its reply, and what it does. A refused step changes nothing.
+    #[inline(always)]
     pub fn step(&mut self, step: &Step) -> Reply
         requires checked { step_check self.old.settings step.now ≡ Ok tt }
         requires settled { IsSettled self.old }
@@ -224,6 +225,7 @@ impl Scheduler {
     }
 
     // What a step that is not refused answers and does.
+    #[inline(always)]
     #[tactic(auto, unfolding(bench_model::specs::Steps::performed))]
     fn perform(&mut self, step: &Step) -> Reply
         requires { CallFits self.old step.now }
@@ -291,6 +293,7 @@ impl Scheduler {
     }
 
     // What a call that is not refused answers and does.
+    #[inline(always)]
     #[tactic(auto, unfolding(bench_model::specs::Steps::called))]
     fn call(&mut self, core: u32, task: u32, call: Call) -> Reply
         requires core { core < self.old.settings.cores }

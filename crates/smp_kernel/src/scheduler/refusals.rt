@@ -14,6 +14,7 @@ use bench_types::{Call, MAX_DEPTH, Refusal, Step, Unfinished};
 impl Scheduler {
     // The first reason that applies. A core that holds the kernel keeps out switches and the calls
     // of others.
+    #[inline(always)]
     #[tactic(auto, unfolding(bench_model::specs::Refusals::refusal))]
     pub(super) fn refusal(&self, step: Step) -> Option<Refusal>
         requires { step_check self.now.settings step ≡ Ok tt }

@@ -5,15 +5,15 @@ use Rattle.bench_model.specs.Control.{current}
 use Rattle.ready_core.proofs.Seats.{bit_cleared, some_bit}
 use Rattle.ready_core.proofs.cores.Cores.is_elsewhere.Goals as goal
 
-pub returns-then-core-core_numbers : goal.returns-then-core-core_numbers
-returns-then-core-core_numbers c =
+pub returns : goal.returns
+returns c =
     let control = c.args.self.now.control in
     let n = length control.cores in
     let core = c.args.core in
-    let seats = c.seats-seats.result in
-    let few = c.core_numbers.ensures.few in
+    let seats = c.seats.result in
+    let few = c.core_numbers-cores.ensures.few in
     let passes : ℕ → Bool = λ other. not (eqb other core) && eqb (current control other) c.args.task in
     some_bit (bit_and seats (bit_not w32 (1 * 2 ^ core % 4294967296))) n passes
-    (λ d. bit_cleared seats core d (omega (arith, c.requires.core, few)) (λ over. c.seats-seats.ensures d ∙ grind (arith, nat_tests, over, few))
-    ∙ ap (λ b. not (eqb d core) && b) (c.seats-seats.ensures d)
+    (λ d. bit_cleared seats core d (omega (arith, c.requires.core, few)) (λ over. c.seats.ensures d ∙ grind (arith, nat_tests, over, few))
+    ∙ ap (λ b. not (eqb d core) && b) (c.seats.ensures d)
     ∙ grind arith)

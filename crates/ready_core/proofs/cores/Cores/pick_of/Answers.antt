@@ -1,5 +1,4 @@
-use Rattle.std.proofs.Common.{◌≡◌, ℕ, zero, suc, ◌+◌, ◌<◌, Bool, false, cond, List, [], ◌∷◌, length, drop, get_or, Some, refl, ap, sym, subst, ◌∙◌, arith}
-use Rattle.std.specs.Option.{IfSome}
+use Rattle.std.proofs.Common.{◌≡◌, ℕ, zero, suc, ◌+◌, ◌<◌, Bool, false, cond, List, [], ◌∷◌, length, drop, get_or, Some, None, refl, ap, sym, ◌∙◌, arith}
 use Rattle.std.specs.List.{find}
 use Rattle.std.proofs.lemmas.List.{drop_all, length-map}
 use Rattle.bench_model.specs.Control.{may_select}
@@ -25,8 +24,23 @@ drop_items row zero = refl
 drop_items [] (suc i) = refl
 drop_items (entry ∷ row) (suc i) = drop_items row i
 
+headless : (p : ℕ → Bool) (xs : List ℕ) → None ≡ head_of xs → None ≡ find p xs
+headless p [] none = refl
+headless p (x ∷ xs) none = absurd (cc (none))
+
 passed : (p : ℕ → Bool) (x : ℕ) (xs : List ℕ) → p x ≡ false → find p (x ∷ xs) ≡ find p xs
 passed p x xs fails = ap (λ b. cond b (Some x) (find p xs)) fails
+
+pub returns-in_err-task-clause-first : goal.returns-in_err-task-clause-first
+returns-in_err-task-clause-first c =
+    let view = c.self.view_is in
+    let control = control_from c.self.inside.cores.items c.self.inside.tasks.items in
+    let lists = c.self.inside.lists.lists in
+    let p = c.args.priority in
+    let passes = may_select c.args.self.now.control c.args.core in
+    let low : p < c.self.inside.priorities = omega (arith, c.requires.priority, ap (λ (v : CoresView). v.priorities) view) in
+    let shown : ready_list p c.args.self.now ≡ tasks_of lists p = ap (ready_list p) (sym view) ∙ ready_of control lists p c.self.inside.priorities c.self.invariant.at_home low in
+    c.from_residual.ensures ∙ headless passes (ready_list p c.args.self.now) (c.in_err-task.ensures.first ∙ head_first (row_at lists p) ∙ ap head_of (sym shown))
 
 pub loop-place-init : goal.loop-place-init
 loop-place-init c =
@@ -36,10 +50,30 @@ loop-place-init c =
     let low : c.args.priority < c.self.inside.priorities = omega (arith, c.requires.priority, ap (λ (v : CoresView). v.priorities) view) in
     let shown : ready_list c.args.priority c.args.self.now ≡ tasks_of lists c.args.priority = ap (ready_list c.args.priority) (sym view) ∙ ready_of control lists c.args.priority c.self.inside.priorities c.self.invariant.at_home low in
     record {
-      next = c.first-next.ensures.first ∙ head_first (row_at lists c.args.priority) ∙ ap head_of (sym shown);
+      next = c.in_ok-task.ensures.first ∙ head_first (row_at lists c.args.priority) ∙ ap head_of (sym shown);
       first = refl;
-      in_range = λ x is. omega (arith, subst (λ o. IfSome o (λ item. item < c.self.inside.lists.items)) is c.first-next.ensures.item, c.self.invariant.items, ap (λ (v : CoresView). length v.control.tasks) view);
+      in_range = omega (arith, c.in_ok-task.ensures.item, c.self.invariant.items, ap (λ (v : CoresView). length v.control.tasks) view);
     }
+
+pub returns-in_err-task-2-clause-first : goal.returns-in_err-task-2-clause-first
+returns-in_err-task-2-clause-first c =
+    let view = c.self.view_is in
+    let control = control_from c.self.inside.cores.items c.self.inside.tasks.items in
+    let lists = c.self.inside.lists.lists in
+    let p = c.args.priority in
+    let i = c.loop-place._place in
+    let passes = may_select c.args.self.now.control c.args.core in
+    let low : p < c.self.inside.priorities = omega (arith, c.requires.priority, ap (λ (v : CoresView). v.priorities) view) in
+    let shown : ready_list p c.args.self.now ≡ tasks_of lists p = ap (ready_list p) (sym view) ∙ ready_of control lists p c.self.inside.priorities c.self.invariant.at_home low in
+    let here = head_drop (ready_list p c.args.self.now) i c.loop-place.task (sym c.loop-place.invariant.next) in
+    let within : i < length (row_at lists p) = omega (arith, here.0, ap (λ (xs : List ℕ). length xs) shown, length-map (row_at lists p) (λ (e : Listed). e.item)) in
+    let one : suc i ≡ i + 1 = omega arith in
+    let after = c.in_err-task-2.ensures.place p i (omega (arith, low, c.self.invariant.each)) within (ap (λ (xs : List ℕ). get_or xs i 0) (sym shown) ∙ here.1) in
+    let fails : c.is_selectable.result ≡ false = grind (arith, c.if-is_selectable.false) in
+    let past = passed passes c.loop-place.task (drop (i + 1) (ready_list p c.args.self.now)) (sym c.is_selectable.ensures ∙ fails) in
+    c.from_residual-in_err-task-2.ensures
+    ∙ headless passes (drop (i + 1) (ready_list p c.args.self.now)) (after ∙ head_first (drop (i + 1) (row_at lists p)) ∙ ap head_of (drop_items (row_at lists p) (i + 1)) ∙ ap (λ (xs : List ℕ). head_of (drop (i + 1) xs)) (sym shown))
+    ∙ sym past ∙ ap (find passes) (sym (here.2 ∙ ap (λ k. c.loop-place.task ∷ drop k (ready_list p c.args.self.now)) one)) ∙ c.loop-place.invariant.first
 
 pub loop-place-preserved : goal.loop-place-preserved
 loop-place-preserved c =
@@ -51,15 +85,15 @@ loop-place-preserved c =
     let passes = may_select c.args.self.now.control c.args.core in
     let low : p < c.self.inside.priorities = omega (arith, c.requires.priority, ap (λ (v : CoresView). v.priorities) view) in
     let shown : ready_list p c.args.self.now ≡ tasks_of lists p = ap (ready_list p) (sym view) ∙ ready_of control lists p c.self.inside.priorities c.self.invariant.at_home low in
-    let here = head_drop (ready_list p c.args.self.now) i c.in-Some.task (sym c.loop-place.invariant.next ∙ c.in-Some.is) in
+    let here = head_drop (ready_list p c.args.self.now) i c.loop-place.task (sym c.loop-place.invariant.next) in
     let within : i < length (row_at lists p) = omega (arith, here.0, ap (λ (xs : List ℕ). length xs) shown, length-map (row_at lists p) (λ (e : Listed). e.item)) in
     let one : suc i ≡ i + 1 = omega arith in
-    let after = c.next-next.ensures.place p i (omega (arith, low, c.self.invariant.each)) within (ap (λ (xs : List ℕ). get_or xs i 0) (sym shown) ∙ here.1) in
-    let fails : c.is_selectable.result ≡ false = grind (arith, c.if-not-is_selectable.true) in
+    let after = c.in_ok-task-2.ensures.place p i (omega (arith, low, c.self.invariant.each)) within (ap (λ (xs : List ℕ). get_or xs i 0) (sym shown) ∙ here.1) in
+    let fails : c.is_selectable.result ≡ false = grind (arith, c.if-is_selectable.false) in
     record {
       next = after ∙ head_first (drop (i + 1) (row_at lists p)) ∙ ap head_of (drop_items (row_at lists p) (i + 1)) ∙ ap (λ (xs : List ℕ). head_of (drop (i + 1) xs)) (sym shown);
-      first = sym (passed passes c.in-Some.task (drop (i + 1) (ready_list p c.args.self.now)) (sym c.is_selectable.ensures ∙ fails)) ∙ ap (find passes) (sym (here.2 ∙ ap (λ k. c.in-Some.task ∷ drop k (ready_list p c.args.self.now)) one)) ∙ c.loop-place.invariant.first;
-      in_range = λ x is. omega (arith, subst (λ o. IfSome o (λ item. item < c.self.inside.lists.items)) is c.next-next.ensures.item, c.self.invariant.items, ap (λ (v : CoresView). length v.control.tasks) view);
+      first = sym (passed passes c.loop-place.task (drop (i + 1) (ready_list p c.args.self.now)) (sym c.is_selectable.ensures ∙ fails)) ∙ ap (find passes) (sym (here.2 ∙ ap (λ k. c.loop-place.task ∷ drop k (ready_list p c.args.self.now)) one)) ∙ c.loop-place.invariant.first;
+      in_range = omega (arith, c.in_ok-task-2.ensures.item, c.self.invariant.items, ap (λ (v : CoresView). length v.control.tasks) view);
     }
 
 pub returns-clause-first : goal.returns-clause-first

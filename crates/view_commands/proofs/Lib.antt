@@ -1,0 +1,2 @@
+mod EditsKept
+mod Outputs

@@ -1,0 +1,2 @@
+pub mod ViewRun
+pub mod Views

@@ -1,2 +1,3 @@
 mod EditsKept
 mod Outputs
+mod WordsRead

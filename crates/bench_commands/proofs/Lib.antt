@@ -4,10 +4,10 @@ mod CommandLine
 mod KnownOutput
 mod OptionsRead
 mod Replays
-mod Refused
-mod Opened
+pub mod RefusedTexts
+pub mod Opened
 mod SpanTexts
 mod CommandLines
 mod Recordings
 mod TrialLines
-mod EditsMade
+pub mod EditsMade

@@ -1,12 +1,11 @@
 -- The lines of edits that are each tried alone.
-use Rattle.std.proofs.Common.{◌≡◌, ℕ, zero, suc, ◌+◌, ◌<◌, Bool, List, [], ◌∷◌, ◌++◌, length, drop, get_or, Result, Ok, Err, codes, decimal, refl, sym, ap, subst, ◌∙◌, arith, append_assoc}
+use Rattle.std.proofs.Common.{◌≡◌, ℕ, zero, suc, ◌+◌, ◌<◌, List, [], ◌∷◌, ◌++◌, length, drop, get_or, Result, Ok, Err, codes, refl, sym, ap, subst, ◌∙◌, arith, append_assoc}
 use Rattle.std.specs.Prelude.{is_ok, if◌then◌else◌}
 use Rattle.std.specs.List.{AllZip}
 use Rattle.std.proofs.lemmas.List.{append-nil}
 use Rattle.bench_types.specs.declared.edit.Edit.{Edit}
 use Rattle.bench_types.specs.declared.edit.EditFault.{EditFault}
 use Rattle.bench_types.specs.declared.header.Header.{Header}
-use Rattle.bench_model.specs.Edits.{accepted}
 use Rattle.bench_model.specs.Meeting.{CheckpointedSession}
 use Rattle.bench_model.specs.Tally.{TaskTally}
 use Rattle.bench_reports.specs.Lines.{tally_lines}

@@ -19,9 +19,9 @@ use std::thread::Threads;
 
 /// What the program writes, and whether its input was refused.
 #[derive(Drop)]
-pub(crate) struct Answer {
-    pub(crate) is_refused: bool,
-    pub(crate) text: String,
+pub struct Answer {
+    pub is_refused: bool,
+    pub text: String,
 }
 
 impl Model for Answer {
@@ -34,7 +34,8 @@ impl Model for Answer {
         record { is_refused = answer.is_refused; text = string_bytes answer.text } };
 }
 
-pub(crate) fn refused(alloc: Global, code: &str, path: &str) -> Result<Answer, AllocError>
+/// The refusal line of the code and, where it is not empty, the path.
+pub fn refused(alloc: Global, code: &str, path: &str) -> Result<Answer, AllocError>
     ensures { IfOk result
         (λ answer. answer ≡ record { is_refused = true; text = refusal_line code.now path.now }) }
 {
@@ -45,7 +46,8 @@ pub(crate) fn refused(alloc: Global, code: &str, path: &str) -> Result<Answer, A
     })
 }
 
-pub(crate) fn refused_for(alloc: Global, fault: TextFault) -> Result<Answer, AllocError>
+/// The refusal line of a text that was not read. Want of memory has none.
+pub fn refused_for(alloc: Global, fault: TextFault) -> Result<Answer, AllocError>
     ensures line { IfOk result
         (λ answer. answer
         ≡ record { is_refused = true; text = refusal_line (why_text fault.why) fault.path }) }

@@ -11,8 +11,10 @@ const CHUNK: usize = 65_536;
 
 /// Why the input was not read.
 #[derive(Clone, Copy, Debug, PartialEq, Eq)]
-pub(crate) enum InputFault {
+pub enum InputFault {
+    /// Memory was refused.
     Memory,
+    /// A read failed.
     Read,
 }
 
@@ -86,10 +88,7 @@ fn read_all<R: CountedRead>(
 }
 
 /// Reads to the end of the input, or one byte past the most that is a session.
-pub(crate) fn read_input<R: CountedRead>(
-    alloc: Global,
-    reader: &mut R,
-) -> Result<Vec<u8>, InputFault>
+pub fn read_input<R: CountedRead>(alloc: Global, reader: &mut R) -> Result<Vec<u8>, InputFault>
     ensures input { IfOk result
         (λ input. ReadsInput (R.Read.remaining reader.old)
         (R.Read.remaining reader.new) input.items) }

@@ -15,11 +15,14 @@ mod recording;
 mod trials;
 mod writing;
 
+pub use answer::{Answer, refused, refused_for};
 pub use command::{DEFAULT_SPAN, Request, request_of};
 pub use core_scripts::Gate;
 pub use device::{Counted, CountedRead, CountedWrite};
 pub use examples::examples_of_command_lines;
 pub use execution::{Mode, RunFault, Status, run};
+pub use input::{InputFault, read_input};
 pub use program::{Ending, carry_out, run_program};
 pub use recording::record;
 pub use trials::laws_of_trials;
+pub use writing::{WriteFault, write_text};

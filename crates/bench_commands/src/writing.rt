@@ -6,10 +6,10 @@ use crate::device::CountedWrite;
 
 /// A write failed or took no byte.
 #[derive(Clone, Copy, Debug, PartialEq, Eq)]
-pub(crate) struct WriteFault;
+pub struct WriteFault;
 
 /// Writes the whole text, or a prefix of it where a write fails.
-pub(crate) fn write_text<W: CountedWrite>(writer: &mut W, text: &[u8]) -> Result<(), WriteFault>
+pub fn write_text<W: CountedWrite>(writer: &mut W, text: &[u8]) -> Result<(), WriteFault>
     ensures whole { OnOk result
         (Appends (W.Write.contents writer.old) (W.Write.contents writer.new) text.now) }
     ensures prefix { OnErr result

@@ -6,7 +6,7 @@ use Rattle.bench_model.specs.Meeting.{first_kept}
 use Rattle.bench_types.specs.Name.{is_within}
 use Rattle.bench_types.specs.Limits.{max_span}
 use Rattle.bench_commands.specs.Answer.{bench_output, store_text}
-use Rattle.bench_commands.proofs.Refused.{not_opened_output, opened_output, too_long_output}
+use Rattle.bench_commands.proofs.RefusedTexts.{not_opened_output, opened_output, too_long_output}
 use Rattle.bench_commands.proofs.answer.answer_of_bench.Goals as goal
 
 pub returns : goal.returns

@@ -1,5 +1,5 @@
 use Rattle.bench_commands.specs.Answer.{bench_output}
-use Rattle.bench_commands.proofs.Refused.{refused_output}
+use Rattle.bench_commands.proofs.RefusedTexts.{refused_output}
 use Rattle.bench_commands.proofs.answer.answer_to_text.Goals as goal
 
 pub returns-in-Err : goal.returns-in-Err

@@ -1,0 +1,16 @@
+//! What a run shows, as a program: a command line and bytes in, bytes and an exit status out.
+#![tactic(auto)]
+
+use bench_commands::Counted;
+use std::process::ExitCode;
+use view_commands::run_program;
+
+fn main(rt: HostRuntime) -> ExitCode {
+    run_program(
+        &rt,
+        std::env::args(&rt),
+        &mut Counted::new(rt.stdin()),
+        &mut Counted::new(rt.stdout()),
+        &mut Counted::new(rt.stderr()),
+    )
+}

@@ -1,0 +1,3 @@
+mod EditsKept
+mod Outputs
+mod WordsRead

@@ -1,0 +1,4 @@
+pub mod ViewProgram
+pub mod ViewRun
+pub mod Views
+pub mod Words

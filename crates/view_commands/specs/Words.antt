@@ -1,0 +1,52 @@
+-- What a command line asks for: a trace, of the places from one to another.
+use Rattle.std.specs.Prelude.{ℕ, ◌^◌, ◌-◌, ◌&&◌, List, [], ◌∷◌, Bool, length, nat_lt, codes, Option, Some, None, is_none, option_and_then, option_map, unwrap_or, if◌then◌else◌}
+use Rattle.std.specs.Str.{bytes_eq, all_ascii_digits}
+use Rattle.std.specs.Str.Parse.{digits_value, without_leading_plus}
+use Rattle.run_views.specs.declared.places.Places.{Places}
+use Rattle.view_commands.specs.declared.words.Bounds.{Bounds}
+
+-- the bytes of a word
+abbrev pub Word : Type 0
+Word = List ℕ
+
+-- one decimal digit or more, and nothing else
+abbrev pub is_numeral : Word → Bool
+is_numeral digits = nat_lt 0 (length digits) && all_ascii_digits digits
+
+-- the number below 2^32 that the word writes, with or without a plus sign before it
+unfoldable pub number_in : Word → Option ℕ
+number_in word =
+    let digits = without_leading_plus word in
+    let number = digits_value 10 digits in
+    if is_numeral digits && nat_lt number (2 ^ 32) then Some number else None
+
+-- an option sets its bound, where none is set
+unfoldable pub with_bound : Bounds → Word → ℕ → Option Bounds
+with_bound bounds name number =
+    if bytes_eq name (codes "--from") && is_none bounds.from then
+    Some (record bounds { from = Some number })
+    else if bytes_eq name (codes "--to") && is_none bounds.to then
+    Some (record bounds { to = Some number })
+    else None
+
+-- options, each with its number after it
+abbrev pub bounds_in : Bounds → List Word → Option Bounds
+bounds_in bounds [] = Some bounds
+bounds_in bounds (name ∷ []) = None
+bounds_in bounds (name ∷ number ∷ words) =
+    option_and_then (λ more. bounds_in more words)
+    (option_and_then (with_bound bounds name) (number_in number))
+
+-- all places, where no bound is set
+abbrev pub places_of : Bounds → Places
+places_of bounds = record { from = unwrap_or bounds.from 0; to = unwrap_or bounds.to (2 ^ 32 - 1) }
+
+abbrev pub no_bounds : Bounds
+no_bounds = record { from = None; to = None }
+
+-- the words, the program's name first; none where they ask for nothing that the program does
+unfoldable pub asked : List Word → Option Places
+asked (program ∷ command ∷ options) =
+    if bytes_eq command (codes "trace") then option_map places_of (bounds_in no_bounds options)
+    else None
+asked words = None

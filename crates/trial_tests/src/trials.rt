@@ -182,8 +182,8 @@ fn many_edits_in_their_order(rt: HostRuntime) -> Result<(), Fail> {
     check_many(&rt, &rt)
 }
 
-/// Trials with sums of a session of 200 ticks in 50 segments, which is more than three times as many
-/// as lie between two sums: each tells what a trial without them tells.
+/// Trials with sums of a session of 200 ticks in 50 segments, which is more than three times as
+/// many as lie between two sums: each tells what a trial without them tells.
 #[test]
 fn sums_change_no_trial(rt: HostRuntime) -> Result<(), Fail> {
     let store = opened(&rt, &[TICK; 200], 4)?;

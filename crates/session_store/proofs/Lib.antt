@@ -11,4 +11,5 @@ mod Spans
 mod StepRows
 mod StoreReads
 mod StoreStates
+mod StoreSums
 mod StoreTallies

@@ -122,7 +122,7 @@ pub ends_tallied : (header : Header) (earlier segments : List SegmentView) (coun
 ends_tallied header earlier segments count total all so = subst (λ (xs : List SegmentView). AreTallied header (earlier ++ xs) total) (take_all count segments all) so
 
 -- what a call that counts the segments promises
-abbrev Counts : List TaskTally → List SegmentView → List TaskTally → Type 0
+abbrev pub Counts : List TaskTally → List SegmentView → List TaskTally → Type 0
 Counts old segments new = (known : AreTalliedBefore old segments) → AreTallied known.header (known.earlier ++ segments) new
 
 -- all segments of a replay are counted, as a slice lends them

@@ -2,4 +2,5 @@ pub mod Kept
 pub mod Opening
 pub mod Outcomes
 pub mod Replays
+pub mod Sums
 pub mod Trials

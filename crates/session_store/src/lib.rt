@@ -11,9 +11,11 @@ mod outcome;
 mod parting;
 mod replay;
 mod store;
+mod sums;
 mod tallying;
 mod trial;
 
 pub use fault::{OpenFault, OpenRefusal, StoreFault};
 pub use outcome::Outcome;
 pub use store::Store;
+pub use sums::Sums;

@@ -16,6 +16,7 @@ ghost use Rattle.session_segments.specs.Counting.{meter_after, CountsUpTo};
 ghost use Rattle.session_store.specs.declared.fault.Refused.{Refused as Refusal};
 ghost use Rattle.session_store.specs.Opening.{open_check, handed_back, no_memory};
 ghost use Rattle.session_store.specs.Outcomes.{outcome_of, row_items, distance};
+ghost use Rattle.session_store.specs.Sums.{AreSumsOf};
 ghost use Rattle.session_store.specs.Trials.{tallies_after, IsTried};
 
 use crate::checks::{check_edit, check_opening};
@@ -24,6 +25,7 @@ use crate::edited::edited_header;
 use crate::fault::Refused;
 use crate::opening::opened;
 use crate::parting::{Parting, parted};
+use crate::sums::{Sums, sums_of};
 use crate::tallying::{add_segments, tallies_after};
 use crate::trial::retrace;
 use crate::{OpenFault, OpenRefusal, Outcome, StoreFault};
@@ -178,17 +180,49 @@ impl Store {
             (CountsUpTo (replayed self.now edit) meter.old meter.new) }
     {
         check_edit(&self.header, self.len(), &edit)?;
-        let tried = self.try_accepted(alloc, &edit, meter)?;
+        let tried = self.try_accepted(alloc, None, &edit, meter)?;
         Ok(tried)
+    }
+
+    /// Sums for many trials of edits of this store, as it is now.
+    pub fn sums(&self, alloc: Global) -> Result<Sums, AllocError>
+        ensures { IfOk result (AreSumsOf self.now) }
+    {
+        let sums = sums_of(alloc, self.segments.as_slice())?;
+        Ok(sums)
+    }
+
+    /// What [`Store::trial`] gives. How the tasks fared long before the edit is taken from the
+    /// sums.
+    pub fn trial_with(
+        &self,
+        alloc: Global,
+        sums: &Sums,
+        edit: Edit,
+        meter: &mut Meter,
+    ) -> Result<(Outcome, Tallies), StoreFault>
+        requires sums { AreSumsOf self.now sums.now }
+        ensures tried { IsTried self.now edit result }
+        ensures meter { OnOk result (meter.new ≡ meter_after (replayed self.now edit) meter.old) }
+        ensures uncounted { (why : Why) → result ≡ Err (StoreFault.Edit why)
+            → meter.new ≡ meter.old }
+        ensures some { OnErr result
+            (CountsUpTo (replayed self.now edit) meter.old meter.new) }
+    {
+        check_edit(&self.header, self.len(), &edit)?;
+        let answer = self.try_accepted(alloc, Some(sums), &edit, meter)?;
+        Ok(answer)
     }
 
     // What an accepted edit would lead to, and how each task would fare then.
     fn try_accepted(
         &self,
         alloc: Global,
+        sums: Option<&Sums>,
         edit: &Edit,
         meter: &mut Meter,
     ) -> Result<(Outcome, Tallies), AllocError>
+        requires sums { IfSome sums (λ sums. AreSumsOf self.now sums.now) }
         requires words { IsEditOfWords edit.now }
         requires accepted { accepted self.now.session edit.now ≡ Ok tt }
         ensures outcome { IfOk result (λ tried. tried.0 ≡ outcome_of self.now edit.now) }
@@ -211,7 +245,7 @@ impl Store {
         let rest = later(&self.segments, after);
         let (tallies, count) = retrace(alloc, &mut kernel, steps, rest, meter)?;
         let replayed = steps.len() as u32 + count_steps(&rest[..count]);
-        let total = tallies_after(alloc, &self.segments, before, after + count, tallies)?;
+        let total = tallies_after(alloc, sums, &self.segments, before, after + count, tallies)?;
         let outcome = Outcome {
             from,
             met: from + replayed,

@@ -1,8 +1,10 @@
-ghost use Rattle.std.specs.Prelude.{◌≡◌, ◌++◌, ◌≤◌, IfOk, take, drop, length};
+ghost use Rattle.std.specs.Prelude.{◌≡◌, ◌++◌, ◌≤◌, IfOk, IfSome, take, drop, length};
 ghost use Rattle.bench_model.specs.Tally.{tallies};
 ghost use Rattle.segment_laws.specs.Segments.{all_steps};
+ghost use Rattle.session_store.specs.Sums.{HasSums};
 ghost use Rattle.session_store.specs.Trials.{AreTallied, AreTalliedAfter, AreTalliedBefore};
 
+use crate::sums::{Sums, begun};
 use bench_reports::Tallies;
 use session_segments::{Segment, Segments};
 use std::alloc::{AllocError, Global};
@@ -19,8 +21,14 @@ pub(crate) fn add_segments(total: &mut Tallies, segments: &[Segment])
 }
 
 // How the tasks fared in segments and in what is replayed after them.
-fn tallies_up_to(alloc: Global, front: &[Segment], replayed: Tallies) -> Result<Tallies, AllocError>
-    requires { AreTalliedAfter front.now replayed }
+fn tallies_up_to(
+    alloc: Global,
+    sums: Option<&Sums>,
+    front: &[Segment],
+    replayed: Tallies,
+) -> Result<Tallies, AllocError>
+    requires sums { IfSome sums (λ sums. HasSums front.now sums.now) }
+    requires replayed { AreTalliedAfter front.now replayed }
     ensures { IfOk result
         (λ total. (known : AreTalliedAfter front.now replayed)
         → AreTallied known.header (front.now ++ known.made) total) }
@@ -28,8 +36,8 @@ fn tallies_up_to(alloc: Global, front: &[Segment], replayed: Tallies) -> Result<
     if front.is_empty() {
         return Ok(replayed);
     }
-    let mut total = Tallies::begin(alloc, front[0].kernel())?;
-    add_segments(&mut total, front);
+    let (mut total, count) = begun(alloc, sums, front)?;
+    add_segments(&mut total, &front[count..]);
     total.add(&replayed);
     Ok(total)
 }
@@ -38,11 +46,13 @@ fn tallies_up_to(alloc: Global, front: &[Segment], replayed: Tallies) -> Result<
 /// replayed, and in those that stay after them.
 pub(crate) fn tallies_after(
     alloc: Global,
+    sums: Option<&Sums>,
     segments: &Segments,
     before: usize,
     after: usize,
     replayed: Tallies,
 ) -> Result<Tallies, AllocError>
+    requires sums { IfSome sums (λ sums. HasSums (take before segments.now) sums.now) }
     requires order { before ≤ after }
     requires within { after ≤ length segments.now }
     requires replayed { (known : AreTalliedAfter (take before segments.now) replayed)
@@ -55,7 +65,7 @@ pub(crate) fn tallies_after(
         (all_steps (take before segments.now ++ known.made ++ drop after segments.now))) }
 {
     let segments = segments.as_slice();
-    let mut total = tallies_up_to(alloc, &segments[..before], replayed)?;
+    let mut total = tallies_up_to(alloc, sums, &segments[..before], replayed)?;
     add_segments(&mut total, &segments[after..]);
     Ok(total)
 }

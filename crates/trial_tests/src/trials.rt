@@ -182,6 +182,24 @@ fn many_edits_in_their_order(rt: HostRuntime) -> Result<(), Fail> {
     check_many(&rt, &rt)
 }
 
+/// Trials with sums of a session of 200 ticks in 50 segments, which is more than three times as
+/// many as lie between two sums: each tells what a trial without them tells.
+#[test]
+fn sums_change_no_trial(rt: HostRuntime) -> Result<(), Fail> {
+    let store = opened(&rt, &[TICK; 200], 4)?;
+    let sums = store.sums(rt.alloc())?;
+    for at in [0, 63, 64, 68, 129, 199, 200] {
+        let edit = Edit::Insert { at, step: TICK };
+        let (outcome, tallies) = store.trial(rt.alloc(), edit, &mut Meter::new(&rt))?;
+        let (summed, totals) = store.trial_with(rt.alloc(), &sums, edit, &mut Meter::new(&rt))?;
+        assert_eq!(rt; summed, outcome, "at {at}");
+        let lines = tallies.text(rt.alloc(), store.header())?;
+        let sum_lines = totals.text(rt.alloc(), store.header())?;
+        assert_eq!(rt; sum_lines.as_str(), lines.as_str(), "at {at}");
+    }
+    Ok(())
+}
+
 /// Ends as one of these; which of them, `rt try --test --fail-alloc N` decides.
 #[test]
 fn memory_that_is_refused(rt: HostRuntime) -> Result<(), Fail> {

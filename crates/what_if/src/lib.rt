@@ -3,6 +3,7 @@
 
 ghost use Rattle.std.specs.Prelude.{IfOk};
 ghost use Rattle.std.specs.List.{AllZip};
+ghost use Rattle.session_store.specs.Sums.{AreSumsOf};
 ghost use Rattle.session_store.specs.Trials.{IsTried};
 
 use bench_reports::Tallies;
@@ -17,6 +18,8 @@ use std::thread::Threads;
 /// another, and the store stays as it is. The work is split among as many threads as there are
 /// processors, and a thread that can't be started leaves its part to the one that would have.
 ///
+/// What many trials add up is added once before them, where there is memory for the sums.
+///
 /// Where memory is refused to one trial, its entry is [`StoreFault::NoMemory`]. It is an error only
 /// where the list of entries finds no room.
 pub fn try_all<R: Threads + Sync>(
@@ -28,12 +31,19 @@ pub fn try_all<R: Threads + Sync>(
 ) -> Result<Vec<Result<(Outcome, Tallies), StoreFault>>, AllocError>
     ensures { IfOk result (λ tried. AllZip (IsTried store.now) edits.now tried.items) }
 {
+    let sums = store.sums(alloc);
     edits
         .par_iter()
         .map(
             |edit: &Edit| -> Result<(Outcome, Tallies), StoreFault>
+                requires { IfOk sums (AreSumsOf store.now) }
                 ensures { IsTried store.entry.now edit.now result }
-            { store.trial(alloc, *edit, &mut Meter::new(host)) },
+            {
+                match &sums {
+                    Ok(sums) => store.trial_with(alloc, sums, *edit, &mut Meter::new(host)),
+                    Err(_) => store.trial(alloc, *edit, &mut Meter::new(host)),
+                }
+            },
         )
         .with_min_len(1)
         .collect(rt, alloc)

@@ -12,6 +12,9 @@ use Rattle.session_store.specs.Trials.{tallies_after}
 use Rattle.session_store.proofs.EditTold.{counts_err}
 use Rattle.session_store.specs.Replays.{HasSettings}
 use Rattle.session_store.proofs.EditReplays.{all_few, part_checked, rest_settings, counted, outcome_is, traced, traced_few, traced_length, traced_runs, traced_tallies, traced_total}
+use Rattle.session_store.specs.Sums.{AreSumsOf}
+use Rattle.session_store.proofs.StoreSums.{has_sums, some_then}
+use Rattle.session_store.proofs.StoreTallies.{replay_of}
 use Rattle.session_store.proofs.store.Store.try_accepted.Goals as goal
 
 pub retrace-requires-clause-steps : goal.retrace-requires-clause-steps
@@ -80,6 +83,14 @@ overflow_add-replayed c =
     let there = c.later-rest.ensures.rest in
     let few = traced_few inside.header inside.span inside.segments c.args.edit.now c.self.invariant words accepts parting.kernel parting.steps.items parting.before parting.after c.in_ok-kernel.ensures.parting given later count same there c.in_ok-tallies.ensures.meeting in
     omega (arith, few, c.count_steps.ensures)
+
+pub tallies_after-requires-clause-sums : goal.tallies_after-requires-clause-sums
+tallies_after-requires-clause-sums c =
+    let inside = c.self.inside in
+    some_then _ _ c.args.sums
+    (λ sums are. has_sums inside.header inside.span inside.segments c.in_ok-kernel.field-0.before sums.now (replay_of inside.header inside.span inside.segments c.self.invariant)
+    (subst (λ (kept : CheckpointedSession). AreSumsOf kept sums.now) (sym c.self.view_is) are))
+    c.requires.sums
 
 pub tallies_after-requires-clause-replayed : goal.tallies_after-requires-clause-replayed
 tallies_after-requires-clause-replayed c =

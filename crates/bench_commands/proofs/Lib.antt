@@ -3,6 +3,7 @@ mod ClapAnswers
 mod CommandLine
 mod KnownOutput
 mod OptionsRead
+mod Labelled
 mod Replays
 pub mod RefusedTexts
 pub mod Opened

@@ -1,5 +1,5 @@
 -- The lines of edits and of a replay.
-use Rattle.std.specs.Prelude.{ℕ, suc, List, [], ◌∷◌, ◌++◌, flat_map, codes, decimal, Bool, if◌then◌else◌, Result, Ok, Err}
+use Rattle.std.specs.Prelude.{◌≡◌, Some, slice_get, ℕ, suc, List, [], ◌∷◌, ◌++◌, flat_map, codes, decimal, Bool, if◌then◌else◌, Result, Ok, Err}
 use Rattle.bench_types.specs.declared.edit.EditFault.{EditFault}
 use Rattle.bench_types.specs.declared.header.Header.{Header}
 use Rattle.bench_types.specs.Codes.{refusal_code, edit_fault_code}
@@ -15,6 +15,12 @@ spaced text = codes " " ++ text
 -- the names of the running tasks, each after a space
 abbrev pub row_text : Header → List ℕ → List ℕ
 row_text header row = flat_map (λ task. spaced (name_of header task)) row
+
+-- each text is what rows say of the task with its number
+abbrev pub AreLabels : Header → List (List ℕ) → Type 0
+AreLabels header labels =
+    (task : ℕ) (label : List ℕ) → slice_get labels task ≡ Some label
+    → label ≡ spaced (name_of header task)
 
 abbrev pub flag_text : Bool → List ℕ
 flag_text flag = if flag then codes "true" else codes "false"

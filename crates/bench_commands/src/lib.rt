@@ -8,6 +8,7 @@ mod examples;
 mod execution;
 mod gate;
 mod input;
+mod labels;
 mod lines;
 mod output;
 mod program;

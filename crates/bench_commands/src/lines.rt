@@ -1,7 +1,8 @@
 ghost use Rattle.std.specs.Prelude.{◌≡◌, ◌++◌, OnOk, string_bytes};
 ghost use Rattle.bench_types.specs.Header.{name_of};
-ghost use Rattle.bench_commands.specs.Lines.{spaced, reply_text, row_text, start_line, step_line, answer_text, edit_line};
+ghost use Rattle.bench_commands.specs.Lines.{spaced, reply_text, row_text, start_line, step_line, answer_text, edit_line, AreLabels};
 
+use crate::labels::Labels;
 use bench_types::{EditFault, Header, Reply};
 use session_store::Outcome;
 use std::alloc::AllocError;
@@ -31,7 +32,7 @@ fn push_reply(text: &mut String, reply: Reply) -> Result<(), AllocError>
     }
 }
 
-fn push_task(text: &mut String, header: &Header, task: u32) -> Result<(), AllocError>
+pub(crate) fn push_task(text: &mut String, header: &Header, task: u32) -> Result<(), AllocError>
     ensures { OnOk result
         (string_bytes text.new ≡ string_bytes text.old ++ spaced (name_of header.now task)) }
 {
@@ -39,12 +40,18 @@ fn push_task(text: &mut String, header: &Header, task: u32) -> Result<(), AllocE
     header.push_name(text, task)
 }
 
-fn push_row(text: &mut String, header: &Header, row: &[u32]) -> Result<(), AllocError>
+fn push_row(
+    text: &mut String,
+    header: &Header,
+    labels: &Labels,
+    row: &[u32],
+) -> Result<(), AllocError>
+    requires { AreLabels header.now labels.now }
     ensures { OnOk result
         (string_bytes text.new ≡ string_bytes text.old ++ row_text header.now row.now) }
 {
     for task in row {
-        push_task(text, header, *task)?;
+        labels.push(text, header, *task)?;
     }
     Ok(())
 }
@@ -52,30 +59,34 @@ fn push_row(text: &mut String, header: &Header, row: &[u32]) -> Result<(), Alloc
 pub(crate) fn push_start_line(
     text: &mut String,
     header: &Header,
+    labels: &Labels,
     row: &[u32],
 ) -> Result<(), AllocError>
+    requires { AreLabels header.now labels.now }
     ensures { OnOk result
         (string_bytes text.new ≡ string_bytes text.old ++ start_line header.now row.now) }
 {
     text.push_str("start")?;
-    push_row(text, header, row)?;
+    push_row(text, header, labels, row)?;
     text.push_str("\n")
 }
 
 pub(crate) fn push_step_line(
     text: &mut String,
     header: &Header,
+    labels: &Labels,
     index: u32,
     reply: Reply,
     row: &[u32],
 ) -> Result<(), AllocError>
+    requires { AreLabels header.now labels.now }
     ensures { OnOk result
         (string_bytes text.new
         ≡ string_bytes text.old ++ step_line header.now index reply row.now) }
 {
     write!(text, "{index} ")?;
     push_reply(text, reply)?;
-    push_row(text, header, row)?;
+    push_row(text, header, labels, row)?;
     text.push_str("\n")
 }
 

@@ -3,8 +3,9 @@ ghost use Rattle.bench_types.specs.Limits.{max_steps};
 ghost use Rattle.bench_model.specs.Edits.{after_edits};
 ghost use Rattle.session_store.specs.Outcomes.{after_edit, answer, answers};
 ghost use Rattle.bench_commands.specs.Answer.{edited_text, first_line, line_at, replay_text, tally_text};
-ghost use Rattle.bench_commands.specs.Lines.{edit_lines};
+ghost use Rattle.bench_commands.specs.Lines.{edit_lines, AreLabels};
 
+use crate::labels::Labels;
 use crate::lines::{push_edit_line, push_start_line, push_step_line};
 use bench_types::{Edit, EditFault};
 use session_store::{Outcome, Store, StoreFault};
@@ -12,8 +13,14 @@ use smp_kernel::Meter;
 use std::alloc::{AllocError, Global};
 
 // The line of the step at the place, none past the last.
-fn push_line(text: &mut String, store: &Store, place: u32) -> Result<(), AllocError>
-    requires { place < max_steps }
+fn push_line(
+    text: &mut String,
+    store: &Store,
+    labels: &Labels,
+    place: u32,
+) -> Result<(), AllocError>
+    requires place { place < max_steps }
+    requires labels { AreLabels store.now.session.header labels.now }
     ensures { OnOk result
         (string_bytes text.new
         ≡ string_bytes text.old ++ line_at store.now.session.header store.now.session.steps place) }
@@ -24,28 +31,30 @@ fn push_line(text: &mut String, store: &Store, place: u32) -> Result<(), AllocEr
     let Some(row) = store.row_after(place) else {
         return Ok(());
     };
-    push_step_line(text, store.header(), place, reply, row)
+    push_step_line(text, store.header(), labels, place, reply, row)
 }
 
 // The tasks that run at the start.
-fn push_start(text: &mut String, store: &Store) -> Result<(), AllocError>
+fn push_start(text: &mut String, store: &Store, labels: &Labels) -> Result<(), AllocError>
+    requires { AreLabels store.now.session.header labels.now }
     ensures { OnOk result
         (string_bytes text.new ≡ string_bytes text.old ++ first_line store.now.session.header) }
 {
     match store.row(0) {
-        Some(row) => push_start_line(text, store.header(), row.as_slice()),
+        Some(row) => push_start_line(text, store.header(), labels, row.as_slice()),
         None => Ok(()),
     }
 }
 
-fn push_replay(text: &mut String, store: &Store) -> Result<(), AllocError>
+fn push_replay(alloc: Global, text: &mut String, store: &Store) -> Result<(), AllocError>
     ensures { OnOk result
         (string_bytes text.new
         ≡ string_bytes text.old ++ replay_text store.now.session.header store.now.session.steps) }
 {
-    push_start(text, store)?;
+    let labels = Labels::of_tasks(alloc, store.header())?;
+    push_start(text, store, &labels)?;
     for place in 0..store.len() {
-        push_line(text, store, place)?;
+        push_line(text, store, &labels, place)?;
     }
     Ok(())
 }
@@ -121,7 +130,7 @@ pub(crate) fn edited_replay(
 {
     let mut text = String::new(alloc);
     push_edits(alloc, meter, &mut text, store, edits)?;
-    push_replay(&mut text, store)?;
+    push_replay(alloc, &mut text, store)?;
     push_tallies(alloc, &mut text, store, tally)?;
     Ok(text)
 }

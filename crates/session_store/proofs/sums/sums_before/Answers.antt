@@ -10,8 +10,8 @@ use Rattle.session_store.specs.Sums.{block}
 use Rattle.session_store.specs.Trials.{AreTallied, IsReplay}
 use Rattle.session_store.proofs.StoreSums.{next_fits, next_goes, next_shapes, sums_pushed}
 use Rattle.session_store.proofs.StoreTallies.{none_tallied}
-use Rattle.session_store.proofs.sums.sums_of.Goals.{then-index-eq0+in_ok-copy+in_ok-push, else-index-eq0}
-use Rattle.session_store.proofs.sums.sums_of.Goals as goal
+use Rattle.session_store.proofs.sums.sums_before.Goals.{then-index-eq0+in_ok-copy+in_ok-push, else-index-eq0}
+use Rattle.session_store.proofs.sums.sums_before.Goals as goal
 
 pub loop-index-init : goal.loop-index-init
 loop-index-init c =

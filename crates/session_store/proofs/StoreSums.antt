@@ -21,8 +21,8 @@ use Rattle.segment_laws.specs.Segments.{SegmentView, all_steps, lengths, starts}
 use Rattle.segment_laws.proofs.Following.{All_front, all_more, all_parted, kernel_at, split_at, take_with}
 use Rattle.segment_laws.proofs.Reading.{start_settings}
 use Rattle.session_store.specs.Kept.{kept_of, session_of}
-use Rattle.session_store.specs.Sums.{block, tallies_from, AreSums, AreSumsAfter, AreSumsBefore, AreSumsOf, CheckpointSums, HasSums, HasSumsInFront}
-use Rattle.session_store.specs.Trials.{AreTallied, AreTalliedAfter, AreTalliedBefore, AreTalliedFrom, IsReplay}
+use Rattle.session_store.specs.Sums.{block, tallies_from, AreSums, AreSumsBefore, AreSumsOf, CheckpointSums, HasSums, HasSumsInFront}
+use Rattle.session_store.specs.Trials.{AreTallied, AreTalliedAfter, AreTalliedBefore, IsReplay}
 use Rattle.session_store.proofs.LaterSums.{part_shape}
 use Rattle.session_store.proofs.StoreTallies.{first_there, run_fits, run_goes, run_shapes, sum_fits, sum_shapes, tallied_goes, Counts}
 

@@ -1,7 +1,7 @@
-use Rattle.std.proofs.Common.{rules, ◌≡◌, ℕ, ◌+◌, ◌*◌, ◌/◌, ◌%◌, ◌<◌, ◌≤◌, List, length, take, drop, get_or, refl, sym, ap, subst, ◌∙◌, arith}
+use Rattle.std.proofs.Common.{rules, ◌≡◌, ℕ, ◌*◌, ◌<◌, length, take, drop, get_or, refl, sym, ap, subst, ◌∙◌, arith}
 use Rattle.std.proofs.lemmas.Grind.{div_ceil_times}
 use Rattle.std.proofs.lemmas.Option.{slice_get_read}
-use Rattle.session_store.specs.Sums.{block, CheckpointSums, HasSums, IsSumFrom}
+use Rattle.session_store.specs.Sums.{block, CheckpointSums, HasSums}
 use Rattle.session_store.specs.Trials.{AreTalliedFrom}
 use Rattle.session_store.proofs.sums.sum_from.Goals as goal
 

@@ -1,8 +1,5 @@
-use Rattle.std.proofs.Common.{◌≡◌, ◌+◌, ◌-◌, ◌*◌, ◌/◌, ◌<◌, List, length, take, get_or, Some, refl, sym, ap, subst, ◌∙◌, arith}
-use Rattle.std.specs.Prelude.{slice_get}
-use Rattle.std.proofs.lemmas.Option.{slice_get-get_or, slice_get_read}
-use Rattle.bench_model.specs.Tally.{TaskTally}
-use Rattle.segment_laws.specs.Segments.{SegmentView}
+use Rattle.std.proofs.Common.{◌-◌, ◌*◌, ◌/◌, ◌<◌, length, take, get_or, refl, sym, ap, subst, ◌∙◌, arith}
+use Rattle.std.proofs.lemmas.Option.{slice_get_read}
 use Rattle.session_store.specs.Sums.{CheckpointSums}
 use Rattle.session_store.specs.Trials.{AreTallied}
 use Rattle.session_store.proofs.StoreSums.{other_header}

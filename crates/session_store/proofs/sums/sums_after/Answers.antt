@@ -1,11 +1,9 @@
-use Rattle.std.proofs.Common.{◌≡◌, ℕ, zero, suc, ◌+◌, ◌-◌, ◌*◌, ◌/◌, ◌%◌, ◌<◌, ◌≤◌, List, [], ◌∷◌, ◌++◌, length, take, drop, Some, refl, sym, ap, subst, ◌∙◌, arith, length-append}
+use Rattle.std.proofs.Common.{◌≡◌, ℕ, suc, ◌+◌, ◌-◌, ◌*◌, ◌/◌, ◌%◌, ◌<◌, ◌≤◌, List, [], ◌∷◌, ◌++◌, length, take, drop, refl, sym, ap, subst, ◌∙◌, arith, length-append}
 use Rattle.std.specs.Prelude.{reverse, slice_get}
 use Rattle.std.proofs.lemmas.Bool.Decides.{nat_tests}
-use Rattle.std.proofs.lemmas.List.{length-reverse}
 use Rattle.std.proofs.lemmas.Option.{slice_get_read}
 use Rattle.bench_types.specs.declared.header.Header.{Header}
 use Rattle.bench_model.specs.Tally.{TaskTally}
-use Rattle.segment_laws.specs.Segments.{SegmentView}
 use Rattle.session_store.specs.Sums.{block}
 use Rattle.session_store.specs.Trials.{AreTalliedFrom, IsReplay}
 use Rattle.session_store.proofs.LaterSums.{earlier_fits, earlier_goes, earlier_shapes, last_tallied, sum_pushed, AreFrom}

@@ -1,6 +1,5 @@
-use Rattle.std.proofs.Common.{◌≡◌, ℕ, suc, ◌+◌, ◌-◌, ◌/◌, length, take, drop}
+use Rattle.std.proofs.Common.{◌≡◌, suc, ◌+◌, ◌-◌, ◌/◌, length, take, drop}
 use Rattle.bench_types.specs.declared.header.Header.{Header}
-use Rattle.session_store.specs.Sums.{block}
 use Rattle.session_store.specs.Trials.{AreTalliedFrom, IsReplay}
 use Rattle.session_store.proofs.LaterSums.{AreFrom}
 use Rattle.session_store.proofs.sums.sums_after.Given as goal

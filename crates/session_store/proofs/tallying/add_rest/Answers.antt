@@ -1,7 +1,3 @@
-use Rattle.std.proofs.Common.{◌++◌, ◌-◌, List, length, take, drop, subst, arith}
-use Rattle.std.proofs.lemmas.List.{take_all, length-drop}
-use Rattle.segment_laws.specs.Segments.{SegmentView}
-use Rattle.session_store.specs.Trials.{AreTallied, AreTalliedBefore}
 use Rattle.session_store.proofs.LaterSums.{all_lent, before_near, far_added, far_fits, far_shapes}
 use Rattle.session_store.proofs.tallying.add_rest.Goals as goal
 

@@ -1,4 +1,4 @@
-use Rattle.std.proofs.Common.{◌++◌, ◌≤◌, List, length, take, sym, ap, subst, ◌∙◌, arith}
+use Rattle.std.proofs.Common.{◌++◌, List, take, sym, subst}
 use Rattle.segment_laws.specs.Segments.{SegmentView}
 use Rattle.session_store.specs.Sums.{HasSums}
 use Rattle.session_store.specs.Trials.{AreTallied, AreTalliedAfter}

@@ -32,18 +32,18 @@ use Rattle.session_store.proofs.StoreTallies.{first_of, first_there, run_fits, r
 
 module _ {X : Type 0} where
   -- the items from one on
-  pub drop_with : (xs : List X) (index : ℕ) (x : X) → slice_get xs index ≡ Some x → drop index xs ≡ x ∷ drop (suc index) xs
+  drop_with : (xs : List X) (index : ℕ) (x : X) → slice_get xs index ≡ Some x → drop index xs ≡ x ∷ drop (suc index) xs
   drop_with [] index x found = absurd (cc found)
   drop_with (y ∷ ys) zero x found = ap (λ z. z ∷ ys) (same_Some y x found)
   drop_with (y ∷ ys) (suc index) x found = drop_with ys index x found
 
   -- the items from an index on are those up to a later one, and those from there on
-  pub drop_cut : (xs : List X) (from next : ℕ) → from ≤ next → drop from xs ≡ take (next - from) (drop from xs) ++ drop next xs
+  drop_cut : (xs : List X) (from next : ℕ) → from ≤ next → drop from xs ≡ take (next - from) (drop from xs) ++ drop next xs
   drop_cut xs from next order =
       let same : from + (next - from) ≡ next = omega (arith, order) in
       sym (take-append-drop (next - from) (drop from xs)) ∙ ap (λ ys. take (next - from) (drop from xs) ++ ys) (drop-drop (next - from) from xs ∙ ap (λ n. drop n xs) same)
 
-  pub reverse_pushed : (xs : List X) (x : X) → reverse (xs ++ x ∷ []) ≡ x ∷ reverse xs
+  reverse_pushed : (xs : List X) (x : X) → reverse (xs ++ x ∷ []) ≡ x ∷ reverse xs
   reverse_pushed xs x = reverse-append xs (x ∷ [])
 
 -- ---- the order in which two parts are added
@@ -60,7 +60,7 @@ tally_swaps a b same =
     same_tally (numbers_so (λ core. run_at a core + run_at b core) (λ core. run_at b core + run_at a core) (length a.run) (length b.run) same (λ core below. omega arith))
     (omega arith) (omega arith) (omega arith) (omega arith) (omega arith) (omega arith)
 
-pub added_swaps : (a b : List TaskTally) → shape a ≡ shape b → added a b ≡ added b a
+added_swaps : (a b : List TaskTally) → shape a ≡ shape b → added a b ≡ added b a
 unfolding added
 added_swaps a b same =
     numbers_so (λ task. added_tally (tally_at a task) (tally_at b task)) (λ task. added_tally (tally_at b task) (tally_at a task)) (length a) (length b) (same_length a b same)
@@ -191,7 +191,7 @@ module _ (header : Header) (segments : List SegmentView) (replay : IsReplay head
 -- a sum of them in one is that in the other
 module _ (header : Header) (segments : List SegmentView) (replay : IsReplay header segments) (front later rest : List SegmentView) (whole : segments ≡ front ++ later ++ rest)
     (other : Header) (others : List SegmentView) (replayed : IsReplay other others) (before more : List SegmentView) (parts : others ≡ before ++ later ++ more) (first : SegmentView) (found : slice_get later 0 ≡ Some first) where
-  pub later_alike : (total : List TaskTally) → AreTalliedFrom header front later total → AreTalliedFrom other before later total
+  later_alike : (total : List TaskTally) → AreTalliedFrom header front later total → AreTalliedFrom other before later total
   later_alike total tallied =
       let a = state_after (start header) (all_steps front) in
       let b = state_after (start other) (all_steps before) in

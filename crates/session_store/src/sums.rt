@@ -9,7 +9,7 @@ use session_segments::Segment;
 use std::alloc::{AllocError, Global};
 use std::marker::Model;
 
-/// From one segment before which there is a sum to the next there are so many.
+/// From one segment where there are sums to the next there are so many.
 const BLOCK: usize = 16;
 
 /// How the tasks fared up to some checkpoints of a session, and from each of them on: sums that are

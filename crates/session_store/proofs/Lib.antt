@@ -2,6 +2,7 @@ mod Cuts
 mod EditReplays
 mod EditTold
 mod GoingOn
+mod LaterSums
 mod Opened
 mod Openings
 pub mod Parted

@@ -1,7 +1,7 @@
 -- Sums of the tallies of a replay's first segments.
 use Rattle.std.proofs.Common.{◌≡◌, ℕ, zero, suc, ◌+◌, ◌-◌, ◌*◌, ◌<◌, ◌≤◌, ◌^◌, ◌⊎◌, inl, inr, ⊎_elim, List, [], ◌∷◌, ◌++◌, length, take, drop, Option, Some, None, refl, sym, ap, subst, ◌∙◌, arith}
 use Rattle.std.specs.Prelude.{All, IfSome, slice_get}
-use Rattle.std.proofs.lemmas.List.{append_assoc, length-append, length-drop, length-map, length-take, take_all, take_at, take-append-drop, take-take}
+use Rattle.std.proofs.lemmas.List.{append_assoc, drop_at, length-append, length-drop, length-map, length-take, take_all, take_at, take-append-drop, take-take}
 use Rattle.std.proofs.lemmas.Option.{same_Some, slice_get_within}
 use Rattle.bench_types.specs.declared.header.Header.{Header}
 use Rattle.bench_types.specs.declared.kernel_data.Settings.{Settings}
@@ -9,6 +9,7 @@ use Rattle.bench_types.specs.declared.step.Step.{Step}
 use Rattle.bench_types.specs.Step.{settings_of, IsCheckedStep}
 use Rattle.bench_model.specs.Equal.{Same, StandsFor}
 use Rattle.bench_model.specs.Lists.{View}
+use Rattle.bench_model.specs.Session.{state_after, state_at}
 use Rattle.bench_model.specs.Start.{start}
 use Rattle.bench_model.specs.Table.{Table}
 use Rattle.bench_model.specs.Tallied.{added, part_tallies, shape, shape_of, AllCountsBelow}
@@ -19,9 +20,10 @@ use Rattle.meeting_laws.proofs.Runs.{run_alike}
 use Rattle.segment_laws.specs.Segments.{SegmentView, all_steps, lengths, starts}
 use Rattle.segment_laws.proofs.Following.{All_front, all_more, all_parted, kernel_at, split_at, take_with}
 use Rattle.segment_laws.proofs.Reading.{start_settings}
-use Rattle.session_store.specs.Kept.{kept_of}
-use Rattle.session_store.specs.Sums.{block, AreSums, AreSumsOf, HasSums}
+use Rattle.session_store.specs.Kept.{kept_of, session_of}
+use Rattle.session_store.specs.Sums.{block, tallies_from, AreSums, AreSumsBefore, AreSumsOf, CheckpointSums, HasSums, HasSumsInFront}
 use Rattle.session_store.specs.Trials.{AreTallied, AreTalliedAfter, AreTalliedBefore, IsReplay}
+use Rattle.session_store.proofs.LaterSums.{part_shape}
 use Rattle.session_store.proofs.StoreTallies.{first_there, run_fits, run_goes, run_shapes, sum_fits, sum_shapes, tallied_goes, Counts}
 
 -- ---- one segment more
@@ -99,38 +101,83 @@ front_steps : (segments : List SegmentView) (n place : ℕ) → place ≡ length
 front_steps segments n place is =
     ap (take place) (all_parted n segments) ∙ take_at (all_steps (take n segments)) (all_steps (drop n segments)) place (sym is)
 
-module _ (header : Header) (span : ℕ) (segments : List SegmentView) (sums : List (List TaskTally)) where
+back_steps : (segments : List SegmentView) (n place : ℕ) → place ≡ length (all_steps (take n segments)) → drop place (all_steps segments) ≡ all_steps (drop n segments)
+back_steps segments n place is =
+    ap (drop place) (all_parted n segments) ∙ drop_at (all_steps (take n segments)) (all_steps (drop n segments)) place (sym is)
+
+-- from a place on where a segment begins
+from_there : (header : Header) (segments : List SegmentView) (n place : ℕ) → place ≡ length (all_steps (take n segments)) → tallies_from (session_of header segments) place ≡ part_tallies (settings_of header) (state_after (start header) (all_steps (take n segments))) (all_steps (drop n segments))
+unfolding state_at
+from_there header segments n place is =
+    ap (λ (steps : List Step). part_tallies (settings_of header) (state_after (start header) steps) (drop place (all_steps segments))) (front_steps segments n place is)
+    ∙ ap (part_tallies (settings_of header) (state_after (start header) (all_steps (take n segments)))) (back_steps segments n place is)
+
+module _ (header : Header) (span : ℕ) (segments : List SegmentView) (sums : CheckpointSums) where
+  -- where the checkpoint is, and that a segment begins there
+  place_told : (k place : ℕ) → slice_get (starts 0 (lengths segments)) k ≡ Some place → (place ≡ length (all_steps (take k segments))) × (k < length segments)
+  place_told k place there = (
+    omega (arith, start_got segments 0 k place there),
+    omega (arith, slice_get_within (starts 0 (lengths segments)) k place there, places_many segments),
+  )
+
   pub sums_told : AreSums header segments sums → AreSumsOf (kept_of header span segments) sums
   sums_told are = record {
-    each = λ k place sum there found.
-        let place_is : place ≡ length (all_steps (take (k * block) segments)) = omega (arith, start_got segments 0 (k * block) place there) in
-        let low : k * block < length segments = omega (arith, slice_get_within (starts 0 (lengths segments)) (k * block) place there, places_many segments) in
-        (are.each k sum low found).counts ∙ sym (stepwise header (all_steps (take (k * block) segments))) ∙ ap (tallies header) (sym (front_steps segments (k * block) place place_is));
-    all = λ k low. are.all k (omega (arith, low, places_many segments));
+    before = λ k place sum there found.
+        let told = place_told (k * block) place there in
+        (are.before.each k sum told.1 found).counts ∙ sym (stepwise header (all_steps (take (k * block) segments))) ∙ ap (tallies header) (sym (front_steps segments (k * block) place told.0));
+    after = λ k place sum there found.
+        let told = place_told (k * block) place there in
+        (are.after.each k sum told.1 found).counts ∙ sym (from_there header segments (k * block) place told.0);
+    all = λ k low.
+        let within : k * block < length segments = omega (arith, low, places_many segments) in
+        (are.before.all k within, are.after.all k within);
   }
+
+  -- a checkpoint, by its segment
+  place_known : (k : ℕ) → k < length segments → (place : ℕ) × (slice_get (starts 0 (lengths segments)) k ≡ Some place) × (place ≡ length (all_steps (take k segments)))
+  place_known k low = (0 + length (all_steps (take k segments)), got_start segments 0 k low, omega arith)
 
   pub sums_known : AreSumsOf (kept_of header span segments) sums → AreSums header segments sums
   sums_known are = record {
-    each = λ k sum low found.
-        let place = 0 + length (all_steps (take (k * block) segments)) in
-        let place_is : place ≡ length (all_steps (take (k * block) segments)) = omega arith in
-        let is = are.each k place sum (got_start segments 0 (k * block) low) found in
-        record {
-          counts = is ∙ ap (tallies header) (front_steps segments (k * block) place place_is) ∙ stepwise header (all_steps (take (k * block) segments));
-          sizes = ap shape is ∙ session_shape header (take place (all_steps segments));
-        };
-    all = λ k low. are.all k (omega (arith, low, places_many segments));
+    before = record {
+      each = λ k sum low found.
+          let known = place_known (k * block) low in
+          let is = are.before k known.0 sum known.1 found in
+          record {
+            counts = is ∙ ap (tallies header) (front_steps segments (k * block) known.0 known.2) ∙ stepwise header (all_steps (take (k * block) segments));
+            sizes = ap shape is ∙ session_shape header (take known.0 (all_steps segments));
+          };
+      all = λ k low. (are.all k (omega (arith, low, places_many segments))).0;
+    };
+    after = record {
+      each = λ k sum low found.
+          let known = place_known (k * block) low in
+          let is = are.after k known.0 sum known.1 found ∙ from_there header segments (k * block) known.0 known.2 in
+          record {
+            counts = is;
+            sizes = ap shape is ∙ part_shape (settings_of header) (state_after (start header) (all_steps (take (k * block) segments))) (all_steps (drop (k * block) segments));
+          };
+      all = λ k low. (are.all k (omega (arith, low, places_many segments))).1;
+    };
   }
 
-  -- those of the segments before an edit
-  pub sums_in_front : (before : ℕ) → AreSums header segments sums → AreSums header (take before segments) sums
-  sums_in_front before are = record {
-    each = λ k sum low found.
-        let within : k * block ≤ before = omega (arith, low, length-take before segments) in
-        let whole : k * block < length segments = omega (arith, low, length-take before segments) in
-        subst (λ (xs : List SegmentView). AreTallied header xs sum) (sym (take-take (k * block) before segments within)) (are.each k sum whole found);
-    all = λ k low. are.all k (omega (arith, low, length-take before segments));
-  }
+-- those of the segments before an edit
+pub sums_in_front : (header : Header) (segments : List SegmentView) (sums : List (List TaskTally)) (before : ℕ) → AreSumsBefore header segments sums → AreSumsBefore header (take before segments) sums
+sums_in_front header segments sums before are = record {
+  each = λ k sum low found.
+      let within : k * block ≤ before = omega (arith, low, length-take before segments) in
+      let whole : k * block < length segments = omega (arith, low, length-take before segments) in
+      subst (λ (xs : List SegmentView). AreTallied header xs sum) (sym (take-take (k * block) before segments within)) (are.each k sum whole found);
+  all = λ k low. are.all k (omega (arith, low, length-take before segments));
+}
+
+abbrev pub front_sums : (segments : List SegmentView) (sums : CheckpointSums) (before : ℕ) → HasSums segments sums → HasSumsInFront (take before segments) sums
+front_sums segments sums before known = record {
+  header = known.header;
+  rest = drop before segments;
+  replay = subst (IsReplay known.header) (sym (take-append-drop before segments)) known.replay;
+  are_sums = sums_in_front known.header segments sums.before before known.are_sums.before;
+}
 
 -- ---- the rest of the first segments and what is replayed after them
 
@@ -162,11 +209,6 @@ module _ (front : List SegmentView) (replayed : List TaskTally) (known : AreTall
     pub front_added : (total_2 : List TaskTally) → total_2 ≡ added total_1 replayed → shape total_2 ≡ shape total_1 → AreTallied known.header (front ++ known.made) total_2
     front_added = run_goes known.header (front ++ known.made ++ known.later) known.replay front known.made known.later refl replayed total_1 known.counts front_tallied
 
--- the first of some segments
-pub first_of : (front : List SegmentView) → 0 < length front → (first : SegmentView) × (slice_get front 0 ≡ Some first)
-first_of [] some = absurd (omega (arith, some))
-first_of (first ∷ front) some = (first, refl)
-
 -- ---- the loop that makes them
 
 -- the sum of the segments so far is pushed at each block's begin
@@ -186,11 +228,10 @@ pub some_then : {X : Type 0} (P Q : X → Type 0) (given : Option X) → ((x : X
 some_then P Q None goes so = tt
 some_then P Q (Some x) goes so = goes x so
 
--- a replay with sums has them of its first segments
-abbrev pub has_sums : (header : Header) (span : ℕ) (segments : List SegmentView) (before : ℕ) (sums : List (List TaskTally)) → IsReplay header segments → AreSumsOf (kept_of header span segments) sums → HasSums (take before segments) sums
-has_sums header span segments before sums replay are = record {
+-- a replay with sums
+abbrev pub has_sums : (header : Header) (span : ℕ) (segments : List SegmentView) (sums : CheckpointSums) → IsReplay header segments → AreSumsOf (kept_of header span segments) sums → HasSums segments sums
+has_sums header span segments sums replay are = record {
   header = header;
-  rest = drop before segments;
-  replay = subst (IsReplay header) (sym (take-append-drop before segments)) replay;
-  are_sums = sums_in_front header span segments sums before (sums_known header span segments sums are);
+  replay = replay;
+  are_sums = sums_known header span segments sums are;
 }

@@ -1,8 +1,8 @@
 -- The tallies of a session, one segment after another.
-use Rattle.std.proofs.Common.{◌≡◌, ℕ, suc, ◌+◌, ◌-◌, ◌^◌, ◌≤◌, List, [], ◌∷◌, ◌++◌, length, take, drop, Some, refl, sym, ap, subst, ◌∙◌, arith, add-one}
+use Rattle.std.proofs.Common.{◌≡◌, ℕ, suc, ◌+◌, ◌^◌, ◌<◌, ◌≤◌, List, [], ◌∷◌, ◌++◌, length, take, drop, Some, refl, sym, ap, subst, ◌∙◌, arith, add-one}
 use Rattle.std.specs.Prelude.{slice_get, true, ◌==◌}
 use Rattle.std.proofs.Math.Dec.{eqb-suc-zero}
-use Rattle.std.proofs.lemmas.List.{take_all, append_assoc, append-nil, length-append, length-drop}
+use Rattle.std.proofs.lemmas.List.{take_all, append_assoc, append-nil, length-append}
 use Rattle.bench_types.specs.declared.header.Header.{Header}
 use Rattle.bench_types.specs.declared.kernel_data.Settings.{Settings}
 use Rattle.bench_types.specs.declared.step.Step.{Step}
@@ -146,14 +146,16 @@ pub first_there : (front rest : List SegmentView) (first : SegmentView) → slic
 first_there [] rest first found = absurd (cc found)
 first_there (segment ∷ front) rest first found = found
 
+-- the first of some segments
+pub first_of : (front : List SegmentView) → 0 < length front → (first : SegmentView) × (slice_get front 0 ≡ Some first)
+first_of [] some = absurd (omega (arith, some))
+first_of (first ∷ front) some = (first, refl)
+
 pub empty_front : (front : List SegmentView) → (length front == 0) ≡ true → front ≡ []
 empty_front [] none = refl
 empty_front (segment ∷ front) none = absurd (cc (none, eqb-suc-zero (length front)))
 
 module _ (front : List SegmentView) (replayed : List TaskTally) (known : AreTalliedAfter front replayed) where
-  abbrev all : List SegmentView
-  all = front ++ known.made ++ known.later
-
   -- where there are none, that is all so far
   pub only_replayed : front ≡ [] → AreTallied known.header (front ++ known.made) replayed
   only_replayed none = record {
@@ -163,35 +165,13 @@ module _ (front : List SegmentView) (replayed : List TaskTally) (known : AreTall
     sizes = known.sizes;
   }
 
-  -- no segment is counted yet
-  module _ (first : SegmentView) (kernel : View) (total : List TaskTally) (found : slice_get front 0 ≡ Some first) (lent : kernel ≡ first.kernel) (begun : total ≡ first_tallies kernel.settings kernel.control) (sized : shape total ≡ shape_of kernel.settings) where
-    abbrev pub before_front : AreTalliedBefore total front
-    before_front = record {
-      header = known.header;
-      earlier = [];
-      later = known.made ++ known.later;
-      replay = subst (IsReplay known.header) (append_assoc front known.made known.later) known.replay;
-      tallied = none_tallied known.header all known.replay first kernel total (sym (first_there (front ++ known.made) known.later first (first_there front known.made first found))) lent begun sized;
-    }
-
-    -- the segments are counted, and what is replayed is added
-    module _ (total_1 : List TaskTally) (counted : Counts total front total_1) where
-      pub replayed_shapes : shape total_1 ≡ shape replayed
-      replayed_shapes = run_shapes known.header all known.replay front known.made known.later refl replayed total_1 known.counts (counted before_front) known.sizes
-
-      pub replayed_fits : AllCountsBelow (2 ^ 32) (added total_1 replayed)
-      replayed_fits = run_fits known.header all known.replay front known.made known.later refl replayed total_1 known.counts (counted before_front)
-
-      pub replayed_added : (total_2 : List TaskTally) → total_2 ≡ added total_1 replayed → shape total_2 ≡ shape total_1 → AreTallied known.header (front ++ known.made) total_2
-      replayed_added = run_goes known.header all known.replay front known.made known.later refl replayed total_1 known.counts (counted before_front)
-
 -- the segments that come after them, as a slice tells them
 module _ (segments lent : List SegmentView) (before after : ℕ) (replayed : List TaskTally) (known : AreTalliedAfter (take before segments) replayed) (later : known.later ≡ drop after segments) (there : lent ≡ segments) where
   abbrev pub back : List SegmentView
-  back = take (length lent - after) (drop after lent)
+  back = drop after lent
 
   pub back_is : back ≡ known.later
-  back_is = take_all (length lent - after) (drop after lent) (omega (arith, length-drop after lent)) ∙ ap (λ (xs : List SegmentView). drop after xs) there ∙ sym later
+  back_is = ap (λ (xs : List SegmentView). drop after xs) there ∙ sym later
 
   module _ (total : List TaskTally) (so_far : AreTallied known.header (take before segments ++ known.made) total) where
     abbrev pub before_back : AreTalliedBefore total back

@@ -41,6 +41,15 @@ pub record AreTallied (header : Header) (segments : List SegmentView)
   pub counts : total ≡ part_tallies (settings_of header) (start header) (all_steps segments)
   pub sizes : shape total ≡ shape_of (settings_of header)
 
+-- the same of segments that come after others
+pub record AreTalliedFrom (header : Header) (earlier segments : List SegmentView)
+    (total : List TaskTally) : Type 0 where
+  pub counts :
+      total
+      ≡ part_tallies (settings_of header) (state_after (start header) (all_steps earlier))
+      (all_steps segments)
+  pub sizes : shape total ≡ shape_of (settings_of header)
+
 -- the replay of a session that is not too long, from its start in segments
 pub record IsReplay (header : Header) (segments : List SegmentView) : Type 0 where
   pub session : IsSession (session_of header segments)

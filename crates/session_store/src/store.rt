@@ -192,8 +192,8 @@ impl Store {
         Ok(sums)
     }
 
-    /// What [`Store::trial`] gives. How the tasks fared long before the edit is taken from the
-    /// sums.
+    /// What [`Store::trial`] gives. How the tasks fared long before the edit, and long after what
+    /// is replayed, is taken from the sums.
     pub fn trial_with(
         &self,
         alloc: Global,

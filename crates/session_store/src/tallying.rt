@@ -1,10 +1,10 @@
 ghost use Rattle.std.specs.Prelude.{◌≡◌, ◌++◌, ◌≤◌, IfOk, IfSome, take, drop, length};
 ghost use Rattle.bench_model.specs.Tally.{tallies};
 ghost use Rattle.segment_laws.specs.Segments.{all_steps};
-ghost use Rattle.session_store.specs.Sums.{HasSums};
+ghost use Rattle.session_store.specs.Sums.{HasSums, HasSumsInFront};
 ghost use Rattle.session_store.specs.Trials.{AreTallied, AreTalliedAfter, AreTalliedBefore};
 
-use crate::sums::{Sums, begun};
+use crate::sums::{Sums, begun, sum_from};
 use bench_reports::Tallies;
 use session_segments::{Segment, Segments};
 use std::alloc::{AllocError, Global};
@@ -27,7 +27,7 @@ fn tallies_up_to(
     front: &[Segment],
     replayed: Tallies,
 ) -> Result<Tallies, AllocError>
-    requires sums { IfSome sums (λ sums. HasSums front.now sums.now) }
+    requires sums { IfSome sums (λ sums. HasSumsInFront front.now sums.now) }
     requires replayed { AreTalliedAfter front.now replayed }
     ensures { IfOk result
         (λ total. (known : AreTalliedAfter front.now replayed)
@@ -42,6 +42,24 @@ fn tallies_up_to(
     Ok(total)
 }
 
+// Adds how the tasks fared in the segments from the index on, which come after those that are
+// counted: up to a checkpoint from which there is a sum, one by one.
+fn add_rest(total: &mut Tallies, sums: Option<&Sums>, segments: &[Segment], from: usize)
+    requires sums { IfSome sums (λ sums. HasSums segments.now sums.now) }
+    requires within { from ≤ length segments.now }
+    requires counted { AreTalliedBefore total.old (drop from segments.now) }
+    ensures { (known : AreTalliedBefore total.old (drop from segments.now))
+        → AreTallied known.header (known.earlier ++ drop from segments.now) total.new }
+{
+    match sum_from(sums, segments, from) {
+        Some((sum, next)) => {
+            add_segments(total, &segments[from..next]);
+            total.add(sum);
+        }
+        None => add_segments(total, &segments[from..]),
+    }
+}
+
 /// How the tasks fare after an edit: in the segments that stay before it, in those that are
 /// replayed, and in those that stay after them.
 pub(crate) fn tallies_after(
@@ -52,7 +70,7 @@ pub(crate) fn tallies_after(
     after: usize,
     replayed: Tallies,
 ) -> Result<Tallies, AllocError>
-    requires sums { IfSome sums (λ sums. HasSums (take before segments.now) sums.now) }
+    requires sums { IfSome sums (λ sums. HasSums segments.now sums.now) }
     requires order { before ≤ after }
     requires within { after ≤ length segments.now }
     requires replayed { (known : AreTalliedAfter (take before segments.now) replayed)
@@ -66,6 +84,6 @@ pub(crate) fn tallies_after(
 {
     let segments = segments.as_slice();
     let mut total = tallies_up_to(alloc, sums, &segments[..before], replayed)?;
-    add_segments(&mut total, &segments[after..]);
+    add_rest(&mut total, sums, segments, after);
     Ok(total)
 }

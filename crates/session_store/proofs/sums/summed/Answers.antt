@@ -1,10 +1,9 @@
-use Rattle.std.proofs.Common.{◌≡◌, ◌+◌, ◌-◌, ◌*◌, ◌/◌, ◌<◌, List, length, take, get_or, Some, refl, sym, ap, subst, ◌∙◌, arith}
-use Rattle.std.specs.Prelude.{slice_get}
-use Rattle.std.proofs.lemmas.Option.{slice_get-get_or, slice_get_read}
-use Rattle.bench_model.specs.Tally.{TaskTally}
-use Rattle.segment_laws.specs.Segments.{SegmentView}
+use Rattle.std.proofs.Common.{◌-◌, ◌*◌, ◌/◌, ◌<◌, length, take, get_or, refl, sym, ap, subst, ◌∙◌, arith}
+use Rattle.std.proofs.lemmas.Option.{slice_get_read}
+use Rattle.session_store.specs.Sums.{CheckpointSums}
 use Rattle.session_store.specs.Trials.{AreTallied}
-use Rattle.session_store.proofs.StoreSums.{first_of, other_header}
+use Rattle.session_store.proofs.StoreSums.{other_header}
+use Rattle.session_store.proofs.StoreTallies.{first_of}
 use Rattle.session_store.proofs.sums.summed.Goals as goal
 
 pub index-requires : goal.index-requires
@@ -12,7 +11,7 @@ index-requires c =
     let block = (length c.args.front.now - 1) / 16 in
     let low : block * 16 < length c.args.front.now = omega (arith, c.requires.some) in
     let there = c.requires.sums.are_sums.all block low in
-    omega (arith, there, ap (λ (sums : List (List TaskTally)). length sums) c.sums.view_is)
+    omega (arith, there, ap (λ (sums : CheckpointSums). length sums.before) c.sums.view_is)
 
 pub returns-clause-tallied : goal.returns-clause-tallied
 returns-clause-tallied c = λ header rest replay.
@@ -21,6 +20,6 @@ returns-clause-tallied c = λ header rest replay.
     let block = (length front - 1) / 16 in
     let low : block * 16 < length front = omega (arith, c.requires.some) in
     let first = first_of front c.requires.some in
-    let found = slice_get_read c.args.sums.now (length c.args.sums.now) block c.index.result.now refl (sums.are_sums.all block low) (c.index.ensures ∙ ap (λ (sums : List (List TaskTally)). get_or sums block c.index.result.now) c.sums.view_is) in
+    let found = slice_get_read c.args.sums.now.before (length c.args.sums.now.before) block c.index.result.now refl (sums.are_sums.all block low) (c.index.ensures ∙ ap (λ (sums : CheckpointSums). get_or sums.before block c.index.result.now) c.sums.view_is) in
     subst (AreTallied header (take (block * 16) front)) (sym c.in_ok-sum.ensures)
     (other_header sums.header header front sums.rest rest first.0 (block * 16) c.index.result.now first.1 sums.replay replay (sums.are_sums.each block c.index.result.now low found))

@@ -1,7 +1,5 @@
-use Rattle.std.proofs.Common.{◌++◌, ◌<◌, ◌-◌, List, length, take, drop, refl, sym, subst, ◌∙◌, arith}
-use Rattle.std.proofs.lemmas.Bool.Decides.{nat_tests}
-use Rattle.segment_laws.specs.Segments.{SegmentView}
-use Rattle.session_store.specs.Trials.{AreTallied, AreTalliedAfter, IsReplay}
+use Rattle.std.proofs.Common.{◌++◌, ◌-◌, length, take, drop, refl, sym, subst, ◌∙◌}
+use Rattle.session_store.specs.Trials.{IsReplay}
 use Rattle.std.proofs.lemmas.List.{append_assoc}
 use Rattle.session_store.proofs.StoreSums.{before_lent_front, front_added, front_fits, front_shapes}
 use Rattle.session_store.proofs.StoreTallies.{empty_front, only_replayed}

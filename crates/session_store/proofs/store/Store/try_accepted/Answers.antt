@@ -88,7 +88,7 @@ pub tallies_after-requires-clause-sums : goal.tallies_after-requires-clause-sums
 tallies_after-requires-clause-sums c =
     let inside = c.self.inside in
     some_then _ _ c.args.sums
-    (λ sums are. has_sums inside.header inside.span inside.segments c.in_ok-kernel.field-0.before sums.now (replay_of inside.header inside.span inside.segments c.self.invariant)
+    (λ sums are. has_sums inside.header inside.span inside.segments sums.now (replay_of inside.header inside.span inside.segments c.self.invariant)
     (subst (λ (kept : CheckpointedSession). AreSumsOf kept sums.now) (sym c.self.view_is) are))
     c.requires.sums
 

@@ -1,17 +1,15 @@
-use Rattle.std.proofs.Common.{◌≡◌, ℕ, suc, ◌+◌, ◌*◌, ◌%◌, ◌<◌, ◌≤◌, List, [], ◌∷◌, ◌++◌, length, take, Some, refl, sym, ap, subst, ◌∙◌, arith, add-one, length-append}
+use Rattle.std.proofs.Common.{◌≡◌, ℕ, suc, ◌+◌, ◌*◌, ◌%◌, ◌<◌, List, [], ◌∷◌, ◌++◌, length, take, refl, sym, ap, subst, ◌∙◌, arith, length-append}
 use Rattle.std.specs.Prelude.{slice_get}
 use Rattle.std.proofs.lemmas.Bool.Decides.{nat_tests}
-use Rattle.std.proofs.lemmas.Option.{slice_get_read, slice_get_within}
+use Rattle.std.proofs.lemmas.Option.{slice_get_read}
 use Rattle.bench_types.specs.declared.header.Header.{Header}
 use Rattle.bench_model.specs.Tally.{TaskTally}
-use Rattle.segment_laws.specs.Segments.{SegmentView}
-use Rattle.std.proofs.lemmas.List.{take_all}
 use Rattle.session_store.specs.Sums.{block}
 use Rattle.session_store.specs.Trials.{AreTallied, IsReplay}
 use Rattle.session_store.proofs.StoreSums.{next_fits, next_goes, next_shapes, sums_pushed}
 use Rattle.session_store.proofs.StoreTallies.{none_tallied}
-use Rattle.session_store.proofs.sums.sums_of.Goals.{then-index-eq0+in_ok-copy+in_ok-push, else-index-eq0}
-use Rattle.session_store.proofs.sums.sums_of.Goals as goal
+use Rattle.session_store.proofs.sums.sums_before.Goals.{then-index-eq0+in_ok-copy+in_ok-push, else-index-eq0}
+use Rattle.session_store.proofs.sums.sums_before.Goals as goal
 
 pub loop-index-init : goal.loop-index-init
 loop-index-init c =

@@ -4,7 +4,7 @@ use Rattle.bench_types.specs.declared.header.Header.{Header}
 use Rattle.bench_model.specs.Tally.{TaskTally}
 use Rattle.session_store.specs.Sums.{block}
 use Rattle.session_store.specs.Trials.{AreTallied, IsReplay}
-use Rattle.session_store.proofs.sums.sums_of.Given as goal
+use Rattle.session_store.proofs.sums.sums_before.Given as goal
 
 abbrev pub invariant-loop-index : goal.invariant-loop-index
 invariant-loop-index l = record {

@@ -184,7 +184,7 @@ fn many_edits_in_their_order(rt: HostRuntime) -> Result<(), Fail> {
 
 /// Trials with sums of a session of 200 ticks in 50 segments, which is more than three times as
 /// many as lie between two sums: each tells what a trial without them tells. With a tick more the
-/// session never goes on as it did; with a tick in place of a tick it does from the next checkpoint.
+/// session never goes on as it did; with a tick in place of one it does from the next checkpoint.
 #[test]
 fn sums_change_no_trial(rt: HostRuntime) -> Result<(), Fail> {
     let store = opened(&rt, &[TICK; 200], 4)?;

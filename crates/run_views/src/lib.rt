@@ -15,4 +15,6 @@ mod watch;
 pub use change::{Change, CoreChange, MutexChange, TaskChange};
 pub use look::{Look, Standing, TaskStatus};
 pub use places::Places;
+pub use reply_words::push_reply;
+pub use step_words::push_step;
 pub use trace_lines::trace;

@@ -1,13 +1,15 @@
-//! The session of a store with edits made, and its trace.
-ghost use Rattle.std.specs.Prelude.{◌≡◌, ◌≤◌, IfOk, OnOk, length, string_bytes};
+//! What is shown of the session of a store and of edits of it.
+ghost use Rattle.std.specs.Prelude.{◌≡◌, ◌≤◌, IfOk, OnOk, length};
 ghost use Rattle.bench_types.specs.Limits.{max_steps};
 ghost use Rattle.bench_model.specs.Edits.{after_edits};
 ghost use Rattle.session_store.specs.Outcomes.{after_edit};
-ghost use Rattle.view_commands.specs.Views.{session_text};
+ghost use Rattle.view_commands.specs.Views.{document_of, shown, trace_of};
 
+use crate::Command;
 use bench_types::{Edit, Step};
 use run_views::{Places, trace};
 use session_store::{Store, StoreFault};
+use session_write::write_session;
 use smp_kernel::Meter;
 use std::alloc::{AllocError, Global};
 
@@ -62,25 +64,37 @@ fn trace_of(
     meter: &mut Meter,
     store: &Store,
     places: Places,
-) -> Result<String, AllocError>
-    ensures { IfOk result (λ text. string_bytes text ≡ session_text places store.now.session) }
+) -> Result<Vec<u8>, AllocError>
+    ensures { IfOk result (λ text. text.items ≡ trace_of places store.now.session) }
 {
     let steps = steps_of(alloc, store)?;
-    trace(alloc, meter, places, store.header(), steps.as_slice())
+    let text = trace(alloc, meter, places, store.header(), steps.as_slice())?;
+    Ok(text.into_bytes())
 }
 
-/// The trace of the session with the edits made; those that are refused are passed over.
-pub(crate) fn edited_trace(
+// The session as it stands, as a document.
+fn document_of(alloc: Global, store: &Store) -> Result<Vec<u8>, AllocError>
+    ensures { IfOk result (λ text. text.items ≡ document_of store.now.session) }
+{
+    let steps = steps_of(alloc, store)?;
+    let mut text = write_session(alloc, store.header(), steps.as_slice())?;
+    text.push(b'\n')?;
+    Ok(text)
+}
+
+/// What the command shows of the session and its edits; those that are refused are passed over.
+pub(crate) fn shown(
     alloc: Global,
     meter: &mut Meter,
     store: &mut Store,
     edits: &[Edit],
-    places: Places,
-) -> Result<String, AllocError>
-    ensures { IfOk result
-        (λ text. string_bytes text
-        ≡ session_text places (after_edits store.old.session edits.now)) }
+    command: Command,
+) -> Result<Vec<u8>, AllocError>
+    ensures { IfOk result (λ text. text.items ≡ shown command store.old.session edits.now) }
 {
     make_edits(alloc, meter, store, edits)?;
-    trace_of(alloc, meter, store, places)
+    match command {
+        Command::Trace(places) => trace_of(alloc, meter, store, places),
+        Command::Session => document_of(alloc, store),
+    }
 }

@@ -9,6 +9,7 @@ use Rattle.session_text.specs.Bench.{bench_text}
 use Rattle.session_write.specs.Written.{written}
 use Rattle.run_views.specs.declared.places.Places.{Places}
 use Rattle.run_views.specs.Trace.{trace_text}
+use Rattle.run_comparisons.specs.Comparison.{compare_text}
 use Rattle.bench_commands.specs.Answer.{Output, output_of, refused}
 use Rattle.view_commands.specs.declared.words.Command.{Command}
 use Rattle.view_commands.specs.declared.words.Command.TheVariants as command
@@ -25,6 +26,7 @@ document_of session = written session.header session.steps ++ codes "\n"
 abbrev pub shown : Command → Session → List Edit → List ℕ
 shown (command.Trace places) session edits = trace_of places (after_edits session edits)
 shown command.Session session edits = document_of (after_edits session edits)
+shown command.Compare session edits = compare_text session edits
 
 abbrev pub view_text : Command → Bench → List ℕ
 view_text command bench =

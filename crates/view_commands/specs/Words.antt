@@ -67,6 +67,7 @@ unfoldable pub command_in : Word → List Word → Option Command
 command_in name options =
     if bytes_eq name (codes "trace") then option_map command.Trace (places_in options)
     else if bytes_eq name (codes "session") then alone command.Session options
+    else if bytes_eq name (codes "compare") then alone command.Compare options
     else None
 
 -- the command that the words give, its name first

@@ -3,10 +3,12 @@ ghost use Rattle.std.specs.Prelude.{◌≡◌, ◌≤◌, IfOk, OnOk, length};
 ghost use Rattle.bench_types.specs.Limits.{max_steps};
 ghost use Rattle.bench_model.specs.Edits.{after_edits};
 ghost use Rattle.session_store.specs.Outcomes.{after_edit};
+ghost use Rattle.run_comparisons.specs.Comparison.{compare_text};
 ghost use Rattle.view_commands.specs.Views.{document_of, shown, trace_of};
 
 use crate::Command;
-use bench_types::{Edit, Step};
+use bench_types::{Edit, MAX_SPAN, Step};
+use run_comparisons::compare;
 use run_views::{Places, trace};
 use session_store::{Store, StoreFault};
 use session_write::write_session;
@@ -82,6 +84,32 @@ fn document_of(alloc: Global, store: &Store) -> Result<Vec<u8>, AllocError>
     Ok(text)
 }
 
+// The session replayed once more, with as few checkpoints as there can be.
+fn second(alloc: Global, meter: &mut Meter, store: &Store) -> Result<Store, AllocError>
+    ensures { IfOk result (λ second. second.session ≡ store.now.session) }
+{
+    let steps = steps_of(alloc, store)?;
+    let header = store.header().copy(alloc)?;
+    match Store::open(alloc, header, steps, MAX_SPAN, meter) {
+        Ok(second) => Ok(second),
+        Err(_) => Err(AllocError),
+    }
+}
+
+// The run of the session beside the run after the edits.
+fn comparison_of(
+    alloc: Global,
+    meter: &mut Meter,
+    store: &mut Store,
+    edits: &[Edit],
+) -> Result<Vec<u8>, AllocError>
+    ensures { IfOk result (λ text. text.items ≡ compare_text store.old.session edits.now) }
+{
+    let before = second(alloc, meter, store)?;
+    let text = compare(alloc, meter, &before, store, edits)?;
+    Ok(text.into_bytes())
+}
+
 /// What the command shows of the session and its edits; those that are refused are passed over.
 pub(crate) fn shown(
     alloc: Global,
@@ -92,9 +120,15 @@ pub(crate) fn shown(
 ) -> Result<Vec<u8>, AllocError>
     ensures { IfOk result (λ text. text.items ≡ shown command store.old.session edits.now) }
 {
-    make_edits(alloc, meter, store, edits)?;
     match command {
-        Command::Trace(places) => trace_of(alloc, meter, store, places),
-        Command::Session => document_of(alloc, store),
+        Command::Trace(places) => {
+            make_edits(alloc, meter, store, edits)?;
+            trace_of(alloc, meter, store, places)
+        }
+        Command::Session => {
+            make_edits(alloc, meter, store, edits)?;
+            document_of(alloc, store)
+        }
+        Command::Compare => comparison_of(alloc, meter, store, edits),
     }
 }

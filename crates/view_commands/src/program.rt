@@ -16,6 +16,7 @@ use std::process::ExitCode;
 
 const USAGE: &str = "usage: smp_view trace [--from PLACE] [--to PLACE]
        smp_view session
+       smp_view compare
        smp_view --help
 ";
 
@@ -23,6 +24,7 @@ const HELP: &str = "smp_view shows what a run of a session does, and why.
 
 usage: smp_view trace [--from PLACE] [--to PLACE]
        smp_view session
+       smp_view compare
        smp_view --help
 
 It reads a session, or a bench document with edits, from standard input. The
@@ -32,6 +34,8 @@ edits are made one after another; those that are refused are passed over.
             that the step changed
             --from PLACE, --to PLACE  only the places from the one to the other
   session   the session with its edits made, as a document
+  compare   the run before the edits beside the run after them, and what each
+            task gained and lost
 
 exit status: 0 it was shown, 1 the document is refused (standard output says
 why), 2 a bad command line, 3 memory or a device failed
@@ -46,7 +50,6 @@ fn help() -> &'static str
     HELP
 }
 
-// Writes a text that stands fast.
 fn show<W: CountedWrite>(writer: &mut W, text: &str) -> Status
     ensures bytes { Shows result text.now (W.Write.contents writer.old)
         (W.Write.contents writer.new) }

@@ -12,6 +12,8 @@ pub enum Command {
     Trace(Places),
     /// The session with its edits made, as a document.
     Session,
+    /// The run before the edits beside the run after them.
+    Compare,
 }
 
 /// What a command line asks for.
@@ -120,6 +122,9 @@ fn command_in(name: &str, options: &[String]) -> Option<Command>
     }
     if name == "session" {
         return alone(Command::Session, options);
+    }
+    if name == "compare" {
+        return alone(Command::Compare, options);
     }
     None
 }

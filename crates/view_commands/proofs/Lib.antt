@@ -1,4 +1,5 @@
 mod EditsKept
 mod MemoryRefused
+mod NamesFound
 mod Outputs
 mod WordsRead

@@ -108,8 +108,8 @@ pub record Shows (kernel : View) (look : Look) : Type 0 where
   pub shown : (table : Table) → StandsFor kernel table → look ≡ look_of table
 
 -- what the steps lead to was told, from each table that the kernel stood for
-pub record IsTold (places : Places) (interest : Interest) (header : Header) (old new : View) (steps : List Step)
-    (before after : List ℕ) : Type 0 where
+pub record IsTold (places : Places) (interest : Interest) (header : Header) (old new : View)
+    (steps : List Step) (before after : List ℕ) : Type 0 where
   pub told : (table : Table) → StandsFor old table
       → after ≡ before ++ told_from places interest header 0 table steps
   pub stands : (table : Table) → StandsFor old table → StandsFor new (state_after table steps)

@@ -11,10 +11,12 @@ use view_commands::{Command, Selection, run};
 const COMPARED: &str =
     "  0 0 mutex_take core 1 by logger mutex 0 ticks 0: true: the mutex was taken; control logger
 + - 1 mutex_give core 1 by logger mutex 0: true: the mutex was given; control logger
-| 1 2 mutex_take core 0 by control mutex 0 ticks 5: blocked; control logger -> true: the mutex was taken; control logger
+| 1 2 mutex_take core 0 by control mutex 0 ticks 5: blocked; control logger \
+    -> true: the mutex was taken; control logger
 - 2 - switch core 0: done; IDLE0 logger
 | 3 3 tick: done; IDLE0 logger -> done; control logger
-| 4 4 mutex_give core 1 by logger mutex 0: true: the mutex was given; IDLE0 logger -> yield core 1 by logger: done; control logger
+| 4 4 mutex_give core 1 by logger mutex 0: true: the mutex was given; IDLE0 logger \
+    -> yield core 1 by logger: done; control logger
 the runs differ first at - 1 and last at 4 4
 task IDLE0 run on core 0 -1 wait +1 in -1
 task control run on core 0 +1

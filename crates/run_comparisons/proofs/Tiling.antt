@@ -1,18 +1,16 @@
 -- Each step of either run stands in one row, in its order.
-use Rattle.std.proofs.Common.{◌≡◌, ℕ, zero, suc, ◌+◌, ◌-◌, ◌<◌, ◌≤◌, List, [], ◌∷◌, ◌++◌, length, take, drop, map, flat_map, Option, Some, None, Result, Ok, Err, refl, ap, sym, subst, ◌∙◌, append_assoc, add-one, arith}
+use Rattle.std.proofs.Common.{◌≡◌, ℕ, zero, suc, ◌+◌, ◌-◌, ◌≤◌, List, [], ◌∷◌, ◌++◌, length, take, drop, map, flat_map, Some, None, Result, Ok, Err, refl, ap, sym, subst, ◌∙◌, append_assoc, add-one, arith}
 use Rattle.std.specs.List.{range_with_len}
 use Rattle.std.proofs.lemmas.Grind.{flat_map-append}
 use Rattle.std.proofs.lemmas.List.FromFn.{length-map-range_with_len}
-use Rattle.list_orders.specs.Search.{numbers}
 use Rattle.bench_types.specs.declared.edit.Edit.{Edit}
 use Rattle.bench_types.specs.declared.edit.Edit.TheVariants.{Insert, Remove, Replace, ChangeTask}
 use Rattle.bench_types.specs.declared.edit.EditFault.{EditFault}
 use Rattle.bench_types.specs.Session.{Session}
 use Rattle.bench_model.specs.Edits.{accepted, after_edit, after_edits}
-use Rattle.run_comparisons.specs.declared.rows.Row.{Row}
-use Rattle.run_comparisons.specs.declared.rows.Row.TheVariants.{Both, Removed, Inserted}
+use Rattle.run_comparisons.specs.declared.rows.Row.TheVariants.{Both, Removed}
 use Rattle.run_comparisons.specs.Origins.{Origin, all_kept, origins_after, origins_made, origins_of}
-use Rattle.run_comparisons.specs.Rows.{next_after, removed, rows_at, rows_from, rows_of}
+use Rattle.run_comparisons.specs.Rows.{removed, rows_from}
 use Rattle.run_comparisons.specs.RowLaws.{EachAfter, EachBefore, place_after, place_before}
 use Rattle.run_comparisons.proofs.Aligned.{among, made_is, made_not, session_is, session_not, still_many}
 

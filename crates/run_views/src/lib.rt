@@ -4,6 +4,7 @@
 
 mod change;
 mod change_words;
+mod interest;
 mod look;
 mod places;
 mod reply_words;
@@ -13,6 +14,9 @@ mod trace_lines;
 mod watch;
 
 pub use change::{Change, CoreChange, MutexChange, TaskChange};
+pub use interest::Interest;
 pub use look::{Look, Standing, TaskStatus};
 pub use places::Places;
+pub use reply_words::push_reply;
+pub use step_words::push_step;
 pub use trace_lines::trace;

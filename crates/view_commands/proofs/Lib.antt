@@ -1,3 +1,5 @@
 mod EditsKept
+mod MemoryRefused
+mod NamesFound
 mod Outputs
 mod WordsRead

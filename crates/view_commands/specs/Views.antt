@@ -1,25 +1,70 @@
--- What is written for a document: the trace of its session, with its edits made first.
-use Rattle.std.specs.Prelude.{ℕ, List, [], length, codes, nat_lt, if◌then◌else◌}
-use Rattle.bench_types.specs.Limits.{max_input}
+-- What is written for a document.
+use Rattle.std.specs.Prelude.{ℕ, List, [], ◌++◌, length, codes, decimal, false, true, nat_lt, Option, Some, None, if◌then◌else◌, slice_index_or, Result, Ok, Err}
+use Rattle.bench_types.specs.declared.edit.Edit.{Edit}
+use Rattle.bench_types.specs.Limits.{max_input, max_steps}
 use Rattle.bench_types.specs.Session.{Session}
 use Rattle.bench_model.specs.Edits.{after_edits}
 use Rattle.session_text.specs.declared.bench.Bench.{Bench}
+use Rattle.session_text.specs.declared.fault.TextFault.{TextFault}
 use Rattle.session_text.specs.Bench.{bench_text}
-use Rattle.run_views.specs.declared.places.Places.{Places}
+use Rattle.session_write.specs.Written.{written}
 use Rattle.run_views.specs.Trace.{trace_text}
-use Rattle.bench_commands.specs.Answer.{Output, output_of, refused}
+use Rattle.run_comparisons.specs.Comparison.{compare_text}
+use Rattle.bench_commands.specs.Answer.{Output, refused, why_text}
+use Rattle.view_commands.specs.declared.words.Command.{Command}
+use Rattle.view_commands.specs.declared.words.Command.TheVariants as command
+use Rattle.view_commands.specs.Interests.{interest_of, unknown_core, unknown_task}
+use Rattle.view_commands.specs.Selected.{Selected}
 
-abbrev pub session_text : Places → Session → List ℕ
-session_text places session = trace_text places session.header session.steps
+abbrev pub fine : List ℕ → Output
+fine text = record { is_refused = false; text = text }
 
--- the edits are made one after another, and those that are refused are passed over
-abbrev pub view_text : Places → Bench → List ℕ
-view_text places bench =
-    session_text places
-    (after_edits (record { header = bench.header; steps = bench.steps }) bench.edits)
+abbrev pub refused_task : List ℕ → Output
+refused_task name = record { is_refused = true; text = codes "refused task " ++ name ++ codes "\n" }
+
+abbrev pub refused_core : ℕ → Output
+refused_core core =
+    record { is_refused = true; text = codes "refused core " ++ decimal core ++ codes "\n" }
+
+abbrev pub trace_of : Selected → Session → List ℕ
+trace_of selected session =
+    trace_text selected.places (interest_of session.header selected) session.header session.steps
+
+-- A trace; it is refused where a name is no task's, which stands there, or a number no core's.
+abbrev pub trace_where : Option ℕ → Option ℕ → Selected → Session → Output
+trace_where (Some index) core selected session =
+    refused_task (slice_index_or selected.tasks index [])
+trace_where None (Some core) selected session = refused_core core
+trace_where None None selected session = fine (trace_of selected session)
+
+abbrev pub trace_output : Selected → Session → Output
+trace_output selected session =
+    trace_where (unknown_task session.header selected.tasks)
+    (unknown_core session.header selected.cores) selected session
+
+-- a session as a document, and a line feed
+abbrev pub document_of : Session → List ℕ
+document_of session = written session.header session.steps ++ codes "\n"
+
+-- By the command, what is shown of a session and of edits of it. They are made one after another,
+-- and those that are refused are passed over.
+abbrev pub shown : Command → Session → List Edit → Output
+shown (command.Trace selected) session edits = trace_output selected (after_edits session edits)
+shown command.Session session edits = fine (document_of (after_edits session edits))
+shown command.Compare session edits = fine (compare_text session edits)
+
+-- J2 comes after all other refusals of the document
+abbrev pub view_of_bench : Command → Bench → Output
+view_of_bench command bench =
+    if nat_lt max_steps (length bench.steps) then refused (codes "J2") []
+    else shown command (record { header = bench.header; steps = bench.steps }) bench.edits
+
+abbrev pub view_of : Command → Result Bench TextFault → Output
+view_of command (Ok bench) = view_of_bench command bench
+view_of command (Err fault) = refused (why_text fault.why) fault.path
 
 -- the output for an input; H3 where that is too long
-unfoldable pub view_output : Places → List ℕ → Output
-view_output places input =
+unfoldable pub view_output : Command → List ℕ → Output
+view_output command input =
     if nat_lt max_input (length input) then refused (codes "H3") []
-    else output_of (view_text places) (bench_text input)
+    else view_of command (bench_text input)

@@ -1,13 +1,19 @@
-//! The session of a store with edits made, and its trace.
-ghost use Rattle.std.specs.Prelude.{◌≡◌, ◌≤◌, IfOk, OnOk, length, string_bytes};
+//! What is shown of the session of a store and of edits of it.
+ghost use Rattle.std.specs.Prelude.{◌≡◌, ◌≤◌, ◌<◌, [], IfOk, OnOk, length, map, slice_index_or, string_bytes};
 ghost use Rattle.bench_types.specs.Limits.{max_steps};
 ghost use Rattle.bench_model.specs.Edits.{after_edits};
 ghost use Rattle.session_store.specs.Outcomes.{after_edit};
-ghost use Rattle.view_commands.specs.Views.{session_text};
+ghost use Rattle.run_comparisons.specs.Comparison.{compare_text};
+ghost use Rattle.view_commands.specs.Views.{document_of, fine, refused_core, refused_task, shown, trace_of, trace_output};
 
-use bench_types::{Edit, Step};
-use run_views::{Places, trace};
+use crate::answer::Shown;
+use crate::interest::{interest_of, unknown_core, unknown_task};
+use crate::{Command, Selection};
+use bench_types::{Edit, MAX_SPAN, Step};
+use run_comparisons::compare;
+use run_views::trace;
 use session_store::{Store, StoreFault};
+use session_write::write_session;
 use smp_kernel::Meter;
 use std::alloc::{AllocError, Global};
 
@@ -56,31 +62,136 @@ fn steps_of(alloc: Global, store: &Store) -> Result<Vec<Step>, AllocError>
     Ok(steps)
 }
 
-// The trace of the session as it stands.
+// The part of the trace of the session as it stands.
 fn trace_of(
     alloc: Global,
     meter: &mut Meter,
     store: &Store,
-    places: Places,
-) -> Result<String, AllocError>
-    ensures { IfOk result (λ text. string_bytes text ≡ session_text places store.now.session) }
+    selection: &Selection,
+) -> Result<Vec<u8>, AllocError>
+    ensures { IfOk result (λ text. text.items ≡ trace_of selection.now store.now.session) }
 {
     let steps = steps_of(alloc, store)?;
-    trace(alloc, meter, places, store.header(), steps.as_slice())
+    let header = store.header();
+    let interest = interest_of(alloc, header, selection)?;
+    let places = selection.places;
+    let text = trace(alloc, meter, places, &interest, header, steps.as_slice())?;
+    Ok(text.into_bytes())
 }
 
-/// The trace of the session with the edits made; those that are refused are passed over.
-pub(crate) fn edited_trace(
+fn refused_task(alloc: Global, name: &str) -> Result<Shown, AllocError>
+    ensures { IfOk result (λ shown. shown ≡ refused_task name.now) }
+{
+    let text = format!(in alloc; "refused task {name}\n")?;
+    Ok(Shown {
+        is_refused: true,
+        text: text.into_bytes(),
+    })
+}
+
+// The name that stands there is no task's.
+fn refused_name(alloc: Global, names: &[String], index: usize) -> Result<Shown, AllocError>
+    requires { index < length names.now }
+    ensures { IfOk result
+        (λ shown. shown
+        ≡ refused_task (slice_index_or (map string_bytes names.now) index [])) }
+{
+    refused_task(alloc, names[index].as_str())
+}
+
+fn refused_core(alloc: Global, core: u32) -> Result<Shown, AllocError>
+    ensures { IfOk result (λ shown. shown ≡ refused_core core) }
+{
+    let text = format!(in alloc; "refused core {core}\n")?;
+    Ok(Shown {
+        is_refused: true,
+        text: text.into_bytes(),
+    })
+}
+
+fn fine(text: Vec<u8>) -> Shown
+    ensures { result ≡ fine text.items }
+{
+    Shown {
+        is_refused: false,
+        text,
+    }
+}
+
+fn trace_output(
+    alloc: Global,
+    meter: &mut Meter,
+    store: &Store,
+    selection: &Selection,
+) -> Result<Shown, AllocError>
+    ensures { IfOk result (λ shown. shown ≡ trace_output selection.now store.now.session) }
+{
+    let header = store.header();
+    let names = selection.tasks.as_slice();
+    if let Some(index) = unknown_task(header, names) {
+        return refused_name(alloc, names, index);
+    }
+    if let Some(core) = unknown_core(header, selection.cores.as_slice()) {
+        return refused_core(alloc, core);
+    }
+    Ok(fine(trace_of(alloc, meter, store, selection)?))
+}
+
+// The session as it stands, as a document.
+fn document_of(alloc: Global, store: &Store) -> Result<Vec<u8>, AllocError>
+    ensures { IfOk result (λ text. text.items ≡ document_of store.now.session) }
+{
+    let steps = steps_of(alloc, store)?;
+    let mut text = write_session(alloc, store.header(), steps.as_slice())?;
+    text.push(b'\n')?;
+    Ok(text)
+}
+
+// The session replayed once more, with as few checkpoints as there can be.
+fn second(alloc: Global, meter: &mut Meter, store: &Store) -> Result<Store, AllocError>
+    ensures { IfOk result (λ second. second.session ≡ store.now.session) }
+{
+    let steps = steps_of(alloc, store)?;
+    let header = store.header().copy(alloc)?;
+    match Store::open(alloc, header, steps, MAX_SPAN, meter) {
+        Ok(second) => Ok(second),
+        Err(_) => Err(AllocError),
+    }
+}
+
+// The run of the session beside the run after the edits.
+fn comparison_of(
     alloc: Global,
     meter: &mut Meter,
     store: &mut Store,
     edits: &[Edit],
-    places: Places,
-) -> Result<String, AllocError>
-    ensures { IfOk result
-        (λ text. string_bytes text
-        ≡ session_text places (after_edits store.old.session edits.now)) }
+) -> Result<Vec<u8>, AllocError>
+    ensures { IfOk result (λ text. text.items ≡ compare_text store.old.session edits.now) }
 {
-    make_edits(alloc, meter, store, edits)?;
-    trace_of(alloc, meter, store, places)
+    let before = second(alloc, meter, store)?;
+    let text = compare(alloc, meter, &before, store, edits)?;
+    Ok(text.into_bytes())
+}
+
+/// What the command shows of the session and its edits; those that are refused are passed over.
+pub(crate) fn shown(
+    alloc: Global,
+    meter: &mut Meter,
+    store: &mut Store,
+    edits: &[Edit],
+    command: &Command,
+) -> Result<Shown, AllocError>
+    ensures { IfOk result (λ answer. answer ≡ shown command.now store.old.session edits.now) }
+{
+    match command {
+        Command::Trace(selection) => {
+            make_edits(alloc, meter, store, edits)?;
+            trace_output(alloc, meter, store, selection)
+        }
+        Command::Session => {
+            make_edits(alloc, meter, store, edits)?;
+            Ok(fine(document_of(alloc, store)?))
+        }
+        Command::Compare => Ok(fine(comparison_of(alloc, meter, store, edits)?)),
+    }
 }

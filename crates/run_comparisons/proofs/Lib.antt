@@ -1,0 +1,5 @@
+mod Aligned
+mod LastRows
+mod Outcomes
+mod Ranges
+mod Tiling

@@ -174,7 +174,7 @@ fn pend_meaning(pend: bool) -> &'static str
 
 /// Writes the reply to the step, and what it means.
 #[tactic(auto, unfolding(crate::specs::ReplyWords::reply_words))]
-pub(crate) fn push_reply(
+pub fn push_reply(
     text: &mut String,
     header: &Header,
     step: Step,

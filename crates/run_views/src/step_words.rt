@@ -115,7 +115,7 @@ fn push_members(text: &mut String, header: &Header, call: Call) -> Result<(), Al
 
 /// Writes the step: what it does, and its members in their order, each with its name.
 #[tactic(auto, unfolding(crate::specs::StepWords::step_text))]
-pub(crate) fn push_step(text: &mut String, header: &Header, step: Step) -> Result<(), AllocError>
+pub fn push_step(text: &mut String, header: &Header, step: Step) -> Result<(), AllocError>
     ensures { OnOk result
         (string_bytes text.new ≡ string_bytes text.old ++ step_text header.now step) }
 {

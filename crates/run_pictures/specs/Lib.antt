@@ -1,0 +1,13 @@
+pub mod Axis
+pub mod Bar
+pub mod CoreBands
+pub mod Escape
+pub mod Film
+pub mod Frame
+pub mod Ink
+pub mod Picture
+pub mod Same
+pub mod Shades
+pub mod Spans
+pub mod Stretches
+pub mod Theorem

@@ -2,6 +2,7 @@
 use Rattle.std.specs.Prelude.{ℕ, ◌+◌, ◌%◌, ◌==◌, List, [], ◌++◌, flat_map, length, codes, decimal, if◌then◌else◌}
 use Rattle.list_orders.specs.Search.{numbers}
 use Rattle.run_views.specs.declared.look.Look.{Look}
+use Rattle.run_pictures.specs.declared.bar.Letters.TheVariants.{Dark}
 use Rattle.run_pictures.specs.declared.frame.Frame.{Frame}
 use Rattle.run_pictures.specs.declared.span.Span.{Span}
 use Rattle.run_pictures.specs.Bar.{bar_text, label_text, name_text, over_text}
@@ -27,7 +28,7 @@ tick_bar frame y span =
       y = y;
       height = 14;
     }) (over_text span.first span.last ++ codes "tick " ++ decimal span.value)
-    ++ label_text frame span.first span.last (y + 11) (decimal span.value)
+    ++ label_text frame Dark span.first span.last (y + 11) (decimal span.value)
 
 unfoldable pub axis_row : Frame → ℕ → List Look → List ℕ
 axis_row frame y looks =

@@ -6,7 +6,8 @@ use Rattle.bench_types.specs.Header.{name_of}
 use Rattle.run_views.specs.declared.look.Look.{Look}
 use Rattle.run_views.specs.ChangeWords.{hold_text}
 use Rattle.run_views.specs.Trace.{due_text}
-use Rattle.run_pictures.specs.declared.due.Due.{Due}
+use Rattle.run_pictures.specs.declared.shown.Due.{Due}
+use Rattle.run_pictures.specs.declared.bar.Letters.TheVariants.{Dark}
 use Rattle.run_pictures.specs.declared.frame.Frame.{Frame}
 use Rattle.run_pictures.specs.declared.ink.Ink.TheVariants as ink
 use Rattle.run_pictures.specs.declared.span.Span.{Span}
@@ -29,7 +30,7 @@ current_bar header frame y core span =
       y = y;
       height = 24;
     }) (core_words header core span)
-    ++ label_text frame span.first span.last (y + 16) (name_of header span.value)
+    ++ label_text frame Dark span.first span.last (y + 16) (name_of header span.value)
 
 abbrev pub due_words : ℕ → Span Due → List ℕ
 due_words core span =

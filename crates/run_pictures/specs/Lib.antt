@@ -5,9 +5,13 @@ pub mod Escape
 pub mod Film
 pub mod Frame
 pub mod Ink
+pub mod Marks
 pub mod Picture
 pub mod Same
 pub mod Shades
 pub mod Spans
+pub mod Stances
 pub mod Stretches
+pub mod TaskBands
 pub mod Theorem
+pub mod Waits

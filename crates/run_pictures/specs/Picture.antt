@@ -15,6 +15,9 @@ use Rattle.run_pictures.specs.Axis.{axis_row}
 use Rattle.run_pictures.specs.CoreBands.{core_row}
 use Rattle.run_pictures.specs.Film.{film}
 use Rattle.run_pictures.specs.Frame.{pixels, scale_for}
+use Rattle.run_pictures.specs.Marks.{step_at}
+use Rattle.run_pictures.specs.Spans.{holder_spans}
+use Rattle.run_pictures.specs.TaskBands.{holder_bar, task_row}
 
 -- how many places are shown of a session of so many steps
 abbrev pub shown_count : Places → ℕ → ℕ
@@ -47,17 +50,34 @@ heading_text y heading =
 
 -- a run of a header takes so many pixels from top to bottom
 abbrev pub panel_height : Header → ℕ
-panel_height header = 50 + 28 * header.config.cores + 24 * length header.tasks
+panel_height header = 50 + 28 * header.config.cores + 28 * length header.tasks
 
 abbrev pub core_rows : Header → Frame → ℕ → List Look → List ℕ
 core_rows header frame y looks =
     flat_map (λ core. core_row header frame (y + 28 * core) looks core)
     (numbers header.config.cores)
 
+-- of the user tasks
+abbrev pub task_rows : Header → Frame → ℕ → Film → List ℕ
+task_rows header frame y film =
+    flat_map (λ user. task_row header frame (y + 28 * user) film (header.config.cores + user))
+    (numbers (length header.tasks))
+
+-- where tasks hold mutexes, in the rows of these tasks
+abbrev pub mutex_bars : Header → Frame → ℕ → List Look → List ℕ
+mutex_bars header frame y looks =
+    flat_map (λ mutex. flat_map (holder_bar header frame y mutex)
+    (holder_spans frame.first looks mutex))
+    (numbers header.config.mutexes)
+
 -- a run, from the top on
 unfoldable pub panel_text : Header → Frame → ℕ → Film → List ℕ
 panel_text header frame top film =
+    let tasks_top = top + 40 + 28 * header.config.cores in
     axis_row frame top film.looks ++ core_rows header frame (top + 36) film.looks
+    ++ task_rows header frame tasks_top film ++ mutex_bars header frame tasks_top film.looks
+    ++ flat_map (λ k. step_at header frame top film.made (frame.first + k))
+    (numbers (length film.looks))
 
 -- the picture of one run
 unfoldable pub picture_text : Places → Header → List Step → List ℕ
@@ -73,6 +93,13 @@ abbrev pub count_of_both : Places → ℕ → ℕ → ℕ
 count_of_both places steps later =
     max (shown_count places steps) (shown_count places later)
 
+-- a run below its heading
+unfoldable pub headed_text :
+    Places → Header → List Step → Frame → ℕ → List ℕ → List ℕ
+headed_text places header steps frame top heading =
+    heading_text (top + 12) heading
+    ++ panel_text header frame (top + 18) (film places header steps)
+
 -- the picture of a run before the edits and of that after them
 unfoldable pub pictures_text : Places → Header → List Step → Header → List Step → List ℕ
 pictures_text places header steps edited later =
@@ -81,10 +108,8 @@ pictures_text places header steps edited later =
     let height = panel_height header in
     let whole = height + panel_height edited in
     opening_text (width_of frame count) (whole + 64)
-    ++ heading_text 16 (codes "before the edits")
-    ++ panel_text header frame 22 (film places header steps)
-    ++ heading_text (height + 34) (codes "after the edits")
-    ++ panel_text edited frame (height + 40) (film places edited later)
+    ++ headed_text places header steps frame 4 (codes "before the edits")
+    ++ headed_text places edited later frame (height + 22) (codes "after the edits")
     ++ legend_text (whole + 42)
 
 -- a picture of so many places, or that these are too many

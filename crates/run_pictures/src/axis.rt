@@ -4,7 +4,7 @@ ghost use Rattle.list_orders.specs.Search.{numbers};
 ghost use Rattle.run_pictures.specs.Axis.{axis_row, place_label, tick_bar};
 ghost use Rattle.run_pictures.specs.Spans.{tick_in, tick_spans};
 
-use crate::bar::{Bar, push_bar, push_label, push_name, push_over};
+use crate::bar::{Bar, Letters, push_bar, push_label, push_name, push_over};
 use crate::frame::Frame;
 use crate::ink::tick_ink;
 use crate::span::{Span, stretches};
@@ -78,7 +78,7 @@ fn push_tick(
     push_bar(text, frame, bar, words.as_str())?;
     let mut number = String::new(alloc);
     write!(number, "{}", span.value)?;
-    push_label(text, frame, span.first, span.last, y + 11, number.as_str())
+    push_label(text, frame, Letters::Dark, span.first, span.last, y + 11, number.as_str())
 }
 
 fn push_ticks(

@@ -1,11 +1,29 @@
 //! Bars over places, with words that are shown over them or on hover.
 ghost use Rattle.std.specs.Prelude.{◌≡◌, ◌++◌, OnOk, string_bytes};
-ghost use Rattle.run_pictures.specs.Bar.{bar_text, extent_text, fits, label_text, name_text, origin_text, over_text, word_text};
+ghost use Rattle.run_pictures.specs.Bar.{bar_text, extent_text, fits, label_text, letters_text, name_text, origin_text, over_text, word_text};
 
 use crate::escape::push_escaped;
 use crate::frame::Frame;
 use crate::ink::{Ink, push_ink};
 use std::alloc::AllocError;
+
+/// How words are written.
+#[derive(Clone, Copy, Debug, PartialEq, Eq)]
+pub(crate) enum Letters {
+    /// To be read on a bar.
+    Dark,
+    /// To be read on the ground.
+    Small,
+}
+
+fn letters_text(letters: Letters) -> &'static str
+    ensures { result.now ≡ letters_text letters }
+{
+    match letters {
+        Letters::Dark => "l",
+        Letters::Small => "s",
+    }
+}
 
 /// A bar over the places from the first to the last.
 #[derive(Clone, Copy, Debug, PartialEq, Eq)]
@@ -50,24 +68,36 @@ pub(crate) fn push_bar(
 }
 
 // Whether words of so many bytes fit into so many pixels.
-fn fits(width: u64, bytes: usize) -> bool
-    ensures { result ≡ fits width bytes }
+fn fits(letters: Letters, width: u64, bytes: usize) -> bool
+    ensures { result ≡ fits letters width bytes }
 {
-    bytes as u64 <= width.saturating_sub(4) / 8
+    let room = width.saturating_sub(4);
+    match letters {
+        Letters::Dark => bytes as u64 <= room / 8,
+        Letters::Small => bytes as u64 <= room / 6,
+    }
 }
 
-fn push_origin(text: &mut String, x: u64, y: u64) -> Result<(), AllocError>
-    ensures { OnOk result (string_bytes text.new ≡ string_bytes text.old ++ origin_text x y) }
+fn push_origin(text: &mut String, letters: Letters, x: u64, y: u64) -> Result<(), AllocError>
+    ensures { OnOk result
+        (string_bytes text.new ≡ string_bytes text.old ++ origin_text letters x y) }
 {
-    write!(text, "<text class='l' x='{x}' y='{y}'>")
+    let class = letters_text(letters);
+    write!(text, "<text class='{class}' x='{x}' y='{y}'>")
 }
 
 #[tactic(auto, unfolding(crate::specs::Bar::word_text))]
-fn push_word(text: &mut String, x: u64, y: u64, words: &str) -> Result<(), AllocError>
+fn push_word(
+    text: &mut String,
+    letters: Letters,
+    x: u64,
+    y: u64,
+    words: &str,
+) -> Result<(), AllocError>
     ensures { OnOk result
-        (string_bytes text.new ≡ string_bytes text.old ++ word_text x y words.now) }
+        (string_bytes text.new ≡ string_bytes text.old ++ word_text letters x y words.now) }
 {
-    push_origin(text, x, y)?;
+    push_origin(text, letters, x, y)?;
     push_escaped(text, words)?;
     text.push_str("</text>\n")
 }
@@ -77,6 +107,7 @@ fn push_word(text: &mut String, x: u64, y: u64, words: &str) -> Result<(), Alloc
 pub(crate) fn push_label(
     text: &mut String,
     frame: Frame,
+    letters: Letters,
     first: u32,
     last: u32,
     y: u64,
@@ -84,10 +115,10 @@ pub(crate) fn push_label(
 ) -> Result<(), AllocError>
     ensures { OnOk result
         (string_bytes text.new
-        ≡ string_bytes text.old ++ label_text frame first last y words.now) }
+        ≡ string_bytes text.old ++ label_text frame letters first last y words.now) }
 {
-    if fits(frame.width_between(first, last), words.len()) {
-        push_word(text, frame.x_of(first) + 3, y, words)?;
+    if fits(letters, frame.width_between(first, last), words.len()) {
+        push_word(text, letters, frame.x_of(first) + 3, y, words)?;
     }
     Ok(())
 }

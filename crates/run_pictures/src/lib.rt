@@ -4,15 +4,21 @@
 mod axis;
 mod bar;
 mod core_bands;
-mod due;
 mod escape;
 mod film;
 mod frame;
 mod ink;
+mod marks;
 mod picture;
+mod shown;
 mod span;
+mod stance;
 mod style;
+mod task_bands;
+mod waits;
 
 pub use film::{Film, Made};
-pub use picture::{MAX_PLACES, TooLong, timeline};
+pub use picture::{MAX_PLACES, TooLong, timeline, timelines};
 pub use span::{Shade, Span, stretches};
+pub use stance::Stance;
+pub use waits::Wait;

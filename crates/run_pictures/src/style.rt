@@ -10,14 +10,14 @@ pub(crate) const STYLE: &str = "\
 .b{fill:#fff}.l{fill:#111;pointer-events:none}.k{font-weight:bold}\
 .t{fill:#bcc5cf}.v{fill:#9aa6b2}.i{fill:#c6cad0}.w{fill:#7d8793}\
 .d{fill:#c62828}.h{fill:#5e35b1}.u{fill:#ad1f8f}.m{fill:#1b6e43}\
-.x{fill:none;stroke:#c62828;stroke-width:2}.n{fill:#1d4ed8}\
+.x{fill:none;stroke:#d3122a;stroke-width:2}.n{fill:#1530c0;stroke:#fff}\
 .z{fill:transparent}.r{fill-opacity:.4}
 .c0{fill:#e8a33d}.c1{fill:#6cb6eb}.c2{fill:#4fbf8f}.c3{fill:#dccb45}\
 .c4{fill:#9aa8f5}.c5{fill:#f0875c}.c6{fill:#dd98c6}.c7{fill:#86cfcf}
 @media(prefers-color-scheme:dark){text{fill:#dde1e6}.s{fill:#a3acb6}\
 .b{fill:#14171b}.l{fill:#111}.t{fill:#8b96a3}.v{fill:#717d8a}.i{fill:#7b838d}\
 .w{fill:#8d98a5}.d{fill:#ff6b6b}.h{fill:#b794f4}.u{fill:#f472d0}\
-.m{fill:#5fd39a}.x{stroke:#ff6b6b}.n{fill:#7aa2ff}}</style>
+.m{fill:#5fd39a}}</style>
 <rect class='b' width='100%' height='100%'/>
 ";
 
@@ -25,7 +25,7 @@ pub(crate) const STYLE: &str = "\
 pub(crate) const LEGEND: &str = "\
 <rect class='c1' width='14' height='14'/><text class='s' x='18' y='11'>running</text>\
 <rect class='r c1' x='74' y='4' width='14' height='7'/><text class='s' x='92' y='11'>ready</text>\
-<rect class='w' x='136' y='6' width='14' height='2'/><text class='s' x='154' y='11'>blocked</text>\
+<rect class='w' x='136' y='5' width='14' height='4'/><text class='s' x='154' y='11'>blocked</text>\
 <rect class='d' x='210' y='5' width='14' height='4'/>\
 <text class='s' x='228' y='11'>core due to switch</text>\
 <rect class='h' x='350' y='5' width='14' height='4'/>\

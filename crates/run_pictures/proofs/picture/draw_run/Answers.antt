@@ -17,4 +17,5 @@ push_rows-requires c =
     let framed = c.frame_for-frame.ensures in
     let few = looks_few places header steps (omega arith) (omega arith) in
     let some = looks_counted places header steps (omega arith) in
-    record { top = omega arith; few = rw (filmed, framed) few; some = rw filmed some }
+    let limits = header_facts header (passes_whole header c.requires.header.passes) in
+    record { top = omega arith; few = rw (filmed, framed) few; some = rw filmed some; tasks = omega (arith, limits.few_cores, limits.few_tasks) }

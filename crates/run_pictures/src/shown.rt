@@ -1,7 +1,8 @@
-//! What bands show beside numbers.
+//! What bands show beside numbers and stances.
 ghost use Rattle.std.specs.Prelude.{◌≡◌};
 ghost use Rattle.bench_model.specs.SameTest.{are_same_bools, are_same_holds, are_same_options};
-ghost use Rattle.run_pictures.specs.Same.{are_same_dues};
+ghost use Rattle.run_views.specs.Changes.{are_same_numbers};
+ghost use Rattle.run_pictures.specs.Same.{are_same_dues, are_same_priorities};
 
 use crate::span::Shade;
 use bench_types::Hold;
@@ -38,6 +39,47 @@ impl Shade for Option<Hold> {
             (Some(hold), Some(other)) => hold.core == other.core && hold.depth == other.depth,
             _ => false,
         }
+    }
+}
+
+/// The priorities of a task.
+#[derive(Clone, Copy, Debug, PartialEq, Eq)]
+pub(crate) struct Priorities {
+    pub(crate) in_use: u32,
+    pub(crate) base: u32,
+}
+
+impl Shade for Priorities {
+    ghost use Rattle.run_pictures.specs.Shades.{priorities_told};
+
+    ghost same = { are_same_priorities };
+
+    ghost tells = { priorities_told };
+
+    fn is_same(self, other: Self) -> bool {
+        self.in_use == other.in_use && self.base == other.base
+    }
+}
+
+impl Shade for Option<u32> {
+    ghost use Rattle.run_pictures.specs.Shades.{holders_told};
+
+    ghost same = { are_same_numbers };
+
+    ghost tells = { holders_told };
+
+    fn is_same(self, other: Self) -> bool {
+        is_same_number(self, other)
+    }
+}
+
+pub(crate) fn is_same_number(number: Option<u32>, other: Option<u32>) -> bool
+    ensures { result ≡ are_same_numbers number other }
+{
+    match (number, other) {
+        (None, None) => true,
+        (Some(number), Some(other)) => number == other,
+        _ => false,
     }
 }
 

@@ -1,9 +1,9 @@
 -- The tests of what bands show tell of any two values whether they are one.
-use Rattle.std.specs.Prelude.{◌≡◌, ℕ, Decides, Option, nat_eq, false, true}
+use Rattle.std.specs.Prelude.{◌≡◌, ℕ, Decides, Option, nat_eq, false}
 use Rattle.std.proofs.Common.{ap, refl, sym, true≢false}
 use Rattle.std.proofs.lemmas.Bool.Decides.{Decides-and, Decides-eqb, Decides-like}
 use Rattle.bench_types.specs.declared.kernel_data.Hold.{Hold}
-use Rattle.bench_model.specs.SameTest.{are_same_bools, are_same_holds, are_same_options}
+use Rattle.bench_model.specs.SameTest.{are_same_holds, are_same_options}
 use Rattle.run_views.proofs.Tests as tests
 use Rattle.run_pictures.specs.declared.shown.Due.{Due}
 use Rattle.run_pictures.specs.declared.shown.Priorities.{Priorities}

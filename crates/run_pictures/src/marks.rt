@@ -3,7 +3,7 @@
 ghost use Rattle.std.specs.Prelude.{◌≡◌, ◌++◌, ◌+◌, ◌<◌, ◌≤◌, ◌^◌, OnOk, flat_map, string_bytes};
 ghost use Rattle.list_orders.specs.Search.{numbers};
 ghost use Rattle.run_views.specs.ReplyWords.{core_of};
-ghost use Rattle.run_pictures.specs.Marks.{mark_in, mark_of, mark_text, path_text, step_at, step_cell, step_part, step_words};
+ghost use Rattle.run_pictures.specs.Marks.{mark_in, mark_of, mark_text, middle, path_text, step_at, step_cell, step_words};
 
 use crate::Made;
 use crate::bar::{Bar, push_bar};

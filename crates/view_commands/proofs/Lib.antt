@@ -1,3 +1,4 @@
 mod EditsKept
+mod MemoryRefused
 mod Outputs
 mod WordsRead

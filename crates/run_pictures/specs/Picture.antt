@@ -100,6 +100,13 @@ headed_text places header steps frame top heading =
     heading_text (top + 12) heading
     ++ panel_text header frame (top + 18) (film places header steps)
 
+-- the two runs, of which the upper takes so many pixels from top to bottom
+unfoldable pub both_text :
+    Places → Header → List Step → Header → List Step → Frame → ℕ → List ℕ
+both_text places header steps edited later frame height =
+    headed_text places header steps frame 4 (codes "before the edits")
+    ++ headed_text places edited later frame (height + 22) (codes "after the edits")
+
 -- the picture of a run before the edits and of that after them
 unfoldable pub pictures_text : Places → Header → List Step → Header → List Step → List ℕ
 pictures_text places header steps edited later =
@@ -108,9 +115,7 @@ pictures_text places header steps edited later =
     let height = panel_height header in
     let whole = height + panel_height edited in
     opening_text (width_of frame count) (whole + 64)
-    ++ headed_text places header steps frame 4 (codes "before the edits")
-    ++ headed_text places edited later frame (height + 22) (codes "after the edits")
-    ++ legend_text (whole + 42)
+    ++ both_text places header steps edited later frame height ++ legend_text (whole + 42)
 
 -- a picture of so many places, or that these are too many
 abbrev pub Answers : ℕ → List ℕ → Result (String Global) TooLong → Type 0

@@ -78,7 +78,15 @@ fn push_tick(
     push_bar(text, frame, bar, words.as_str())?;
     let mut number = String::new(alloc);
     write!(number, "{}", span.value)?;
-    push_label(text, frame, Letters::Dark, span.first, span.last, y + 11, number.as_str())
+    push_label(
+        text,
+        frame,
+        Letters::Dark,
+        span.first,
+        span.last,
+        y + 11,
+        number.as_str(),
+    )
 }
 
 fn push_ticks(

@@ -5,9 +5,9 @@ ghost use Rattle.run_pictures.specs.CoreBands.{core_row, core_words, current_bar
 ghost use Rattle.run_pictures.specs.Spans.{core_in, current_in, current_spans, due_in, due_spans, hold_in, hold_spans};
 
 use crate::bar::{Bar, Letters, push_bar, push_label, push_name, push_over};
-use crate::shown::Due;
 use crate::frame::Frame;
 use crate::ink::{Ink, task_ink};
+use crate::shown::Due;
 use crate::span::{Span, stretches};
 use bench_types::{CoreLook, Header, Hold};
 use run_views::{Look, due_text, push_hold};
@@ -148,7 +148,15 @@ fn push_current(
     push_bar(text, frame, bar, words.as_str())?;
     let mut name = String::new(alloc);
     header.push_name(&mut name, span.value)?;
-    push_label(text, frame, Letters::Dark, span.first, span.last, y + 16, name.as_str())
+    push_label(
+        text,
+        frame,
+        Letters::Dark,
+        span.first,
+        span.last,
+        y + 16,
+        name.as_str(),
+    )
 }
 
 // A stretch at which the core is due to switch.

@@ -4,7 +4,7 @@ ghost use Rattle.list_orders.specs.Search.{numbers};
 ghost use Rattle.bench_types.specs.Header.{IsCheckedHeader};
 ghost use Rattle.bench_types.specs.Step.{settings_of, IsCheckedStep};
 ghost use Rattle.run_pictures.specs.CoreBands.{core_row};
-ghost use Rattle.run_pictures.specs.Picture.{core_rows, count_of_both, frame_for, headed_text, heading_text, legend_text, opening_text, panel_height, mutex_bars, panel_text, picture_text, pictures_text, shown_count, size_text, task_rows, width_of, Answers};
+ghost use Rattle.run_pictures.specs.Picture.{both_text, core_rows, count_of_both, frame_for, headed_text, heading_text, legend_text, opening_text, panel_height, mutex_bars, panel_text, picture_text, pictures_text, shown_count, size_text, task_rows, width_of, Answers};
 ghost use Rattle.run_pictures.specs.Theorem.{IsTiled};
 
 use crate::axis::push_axis;
@@ -47,9 +47,9 @@ fn frame_for(places: Places, count: u64) -> Frame
 }
 
 fn panel_height(header: &Header) -> u64
-    requires { length header.now.tasks < 2 ^ 32 }
+    requires { length header.now.tasks ≤ 64 }
     ensures value { result ≡ panel_height header.now }
-    ensures few { result < 2 ^ 38 }
+    ensures few { result < 2 ^ 37 }
 {
     50 + 28 * u64::from(header.config.cores) + 28 * header.tasks.as_slice().len() as u64
 }
@@ -279,7 +279,7 @@ fn push_headed(
     requires steps { All (IsCheckedStep (settings_of header.now)) steps.now }
     requires few { length steps.now + 1 < 2 ^ 32 }
     requires first { frame.first ≡ places.from }
-    requires top { top < 2 ^ 37 }
+    requires top { top + 18 < 2 ^ 38 }
     ensures { OnOk result
         (string_bytes text.new
         ≡ string_bytes text.old
@@ -288,6 +288,49 @@ fn push_headed(
     let film = Film::of_run(alloc, meter, places, header, steps)?;
     push_heading(text, top + 12, heading)?;
     push_rows(alloc, text, header, frame, top + 18, &film)
+}
+
+// The two runs, the one above the other.
+#[tactic(auto, unfolding(crate::specs::Picture::both_text))]
+fn push_both(
+    alloc: Global,
+    meter: &mut Meter,
+    text: &mut String,
+    places: Places,
+    header: &Header,
+    steps: &[Step],
+    edited: &Header,
+    later: &[Step],
+    frame: Frame,
+    height: u64,
+) -> Result<(), AllocError>
+    requires header { IsCheckedHeader header.now }
+    requires steps { All (IsCheckedStep (settings_of header.now)) steps.now }
+    requires few { length steps.now + 1 < 2 ^ 32 }
+    requires edited { IsCheckedHeader edited.now }
+    requires later { All (IsCheckedStep (settings_of edited.now)) later.now }
+    requires few_later { length later.now + 1 < 2 ^ 32 }
+    requires first { frame.first ≡ places.from }
+    requires height { height < 2 ^ 37 }
+    ensures { OnOk result
+        (string_bytes text.new
+        ≡ string_bytes text.old
+        ++ both_text places header.now steps.now edited.now later.now frame height) }
+{
+    let before = "before the edits";
+    push_headed(alloc, meter, text, places, header, steps, frame, 4, before)?;
+    let after = "after the edits";
+    push_headed(
+        alloc,
+        meter,
+        text,
+        places,
+        edited,
+        later,
+        frame,
+        height + 22,
+        after,
+    )
 }
 
 #[tactic(auto, unfolding(crate::specs::Picture::pictures_text))]
@@ -316,27 +359,8 @@ fn draw_runs(
     let whole = height + panel_height(edited);
     let mut text = String::new(alloc);
     push_opening(&mut text, width_of(frame, count), whole + 64)?;
-    push_headed(
-        alloc,
-        meter,
-        &mut text,
-        places,
-        header,
-        steps,
-        frame,
-        4,
-        "before the edits",
-    )?;
-    push_headed(
-        alloc,
-        meter,
-        &mut text,
-        places,
-        edited,
-        later,
-        frame,
-        height + 22,
-        "after the edits",
+    push_both(
+        alloc, meter, &mut text, places, header, steps, edited, later, frame, height,
     )?;
     push_legend(&mut text, whole + 42)?;
     Ok(text)

@@ -128,11 +128,7 @@ fn push_reason(text: &mut String, wait: Option<Wait>) -> Result<(), AllocError>
     text.push_str(")")
 }
 
-fn push_stance_text(
-    text: &mut String,
-    stance: Stance,
-    wait: Option<Wait>,
-) -> Result<(), AllocError>
+fn push_stance_text(text: &mut String, stance: Stance, wait: Option<Wait>) -> Result<(), AllocError>
     ensures { OnOk result
         (string_bytes text.new ≡ string_bytes text.old ++ stance_text stance wait) }
 {
@@ -200,7 +196,15 @@ fn push_blocked_label(
     };
     let mut name = String::new(alloc);
     push_wait(&mut name, wait)?;
-    push_label(text, frame, Letters::Small, first, last, y + 6, name.as_str())
+    push_label(
+        text,
+        frame,
+        Letters::Small,
+        first,
+        last,
+        y + 6,
+        name.as_str(),
+    )
 }
 
 #[tactic(auto, unfolding(crate::specs::TaskBands::stance_label))]
@@ -361,7 +365,16 @@ pub(crate) fn push_task_row(
     header.push_name(&mut name, task)?;
     push_name(text, y + 14, name.as_str())?;
     let stances = stance_spans(alloc, frame.first, looks, task)?;
-    push_stances(alloc, text, header, frame, y, task, made, stances.as_slice())?;
+    push_stances(
+        alloc,
+        text,
+        header,
+        frame,
+        y,
+        task,
+        made,
+        stances.as_slice(),
+    )?;
     let priorities = priority_spans(alloc, frame.first, looks, task)?;
     push_inheritances(alloc, text, header, frame, y, task, priorities.as_slice())
 }

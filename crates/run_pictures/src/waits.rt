@@ -41,7 +41,9 @@ fn wait_begun(task: u32, made: Made) -> Option<Wait>
     ensures { result ≡ wait_begun task made }
 {
     let Step::Call {
-        task: caller, call, ..
+        task: caller,
+        call,
+        ..
     } = made.step
     else {
         return None;

@@ -1,5 +1,5 @@
--- What the steps are: each is told at its place of the axis, and an interrupt or a refusal is marked
--- in the row of its core.
+-- What the steps are: each is told at its place of the axis, and an interrupt or a refusal is
+-- marked in the row of its core.
 use Rattle.std.specs.Prelude.{ℕ, ◌+◌, ◌-◌, ◌*◌, ◌/◌, List, [], ◌++◌, flat_map, codes, decimal, Option, Some, None, slice_get, if◌then◌else◌}
 use Rattle.bench_types.specs.declared.header.Header.{Header}
 use Rattle.bench_types.specs.declared.reply.Reply.{Reply}

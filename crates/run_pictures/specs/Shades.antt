@@ -1,9 +1,9 @@
 -- The tests of what bands show tell of any two values whether they are one.
-use Rattle.std.specs.Prelude.{◌≡◌, ℕ, Decides, Option, nat_eq, false, true}
+use Rattle.std.specs.Prelude.{◌≡◌, ℕ, Bool, Decides, None, Option, nat_eq, false, true}
 use Rattle.std.proofs.Common.{ap, refl, sym, true≢false}
 use Rattle.std.proofs.lemmas.Bool.Decides.{Decides-and, Decides-eqb, Decides-like}
 use Rattle.bench_types.specs.declared.kernel_data.Hold.{Hold}
-use Rattle.bench_model.specs.SameTest.{are_same_bools, are_same_holds, are_same_options}
+use Rattle.bench_model.specs.SameTest.{are_same_holds, are_same_options}
 use Rattle.run_views.proofs.Tests as tests
 use Rattle.run_pictures.specs.declared.shown.Due.{Due}
 use Rattle.run_pictures.specs.declared.shown.Priorities.{Priorities}
@@ -37,13 +37,35 @@ holders_told = tests.numbers_told
 apart : {P : Type 0} → (P → ⊥) → Decides false P
 apart never = (λ e. absurd (true≢false (sym e)), λ p. absurd (never p))
 
+abbrev runs_on : Stance → ℕ
+runs_on (Runs core) = core
+runs_on Ready = 0
+runs_on (Blocked wake) = 0
+
+abbrev wakes_at : Stance → Option ℕ
+wakes_at (Runs core) = None
+wakes_at Ready = None
+wakes_at (Blocked wake) = wake
+
+abbrev does_run : Stance → Bool
+does_run (Runs core) = true
+does_run Ready = false
+does_run (Blocked wake) = false
+
+abbrev is_blocked : Stance → Bool
+is_blocked (Runs core) = false
+is_blocked Ready = false
+is_blocked (Blocked wake) = true
+
 pub stances_told : (a b : Stance) → Decides (are_same_stances a b) (a ≡ b)
-stances_told (Runs core) (Runs other) = Decides-like (nat_eq core other) (λ e. ap Runs e) (λ e. cc e) (Decides-eqb core other)
+stances_told (Runs core) (Runs other) = Decides-like (nat_eq core other)
+    (λ e. ap Runs e) (λ e. ap runs_on e) (Decides-eqb core other)
 stances_told Ready Ready = (λ e. refl, λ e. refl)
-stances_told (Blocked wake) (Blocked other) = Decides-like (are_same_numbers wake other) (λ e. ap Blocked e) (λ e. cc e) (tests.numbers_told wake other)
-stances_told (Runs core) Ready = apart (λ e. cc e)
-stances_told (Runs core) (Blocked wake) = apart (λ e. cc e)
-stances_told Ready (Runs core) = apart (λ e. cc e)
-stances_told Ready (Blocked wake) = apart (λ e. cc e)
-stances_told (Blocked wake) (Runs core) = apart (λ e. cc e)
-stances_told (Blocked wake) Ready = apart (λ e. cc e)
+stances_told (Blocked wake) (Blocked other) = Decides-like (are_same_numbers wake other)
+    (λ e. ap Blocked e) (λ e. ap wakes_at e) (tests.numbers_told wake other)
+stances_told (Runs core) Ready = apart (λ e. true≢false (ap does_run e))
+stances_told (Runs core) (Blocked wake) = apart (λ e. true≢false (ap does_run e))
+stances_told Ready (Runs core) = apart (λ e. true≢false (sym (ap does_run e)))
+stances_told Ready (Blocked wake) = apart (λ e. true≢false (sym (ap is_blocked e)))
+stances_told (Blocked wake) (Runs core) = apart (λ e. true≢false (sym (ap does_run e)))
+stances_told (Blocked wake) Ready = apart (λ e. true≢false (ap is_blocked e))

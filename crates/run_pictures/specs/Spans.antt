@@ -1,5 +1,5 @@
 -- The spans of the bands.
-use Rattle.std.specs.Prelude.{ℕ, List, map, slice_index_or, nat_eq, Bool, false, ◌==◌, Option, Some, None, if◌then◌else◌}
+use Rattle.std.specs.Prelude.{ℕ, List, map, slice_index_or, nat_eq, false, ◌==◌, Option, Some, None, if◌then◌else◌}
 use Rattle.bench_types.specs.declared.kernel_data.CoreLook.{CoreLook}
 use Rattle.bench_types.specs.declared.kernel_data.Hold.{Hold}
 use Rattle.bench_model.specs.SameTest.{are_same_holds, are_same_options}

@@ -42,8 +42,8 @@ stance_with (standing.Blocked wake) core = Blocked wake
 abbrev pub stance_in : ℕ → Look → Stance
 stance_in task look = stance_with (status_in task look).standing (core_of task look.cores)
 
--- How the task stands in a state: a task that is in no ready list is blocked, for the ticks that are
--- left or without end; one that is ready runs where it is the current task of a core.
+-- How the task stands in a state: a task that is in no ready list is blocked, for the ticks that
+-- are left or without end; one that is ready runs where it is the current task of a core.
 abbrev pub stance_of : Table → ℕ → Stance
 stance_of table task =
     if is_ready task table.orders

@@ -34,8 +34,8 @@ NeighboursDiffer (span ∷ []) = Unit {0}
 NeighboursDiffer (span ∷ next ∷ spans) =
     (span.value ≢ next.value) × NeighboursDiffer (next ∷ spans)
 
--- the spans tile the values, the first of which stands at the place: none overlaps, none is missing,
--- and each has the value of its places
+-- the spans tile the values, the first of which stands at the place: none overlaps, none is
+-- missing, and each has the value of its places
 pub record Tiles {X : Type 0} (place : ℕ) (values : List X) (spans : List (Span X)) : Type 0 where
   pub follow : Follow place spans
   pub cover : flat_map values_in spans ≡ values

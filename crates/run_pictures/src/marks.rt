@@ -1,5 +1,5 @@
-//! What the steps are: each is told at its place of the axis, and an interrupt or a refusal is marked
-//! in the row of its core.
+//! What the steps are: each is told at its place of the axis, and an interrupt or a refusal is
+//! marked in the row of its core.
 ghost use Rattle.std.specs.Prelude.{◌≡◌, ◌++◌, ◌+◌, ◌<◌, ◌≤◌, ◌^◌, OnOk, flat_map, string_bytes};
 ghost use Rattle.list_orders.specs.Search.{numbers};
 ghost use Rattle.run_views.specs.ReplyWords.{core_of};

@@ -1,5 +1,5 @@
-//! The bands of the tasks: where each runs, is ready or is blocked, where it inherits a priority, and
-//! the mutexes that it holds.
+//! The bands of the tasks: where each runs, is ready or is blocked, where it inherits a priority,
+//! and the mutexes that it holds.
 ghost use Rattle.std.specs.Prelude.{◌≡◌, ◌++◌, ◌+◌, ◌<◌, ◌≤◌, ◌^◌, IfOk, OnOk, flat_map, length, map, string_bytes};
 ghost use Rattle.list_orders.specs.Search.{numbers};
 ghost use Rattle.run_pictures.specs.Spans.{holder_in, holder_spans, priorities_in, priority_spans, stance_spans};

@@ -2,6 +2,10 @@
 #![tactic(auto)]
 
 #[cfg(test)]
+mod command_lines;
+#[cfg(test)]
 mod samples;
 #[cfg(test)]
 mod traces;
+#[cfg(test)]
+mod views;

@@ -12,7 +12,7 @@ use Rattle.list_orders.specs.Search.{numbers}
 use Rattle.bench_model.specs.Control.{core_at, current}
 use Rattle.bench_model.specs.Looks.{task_look}
 use Rattle.bench_model.specs.Seek.{after_switch}
-use Rattle.bench_model.specs.Session.{state_after, state_at}
+use Rattle.bench_model.specs.Session.{state_at}
 use Rattle.bench_model.specs.Start.{first_stamps, start, started, unstarted}
 use Rattle.bench_model.specs.Table.{Table, is_ready, stamp_queues, tick_count}
 use Rattle.step_laws.proofs.Nears.{turned_settings}

@@ -1,9 +1,9 @@
 -- Stretches tile the values.
-use Rattle.std.proofs.Common.{◌≡◌, ◌≢◌, ◌<◌, ◌≤◌, ℕ, suc, ◌+◌, ◌-◌, List, [], ◌∷◌, ◌++◌, flat_map, length, replicate, drop, get_or, Bool, true, false, refl, sym, ap, subst, ◌∙◌, arith, true≢false, add-zero}
+use Rattle.std.proofs.Common.{◌≡◌, ◌<◌, ◌≤◌, ℕ, suc, ◌+◌, ◌-◌, List, [], ◌∷◌, ◌++◌, flat_map, length, replicate, drop, get_or, Bool, true, false, refl, sym, ap, subst, ◌∙◌, arith, true≢false, add-zero}
 use Rattle.std.specs.Prelude.{Decides, if◌then◌else◌}
 use Rattle.std.proofs.Math.Seq.{drop-cons}
 use Rattle.run_pictures.specs.declared.span.Span.{Span}
-use Rattle.run_pictures.specs.Stretches.{extended, Follow, NeighboursDiffer, stretches, Tiles, values_in}
+use Rattle.run_pictures.specs.Stretches.{extended, NeighboursDiffer, stretches, Tiles, values_in}
 
 module _ {X : Type 0} (same : X → X → Bool) (tells : (a b : X) → Decides (same a b) (a ≡ b)) where
   one : (place : ℕ) (value : X) → replicate (suc place - place) value ≡ value ∷ []

@@ -117,8 +117,7 @@ fn comparison_of(
 fn too_long_line(alloc: Global, count: u64) -> Result<String, AllocError>
     ensures { IfOk result (λ text. string_bytes text ≡ too_long_line count) }
 {
-    format!(
-        in alloc;
+    format!(in alloc;
         "too long: {count} places, and a picture shows at most {MAX_PLACES}: name fewer by --from and --to\n"
     )
 }

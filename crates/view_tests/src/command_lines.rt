@@ -14,6 +14,8 @@ smp_view trace --from 3 => 3 4294967295
 smp_view trace --to +7 --from 003 => 3 7
 smp_view session => session
 smp_view compare => compare
+smp_view timeline => picture 0 4294967295
+smp_view timeline --to 7 --from 3 => picture 3 7
 smp_view --help => help
 smp_view trace --from --help => help
 smp_view nothing --help => help
@@ -27,6 +29,7 @@ smp_view trace --from 3 --from 3 => bad
 smp_view trace --until 3 => bad
 smp_view session --from 3 => bad
 smp_view compare again => bad
+smp_view timeline 3 => bad
 smp_view --from 3 trace => bad";
 
 #[test]
@@ -52,14 +55,27 @@ fn wanted(asked: &str) -> Request {
         "session" => Request::Show(Command::Session),
         "compare" => Request::Show(Command::Compare),
         "help" => Request::Help,
-        _ => trace_wanted(asked),
+        _ => places_wanted(asked),
     }
 }
 
-fn trace_wanted(asked: &str) -> Request {
+fn places_wanted(asked: &str) -> Request {
+    if let Some(("picture", places)) = asked.split_once(' ') {
+        return match places_of(places) {
+            Some(places) => Request::Show(Command::Timeline(places)),
+            None => Request::Bad,
+        };
+    }
+    match places_of(asked) {
+        Some(places) => Request::Show(Command::Trace(places)),
+        None => Request::Bad,
+    }
+}
+
+fn places_of(asked: &str) -> Option<Places> {
     let (from, to) = asked.split_once(' ').unwrap_or(("", ""));
     match (from.parse(), to.parse()) {
-        (Ok(from), Ok(to)) => Request::Show(Command::Trace(Places { from, to })),
-        _ => Request::Bad,
+        (Ok(from), Ok(to)) => Some(Places { from, to }),
+        _ => None,
     }
 }

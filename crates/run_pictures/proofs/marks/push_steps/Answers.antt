@@ -1,4 +1,4 @@
-use Rattle.std.proofs.Common.{◌+◌, ◌*◌, flat_map, string_bytes}
+use Rattle.std.proofs.Common.{◌+◌, string_bytes}
 use Rattle.run_pictures.specs.Marks.{step_at}
 use Rattle.run_pictures.proofs.Rows.{row_more}
 use Rattle.run_pictures.proofs.marks.push_steps.Goals as goal

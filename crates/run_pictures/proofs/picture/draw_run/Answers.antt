@@ -1,4 +1,4 @@
-use Rattle.std.proofs.Common.{◌≡◌, ◌+◌, ◌≤◌, ◌<◌, length, arith, ap, sym, subst}
+use Rattle.std.proofs.Common.{arith}
 use Rattle.bench_types.proofs.Passes.{header_facts, passes_whole}
 use Rattle.run_pictures.specs.Film.{film}
 use Rattle.run_pictures.proofs.Filming.{looks_counted, looks_few}

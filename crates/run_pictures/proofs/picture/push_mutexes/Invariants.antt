@@ -1,4 +1,4 @@
-use Rattle.std.proofs.Common.{◌≡◌, ◌+◌, ◌*◌, ◌++◌, flat_map, string_bytes}
+use Rattle.std.proofs.Common.{◌≡◌, ◌++◌, flat_map, string_bytes}
 use Rattle.list_orders.specs.Search.{numbers}
 use Rattle.run_pictures.specs.Spans.{holder_spans}
 use Rattle.run_pictures.specs.TaskBands.{holder_bar}

@@ -1,4 +1,4 @@
-use Rattle.std.proofs.Common.{◌+◌, ◌*◌, flat_map, string_bytes}
+use Rattle.std.proofs.Common.{◌+◌, ◌*◌, string_bytes}
 use Rattle.run_pictures.specs.TaskBands.{task_row}
 use Rattle.run_pictures.proofs.Rows.{row_more}
 use Rattle.run_pictures.proofs.picture.push_tasks.Goals as goal

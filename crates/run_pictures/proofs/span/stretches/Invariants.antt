@@ -1,4 +1,4 @@
-use Rattle.std.proofs.Common.{◌≡◌, ◌≤◌, ◌+◌, drop, length}
+use Rattle.std.proofs.Common.{◌≡◌, ◌+◌, drop}
 use Rattle.run_pictures.specs.Stretches.{stretches}
 use Rattle.run_pictures.proofs.span.stretches.Given as goal
 

@@ -1,4 +1,5 @@
 mod EditsKept
 mod MemoryRefused
 mod Outputs
+mod Pictures
 mod WordsRead

@@ -1,5 +1,5 @@
 -- What is written for a document.
-use Rattle.std.specs.Prelude.{ℕ, List, [], ◌++◌, ◌==◌, length, codes, decimal, nat_lt, if◌then◌else◌}
+use Rattle.std.specs.Prelude.{ℕ, List, [], ◌++◌, ◌==◌, length, codes, decimal, nat_lt, Err, Ok, Result, String, string_bytes, if◌then◌else◌}
 use Rattle.bench_types.specs.declared.edit.Edit.{Edit}
 use Rattle.bench_types.specs.Limits.{max_input}
 use Rattle.bench_types.specs.Session.{Session}
@@ -9,6 +9,8 @@ use Rattle.session_text.specs.Bench.{bench_text}
 use Rattle.session_write.specs.Written.{written}
 use Rattle.run_views.specs.declared.places.Places.{Places}
 use Rattle.run_views.specs.Trace.{trace_text}
+use Rattle.std.specs.declared.alloc.Global.{Global}
+use Rattle.run_pictures.specs.declared.picture.TooLong.{TooLong}
 use Rattle.run_pictures.specs.declared.picture.TheConstants.{MAX_PLACES}
 use Rattle.run_pictures.specs.Picture.{count_of_both, picture_text, pictures_text, shown_count}
 use Rattle.run_comparisons.specs.Comparison.{compare_text}
@@ -28,6 +30,10 @@ abbrev pub too_long_line : ℕ → List ℕ
 too_long_line count =
     codes "too long: " ++ decimal count ++ codes " places, and a picture shows at most "
     ++ decimal MAX_PLACES ++ codes ": name fewer by --from and --to\n"
+
+abbrev pub answer_text : Result (String Global) TooLong → List ℕ
+answer_text (Ok picture) = string_bytes picture
+answer_text (Err why) = too_long_line why.places
 
 -- a picture of so many places, or that these are too many
 abbrev pub picture_or : ℕ → List ℕ → List ℕ

@@ -1,13 +1,12 @@
 //! What is shown of the session of a store and of edits of it.
-ghost use Rattle.std.specs.Prelude.{◌≡◌, ◌+◌, ◌<◌, ◌≤◌, ◌^◌, ℕ, All, IfOk, List, OnOk, length, string_bytes};
+ghost use Rattle.std.specs.Prelude.{◌≡◌, ◌+◌, ◌<◌, ◌≤◌, ◌^◌, All, IfOk, OnOk, length, string_bytes};
 ghost use Rattle.bench_types.specs.Limits.{max_steps};
 ghost use Rattle.bench_model.specs.Edits.{after_edits};
 ghost use Rattle.session_store.specs.Outcomes.{after_edit};
 ghost use Rattle.bench_types.specs.Header.{IsCheckedHeader};
 ghost use Rattle.bench_types.specs.Step.{settings_of, IsCheckedStep};
-ghost use Rattle.run_pictures.specs.Picture.{Answers};
 ghost use Rattle.run_comparisons.specs.Comparison.{compare_text};
-ghost use Rattle.view_commands.specs.Views.{document_of, picture_of, picture_of_both, picture_of_run, picture_or, shown, too_long_line, trace_of};
+ghost use Rattle.view_commands.specs.Views.{answer_text, document_of, picture_of, picture_of_both, picture_of_run, shown, too_long_line, trace_of};
 
 use crate::Command;
 use bench_types::{Edit, Header, MAX_SPAN, Step};
@@ -123,15 +122,16 @@ fn too_long_line(alloc: Global, count: u64) -> Result<String, AllocError>
 }
 
 // A picture, or that it would show too many places.
-fn pictured(alloc: Global, answer: Result<String, TooLong>) -> Result<Vec<u8>, AllocError>
-    ensures { IfOk result (λ text. (count : ℕ) → (picture : List ℕ)
-        → Answers count picture answer → text.items ≡ picture_or count picture) }
+fn bytes_of(alloc: Global, answer: Result<String, TooLong>) -> Result<Vec<u8>, AllocError>
+    ensures { IfOk result (λ text. text.items ≡ answer_text answer) }
 {
-    let text = match answer {
-        Ok(picture) => picture,
-        Err(why) => too_long_line(alloc, why.places)?,
-    };
-    Ok(text.into_bytes())
+    match answer {
+        Ok(picture) => Ok(picture.into_bytes()),
+        Err(why) => {
+            let line = too_long_line(alloc, why.places)?;
+            Ok(line.into_bytes())
+        }
+    }
 }
 
 fn picture_of_run(
@@ -144,7 +144,7 @@ fn picture_of_run(
 {
     let steps = steps_of(alloc, store)?;
     let answer = timeline(alloc, meter, places, store.header(), steps.as_slice())?;
-    pictured(alloc, answer)
+    bytes_of(alloc, answer)
 }
 
 // The runs of a session before edits, and of the store after them.
@@ -174,7 +174,7 @@ fn picture_of_both(
         edited,
         later.as_slice(),
     )?;
-    pictured(alloc, answer)
+    bytes_of(alloc, answer)
 }
 
 fn picture_of(

@@ -28,8 +28,8 @@ document_of session = written session.header session.steps ++ codes "\n"
 -- where a picture would show more places than it may
 abbrev pub too_long_line : ℕ → List ℕ
 too_long_line count =
-    codes "too long: " ++ decimal count ++ codes " places, and a picture shows at most "
-    ++ decimal MAX_PLACES ++ codes ": name fewer by --from and --to\n"
+    codes "too long: " ++ decimal count ++ codes " places"
+    ++ codes ", and a picture shows at most 4000" ++ codes ": name fewer by --from and --to\n"
 
 abbrev pub answer_text : Result (String Global) TooLong → List ℕ
 answer_text (Ok picture) = string_bytes picture

@@ -11,7 +11,7 @@ ghost use Rattle.view_commands.specs.Views.{answer_text, document_of, picture_of
 use crate::Command;
 use bench_types::{Edit, Header, MAX_SPAN, Step};
 use run_comparisons::compare;
-use run_pictures::{MAX_PLACES, TooLong, timeline, timelines};
+use run_pictures::{TooLong, timeline, timelines};
 use run_views::{Places, trace};
 use session_store::{Store, StoreFault};
 use session_write::write_session;
@@ -116,9 +116,11 @@ fn comparison_of(
 fn too_long_line(alloc: Global, count: u64) -> Result<String, AllocError>
     ensures { IfOk result (λ text. string_bytes text ≡ too_long_line count) }
 {
-    format!(in alloc;
-        "too long: {count} places, and a picture shows at most {MAX_PLACES}: name fewer by --from and --to\n"
-    )
+    let mut text = String::new(alloc);
+    write!(text, "too long: {count} places")?;
+    text.push_str(", and a picture shows at most 4000")?;
+    text.push_str(": name fewer by --from and --to\n")?;
+    Ok(text)
 }
 
 // A picture, or that it would show too many places.

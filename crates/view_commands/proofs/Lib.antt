@@ -1,3 +1,5 @@
 mod EditsKept
+mod MemoryRefused
 mod Outputs
+mod Pictures
 mod WordsRead

@@ -1,6 +1,7 @@
 -- What the words of a command line are read as.
 use Rattle.std.proofs.Common.{◌≡◌, ℕ, ◌-◌, ◌≤◌, ◌&&◌, ◌^◌, Bool, true, false, List, [], ◌∷◌, length, nat_lt, map, take, drop, get_or, Option, Some, None, Result, Ok, Err, option_and_then, string_bytes, ltb-true, refl, sym, ap, subst, ◌∙◌, arith}
 use Rattle.std.specs.Prelude.{String, if◌then◌else◌}
+use Rattle.std.specs.List.{list_any}
 use Rattle.std.specs.Result.{result_ok}
 use Rattle.std.specs.Str.{all_ascii_digits}
 use Rattle.std.specs.Str.Parse.{ParsesUnsigned, digits_value, without_leading_plus}
@@ -49,3 +50,8 @@ option_read bounds more (one ∷ other ∷ words) name number read two is_name i
     ∙ sym told ∙ found in
     ap (λ (words : List (String Global)). bounds_in more (map string_bytes words)) all
     ∙ sym (ap (λ (set : Option Bounds). option_and_then (λ more. bounds_in more rest) set) first)
+
+-- a test of words is a test of their bytes
+pub any_mapped : (p : Word → Bool) (words : List (String Global)) → list_any p (map string_bytes words) ≡ list_any (λ word. p (string_bytes word)) words
+any_mapped p [] = refl
+any_mapped p (word ∷ words) = rw (any_mapped p words) refl

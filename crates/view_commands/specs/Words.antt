@@ -1,9 +1,15 @@
--- What a command line asks for: a trace, of the places from one to another.
+-- What a command line asks for, by its words.
 use Rattle.std.specs.Prelude.{ℕ, ◌^◌, ◌-◌, ◌&&◌, List, [], ◌∷◌, Bool, length, nat_lt, codes, Option, Some, None, is_none, option_and_then, option_map, unwrap_or, if◌then◌else◌}
+use Rattle.std.specs.List.{list_any}
+use Rattle.std.specs.Option.{option_map_or}
 use Rattle.std.specs.Str.{bytes_eq, all_ascii_digits}
 use Rattle.std.specs.Str.Parse.{digits_value, without_leading_plus}
 use Rattle.run_views.specs.declared.places.Places.{Places}
 use Rattle.view_commands.specs.declared.words.Bounds.{Bounds}
+use Rattle.view_commands.specs.declared.words.Command.{Command}
+use Rattle.view_commands.specs.declared.words.Command.TheVariants as command
+use Rattle.view_commands.specs.declared.words.Request.{Request}
+use Rattle.view_commands.specs.declared.words.Request.TheVariants.{Show, Help, Bad}
 
 -- the bytes of a word
 abbrev pub Word : Type 0
@@ -19,6 +25,8 @@ number_in word =
     let digits = without_leading_plus word in
     let number = digits_value 10 digits in
     if is_numeral digits && nat_lt number (2 ^ 32) then Some number else None
+
+-- ---- the options of a trace
 
 -- an option sets its bound, where none is set
 unfoldable pub with_bound : Bounds → Word → ℕ → Option Bounds
@@ -44,9 +52,39 @@ places_of bounds = record { from = unwrap_or bounds.from 0; to = unwrap_or bound
 abbrev pub no_bounds : Bounds
 no_bounds = record { from = None; to = None }
 
--- the words, the program's name first; none where they ask for nothing that the program does
-unfoldable pub asked : List Word → Option Places
-asked (program ∷ command ∷ options) =
-    if bytes_eq command (codes "trace") then option_map places_of (bounds_in no_bounds options)
+abbrev pub places_in : List Word → Option Places
+places_in options = option_map places_of (bounds_in no_bounds options)
+
+-- ---- commands
+
+-- a command that has no options
+abbrev pub alone : Command → List Word → Option Command
+alone command [] = Some command
+alone command (option ∷ options) = None
+
+-- a command of this name, with its options; none where the program has no such command
+unfoldable pub command_in : Word → List Word → Option Command
+command_in name options =
+    if bytes_eq name (codes "trace") then option_map command.Trace (places_in options)
+    else if bytes_eq name (codes "session") then alone command.Session options
+    else if bytes_eq name (codes "compare") then alone command.Compare options
+    else if bytes_eq name (codes "timeline") then option_map command.Timeline (places_in options)
     else None
-asked words = None
+
+-- the command that the words give, its name first
+abbrev pub shown_by : List Word → Option Command
+shown_by [] = None
+shown_by (name ∷ options) = command_in name options
+
+-- whether one of the words asks for help
+abbrev pub is_help : Word → Bool
+is_help word = bytes_eq word (codes "--help")
+
+abbrev pub asks_help : List Word → Bool
+asks_help words = list_any is_help words
+
+-- the words, the program's name first
+unfoldable pub asked : List Word → Request
+asked [] = Bad
+asked (program ∷ words) =
+    if asks_help words then Help else option_map_or Show (shown_by words) Bad

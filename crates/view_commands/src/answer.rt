@@ -1,48 +1,92 @@
 //! The output for an input.
-ghost use Rattle.std.specs.Prelude.{◌≡◌, [], IfOk, OnOk, codes, false};
+ghost use Rattle.std.specs.Prelude.{◌≡◌, [], IfOk, IsErr, OnOk, codes, false};
 ghost use Rattle.session_store.specs.declared.fault.OpenRefusal.TheVariants.{TooLong};
 ghost use Rattle.session_text.specs.Bench.{IsCheckedBench, bench_text};
-ghost use Rattle.bench_model.specs.Edits.{after_edits};
-ghost use Rattle.bench_commands.specs.Answer.{output_of, output_of_bench, refused};
-ghost use Rattle.view_commands.specs.Views.{session_text, view_output, view_text};
+ghost use Rattle.session_text.specs.declared.fault.Why.TheVariants.{NoMemory};
+ghost use Rattle.bench_commands.specs.Answer.{output_of, output_of_bench, refused, why_text};
+ghost use Rattle.view_commands.specs.Views.{shown, view_output, view_text};
 
-use crate::edited::edited_trace;
+use crate::Command;
+use crate::edited::shown;
 use bench_commands::{Answer, refused, refused_for};
 use bench_types::{Edit, EditFault, MAX_INPUT, MAX_SPAN};
-use run_views::Places;
 use session_store::{OpenRefusal, Store};
-use session_text::{Bench, read_bench};
+use session_text::{Bench, TextFault, read_bench};
 use smp_kernel::Meter;
 use std::alloc::{AllocError, Global};
+use std::marker::Model;
 
-fn answer_of_store(
+/// What is written, in bytes, and whether the input was refused.
+#[derive(Drop)]
+pub(crate) struct Shown {
+    pub(crate) is_refused: bool,
+    pub(crate) text: Vec<u8>,
+}
+
+impl Model for Shown {
+    ghost use Rattle.bench_commands.specs.Answer.{Output};
+
+    ghost Value = { Output };
+
+    ghost view = { λ it.
+        record { is_refused = it.is_refused; text = it.text.items } };
+}
+
+fn told(answer: Answer) -> Shown
+    ensures { result ≡ answer }
+{
+    let Answer { is_refused, text } = answer;
+    Shown {
+        is_refused,
+        text: text.into_bytes(),
+    }
+}
+
+// The refusal line of a code.
+fn refused_by(alloc: Global, code: &str) -> Result<Shown, AllocError>
+    ensures { IfOk result (λ shown. shown ≡ refused code.now []) }
+{
+    let answer = refused(alloc, code, "")?;
+    Ok(told(answer))
+}
+
+// The refusal line of a text that was not read. Want of memory has none.
+fn refused_text(alloc: Global, fault: TextFault) -> Result<Shown, AllocError>
+    ensures line { IfOk result (λ shown. shown ≡ refused (why_text fault.why) fault.path) }
+    ensures memory { fault.why ≡ NoMemory → IsErr result }
+{
+    let answer = refused_for(alloc, fault)?;
+    Ok(told(answer))
+}
+
+fn shown_of_store(
     alloc: Global,
     meter: &mut Meter,
     store: &mut Store,
     edits: &[Edit],
-    places: Places,
-) -> Result<Answer, AllocError>
+    command: Command,
+) -> Result<Shown, AllocError>
     ensures { IfOk result
         (λ answer. answer
         ≡ record {
           is_refused = false;
-          text = session_text places (after_edits store.old.session edits.now);
+          text = shown command store.old.session edits.now;
         }) }
 {
-    let text = edited_trace(alloc, meter, store, edits, places)?;
-    Ok(Answer {
+    let text = shown(alloc, meter, store, edits, command)?;
+    Ok(Shown {
         is_refused: false,
         text,
     })
 }
 
 // The answer where no store was opened, which is one only for J2.
-fn not_opened(alloc: Global, why: OpenRefusal) -> Result<Answer, AllocError>
+fn not_opened(alloc: Global, why: OpenRefusal) -> Result<Shown, AllocError>
     ensures why { OnOk result (why ≡ TooLong) }
     ensures line { IfOk result (λ answer. answer ≡ refused (codes "J2") []) }
 {
     match why {
-        OpenRefusal::TooLong => refused(alloc, EditFault::TooLong.code(), ""),
+        OpenRefusal::TooLong => refused_by(alloc, EditFault::TooLong.code()),
         _ => Err(AllocError),
     }
 }
@@ -53,10 +97,10 @@ fn answer_of_bench(
     host: &HostRuntime,
     alloc: Global,
     bench: Bench,
-    places: Places,
-) -> Result<Answer, AllocError>
+    command: Command,
+) -> Result<Shown, AllocError>
     requires { IsCheckedBench bench }
-    ensures { IfOk result (λ answer. answer ≡ output_of_bench (view_text places) bench) }
+    ensures { IfOk result (λ answer. answer ≡ output_of_bench (view_text command) bench) }
 {
     let Bench {
         header,
@@ -65,7 +109,7 @@ fn answer_of_bench(
     } = bench;
     let mut meter = Meter::new(host);
     match Store::open(alloc, header, steps.into_vec(), MAX_SPAN, &mut meter) {
-        Ok(mut store) => answer_of_store(alloc, &mut meter, &mut store, edits.as_slice(), places),
+        Ok(mut store) => shown_of_store(alloc, &mut meter, &mut store, edits.as_slice(), command),
         Err(fault) => not_opened(alloc, fault.why),
     }
 }
@@ -75,14 +119,14 @@ fn answer_to_text(
     host: &HostRuntime,
     alloc: Global,
     input: &[u8],
-    places: Places,
-) -> Result<Answer, AllocError>
+    command: Command,
+) -> Result<Shown, AllocError>
     ensures { IfOk result
-        (λ answer. answer ≡ output_of (view_text places) (bench_text input.now)) }
+        (λ answer. answer ≡ output_of (view_text command) (bench_text input.now)) }
 {
     match read_bench(alloc, input) {
-        Err(fault) => refused_for(alloc, fault),
-        Ok(bench) => answer_of_bench(host, alloc, bench, places),
+        Err(fault) => refused_text(alloc, fault),
+        Ok(bench) => answer_of_bench(host, alloc, bench, command),
     }
 }
 
@@ -92,12 +136,12 @@ pub(crate) fn answer_to(
     host: &HostRuntime,
     alloc: Global,
     input: &[u8],
-    places: Places,
-) -> Result<Answer, AllocError>
-    ensures { IfOk result (λ answer. answer ≡ view_output places input.now) }
+    command: Command,
+) -> Result<Shown, AllocError>
+    ensures { IfOk result (λ answer. answer ≡ view_output command input.now) }
 {
     if input.len() > MAX_INPUT {
-        return refused(alloc, "H3", "");
+        return refused_by(alloc, "H3");
     }
-    answer_to_text(host, alloc, input, places)
+    answer_to_text(host, alloc, input, command)
 }

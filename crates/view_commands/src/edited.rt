@@ -1,13 +1,20 @@
-//! The session of a store with edits made, and its trace.
-ghost use Rattle.std.specs.Prelude.{◌≡◌, ◌≤◌, IfOk, OnOk, length, string_bytes};
+//! What is shown of the session of a store and of edits of it.
+ghost use Rattle.std.specs.Prelude.{◌≡◌, ◌+◌, ◌<◌, ◌≤◌, ◌^◌, All, IfOk, OnOk, length, string_bytes};
 ghost use Rattle.bench_types.specs.Limits.{max_steps};
 ghost use Rattle.bench_model.specs.Edits.{after_edits};
 ghost use Rattle.session_store.specs.Outcomes.{after_edit};
-ghost use Rattle.view_commands.specs.Views.{session_text};
+ghost use Rattle.bench_types.specs.Header.{IsCheckedHeader};
+ghost use Rattle.bench_types.specs.Step.{settings_of, IsCheckedStep};
+ghost use Rattle.run_comparisons.specs.Comparison.{compare_text};
+ghost use Rattle.view_commands.specs.Views.{answer_text, document_of, picture_of, picture_of_both, picture_of_run, shown, too_long_line, trace_of};
 
-use bench_types::{Edit, Step};
+use crate::Command;
+use bench_types::{Edit, Header, MAX_SPAN, Step};
+use run_comparisons::compare;
+use run_pictures::{TooLong, timeline, timelines};
 use run_views::{Places, trace};
 use session_store::{Store, StoreFault};
+use session_write::write_session;
 use smp_kernel::Meter;
 use std::alloc::{AllocError, Global};
 
@@ -62,25 +69,155 @@ fn trace_of(
     meter: &mut Meter,
     store: &Store,
     places: Places,
-) -> Result<String, AllocError>
-    ensures { IfOk result (λ text. string_bytes text ≡ session_text places store.now.session) }
+) -> Result<Vec<u8>, AllocError>
+    ensures { IfOk result (λ text. text.items ≡ trace_of places store.now.session) }
 {
     let steps = steps_of(alloc, store)?;
-    trace(alloc, meter, places, store.header(), steps.as_slice())
+    let text = trace(alloc, meter, places, store.header(), steps.as_slice())?;
+    Ok(text.into_bytes())
 }
 
-/// The trace of the session with the edits made; those that are refused are passed over.
-pub(crate) fn edited_trace(
+// The session as it stands, as a document.
+fn document_of(alloc: Global, store: &Store) -> Result<Vec<u8>, AllocError>
+    ensures { IfOk result (λ text. text.items ≡ document_of store.now.session) }
+{
+    let steps = steps_of(alloc, store)?;
+    let mut text = write_session(alloc, store.header(), steps.as_slice())?;
+    text.push(b'\n')?;
+    Ok(text)
+}
+
+// The session replayed once more, with as few checkpoints as there can be.
+fn second(alloc: Global, meter: &mut Meter, store: &Store) -> Result<Store, AllocError>
+    ensures { IfOk result (λ second. second.session ≡ store.now.session) }
+{
+    let steps = steps_of(alloc, store)?;
+    let header = store.header().copy(alloc)?;
+    match Store::open(alloc, header, steps, MAX_SPAN, meter) {
+        Ok(second) => Ok(second),
+        Err(_) => Err(AllocError),
+    }
+}
+
+// The run of the session beside the run after the edits.
+fn comparison_of(
+    alloc: Global,
+    meter: &mut Meter,
+    store: &mut Store,
+    edits: &[Edit],
+) -> Result<Vec<u8>, AllocError>
+    ensures { IfOk result (λ text. text.items ≡ compare_text store.old.session edits.now) }
+{
+    let before = second(alloc, meter, store)?;
+    let text = compare(alloc, meter, &before, store, edits)?;
+    Ok(text.into_bytes())
+}
+
+fn too_long_line(alloc: Global, count: u64) -> Result<String, AllocError>
+    ensures { IfOk result (λ text. string_bytes text ≡ too_long_line count) }
+{
+    let mut text = String::new(alloc);
+    write!(text, "too long: {count} places")?;
+    text.push_str(", and a picture shows at most 4000")?;
+    text.push_str(": name fewer by --from and --to\n")?;
+    Ok(text)
+}
+
+// A picture, or that it would show too many places.
+fn bytes_of(alloc: Global, answer: Result<String, TooLong>) -> Result<Vec<u8>, AllocError>
+    ensures { IfOk result (λ text. text.items ≡ answer_text answer) }
+{
+    match answer {
+        Ok(picture) => Ok(picture.into_bytes()),
+        Err(why) => {
+            let line = too_long_line(alloc, why.places)?;
+            Ok(line.into_bytes())
+        }
+    }
+}
+
+fn picture_of_run(
+    alloc: Global,
+    meter: &mut Meter,
+    store: &Store,
+    places: Places,
+) -> Result<Vec<u8>, AllocError>
+    ensures { IfOk result (λ text. text.items ≡ picture_of_run places store.now.session) }
+{
+    let steps = steps_of(alloc, store)?;
+    let answer = timeline(alloc, meter, places, store.header(), steps.as_slice())?;
+    bytes_of(alloc, answer)
+}
+
+// The runs of a session before edits, and of the store after them.
+fn picture_of_both(
+    alloc: Global,
+    meter: &mut Meter,
+    header: &Header,
+    steps: &[Step],
+    store: &Store,
+    places: Places,
+) -> Result<Vec<u8>, AllocError>
+    requires header { IsCheckedHeader header.now }
+    requires steps { All (IsCheckedStep (settings_of header.now)) steps.now }
+    requires few { length steps.now + 1 < 2 ^ 32 }
+    ensures { IfOk result (λ text. text.items
+        ≡ picture_of_both places (record { header = header.now; steps = steps.now })
+        store.now.session) }
+{
+    let later = steps_of(alloc, store)?;
+    let edited = store.header();
+    let answer = timelines(
+        alloc,
+        meter,
+        places,
+        header,
+        steps,
+        edited,
+        later.as_slice(),
+    )?;
+    bytes_of(alloc, answer)
+}
+
+fn picture_of(
     alloc: Global,
     meter: &mut Meter,
     store: &mut Store,
     edits: &[Edit],
     places: Places,
-) -> Result<String, AllocError>
+) -> Result<Vec<u8>, AllocError>
     ensures { IfOk result
-        (λ text. string_bytes text
-        ≡ session_text places (after_edits store.old.session edits.now)) }
+        (λ text. text.items ≡ picture_of places store.old.session edits.now) }
 {
+    if edits.len() == 0 {
+        return picture_of_run(alloc, meter, store, places);
+    }
+    let header = store.header().copy(alloc)?;
+    let steps = steps_of(alloc, store)?;
     make_edits(alloc, meter, store, edits)?;
-    trace_of(alloc, meter, store, places)
+    picture_of_both(alloc, meter, &header, steps.as_slice(), store, places)
+}
+
+/// What the command shows of the session and its edits; those that are refused are passed over.
+pub(crate) fn shown(
+    alloc: Global,
+    meter: &mut Meter,
+    store: &mut Store,
+    edits: &[Edit],
+    command: Command,
+) -> Result<Vec<u8>, AllocError>
+    ensures { IfOk result (λ text. text.items ≡ shown command store.old.session edits.now) }
+{
+    match command {
+        Command::Trace(places) => {
+            make_edits(alloc, meter, store, edits)?;
+            trace_of(alloc, meter, store, places)
+        }
+        Command::Session => {
+            make_edits(alloc, meter, store, edits)?;
+            document_of(alloc, store)
+        }
+        Command::Compare => comparison_of(alloc, meter, store, edits),
+        Command::Timeline(places) => picture_of(alloc, meter, store, edits, places),
+    }
 }

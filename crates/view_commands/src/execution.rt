@@ -3,23 +3,23 @@ ghost use Rattle.bench_commands.specs.Device.{failures_after};
 ghost use Rattle.bench_commands.specs.Run.{reads_well, writes_well};
 ghost use Rattle.view_commands.specs.ViewRun.{Viewed};
 
+use crate::Command;
 use crate::answer::answer_to;
 use bench_commands::{
     CountedRead, CountedWrite, InputFault, RunFault, Status, read_input, write_text,
 };
-use run_views::Places;
 use std::alloc::Global;
 
-/// Reads a document to its end, or one byte past the most that it is, makes its edits, and then
-/// writes the trace of its session: of the places that are to be shown, and the steps between them.
-pub fn run_trace<R: CountedRead, W: CountedWrite>(
+/// Reads a document to its end, or one byte past the most that it is, and then writes what the
+/// command shows of it.
+pub fn run<R: CountedRead, W: CountedWrite>(
     host: &HostRuntime,
     alloc: Global,
     reader: &mut R,
     writer: &mut W,
-    places: Places,
+    command: Command,
 ) -> Status
-    ensures bytes { Viewed places result (R.Read.remaining reader.old)
+    ensures bytes { Viewed command result (R.Read.remaining reader.old)
         (R.Read.remaining reader.new) (W.Write.contents writer.old) (W.Write.contents writer.new) }
     ensures reads { R.CountedRead.failures reader.new
         ≡ failures_after (reads_well result) (R.CountedRead.failures reader.old) }
@@ -31,10 +31,10 @@ pub fn run_trace<R: CountedRead, W: CountedWrite>(
         Err(InputFault::Memory) => return Status::Fault(RunFault::Memory),
         Err(InputFault::Read) => return Status::Fault(RunFault::Read),
     };
-    let Ok(answer) = answer_to(host, alloc, &input, places) else {
+    let Ok(answer) = answer_to(host, alloc, &input, command) else {
         return Status::Fault(RunFault::Memory);
     };
-    if write_text(writer, answer.text.as_bytes()).is_err() {
+    if write_text(writer, answer.text.as_slice()).is_err() {
         return Status::Fault(RunFault::Write);
     }
     if answer.is_refused {

@@ -7,6 +7,6 @@ mod execution;
 mod program;
 mod words;
 
-pub use execution::run_trace;
+pub use execution::run;
 pub use program::run_program;
-pub use words::places_in;
+pub use words::{Command, Request, request_in};

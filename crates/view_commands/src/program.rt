@@ -1,42 +1,99 @@
 ghost use Rattle.std.specs.Prelude.{◌≡◌};
 ghost use Rattle.std.specs.Process.{exit_status};
 ghost use Rattle.bench_commands.specs.Device.{failures_after};
-ghost use Rattle.bench_commands.specs.Program.{device, all_reads_well, all_writes_well};
-ghost use Rattle.view_commands.specs.ViewProgram.{Ends, EndsProcess, EndsWith};
+ghost use Rattle.bench_commands.specs.Program.{device, Shows, all_reads_well, all_writes_well};
+ghost use Rattle.bench_commands.specs.Run.{writes_well};
+ghost use Rattle.view_commands.specs.ViewProgram.{Ends, EndsProcess, EndsWith, IsToldBad, help};
 
-use crate::execution::run_trace;
-use crate::words::places_in;
+use crate::execution::run;
+use crate::words::{Request, request_in};
 use bench_commands::{CountedRead, CountedWrite, Ending, RunFault, Status, write_text};
-use run_views::Places;
 use std::alloc::Global;
 use std::env::Args;
 use std::io;
 use std::io::ErrorKind;
 use std::process::ExitCode;
 
-const USAGE: &str = "usage: smp_view trace [--from PLACE] [--to PLACE]\n";
+const USAGE: &str = "usage: smp_view trace [--from PLACE] [--to PLACE]
+       smp_view session
+       smp_view compare
+       smp_view timeline [--from PLACE] [--to PLACE]
+       smp_view --help
+";
 
-// Shows the places, where the command line asked for some.
+const HELP: &str = "smp_view shows what a run of a session does, and why.
+
+usage: smp_view trace [--from PLACE] [--to PLACE]
+       smp_view session
+       smp_view compare
+       smp_view timeline [--from PLACE] [--to PLACE]
+       smp_view --help
+
+It reads a session, or a bench document with edits, from standard input. The
+edits are made one after another; those that are refused are passed over.
+
+  trace     each place and each step of the session with its edits made, and all
+            that the step changed
+            --from PLACE, --to PLACE  only the places from the one to the other
+  session   the session with its edits made, as a document
+  compare   the run before the edits beside the run after them, and what each
+            task gained and lost
+  timeline  the run before the edits and that after them as a picture (SVG), at
+            all places or at those from the one to the other
+
+exit status: 0 it was shown, 1 the document is refused (standard output says
+why), 2 a bad command line, 3 memory or a device failed
+
+example: smp_view trace --from 2 --to 3 < examples/first-run.json
+";
+
+#[tactic(auto, unfolding(crate::specs::ViewProgram::help))]
+fn help() -> &'static str
+    ensures { result.now ≡ help }
+{
+    HELP
+}
+
+fn show<W: CountedWrite>(writer: &mut W, text: &str) -> Status
+    ensures bytes { Shows result text.now (W.Write.contents writer.old)
+        (W.Write.contents writer.new) }
+    ensures failures { W.CountedWrite.failures writer.new
+        ≡ failures_after (writes_well result) (W.CountedWrite.failures writer.old) }
+{
+    if write_text(writer, text.as_bytes()).is_err() {
+        return Status::Fault(RunFault::Write);
+    }
+    Status::Fine
+}
+
+fn bad_command_line(alloc: Global) -> Ending
+    ensures { IsToldBad result }
+{
+    match String::from_str(alloc, USAGE) {
+        Ok(text) => Ending::BadCommandLine(text),
+        Err(_) => Ending::Ran(Status::Fault(RunFault::Memory)),
+    }
+}
+
+// Does what the command line asks for. Only a view reads.
 fn carry_out<R: CountedRead, W: CountedWrite>(
     host: &HostRuntime,
     alloc: Global,
-    asked: Option<Places>,
+    request: Request,
     reader: &mut R,
     writer: &mut W,
 ) -> Ending
-    ensures bytes { Ends asked result (R.Read.remaining reader.old)
+    ensures bytes { Ends request result (R.Read.remaining reader.old)
         (R.Read.remaining reader.new) (W.Write.contents writer.old) (W.Write.contents writer.new) }
     ensures reads { R.CountedRead.failures reader.new
         ≡ failures_after (all_reads_well result) (R.CountedRead.failures reader.old) }
     ensures writes { W.CountedWrite.failures writer.new
         ≡ failures_after (all_writes_well result) (W.CountedWrite.failures writer.old) }
 {
-    if let Some(places) = asked {
-        return Ending::Ran(run_trace(host, alloc, reader, writer, places));
-    }
-    match String::from_str(alloc, USAGE) {
-        Ok(text) => Ending::BadCommandLine(text),
-        Err(_) => Ending::Ran(Status::Fault(RunFault::Memory)),
+    match request {
+        Request::Show(command) => Ending::Ran(run(host, alloc, reader, writer, command)),
+        Request::Help => Ending::Ran(show(writer, help())),
+        Request::Bad => bad_command_line(alloc),
     }
 }
 
@@ -57,20 +114,20 @@ fn ending_of<R: CountedRead, W: CountedWrite>(
     match words {
         Ok(words) => match words.collect::<Vec<String>>(host.alloc()) {
             Ok(words) => {
-                let asked = places_in(words.as_slice());
-                carry_out(host, host.alloc(), asked, reader, writer)
+                let request = request_in(words.as_slice());
+                carry_out(host, host.alloc(), request, reader, writer)
             }
             Err(_) => Ending::Ran(Status::Fault(RunFault::Memory)),
         },
         Err(error) if error.kind() == ErrorKind::InvalidData => {
-            carry_out(host, host.alloc(), None, reader, writer)
+            carry_out(host, host.alloc(), Request::Bad, reader, writer)
         }
         Err(_) => Ending::Ran(Status::Fault(RunFault::Memory)),
     }
 }
 
-/// The whole program: it shows the places that the words of the command line ask for, over standard
-/// input and output, and tells standard error why it didn't. The exit status is 0 where all went
+/// The whole program: it shows what the words of the command line ask for, over standard input and
+/// output, and tells standard error why it didn't. The exit status is 0 where all went
 /// well, 1 for a refused input, 2 for a bad command line, and 3 where memory or a device failed.
 ///
 /// The words are those of [`std::env::args`]. Where standard error takes nothing, the exit status

@@ -2,6 +2,12 @@
 #![tactic(auto)]
 
 #[cfg(test)]
+mod command_lines;
+#[cfg(test)]
+mod pictures;
+#[cfg(test)]
 mod samples;
 #[cfg(test)]
 mod traces;
+#[cfg(test)]
+mod views;

@@ -4,8 +4,10 @@ use Rattle.std.specs.declared.alloc.Global.{Global}
 use Rattle.std.specs.Vec.Iter.{into_iter_items}
 use Rattle.std.proofs.lemmas.Iterator.{items_from_drains}
 use Rattle.std.proofs.lemmas.Iterator.Adapters.{YieldsList-from_vec}
+use Rattle.view_commands.specs.declared.words.Request.{Request}
 use Rattle.view_commands.specs.Words.{asked}
 use Rattle.view_commands.specs.ViewProgram.{Ends}
+use Rattle.view_commands.proofs.MemoryRefused.{refused_first}
 use Rattle.view_commands.proofs.program.ending_of.Goals as goal
 
 pub returns-in-Ok-collect-clause-bytes : goal.returns-in-Ok-collect-clause-bytes
@@ -19,5 +21,9 @@ returns-in-Ok-collect-clause-bytes g c =
     (λ (words : List (String Global)). Ends (asked (map string_bytes words)) c.carry_out.result (g.R.Read.remaining c.args.reader.now) (g.R.Read.remaining c.carry_out.new.reader) (g.W.Write.contents c.args.writer.now) (g.W.Write.contents c.carry_out.new.writer))
     (c.as_slice.ensures.value ∙ same)
     (subst
-    (λ asked. Ends asked c.carry_out.result (g.R.Read.remaining c.args.reader.now) (g.R.Read.remaining c.carry_out.new.reader) (g.W.Write.contents c.args.writer.now) (g.W.Write.contents c.carry_out.new.writer))
-    c.places_in-asked.ensures c.carry_out.ensures.bytes))
+    (λ (request : Request). Ends request c.carry_out.result (g.R.Read.remaining c.args.reader.now) (g.R.Read.remaining c.carry_out.new.reader) (g.W.Write.contents c.args.writer.now) (g.W.Write.contents c.carry_out.new.writer))
+    c.request_in-request.ensures c.carry_out.ensures.bytes))
+
+pub returns-in-Err-collect-clause-bytes : goal.returns-in-Err-collect-clause-bytes
+returns-in-Err-collect-clause-bytes g c =
+    rw c.in-Ok.is (refused_first (asked (map string_bytes (into_iter_items c.in-Ok.words))) (g.R.Read.remaining c.args.reader.now) (g.W.Write.contents c.args.writer.now))

@@ -1,0 +1,4 @@
+mod Aligned
+mod LastRows
+mod Outcomes
+mod Ranges

@@ -1,0 +1,53 @@
+-- The run of a session beside the run after edits of it.
+use Rattle.std.specs.Prelude.{ℕ, List, [], ◌∷◌, ◌++◌, filter, flat_map, codes, Some, None}
+use Rattle.bench_types.specs.declared.edit.Edit.{Edit}
+use Rattle.bench_types.specs.Session.{Session}
+use Rattle.bench_model.specs.Edits.{after_edits}
+use Rattle.bench_model.specs.Tally.{tallies}
+use Rattle.run_comparisons.specs.declared.rows.Row.{Row}
+use Rattle.run_comparisons.specs.declared.rows.Row.TheVariants.{Both, Removed, Inserted}
+use Rattle.run_comparisons.specs.Gains.{gains_text}
+use Rattle.run_comparisons.specs.Rows.{rows_of}
+use Rattle.run_comparisons.specs.RowWords.{differs, place_text, row_line}
+
+-- the places of a row before and after the edits
+abbrev pub places_text : Row → List ℕ
+places_text (Both old new) = place_text (Some old) ++ place_text (Some new)
+places_text (Removed old) = place_text (Some old) ++ place_text None
+places_text (Inserted new) = place_text None ++ place_text (Some new)
+
+unfoldable pub first_text : Row → List ℕ
+first_text row = codes "the runs differ first at" ++ places_text row
+
+unfoldable pub last_text : Row → List ℕ
+last_text row = codes " and last at" ++ places_text row ++ codes "\n"
+
+unfoldable pub ends_text : Row → Row → List ℕ
+ends_text first last = first_text first ++ last_text last
+
+abbrev pub last_of : Row → List Row → Row
+last_of row [] = row
+last_of row (next ∷ rows) = last_of next rows
+
+-- the first and the last of the rows in which the runs differ
+abbrev pub differences_text : List Row → List ℕ
+differences_text [] = codes "the runs do not differ\n"
+differences_text (row ∷ rows) = ends_text row (last_of row rows)
+
+-- rows of a session and an edited one
+abbrev pub rows_text : Session → Session → List Row → List ℕ
+rows_text before after rows =
+    flat_map (row_line before after) rows ++ differences_text (filter (differs before after) rows)
+
+-- a line for each task that fared otherwise
+abbrev pub fared_text : Session → Session → List ℕ
+fared_text before after =
+    gains_text before.header (tallies before.header before.steps)
+    (tallies after.header after.steps)
+
+-- A line a row, then where the two runs differ first and last, then what each task gained and lost.
+-- The edits are made one after another, and those that are refused are passed over.
+unfoldable pub compare_text : Session → List Edit → List ℕ
+compare_text session edits =
+    let after = after_edits session edits in
+    rows_text session after (rows_of session edits) ++ fared_text session after

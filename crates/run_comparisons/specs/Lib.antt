@@ -1,0 +1,6 @@
+pub mod Comparison
+pub mod Gains
+pub mod Origins
+pub mod RowWords
+pub mod Rows
+pub mod Told

@@ -1,0 +1,51 @@
+//! Edits that are made, with the origins of the steps.
+ghost use Rattle.std.specs.Prelude.{◌≡◌, ◌≤◌, OnOk, length};
+ghost use Rattle.bench_model.specs.Edits.{after_edit, after_edits};
+ghost use Rattle.run_comparisons.specs.Origins.{origins_made, origins_of};
+
+use crate::origins::edit_origins;
+use bench_types::Edit;
+use session_store::{Store, StoreFault};
+use smp_kernel::Meter;
+use std::alloc::{AllocError, Global};
+
+// Makes an edit; one that is refused is passed over.
+fn make_edit(
+    alloc: Global,
+    meter: &mut Meter,
+    store: &mut Store,
+    origins: &mut Vec<Option<u32>>,
+    edit: Edit,
+) -> Result<(), AllocError>
+    requires { length origins.old.items ≡ length store.old.session.steps }
+    ensures session { OnOk result (store.new.session ≡ after_edit store.old.session edit) }
+    ensures origins { OnOk result
+        (origins.new.items ≡ origins_made store.old.session edit origins.old.items) }
+    ensures many { OnOk result (length origins.new.items ≡ length store.new.session.steps) }
+{
+    match store.apply(alloc, edit, meter) {
+        Ok(_) => edit_origins(origins, &edit),
+        Err(StoreFault::Edit(_why)) => Ok(()),
+        Err(StoreFault::NoMemory) => Err(AllocError),
+    }
+}
+
+/// Makes the edits, and moves the origins as they move the steps.
+pub(crate) fn make_edits(
+    alloc: Global,
+    meter: &mut Meter,
+    store: &mut Store,
+    origins: &mut Vec<Option<u32>>,
+    edits: &[Edit],
+) -> Result<(), AllocError>
+    requires { length origins.old.items ≡ length store.old.session.steps }
+    ensures session { OnOk result (store.new.session ≡ after_edits store.old.session edits.now) }
+    ensures origins { OnOk result
+        (origins.new.items ≡ origins_of store.old.session edits.now origins.old.items) }
+    ensures many { OnOk result (length origins.new.items ≡ length store.new.session.steps) }
+{
+    for edit in edits {
+        make_edit(alloc, meter, store, origins, *edit)?;
+    }
+    Ok(())
+}

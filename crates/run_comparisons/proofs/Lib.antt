@@ -2,3 +2,4 @@ mod Aligned
 mod LastRows
 mod Outcomes
 mod Ranges
+mod Tiling

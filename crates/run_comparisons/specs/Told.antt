@@ -1,5 +1,5 @@
 -- What a run tells of one step: its words, and what it led to.
-use Rattle.std.specs.Prelude.{ℕ, suc, List, [], ◌++◌, flat_map, codes, Option, Some, None, slice_get}
+use Rattle.std.specs.Prelude.{ℕ, suc, List, [], ◌++◌, flat_map, codes, Option, Some, slice_get}
 use Rattle.bench_types.specs.declared.header.Header.{Header}
 use Rattle.bench_types.specs.declared.reply.Reply.{Reply}
 use Rattle.bench_types.specs.declared.reply.Reply.TheVariants.{Done, Blocked}

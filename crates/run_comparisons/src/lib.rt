@@ -3,6 +3,7 @@
 
 mod comparison;
 mod gains;
+pub mod laws;
 mod making;
 mod origins;
 mod row_words;

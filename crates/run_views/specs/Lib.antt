@@ -1,5 +1,6 @@
 pub mod ChangeWords
 pub mod Changes
+pub mod Interest
 pub mod Looks
 pub mod ReplyWords
 pub mod StepWords

@@ -13,10 +13,12 @@ use Rattle.bench_model.specs.Session.{state_after, step_of}
 use Rattle.bench_model.specs.Start.{start}
 use Rattle.bench_model.specs.Table.{Table}
 use Rattle.run_views.specs.declared.change.Change.{Change}
+use Rattle.run_views.specs.declared.interest.Interest.{Interest}
 use Rattle.run_views.specs.declared.look.Look.{Look}
 use Rattle.run_views.specs.declared.places.Places.{Places}
 use Rattle.run_views.specs.ChangeWords.{change_text, hold_text}
 use Rattle.run_views.specs.Changes.{changes, IsNumbered}
+use Rattle.run_views.specs.Interest.{tells}
 use Rattle.run_views.specs.Looks.{look_of}
 use Rattle.run_views.specs.ReplyWords.{reply_words}
 use Rattle.run_views.specs.StepWords.{step_text}
@@ -72,25 +74,32 @@ step_part places header place step reply some =
     if shows places place && shows places (suc place)
     then step_lines header place step reply some else []
 
--- a place and the step that is made there
-abbrev pub told_at : Places → Header → ℕ → Table → Step → List ℕ
-told_at places header place table step =
+-- a place and the step that is made there, where the step is one that is told
+unfoldable pub told_part :
+    Places → Interest → Header → ℕ → Look → Step → Reply → List Change → List ℕ
+told_part places interest header place look step reply some =
+    if tells interest step some then
+    place_part places header place look ++ step_part places header place step reply some
+    else []
+
+-- the same of the step from a table
+abbrev pub told_at : Places → Interest → Header → ℕ → Table → Step → List ℕ
+told_at places interest header place table step =
     let outcome = step_of step table in
-    place_part places header place (look_of table)
-    ++ step_part places header place step outcome.0
+    told_part places interest header place (look_of table) step outcome.0
     (changes (look_of table) (look_of outcome.1))
 
 -- steps from a table on, the first of which is made at the place
-abbrev pub told_from : Places → Header → ℕ → Table → List Step → List ℕ
-told_from places header place table [] = []
-told_from places header place table (step ∷ steps) =
-    told_at places header place table step
-    ++ told_from places header (suc place) (step_of step table).1 steps
+abbrev pub told_from : Places → Interest → Header → ℕ → Table → List Step → List ℕ
+told_from places interest header place table [] = []
+told_from places interest header place table (step ∷ steps) =
+    told_at places interest header place table step
+    ++ told_from places interest header (suc place) (step_of step table).1 steps
 
 -- a whole session, to its last place
-unfoldable pub trace_text : Places → Header → List Step → List ℕ
-trace_text places header steps =
-    told_from places header 0 (start header) steps
+unfoldable pub trace_text : Places → Interest → Header → List Step → List ℕ
+trace_text places interest header steps =
+    told_from places interest header 0 (start header) steps
     ++ place_part places header (length steps) (look_of (state_after (start header) steps))
 
 -- the look is that of the kernel
@@ -99,8 +108,8 @@ pub record Shows (kernel : View) (look : Look) : Type 0 where
   pub shown : (table : Table) → StandsFor kernel table → look ≡ look_of table
 
 -- what the steps lead to was told, from each table that the kernel stood for
-pub record IsTold (places : Places) (header : Header) (old new : View) (steps : List Step)
-    (before after : List ℕ) : Type 0 where
+pub record IsTold (places : Places) (interest : Interest) (header : Header) (old new : View)
+    (steps : List Step) (before after : List ℕ) : Type 0 where
   pub told : (table : Table) → StandsFor old table
-      → after ≡ before ++ told_from places header 0 table steps
+      → after ≡ before ++ told_from places interest header 0 table steps
   pub stands : (table : Table) → StandsFor old table → StandsFor new (state_after table steps)

@@ -4,6 +4,7 @@
 
 mod change;
 mod change_words;
+mod interest;
 mod look;
 mod places;
 mod reply_words;
@@ -14,6 +15,7 @@ mod watch;
 
 pub use change::{Change, CoreChange, MutexChange, TaskChange};
 pub use change_words::{push_hold, push_standing};
+pub use interest::Interest;
 pub use look::{Look, Standing, TaskStatus};
 pub use places::Places;
 pub use reply_words::push_reply;

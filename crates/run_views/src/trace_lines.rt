@@ -3,13 +3,13 @@ ghost use Rattle.bench_types.specs.Header.{IsCheckedHeader};
 ghost use Rattle.bench_types.specs.Step.{settings_of, IsCheckedStep};
 ghost use Rattle.bench_model.specs.Equal.{StandsFor};
 ghost use Rattle.bench_model.specs.Start.{start};
-ghost use Rattle.run_views.specs.Trace.{change_line, core_part, cores_part, due_text, hold_part, place_line, place_part, step_lines, step_part, trace_text, IsTold, Shows};
+ghost use Rattle.run_views.specs.Trace.{change_line, core_part, cores_part, due_text, hold_part, place_line, place_part, step_lines, step_part, told_part, trace_text, IsTold, Shows};
 
 use crate::change_words::{push_change, push_hold};
 use crate::reply_words::push_reply;
 use crate::step_words::push_step;
-use crate::watch::Watch;
-use crate::{Change, Look, Places};
+use crate::watch::{Seen, Watch};
+use crate::{Change, Interest, Look, Places};
 use bench_types::{CoreLook, Header, Hold, Reply, Step};
 use smp_kernel::Meter;
 use std::alloc::{AllocError, Global};
@@ -163,12 +163,40 @@ fn push_told_step(
     Ok(())
 }
 
-// Makes the steps, and tells each place and each step.
+// The lines of a place and of the step that is made there, where the step is one that is told.
+#[tactic(auto, unfolding(crate::specs::Trace::told_part))]
+fn push_told(
+    text: &mut String,
+    places: Places,
+    interest: &Interest,
+    header: &Header,
+    place: u32,
+    step: Step,
+    seen: &Seen,
+) -> Result<(), AllocError>
+    requires cores { length seen.now.before.cores < 2 ^ 32 }
+    requires place { place + 1 < 2 ^ 32 }
+    ensures { OnOk result
+        (string_bytes text.new
+        ≡ string_bytes text.old
+        ++ told_part places interest.now header.now place seen.now.before step seen.now.reply
+        seen.now.changes) }
+{
+    let changes = seen.changes.as_slice();
+    if interest.tells(step, changes) {
+        push_place(text, places, header, place, &seen.before)?;
+        push_told_step(text, places, header, place, step, seen.reply, changes)?;
+    }
+    Ok(())
+}
+
+// Makes the steps, and tells those that are told.
 fn push_steps(
     alloc: Global,
     meter: &mut Meter,
     text: &mut String,
     places: Places,
+    interest: &Interest,
     header: &Header,
     watch: &mut Watch,
     steps: &[Step],
@@ -177,14 +205,13 @@ fn push_steps(
     requires shows { Shows watch.old.kernel watch.old.look }
     requires few { length steps.now + 1 < 2 ^ 32 }
     ensures told { OnOk result
-        (IsTold places header.now watch.old.kernel watch.new.kernel steps.now
+        (IsTold places interest.now header.now watch.old.kernel watch.new.kernel steps.now
         (string_bytes text.old) (string_bytes text.new)) }
     ensures shows { OnOk result (Shows watch.new.kernel watch.new.look) }
 {
     for (place, step) in steps.iter().enumerate() {
-        push_place(text, places, header, place as u32, &watch.look)?;
-        let (reply, changes) = watch.step(alloc, meter, step)?;
-        push_told_step(text, places, header, place as u32, *step, reply, &changes)?;
+        let seen = watch.step(alloc, meter, step)?;
+        push_told(text, places, interest, header, place as u32, *step, &seen)?;
     }
     Ok(())
 }
@@ -194,6 +221,7 @@ fn push_trace(
     meter: &mut Meter,
     text: &mut String,
     places: Places,
+    interest: &Interest,
     header: &Header,
     watch: &mut Watch,
     steps: &[Step],
@@ -204,31 +232,36 @@ fn push_trace(
     requires few { length steps.now + 1 < 2 ^ 32 }
     ensures { OnOk result
         (string_bytes text.new
-        ≡ string_bytes text.old ++ trace_text places header.now steps.now) }
+        ≡ string_bytes text.old ++ trace_text places interest.now header.now steps.now) }
 {
-    push_steps(alloc, meter, text, places, header, watch, steps)?;
+    push_steps(alloc, meter, text, places, interest, header, watch, steps)?;
     push_place(text, places, header, steps.len() as u32, &watch.look)?;
     Ok(())
 }
 
 /// The run of a checked session, told place by place and step by step: at each place the tick count
-/// and the cores, of each step its words, its reply and all that it changed.
+/// and the cores, of each step its words, its reply and all that it changed. A step of no interest
+/// is left out, and the line of the place before it.
 pub fn trace(
     alloc: Global,
     meter: &mut Meter,
     places: Places,
+    interest: &Interest,
     header: &Header,
     steps: &[Step],
 ) -> Result<String, AllocError>
     requires header { IsCheckedHeader header.now }
     requires steps { All (IsCheckedStep (settings_of header.now)) steps.now }
     requires few { length steps.now + 1 < 2 ^ 32 }
-    ensures { IfOk result (λ text. string_bytes text ≡ trace_text places header.now steps.now) }
+    ensures { IfOk result
+        (λ text. string_bytes text ≡ trace_text places interest.now header.now steps.now) }
 {
     let Ok(mut watch) = Watch::start(alloc, header) else {
         return Err(AllocError);
     };
     let mut text = String::new(alloc);
-    push_trace(alloc, meter, &mut text, places, header, &mut watch, steps)?;
+    push_trace(
+        alloc, meter, &mut text, places, interest, header, &mut watch, steps,
+    )?;
     Ok(text)
 }

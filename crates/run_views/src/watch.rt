@@ -9,9 +9,17 @@ ghost use Rattle.run_views.specs.Looks.{look_of};
 ghost use Rattle.run_views.specs.Trace.{Shows};
 
 use crate::{Change, Look};
-use bench_types::{Header, Reply, Step};
+use bench_types::{Header, Items, Reply, Step};
 use smp_kernel::{Kernel, Meter, StartFault};
 use std::alloc::{AllocError, Global};
+
+/// What was seen before a step, and what it did.
+#[derive(Drop)]
+pub(crate) struct Seen {
+    pub(crate) before: Look,
+    pub(crate) reply: Reply,
+    pub(crate) changes: Items<Change>,
+}
 
 /// A kernel with what can be seen of it.
 #[derive(Drop)]
@@ -33,21 +41,22 @@ impl Watch {
         Ok(Watch { kernel, look })
     }
 
-    /// Makes the step, and gives its reply with all that it changed.
+    /// Makes the step, and gives what was seen before, its reply, and all that it changed.
     pub(crate) fn step(
         &mut self,
         alloc: Global,
         meter: &mut Meter,
         step: &Step,
-    ) -> Result<(Reply, Vec<Change>), AllocError>
+    ) -> Result<Seen, AllocError>
         requires checked { step_check self.old.kernel.settings step.now ≡ Ok tt }
         requires shows { Shows self.old.kernel self.old.look }
+        ensures before { IfOk result (λ seen. seen.before ≡ self.old.look) }
         ensures reply { IfOk result
-            (λ told. (table : Table) → StandsFor self.old.kernel table
-            → told.0 ≡ (step_of step.now table).0) }
+            (λ seen. (table : Table) → StandsFor self.old.kernel table
+            → seen.reply ≡ (step_of step.now table).0) }
         ensures changes { IfOk result
-            (λ told. (table : Table) → StandsFor self.old.kernel table
-            → told.1.items ≡ changes (look_of table) (look_of (step_of step.now table).1)) }
+            (λ seen. (table : Table) → StandsFor self.old.kernel table
+            → seen.changes ≡ changes (look_of table) (look_of (step_of step.now table).1)) }
         ensures state { (table : Table) → StandsFor self.old.kernel table
             → StandsFor self.new.kernel (step_of step.now table).1 }
         ensures shows { OnOk result (Shows self.new.kernel self.new.look) }
@@ -56,7 +65,11 @@ impl Watch {
         let reply = self.kernel.step(meter, step);
         let look = Look::of_kernel(alloc, &self.kernel)?;
         let changes = self.look.changes_to(alloc, &look)?;
-        self.look = look;
-        Ok((reply, changes))
+        let before = std::mem::replace(&mut self.look, look);
+        Ok(Seen {
+            before,
+            reply,
+            changes: Items::new(changes),
+        })
     }
 }

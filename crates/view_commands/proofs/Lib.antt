@@ -1,5 +1,6 @@
 mod EditsKept
 mod MemoryRefused
+mod NamesFound
 mod Outputs
 mod Pictures
 mod WordsRead

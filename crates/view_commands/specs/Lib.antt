@@ -1,3 +1,5 @@
+pub mod Interests
+pub mod Selected
 pub mod ViewProgram
 pub mod ViewRun
 pub mod Views

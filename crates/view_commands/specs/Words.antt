@@ -1,10 +1,11 @@
 -- What a command line asks for, by its words.
-use Rattle.std.specs.Prelude.{ℕ, ◌^◌, ◌-◌, ◌&&◌, List, [], ◌∷◌, Bool, length, nat_lt, codes, Option, Some, None, is_none, option_and_then, option_map, unwrap_or, if◌then◌else◌}
+use Rattle.std.specs.Prelude.{ℕ, ◌^◌, ◌-◌, ◌&&◌, List, [], ◌∷◌, ◌++◌, Bool, length, nat_lt, codes, Option, Some, None, is_none, option_and_then, option_map, unwrap_or, if◌then◌else◌}
 use Rattle.std.specs.List.{list_any}
 use Rattle.std.specs.Option.{option_map_or}
 use Rattle.std.specs.Str.{bytes_eq, all_ascii_digits}
 use Rattle.std.specs.Str.Parse.{digits_value, without_leading_plus}
 use Rattle.run_views.specs.declared.places.Places.{Places}
+use Rattle.view_commands.specs.Selected.{Selected}
 use Rattle.view_commands.specs.declared.words.Bounds.{Bounds}
 use Rattle.view_commands.specs.declared.words.Command.{Command}
 use Rattle.view_commands.specs.declared.words.Command.TheVariants as command
@@ -37,13 +38,21 @@ with_bound bounds name number =
     Some (record bounds { to = Some number })
     else None
 
--- options, each with its number after it
+-- an option with its word: a task that is named, a core, or a bound
+unfoldable pub with_option : Bounds → Word → Word → Option Bounds
+with_option bounds name word =
+    if bytes_eq name (codes "--task") then Some bounds
+    else option_and_then
+    (λ number. if bytes_eq name (codes "--core") then Some bounds
+    else with_bound bounds name number)
+    (number_in word)
+
+-- options, each with its word after it
 abbrev pub bounds_in : Bounds → List Word → Option Bounds
 bounds_in bounds [] = Some bounds
 bounds_in bounds (name ∷ []) = None
-bounds_in bounds (name ∷ number ∷ words) =
-    option_and_then (λ more. bounds_in more words)
-    (option_and_then (with_bound bounds name) (number_in number))
+bounds_in bounds (name ∷ word ∷ words) =
+    option_and_then (λ more. bounds_in more words) (with_option bounds name word)
 
 -- all places, where no bound is set
 abbrev pub places_of : Bounds → Places
@@ -55,20 +64,60 @@ no_bounds = record { from = None; to = None }
 abbrev pub places_in : List Word → Option Places
 places_in options = option_map places_of (bounds_in no_bounds options)
 
+-- what each option gives, with the word after it
+abbrev pub each_option : {X : Type 0} → (Word → Word → List X) → List Word → List X
+each_option given [] = []
+each_option given (name ∷ []) = []
+each_option given (name ∷ word ∷ words) = given name word ++ each_option given words
+
+-- the name of a task that `--task` gives
+abbrev pub task_given : Word → Word → List Word
+task_given name word = if bytes_eq name (codes "--task") then word ∷ [] else []
+
+-- the number of a core that `--core` gives
+abbrev pub core_given : Word → Word → List ℕ
+core_given name word =
+    if bytes_eq name (codes "--core") then option_map_or (λ core. core ∷ []) (number_in word) []
+    else []
+
+-- the options of a trace
+abbrev pub selection_in : List Word → Option Selected
+selection_in options =
+    option_map
+    (λ places. record {
+      places = places;
+      tasks = each_option task_given options;
+      cores = each_option core_given options;
+    })
+    (places_in options)
+
 -- ---- commands
+
+abbrev pub trace_in : List Word → Option Command
+trace_in options = option_map command.Trace (selection_in options)
 
 -- a command that has no options
 abbrev pub alone : Command → List Word → Option Command
 alone command [] = Some command
 alone command (option ∷ options) = None
 
+-- the places alone, where no task and no core is named
+abbrev pub places_alone : Selected → Option Command
+places_alone selected =
+    if length selected.tasks == 0 && length selected.cores == 0
+    then Some (command.Timeline selected.places) else None
+
+-- the options of a picture: those of a trace that name places
+abbrev pub timeline_in : List Word → Option Command
+timeline_in options = option_and_then places_alone (selection_in options)
+
 -- a command of this name, with its options; none where the program has no such command
 unfoldable pub command_in : Word → List Word → Option Command
 command_in name options =
-    if bytes_eq name (codes "trace") then option_map command.Trace (places_in options)
+    if bytes_eq name (codes "trace") then trace_in options
     else if bytes_eq name (codes "session") then alone command.Session options
     else if bytes_eq name (codes "compare") then alone command.Compare options
-    else if bytes_eq name (codes "timeline") then option_map command.Timeline (places_in options)
+    else if bytes_eq name (codes "timeline") then timeline_in options
     else None
 
 -- the command that the words give, its name first

@@ -1,15 +1,15 @@
 //! The output for an input.
-ghost use Rattle.std.specs.Prelude.{◌≡◌, [], IfOk, IsErr, OnOk, codes, false};
+ghost use Rattle.std.specs.Prelude.{◌≡◌, [], IfOk, IsErr, OnOk, codes};
 ghost use Rattle.session_store.specs.declared.fault.OpenRefusal.TheVariants.{TooLong};
 ghost use Rattle.session_text.specs.Bench.{IsCheckedBench, bench_text};
 ghost use Rattle.session_text.specs.declared.fault.Why.TheVariants.{NoMemory};
-ghost use Rattle.bench_commands.specs.Answer.{output_of, output_of_bench, refused, why_text};
-ghost use Rattle.view_commands.specs.Views.{shown, view_output, view_text};
+ghost use Rattle.bench_commands.specs.Answer.{refused, why_text};
+ghost use Rattle.view_commands.specs.Views.{view_of, view_of_bench, view_output};
 
 use crate::Command;
 use crate::edited::shown;
 use bench_commands::{Answer, refused, refused_for};
-use bench_types::{Edit, EditFault, MAX_INPUT, MAX_SPAN};
+use bench_types::{EditFault, MAX_INPUT, MAX_SPAN};
 use session_store::{OpenRefusal, Store};
 use session_text::{Bench, TextFault, read_bench};
 use smp_kernel::Meter;
@@ -59,27 +59,6 @@ fn refused_text(alloc: Global, fault: TextFault) -> Result<Shown, AllocError>
     Ok(told(answer))
 }
 
-fn shown_of_store(
-    alloc: Global,
-    meter: &mut Meter,
-    store: &mut Store,
-    edits: &[Edit],
-    command: Command,
-) -> Result<Shown, AllocError>
-    ensures { IfOk result
-        (λ answer. answer
-        ≡ record {
-          is_refused = false;
-          text = shown command store.old.session edits.now;
-        }) }
-{
-    let text = shown(alloc, meter, store, edits, command)?;
-    Ok(Shown {
-        is_refused: false,
-        text,
-    })
-}
-
 // The answer where no store was opened, which is one only for J2.
 fn not_opened(alloc: Global, why: OpenRefusal) -> Result<Shown, AllocError>
     ensures why { OnOk result (why ≡ TooLong) }
@@ -97,10 +76,10 @@ fn answer_of_bench(
     host: &HostRuntime,
     alloc: Global,
     bench: Bench,
-    command: Command,
+    command: &Command,
 ) -> Result<Shown, AllocError>
     requires { IsCheckedBench bench }
-    ensures { IfOk result (λ answer. answer ≡ output_of_bench (view_text command) bench) }
+    ensures { IfOk result (λ answer. answer ≡ view_of_bench command.now bench) }
 {
     let Bench {
         header,
@@ -109,7 +88,7 @@ fn answer_of_bench(
     } = bench;
     let mut meter = Meter::new(host);
     match Store::open(alloc, header, steps.into_vec(), MAX_SPAN, &mut meter) {
-        Ok(mut store) => shown_of_store(alloc, &mut meter, &mut store, edits.as_slice(), command),
+        Ok(mut store) => shown(alloc, &mut meter, &mut store, edits.as_slice(), command),
         Err(fault) => not_opened(alloc, fault.why),
     }
 }
@@ -119,10 +98,10 @@ fn answer_to_text(
     host: &HostRuntime,
     alloc: Global,
     input: &[u8],
-    command: Command,
+    command: &Command,
 ) -> Result<Shown, AllocError>
     ensures { IfOk result
-        (λ answer. answer ≡ output_of (view_text command) (bench_text input.now)) }
+        (λ answer. answer ≡ view_of command.now (bench_text input.now)) }
 {
     match read_bench(alloc, input) {
         Err(fault) => refused_text(alloc, fault),
@@ -136,9 +115,9 @@ pub(crate) fn answer_to(
     host: &HostRuntime,
     alloc: Global,
     input: &[u8],
-    command: Command,
+    command: &Command,
 ) -> Result<Shown, AllocError>
-    ensures { IfOk result (λ answer. answer ≡ view_output command input.now) }
+    ensures { IfOk result (λ answer. answer ≡ view_output command.now input.now) }
 {
     if input.len() > MAX_INPUT {
         return refused_by(alloc, "H3");

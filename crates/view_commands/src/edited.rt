@@ -1,14 +1,16 @@
 //! What is shown of the session of a store and of edits of it.
-ghost use Rattle.std.specs.Prelude.{◌≡◌, ◌+◌, ◌<◌, ◌≤◌, ◌^◌, All, IfOk, OnOk, length, string_bytes};
+ghost use Rattle.std.specs.Prelude.{◌≡◌, ◌+◌, ◌≤◌, ◌<◌, ◌^◌, [], All, IfOk, OnOk, length, map, slice_index_or, string_bytes};
 ghost use Rattle.bench_types.specs.Limits.{max_steps};
 ghost use Rattle.bench_model.specs.Edits.{after_edits};
 ghost use Rattle.session_store.specs.Outcomes.{after_edit};
 ghost use Rattle.bench_types.specs.Header.{IsCheckedHeader};
 ghost use Rattle.bench_types.specs.Step.{settings_of, IsCheckedStep};
 ghost use Rattle.run_comparisons.specs.Comparison.{compare_text};
-ghost use Rattle.view_commands.specs.Views.{answer_text, document_of, picture_of, picture_of_both, picture_of_run, shown, too_long_line, trace_of};
+ghost use Rattle.view_commands.specs.Views.{answer_output, document_of, fine, picture_of, picture_of_both, picture_of_run, refused_long, refused_core, refused_task, shown, trace_of, trace_output};
 
-use crate::Command;
+use crate::answer::Shown;
+use crate::interest::{interest_of, unknown_core, unknown_task};
+use crate::{Command, Selection};
 use bench_types::{Edit, Header, MAX_SPAN, Step};
 use run_comparisons::compare;
 use run_pictures::{TooLong, timeline, timelines};
@@ -63,18 +65,79 @@ fn steps_of(alloc: Global, store: &Store) -> Result<Vec<Step>, AllocError>
     Ok(steps)
 }
 
-// The trace of the session as it stands.
+// The part of the trace of the session as it stands.
 fn trace_of(
     alloc: Global,
     meter: &mut Meter,
     store: &Store,
-    places: Places,
+    selection: &Selection,
 ) -> Result<Vec<u8>, AllocError>
-    ensures { IfOk result (λ text. text.items ≡ trace_of places store.now.session) }
+    ensures { IfOk result (λ text. text.items ≡ trace_of selection.now store.now.session) }
 {
     let steps = steps_of(alloc, store)?;
-    let text = trace(alloc, meter, places, store.header(), steps.as_slice())?;
+    let header = store.header();
+    let interest = interest_of(alloc, header, selection)?;
+    let places = selection.places;
+    let text = trace(alloc, meter, places, &interest, header, steps.as_slice())?;
     Ok(text.into_bytes())
+}
+
+fn refused_task(alloc: Global, name: &str) -> Result<Shown, AllocError>
+    ensures { IfOk result (λ shown. shown ≡ refused_task name.now) }
+{
+    let text = format!(in alloc; "refused task {name}\n")?;
+    Ok(Shown {
+        is_refused: true,
+        text: text.into_bytes(),
+    })
+}
+
+// The name that stands there is no task's.
+fn refused_name(alloc: Global, names: &[String], index: usize) -> Result<Shown, AllocError>
+    requires { index < length names.now }
+    ensures { IfOk result
+        (λ shown. shown
+        ≡ refused_task (slice_index_or (map string_bytes names.now) index [])) }
+{
+    refused_task(alloc, names[index].as_str())
+}
+
+fn refused_core(alloc: Global, core: u32) -> Result<Shown, AllocError>
+    ensures { IfOk result (λ shown. shown ≡ refused_core core) }
+{
+    let text = format!(in alloc; "refused core {core}\n")?;
+    Ok(Shown {
+        is_refused: true,
+        text: text.into_bytes(),
+    })
+}
+
+fn fine(text: Vec<u8>) -> Shown
+    ensures { result ≡ fine text.items }
+{
+    Shown {
+        is_refused: false,
+        text,
+    }
+}
+
+fn trace_output(
+    alloc: Global,
+    meter: &mut Meter,
+    store: &Store,
+    selection: &Selection,
+) -> Result<Shown, AllocError>
+    ensures { IfOk result (λ shown. shown ≡ trace_output selection.now store.now.session) }
+{
+    let header = store.header();
+    let names = selection.tasks.as_slice();
+    if let Some(index) = unknown_task(header, names) {
+        return refused_name(alloc, names, index);
+    }
+    if let Some(core) = unknown_core(header, selection.cores.as_slice()) {
+        return refused_core(alloc, core);
+    }
+    Ok(fine(trace_of(alloc, meter, store, selection)?))
 }
 
 // The session as it stands, as a document.
@@ -113,26 +176,26 @@ fn comparison_of(
     Ok(text.into_bytes())
 }
 
-fn too_long_line(alloc: Global, count: u64) -> Result<String, AllocError>
-    ensures { IfOk result (λ text. string_bytes text ≡ too_long_line count) }
+fn refused_long(alloc: Global, count: u64) -> Result<Shown, AllocError>
+    ensures { IfOk result (λ shown. shown ≡ refused_long count) }
 {
     let mut text = String::new(alloc);
-    write!(text, "too long: {count} places")?;
+    write!(text, "refused range of {count} places")?;
     text.push_str(", and a picture shows at most 4000")?;
     text.push_str(": name fewer by --from and --to\n")?;
-    Ok(text)
+    Ok(Shown {
+        is_refused: true,
+        text: text.into_bytes(),
+    })
 }
 
 // A picture, or that it would show too many places.
-fn bytes_of(alloc: Global, answer: Result<String, TooLong>) -> Result<Vec<u8>, AllocError>
-    ensures { IfOk result (λ text. text.items ≡ answer_text answer) }
+fn answer_output(alloc: Global, answer: Result<String, TooLong>) -> Result<Shown, AllocError>
+    ensures { IfOk result (λ shown. shown ≡ answer_output answer) }
 {
     match answer {
-        Ok(picture) => Ok(picture.into_bytes()),
-        Err(why) => {
-            let line = too_long_line(alloc, why.places)?;
-            Ok(line.into_bytes())
-        }
+        Ok(picture) => Ok(fine(picture.into_bytes())),
+        Err(why) => refused_long(alloc, why.places),
     }
 }
 
@@ -141,12 +204,12 @@ fn picture_of_run(
     meter: &mut Meter,
     store: &Store,
     places: Places,
-) -> Result<Vec<u8>, AllocError>
-    ensures { IfOk result (λ text. text.items ≡ picture_of_run places store.now.session) }
+) -> Result<Shown, AllocError>
+    ensures { IfOk result (λ shown. shown ≡ picture_of_run places store.now.session) }
 {
     let steps = steps_of(alloc, store)?;
     let answer = timeline(alloc, meter, places, store.header(), steps.as_slice())?;
-    bytes_of(alloc, answer)
+    answer_output(alloc, answer)
 }
 
 // The runs of a session before edits, and of the store after them.
@@ -157,11 +220,11 @@ fn picture_of_both(
     steps: &[Step],
     store: &Store,
     places: Places,
-) -> Result<Vec<u8>, AllocError>
+) -> Result<Shown, AllocError>
     requires header { IsCheckedHeader header.now }
     requires steps { All (IsCheckedStep (settings_of header.now)) steps.now }
     requires few { length steps.now + 1 < 2 ^ 32 }
-    ensures { IfOk result (λ text. text.items
+    ensures { IfOk result (λ shown. shown
         ≡ picture_of_both places (record { header = header.now; steps = steps.now })
         store.now.session) }
 {
@@ -176,7 +239,7 @@ fn picture_of_both(
         edited,
         later.as_slice(),
     )?;
-    bytes_of(alloc, answer)
+    answer_output(alloc, answer)
 }
 
 fn picture_of(
@@ -185,9 +248,9 @@ fn picture_of(
     store: &mut Store,
     edits: &[Edit],
     places: Places,
-) -> Result<Vec<u8>, AllocError>
+) -> Result<Shown, AllocError>
     ensures { IfOk result
-        (λ text. text.items ≡ picture_of places store.old.session edits.now) }
+        (λ shown. shown ≡ picture_of places store.old.session edits.now) }
 {
     if edits.len() == 0 {
         return picture_of_run(alloc, meter, store, places);
@@ -204,20 +267,20 @@ pub(crate) fn shown(
     meter: &mut Meter,
     store: &mut Store,
     edits: &[Edit],
-    command: Command,
-) -> Result<Vec<u8>, AllocError>
-    ensures { IfOk result (λ text. text.items ≡ shown command store.old.session edits.now) }
+    command: &Command,
+) -> Result<Shown, AllocError>
+    ensures { IfOk result (λ answer. answer ≡ shown command.now store.old.session edits.now) }
 {
     match command {
-        Command::Trace(places) => {
+        Command::Trace(selection) => {
             make_edits(alloc, meter, store, edits)?;
-            trace_of(alloc, meter, store, places)
+            trace_output(alloc, meter, store, selection)
         }
         Command::Session => {
             make_edits(alloc, meter, store, edits)?;
-            document_of(alloc, store)
+            Ok(fine(document_of(alloc, store)?))
         }
-        Command::Compare => comparison_of(alloc, meter, store, edits),
-        Command::Timeline(places) => picture_of(alloc, meter, store, edits, places),
+        Command::Compare => Ok(fine(comparison_of(alloc, meter, store, edits)?)),
+        Command::Timeline(places) => picture_of(alloc, meter, store, edits, *places),
     }
 }

@@ -17,9 +17,9 @@ pub fn run<R: CountedRead, W: CountedWrite>(
     alloc: Global,
     reader: &mut R,
     writer: &mut W,
-    command: Command,
+    command: &Command,
 ) -> Status
-    ensures bytes { Viewed command result (R.Read.remaining reader.old)
+    ensures bytes { Viewed command.now result (R.Read.remaining reader.old)
         (R.Read.remaining reader.new) (W.Write.contents writer.old) (W.Write.contents writer.new) }
     ensures reads { R.CountedRead.failures reader.new
         ≡ failures_after (reads_well result) (R.CountedRead.failures reader.old) }

@@ -4,9 +4,10 @@
 mod answer;
 mod edited;
 mod execution;
+mod interest;
 mod program;
 mod words;
 
 pub use execution::run;
 pub use program::run_program;
-pub use words::{Command, Request, request_in};
+pub use words::{Command, Request, Selection, request_in};

@@ -1,8 +1,9 @@
-ghost use Rattle.std.specs.Prelude.{◌≡◌};
+ghost use Rattle.std.specs.Prelude.{◌≡◌, map, string_bytes};
 ghost use Rattle.std.specs.Process.{exit_status};
 ghost use Rattle.bench_commands.specs.Device.{failures_after};
 ghost use Rattle.bench_commands.specs.Program.{device, Shows, all_reads_well, all_writes_well};
 ghost use Rattle.bench_commands.specs.Run.{writes_well};
+ghost use Rattle.view_commands.specs.Words.{asked};
 ghost use Rattle.view_commands.specs.ViewProgram.{Ends, EndsProcess, EndsWith, IsToldBad, help};
 
 use crate::execution::run;
@@ -14,7 +15,8 @@ use std::io;
 use std::io::ErrorKind;
 use std::process::ExitCode;
 
-const USAGE: &str = "usage: smp_view trace [--from PLACE] [--to PLACE]
+const USAGE: &str =
+    "usage: smp_view trace [--from PLACE] [--to PLACE] [--task NAME].. [--core CORE]..
        smp_view session
        smp_view compare
        smp_view timeline [--from PLACE] [--to PLACE]
@@ -23,7 +25,7 @@ const USAGE: &str = "usage: smp_view trace [--from PLACE] [--to PLACE]
 
 const HELP: &str = "smp_view shows what a run of a session does, and why.
 
-usage: smp_view trace [--from PLACE] [--to PLACE]
+usage: smp_view trace [--from PLACE] [--to PLACE] [--task NAME].. [--core CORE]..
        smp_view session
        smp_view compare
        smp_view timeline [--from PLACE] [--to PLACE]
@@ -35,14 +37,15 @@ edits are made one after another; those that are refused are passed over.
   trace     each place and each step of the session with its edits made, and all
             that the step changed
             --from PLACE, --to PLACE  only the places from the one to the other
+            --task NAME, --core CORE  only the steps that concern one of these
   session   the session with its edits made, as a document
   compare   the run before the edits beside the run after them, and what each
             task gained and lost
   timeline  the run before the edits and that after them as a picture (SVG), at
             all places or at those from the one to the other
 
-exit status: 0 it was shown, 1 the document is refused (standard output says
-why), 2 a bad command line, 3 memory or a device failed
+exit status: 0 it was shown, 1 the document is refused, or a task or core that
+it has not (standard output says which), 2 a bad command line, 3 memory or a device failed
 
 example: smp_view trace --from 2 --to 3 < examples/first-run.json
 ";
@@ -91,9 +94,29 @@ fn carry_out<R: CountedRead, W: CountedWrite>(
         ≡ failures_after (all_writes_well result) (W.CountedWrite.failures writer.old) }
 {
     match request {
-        Request::Show(command) => Ending::Ran(run(host, alloc, reader, writer, command)),
+        Request::Show(command) => Ending::Ran(run(host, alloc, reader, writer, &command)),
         Request::Help => Ending::Ran(show(writer, help())),
         Request::Bad => bad_command_line(alloc),
+    }
+}
+
+// How the program ends with these words.
+fn ending_with<R: CountedRead, W: CountedWrite>(
+    host: &HostRuntime,
+    words: &[String],
+    reader: &mut R,
+    writer: &mut W,
+) -> Ending
+    ensures bytes { Ends (asked (map string_bytes words.now)) result (R.Read.remaining reader.old)
+        (R.Read.remaining reader.new) (W.Write.contents writer.old) (W.Write.contents writer.new) }
+    ensures reads { R.CountedRead.failures reader.new
+        ≡ failures_after (all_reads_well result) (R.CountedRead.failures reader.old) }
+    ensures writes { W.CountedWrite.failures writer.new
+        ≡ failures_after (all_writes_well result) (W.CountedWrite.failures writer.old) }
+{
+    match request_in(host.alloc(), words) {
+        Ok(request) => carry_out(host, host.alloc(), request, reader, writer),
+        Err(_) => Ending::Ran(Status::Fault(RunFault::Memory)),
     }
 }
 
@@ -113,10 +136,7 @@ fn ending_of<R: CountedRead, W: CountedWrite>(
 {
     match words {
         Ok(words) => match words.collect::<Vec<String>>(host.alloc()) {
-            Ok(words) => {
-                let request = request_in(words.as_slice());
-                carry_out(host, host.alloc(), request, reader, writer)
-            }
+            Ok(words) => ending_with(host, words.as_slice(), reader, writer),
             Err(_) => Ending::Ran(Status::Fault(RunFault::Memory)),
         },
         Err(error) if error.kind() == ErrorKind::InvalidData => {

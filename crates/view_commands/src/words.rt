@@ -1,15 +1,43 @@
 //! The words of the command line.
-ghost use Rattle.std.specs.Prelude.{◌≡◌, map, option_and_then, string_bytes};
+ghost use Rattle.std.specs.Prelude.{◌≡◌, ◌++◌, IfOk, OnOk, map, string_bytes};
 ghost use Rattle.std.specs.List.{list_any};
-ghost use Rattle.view_commands.specs.Words.{alone, asked, asks_help, bounds_in, command_in, is_help, number_in, places_in, places_of, shown_by, with_bound};
+ghost use Rattle.std.specs.Option.{option_map_or};
+ghost use Rattle.view_commands.specs.declared.words.Request.TheVariants.{Show, Bad};
+ghost use Rattle.view_commands.specs.Words.{alone, asked, asks_help, bounds_in, command_in, core_given, each_option, is_help, number_in, places_in, places_of, selection_in, shown_by, task_given, timeline_in, trace_in, with_bound, with_option};
 
 use run_views::Places;
+use std::alloc::{AllocError, Global};
+use std::marker::Model;
+
+/// Which part of a trace is asked for.
+#[derive(Drop)]
+pub struct Selection {
+    pub places: Places,
+    /// Names of tasks.
+    pub tasks: Vec<String>,
+    /// Numbers of cores.
+    pub cores: Vec<u32>,
+}
+
+impl Model for Selection {
+    ghost use Rattle.std.specs.Prelude.{map, string_bytes};
+    ghost use Rattle.view_commands.specs.Selected.{Selected};
+
+    ghost Value = { Selected };
+
+    ghost view = { λ it.
+        record {
+          places = it.places;
+          tasks = map string_bytes it.tasks.items;
+          cores = it.cores.items;
+        } };
+}
 
 /// What is to be shown of a document.
-#[derive(Clone, Copy, Debug, PartialEq, Eq)]
+#[derive(Drop)]
 pub enum Command {
-    /// The trace of the session with its edits made: of these places, and the steps between them.
-    Trace(Places),
+    /// The trace of the session with its edits made: this part of it.
+    Trace(Selection),
     /// The session with its edits made, as a document.
     Session,
     /// The run before the edits beside the run after them.
@@ -19,7 +47,7 @@ pub enum Command {
 }
 
 /// What a command line asks for.
-#[derive(Clone, Copy, Debug, PartialEq, Eq)]
+#[derive(Drop)]
 pub enum Request {
     /// A view of the document on standard input.
     Show(Command),
@@ -74,10 +102,19 @@ fn number_in(word: &str) -> Option<u32>
     word.parse::<u32>().ok()
 }
 
-fn read_option(bounds: Bounds, name: &str, word: &str) -> Option<Bounds>
-    ensures { result ≡ option_and_then (with_bound bounds name.now) (number_in word.now) }
+// An option with its word: a bound, or a task or a core that is named.
+#[tactic(auto, unfolding(crate::specs::Words::with_option))]
+fn with_option(bounds: Bounds, name: &str, word: &str) -> Option<Bounds>
+    ensures { result ≡ with_option bounds name.now word.now }
 {
-    bounds.with(name, number_in(word)?)
+    if name == "--task" {
+        return Some(bounds);
+    }
+    let number = number_in(word)?;
+    if name == "--core" {
+        return Some(bounds);
+    }
+    bounds.with(name, number)
 }
 
 fn bounds_in(bounds: Bounds, words: &[String]) -> Option<Bounds>
@@ -87,7 +124,7 @@ fn bounds_in(bounds: Bounds, words: &[String]) -> Option<Bounds>
         [] => Some(bounds),
         [_] => None,
         [name, number, others @ ..] => {
-            let more = read_option(bounds, name.as_str(), number.as_str())?;
+            let more = with_option(bounds, name.as_str(), number.as_str())?;
             bounds_in(more, others)
         }
     }
@@ -104,6 +141,84 @@ fn places_in(options: &[String]) -> Option<Places>
     Some(bounds.places())
 }
 
+// Adds the name that a `--task` gives.
+fn push_task(
+    alloc: Global,
+    tasks: &mut Vec<String>,
+    name: &str,
+    word: &str,
+) -> Result<(), AllocError>
+    ensures { OnOk result
+        (map string_bytes tasks.new.items
+        ≡ map string_bytes tasks.old.items ++ task_given name.now word.now) }
+{
+    if name == "--task" {
+        tasks.push(String::from_str(alloc, word)?)?;
+    }
+    Ok(())
+}
+
+fn push_tasks(alloc: Global, tasks: &mut Vec<String>, options: &[String]) -> Result<(), AllocError>
+    ensures { OnOk result
+        (map string_bytes tasks.new.items
+        ≡ map string_bytes tasks.old.items
+        ++ each_option task_given (map string_bytes options.now)) }
+{
+    match options {
+        [] => Ok(()),
+        [_] => Ok(()),
+        [name, word, others @ ..] => {
+            push_task(alloc, tasks, name.as_str(), word.as_str())?;
+            push_tasks(alloc, tasks, others)
+        }
+    }
+}
+
+// Adds the number that a `--core` gives.
+fn push_core(cores: &mut Vec<u32>, name: &str, word: &str) -> Result<(), AllocError>
+    ensures { OnOk result (cores.new.items ≡ cores.old.items ++ core_given name.now word.now) }
+{
+    if name == "--core" {
+        if let Some(core) = number_in(word) {
+            cores.push(core)?;
+        }
+    }
+    Ok(())
+}
+
+fn push_cores(cores: &mut Vec<u32>, options: &[String]) -> Result<(), AllocError>
+    ensures { OnOk result
+        (cores.new.items
+        ≡ cores.old.items ++ each_option core_given (map string_bytes options.now)) }
+{
+    match options {
+        [] => Ok(()),
+        [_] => Ok(()),
+        [name, word, others @ ..] => {
+            push_core(cores, name.as_str(), word.as_str())?;
+            push_cores(cores, others)
+        }
+    }
+}
+
+// The options of a trace.
+fn selection_in(alloc: Global, options: &[String]) -> Result<Option<Selection>, AllocError>
+    ensures { IfOk result (λ found. found ≡ selection_in (map string_bytes options.now)) }
+{
+    let Some(places) = places_in(options) else {
+        return Ok(None);
+    };
+    let mut tasks = Vec::new(alloc);
+    push_tasks(alloc, &mut tasks, options)?;
+    let mut cores = Vec::new(alloc);
+    push_cores(&mut cores, options)?;
+    Ok(Some(Selection {
+        places,
+        tasks,
+        cores,
+    }))
+}
+
 // A command that has no options.
 fn alone(command: Command, options: &[String]) -> Option<Command>
     ensures { result ≡ alone command (map string_bytes options.now) }
@@ -114,24 +229,46 @@ fn alone(command: Command, options: &[String]) -> Option<Command>
     }
 }
 
+fn trace_in(alloc: Global, options: &[String]) -> Result<Option<Command>, AllocError>
+    ensures { IfOk result (λ found. found ≡ trace_in (map string_bytes options.now)) }
+{
+    match selection_in(alloc, options)? {
+        Some(selection) => Ok(Some(Command::Trace(selection))),
+        None => Ok(None),
+    }
+}
+
+// The options of a picture: those of a trace that name places.
+fn timeline_in(alloc: Global, options: &[String]) -> Result<Option<Command>, AllocError>
+    ensures { IfOk result (λ found. found ≡ timeline_in (map string_bytes options.now)) }
+{
+    match selection_in(alloc, options)? {
+        Some(selection) if selection.tasks.len() == 0 && selection.cores.len() == 0 => {
+            Ok(Some(Command::Timeline(selection.places)))
+        }
+        _ => Ok(None),
+    }
+}
+
 // A command of this name, with its options.
 #[tactic(auto, unfolding(crate::specs::Words::command_in))]
-fn command_in(name: &str, options: &[String]) -> Option<Command>
-    ensures { result ≡ command_in name.now (map string_bytes options.now) }
+fn command_in(alloc: Global, name: &str, options: &[String]) -> Result<Option<Command>, AllocError>
+    ensures { IfOk result
+        (λ found. found ≡ command_in name.now (map string_bytes options.now)) }
 {
     if name == "trace" {
-        return Some(Command::Trace(places_in(options)?));
+        return trace_in(alloc, options);
     }
     if name == "session" {
-        return alone(Command::Session, options);
+        return Ok(alone(Command::Session, options));
     }
     if name == "compare" {
-        return alone(Command::Compare, options);
+        return Ok(alone(Command::Compare, options));
     }
     if name == "timeline" {
-        return Some(Command::Timeline(places_in(options)?));
+        return timeline_in(alloc, options);
     }
-    None
+    Ok(None)
 }
 
 fn has_help(words: &[String]) -> bool
@@ -146,28 +283,35 @@ fn asks_help(words: &[String]) -> bool
     has_help(words)
 }
 
-fn shown_by(words: &[String]) -> Option<Command>
-    ensures { result ≡ shown_by (map string_bytes words.now) }
+fn shown_by(alloc: Global, words: &[String]) -> Result<Option<Command>, AllocError>
+    ensures { IfOk result (λ found. found ≡ shown_by (map string_bytes words.now)) }
 {
     let [name, options @ ..] = words else {
-        return None;
+        return Ok(None);
     };
-    command_in(name.as_str(), options)
+    command_in(alloc, name.as_str(), options)
+}
+
+fn shown_or_bad(found: Option<Command>) -> Request
+    ensures { result ≡ option_map_or Show found Bad }
+{
+    match found {
+        Some(command) => Request::Show(command),
+        None => Request::Bad,
+    }
 }
 
 /// What a command line asks for, its words with the program's name first.
 #[tactic(auto, unfolding(crate::specs::Words::asked))]
-pub fn request_in(words: &[String]) -> Request
-    ensures { result ≡ asked (map string_bytes words.now) }
+pub fn request_in(alloc: Global, words: &[String]) -> Result<Request, AllocError>
+    ensures { IfOk result (λ request. request ≡ asked (map string_bytes words.now)) }
 {
     let [_, words @ ..] = words else {
-        return Request::Bad;
+        return Ok(Request::Bad);
     };
     if asks_help(words) {
-        return Request::Help;
+        return Ok(Request::Help);
     }
-    match shown_by(words) {
-        Some(command) => Request::Show(command),
-        None => Request::Bad,
-    }
+    let found = shown_by(alloc, words)?;
+    Ok(shown_or_bad(found))
 }

@@ -1,17 +1,17 @@
 //! What a command line asks for.
 
-use run_views::Places;
 use std::alloc::{AllocError, Global};
 use std::process::Abort;
 use std::test::Fail;
-use view_commands::{Command, Request, request_in};
+use view_commands::{Command, Request, Selection, request_in};
 
-/// Command lines, and what each asks for: a trace with its first place and its last, another
-/// command, help, or nothing that the program does.
+/// Command lines, and what each asks for: a trace with its first place, its last, its tasks and its
+/// cores, another command, help, or nothing that the program does.
 const COMMAND_LINES: &str = "\
 smp_view trace => 0 4294967295
 smp_view trace --from 3 => 3 4294967295
 smp_view trace --to +7 --from 003 => 3 7
+smp_view trace --task B --core 1 --to 7 --task --to => 0 7 task B task --to core 1
 smp_view session => session
 smp_view compare => compare
 smp_view timeline => picture 0 4294967295
@@ -23,6 +23,8 @@ smp_view => bad
 smp_view help => bad
 smp_view trace 3 => bad
 smp_view trace --from => bad
+smp_view trace --task => bad
+smp_view trace --core x => bad
 smp_view trace --from 4294967296 => bad
 smp_view trace --from -1 => bad
 smp_view trace --from 3 --from 3 => bad
@@ -30,6 +32,7 @@ smp_view trace --until 3 => bad
 smp_view session --from 3 => bad
 smp_view compare again => bad
 smp_view timeline 3 => bad
+smp_view timeline --task A => bad
 smp_view --from 3 trace => bad";
 
 #[test]
@@ -46,36 +49,33 @@ fn check_line(rt: &impl Abort, alloc: Global, line: &str, asked: &str) -> Result
     for word in line.split(' ') {
         words.push(String::from_str(alloc, word)?)?;
     }
-    assert_eq!(rt; request_in(words.as_slice()), wanted(asked), "{line}");
+    let request = request_in(alloc, words.as_slice())?;
+    let told = told_of(alloc, &request)?;
+    assert_eq!(rt; told.as_str(), asked, "{line}");
     Ok(())
 }
 
-fn wanted(asked: &str) -> Request {
-    match asked {
-        "session" => Request::Show(Command::Session),
-        "compare" => Request::Show(Command::Compare),
-        "help" => Request::Help,
-        _ => places_wanted(asked),
+fn told_of(alloc: Global, request: &Request) -> Result<String, AllocError> {
+    match request {
+        Request::Show(Command::Trace(selection)) => trace_told(alloc, selection),
+        Request::Show(Command::Session) => String::from_str(alloc, "session"),
+        Request::Show(Command::Compare) => String::from_str(alloc, "compare"),
+        Request::Show(Command::Timeline(places)) => {
+            format!(in alloc; "picture {} {}", places.from, places.to)
+        }
+        Request::Help => String::from_str(alloc, "help"),
+        Request::Bad => String::from_str(alloc, "bad"),
     }
 }
 
-fn places_wanted(asked: &str) -> Request {
-    if let Some(("picture", places)) = asked.split_once(' ') {
-        return match places_of(places) {
-            Some(places) => Request::Show(Command::Timeline(places)),
-            None => Request::Bad,
-        };
+fn trace_told(alloc: Global, selection: &Selection) -> Result<String, AllocError> {
+    let places = selection.places;
+    let mut text = format!(in alloc; "{} {}", places.from, places.to)?;
+    for name in &selection.tasks {
+        write!(text, " task {name}")?;
     }
-    match places_of(asked) {
-        Some(places) => Request::Show(Command::Trace(places)),
-        None => Request::Bad,
+    for core in &selection.cores {
+        write!(text, " core {core}")?;
     }
-}
-
-fn places_of(asked: &str) -> Option<Places> {
-    let (from, to) = asked.split_once(' ').unwrap_or(("", ""));
-    match (from.parse(), to.parse()) {
-        (Ok(from), Ok(to)) => Some(Places { from, to }),
-        _ => None,
-    }
+    Ok(text)
 }

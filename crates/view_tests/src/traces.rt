@@ -1,7 +1,8 @@
 //! The text of a trace.
 
 use crate::samples::FIRST_RUN;
-use run_views::{Places, trace};
+use bench_types::Items;
+use run_views::{Interest, Places, trace};
 use session_text::read_session;
 use smp_kernel::Meter;
 use std::process::Abort;
@@ -56,5 +57,10 @@ fn trace_of(
     assert!(rt; steps.len() < 100);
     let mut meter = Meter::new(host);
     let places = Places { from, to };
-    Ok(trace(alloc, &mut meter, places, &header, steps.as_slice())?)
+    let interest = Interest {
+        tasks: Items::new(Vec::new(alloc)),
+        cores: Items::new(Vec::new(alloc)),
+    };
+    let steps = steps.as_slice();
+    Ok(trace(alloc, &mut meter, places, &interest, &header, steps)?)
 }

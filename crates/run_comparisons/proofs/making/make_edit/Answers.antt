@@ -1,4 +1,4 @@
-use Rattle.std.proofs.Common.{rules, ◌≡◌, ℕ, List, Option, length, ap, sym, ◌∙◌}
+use Rattle.std.proofs.Common.{rules, ℕ, List, Option, length, ap, sym, ◌∙◌}
 use Rattle.bench_model.specs.Meeting.{CheckpointedSession}
 use Rattle.run_comparisons.proofs.Aligned.{accepted_told, among, made_is, made_not, session_is, session_not, still_many}
 use Rattle.run_comparisons.proofs.Outcomes.{on_ok, on_ok_then}

@@ -18,11 +18,8 @@ returns-in-Ok-collect-clause-bytes g c =
     let same : c.in-Ok-collect.words.items ≡ into_iter_items handed = ran.2.0 ∙ sym (map-id ran.0) ∙ items_from_drains ran.0 ran.1 yields in
     rw c.in-Ok.is
     (subst
-    (λ (words : List (String Global)). Ends (asked (map string_bytes words)) c.carry_out.result (g.R.Read.remaining c.args.reader.now) (g.R.Read.remaining c.carry_out.new.reader) (g.W.Write.contents c.args.writer.now) (g.W.Write.contents c.carry_out.new.writer))
-    (c.as_slice.ensures.value ∙ same)
-    (subst
-    (λ (request : Request). Ends request c.carry_out.result (g.R.Read.remaining c.args.reader.now) (g.R.Read.remaining c.carry_out.new.reader) (g.W.Write.contents c.args.writer.now) (g.W.Write.contents c.carry_out.new.writer))
-    c.request_in-request.ensures c.carry_out.ensures.bytes))
+    (λ (words : List (String Global)). Ends (asked (map string_bytes words)) c.ending_with.result (g.R.Read.remaining c.args.reader.now) (g.R.Read.remaining c.ending_with.new.reader) (g.W.Write.contents c.args.writer.now) (g.W.Write.contents c.ending_with.new.writer))
+    (c.as_slice.ensures.value ∙ same) c.ending_with.ensures.bytes)
 
 pub returns-in-Err-collect-clause-bytes : goal.returns-in-Err-collect-clause-bytes
 returns-in-Err-collect-clause-bytes g c =

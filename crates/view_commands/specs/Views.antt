@@ -12,6 +12,7 @@ use Rattle.run_views.specs.Trace.{trace_text}
 use Rattle.std.specs.declared.alloc.Global.{Global}
 use Rattle.run_pictures.specs.declared.picture.TooLong.{TooLong}
 use Rattle.run_pictures.specs.declared.picture.TheConstants.{MAX_PLACES}
+use Rattle.run_views.specs.declared.places.Places.{Places}
 use Rattle.run_pictures.specs.Picture.{count_of_both, picture_text, pictures_text, shown_count}
 use Rattle.run_comparisons.specs.Comparison.{compare_text}
 use Rattle.bench_commands.specs.Answer.{Output, refused, why_text}

@@ -1,5 +1,5 @@
 -- What a command line asks for, by its words.
-use Rattle.std.specs.Prelude.{ℕ, ◌^◌, ◌-◌, ◌&&◌, List, [], ◌∷◌, ◌++◌, Bool, length, nat_lt, codes, Option, Some, None, is_none, option_and_then, option_map, unwrap_or, if◌then◌else◌}
+use Rattle.std.specs.Prelude.{◌==◌, ℕ, ◌^◌, ◌-◌, ◌&&◌, List, [], ◌∷◌, ◌++◌, Bool, length, nat_lt, codes, Option, Some, None, is_none, option_and_then, option_map, unwrap_or, if◌then◌else◌}
 use Rattle.std.specs.List.{list_any}
 use Rattle.std.specs.Option.{option_map_or}
 use Rattle.std.specs.Str.{bytes_eq, all_ascii_digits}

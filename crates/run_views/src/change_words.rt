@@ -20,7 +20,7 @@ fn set_text(now: bool) -> &'static str
 }
 
 /// Writes an open hold.
-pub(crate) fn push_hold(text: &mut String, hold: Hold) -> Result<(), AllocError>
+pub fn push_hold(text: &mut String, hold: Hold) -> Result<(), AllocError>
     ensures { OnOk result (string_bytes text.new ≡ string_bytes text.old ++ hold_text hold) }
 {
     let Hold { core, depth } = hold;
@@ -79,7 +79,8 @@ fn push_core_change(
     }
 }
 
-fn push_standing(text: &mut String, standing: Standing) -> Result<(), AllocError>
+/// Writes how a task stands, after its name.
+pub fn push_standing(text: &mut String, standing: Standing) -> Result<(), AllocError>
     ensures { OnOk result
         (string_bytes text.new ≡ string_bytes text.old ++ standing_text standing) }
 {

@@ -14,9 +14,10 @@ mod trace_lines;
 mod watch;
 
 pub use change::{Change, CoreChange, MutexChange, TaskChange};
+pub use change_words::{push_hold, push_standing};
 pub use interest::Interest;
 pub use look::{Look, Standing, TaskStatus};
 pub use places::Places;
 pub use reply_words::push_reply;
 pub use step_words::push_step;
-pub use trace_lines::trace;
+pub use trace_lines::{due_text, trace};

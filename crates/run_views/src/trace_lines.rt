@@ -14,7 +14,8 @@ use bench_types::{CoreLook, Header, Hold, Reply, Step};
 use smp_kernel::Meter;
 use std::alloc::{AllocError, Global};
 
-fn due_text(pend: bool, asked: bool) -> &'static str
+/// By whom a core was asked to switch, if it is to switch.
+pub fn due_text(pend: bool, asked: bool) -> &'static str
     ensures { result.now ≡ due_text pend asked }
 {
     match (pend, asked) {

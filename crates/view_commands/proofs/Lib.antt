@@ -2,4 +2,5 @@ mod EditsKept
 mod MemoryRefused
 mod NamesFound
 mod Outputs
+mod Pictures
 mod WordsRead

@@ -18,7 +18,7 @@ use Rattle.view_commands.specs.Words.{asked}
 
 -- what standard error is told of a bad command line
 abbrev pub usage : List ℕ
-usage = codes "usage: smp_view trace [--from PLACE] [--to PLACE] [--task NAME].. [--core CORE]..\n       smp_view session\n       smp_view compare\n       smp_view --help\n"
+usage = codes "usage: smp_view trace [--from PLACE] [--to PLACE] [--task NAME].. [--core CORE]..\n       smp_view session\n       smp_view compare\n       smp_view timeline [--from PLACE] [--to PLACE]\n       smp_view --help\n"
 
 -- what is shown where help is asked for
 unfoldable pub help : List ℕ
@@ -32,7 +32,9 @@ help =
     ++ codes "            --task NAME, --core CORE  only the steps that concern one of these\n"
     ++ codes "  session   the session with its edits made, as a document\n"
     ++ codes "  compare   the run before the edits beside the run after them, and what each\n"
-    ++ codes "            task gained and lost\n\n"
+    ++ codes "            task gained and lost\n"
+    ++ codes "  timeline  the run before the edits and that after them as a picture (SVG), at\n"
+    ++ codes "            all places or at those from the one to the other\n\n"
     ++ codes "exit status: 0 it was shown, 1 the document is refused, or a task or core that\n"
     ++ codes "it has not (standard output says which), 2 a bad command line, 3 memory or a device failed\n\n"
     ++ codes "example: smp_view trace --from 2 --to 3 < examples/first-run.json\n"

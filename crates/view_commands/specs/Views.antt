@@ -1,5 +1,5 @@
 -- What is written for a document.
-use Rattle.std.specs.Prelude.{ℕ, List, [], ◌++◌, length, codes, decimal, false, true, nat_lt, Option, Some, None, if◌then◌else◌, slice_index_or, Result, Ok, Err}
+use Rattle.std.specs.Prelude.{ℕ, List, [], ◌++◌, ◌==◌, length, codes, decimal, false, true, nat_lt, Option, Some, None, if◌then◌else◌, slice_index_or, string_bytes, Result, Ok, Err, String}
 use Rattle.bench_types.specs.declared.edit.Edit.{Edit}
 use Rattle.bench_types.specs.Limits.{max_input, max_steps}
 use Rattle.bench_types.specs.Session.{Session}
@@ -9,6 +9,11 @@ use Rattle.session_text.specs.declared.fault.TextFault.{TextFault}
 use Rattle.session_text.specs.Bench.{bench_text}
 use Rattle.session_write.specs.Written.{written}
 use Rattle.run_views.specs.Trace.{trace_text}
+use Rattle.std.specs.declared.alloc.Global.{Global}
+use Rattle.run_pictures.specs.declared.picture.TooLong.{TooLong}
+use Rattle.run_pictures.specs.declared.picture.TheConstants.{MAX_PLACES}
+use Rattle.run_views.specs.declared.places.Places.{Places}
+use Rattle.run_pictures.specs.Picture.{count_of_both, picture_text, pictures_text, shown_count}
 use Rattle.run_comparisons.specs.Comparison.{compare_text}
 use Rattle.bench_commands.specs.Answer.{Output, refused, why_text}
 use Rattle.view_commands.specs.declared.words.Command.{Command}
@@ -46,12 +51,46 @@ trace_output selected session =
 abbrev pub document_of : Session → List ℕ
 document_of session = written session.header session.steps ++ codes "\n"
 
+-- a picture would show more places than it may
+abbrev pub refused_long : ℕ → Output
+refused_long count = record {
+  is_refused = true;
+  text = codes "refused range of " ++ decimal count ++ codes " places"
+      ++ codes ", and a picture shows at most 4000" ++ codes ": name fewer by --from and --to\n";
+}
+
+abbrev pub answer_output : Result (String Global) TooLong → Output
+answer_output (Ok picture) = fine (string_bytes picture)
+answer_output (Err why) = refused_long why.places
+
+-- a picture of so many places, or that these are too many
+abbrev pub picture_or : ℕ → List ℕ → Output
+picture_or count picture =
+    if nat_lt MAX_PLACES count then refused_long count else fine picture
+
+abbrev pub picture_of_run : Places → Session → Output
+picture_of_run places session =
+    picture_or (shown_count places (length session.steps))
+    (picture_text places session.header session.steps)
+
+abbrev pub picture_of_both : Places → Session → Session → Output
+picture_of_both places session edited =
+    picture_or (count_of_both places (length session.steps) (length edited.steps))
+    (pictures_text places session.header session.steps edited.header edited.steps)
+
+-- the picture of the run, and with edits that of the run after them below it
+abbrev pub picture_of : Places → Session → List Edit → Output
+picture_of places session edits =
+    if length edits == 0 then picture_of_run places session
+    else picture_of_both places session (after_edits session edits)
+
 -- By the command, what is shown of a session and of edits of it. They are made one after another,
 -- and those that are refused are passed over.
 abbrev pub shown : Command → Session → List Edit → Output
 shown (command.Trace selected) session edits = trace_output selected (after_edits session edits)
 shown command.Session session edits = fine (document_of (after_edits session edits))
 shown command.Compare session edits = fine (compare_text session edits)
+shown (command.Timeline places) session edits = picture_of places session edits
 
 -- J2 comes after all other refusals of the document
 abbrev pub view_of_bench : Command → Bench → Output

@@ -1,5 +1,5 @@
 -- What a command line asks for, by its words.
-use Rattle.std.specs.Prelude.{ℕ, ◌^◌, ◌-◌, ◌&&◌, List, [], ◌∷◌, ◌++◌, Bool, length, nat_lt, codes, Option, Some, None, is_none, option_and_then, option_map, unwrap_or, if◌then◌else◌}
+use Rattle.std.specs.Prelude.{◌==◌, ℕ, ◌^◌, ◌-◌, ◌&&◌, List, [], ◌∷◌, ◌++◌, Bool, length, nat_lt, codes, Option, Some, None, is_none, option_and_then, option_map, unwrap_or, if◌then◌else◌}
 use Rattle.std.specs.List.{list_any}
 use Rattle.std.specs.Option.{option_map_or}
 use Rattle.std.specs.Str.{bytes_eq, all_ascii_digits}
@@ -101,12 +101,23 @@ abbrev pub alone : Command → List Word → Option Command
 alone command [] = Some command
 alone command (option ∷ options) = None
 
+-- the places alone, where no task and no core is named
+abbrev pub places_alone : Selected → Option Command
+places_alone selected =
+    if length selected.tasks == 0 && length selected.cores == 0
+    then Some (command.Timeline selected.places) else None
+
+-- the options of a picture: those of a trace that name places
+abbrev pub timeline_in : List Word → Option Command
+timeline_in options = option_and_then places_alone (selection_in options)
+
 -- a command of this name, with its options; none where the program has no such command
 unfoldable pub command_in : Word → List Word → Option Command
 command_in name options =
     if bytes_eq name (codes "trace") then trace_in options
     else if bytes_eq name (codes "session") then alone command.Session options
     else if bytes_eq name (codes "compare") then alone command.Compare options
+    else if bytes_eq name (codes "timeline") then timeline_in options
     else None
 
 -- the command that the words give, its name first

@@ -1,17 +1,20 @@
 //! What is shown of the session of a store and of edits of it.
-ghost use Rattle.std.specs.Prelude.{◌≡◌, ◌≤◌, ◌<◌, [], IfOk, OnOk, length, map, slice_index_or, string_bytes};
+ghost use Rattle.std.specs.Prelude.{◌≡◌, ◌+◌, ◌≤◌, ◌<◌, ◌^◌, [], All, IfOk, OnOk, length, map, slice_index_or, string_bytes};
 ghost use Rattle.bench_types.specs.Limits.{max_steps};
 ghost use Rattle.bench_model.specs.Edits.{after_edits};
 ghost use Rattle.session_store.specs.Outcomes.{after_edit};
+ghost use Rattle.bench_types.specs.Header.{IsCheckedHeader};
+ghost use Rattle.bench_types.specs.Step.{settings_of, IsCheckedStep};
 ghost use Rattle.run_comparisons.specs.Comparison.{compare_text};
-ghost use Rattle.view_commands.specs.Views.{document_of, fine, refused_core, refused_task, shown, trace_of, trace_output};
+ghost use Rattle.view_commands.specs.Views.{answer_output, document_of, fine, picture_of, picture_of_both, picture_of_run, refused_long, refused_core, refused_task, shown, trace_of, trace_output};
 
 use crate::answer::Shown;
 use crate::interest::{interest_of, unknown_core, unknown_task};
 use crate::{Command, Selection};
-use bench_types::{Edit, MAX_SPAN, Step};
+use bench_types::{Edit, Header, MAX_SPAN, Step};
 use run_comparisons::compare;
-use run_views::trace;
+use run_pictures::{TooLong, timeline, timelines};
+use run_views::{Places, trace};
 use session_store::{Store, StoreFault};
 use session_write::write_session;
 use smp_kernel::Meter;
@@ -173,6 +176,91 @@ fn comparison_of(
     Ok(text.into_bytes())
 }
 
+fn refused_long(alloc: Global, count: u64) -> Result<Shown, AllocError>
+    ensures { IfOk result (λ shown. shown ≡ refused_long count) }
+{
+    let mut text = String::new(alloc);
+    write!(text, "refused range of {count} places")?;
+    text.push_str(", and a picture shows at most 4000")?;
+    text.push_str(": name fewer by --from and --to\n")?;
+    Ok(Shown {
+        is_refused: true,
+        text: text.into_bytes(),
+    })
+}
+
+// A picture, or that it would show too many places.
+fn answer_output(alloc: Global, answer: Result<String, TooLong>) -> Result<Shown, AllocError>
+    ensures { IfOk result (λ shown. shown ≡ answer_output answer) }
+{
+    match answer {
+        Ok(picture) => Ok(fine(picture.into_bytes())),
+        Err(why) => refused_long(alloc, why.places),
+    }
+}
+
+fn picture_of_run(
+    alloc: Global,
+    meter: &mut Meter,
+    store: &Store,
+    places: Places,
+) -> Result<Shown, AllocError>
+    ensures { IfOk result (λ shown. shown ≡ picture_of_run places store.now.session) }
+{
+    let steps = steps_of(alloc, store)?;
+    let answer = timeline(alloc, meter, places, store.header(), steps.as_slice())?;
+    answer_output(alloc, answer)
+}
+
+// The runs of a session before edits, and of the store after them.
+fn picture_of_both(
+    alloc: Global,
+    meter: &mut Meter,
+    header: &Header,
+    steps: &[Step],
+    store: &Store,
+    places: Places,
+) -> Result<Shown, AllocError>
+    requires header { IsCheckedHeader header.now }
+    requires steps { All (IsCheckedStep (settings_of header.now)) steps.now }
+    requires few { length steps.now + 1 < 2 ^ 32 }
+    ensures { IfOk result (λ shown. shown
+        ≡ picture_of_both places (record { header = header.now; steps = steps.now })
+        store.now.session) }
+{
+    let later = steps_of(alloc, store)?;
+    let edited = store.header();
+    let answer = timelines(
+        alloc,
+        meter,
+        places,
+        header,
+        steps,
+        edited,
+        later.as_slice(),
+    )?;
+    answer_output(alloc, answer)
+}
+
+fn picture_of(
+    alloc: Global,
+    meter: &mut Meter,
+    store: &mut Store,
+    edits: &[Edit],
+    places: Places,
+) -> Result<Shown, AllocError>
+    ensures { IfOk result
+        (λ shown. shown ≡ picture_of places store.old.session edits.now) }
+{
+    if edits.len() == 0 {
+        return picture_of_run(alloc, meter, store, places);
+    }
+    let header = store.header().copy(alloc)?;
+    let steps = steps_of(alloc, store)?;
+    make_edits(alloc, meter, store, edits)?;
+    picture_of_both(alloc, meter, &header, steps.as_slice(), store, places)
+}
+
 /// What the command shows of the session and its edits; those that are refused are passed over.
 pub(crate) fn shown(
     alloc: Global,
@@ -193,5 +281,6 @@ pub(crate) fn shown(
             Ok(fine(document_of(alloc, store)?))
         }
         Command::Compare => Ok(fine(comparison_of(alloc, meter, store, edits)?)),
+        Command::Timeline(places) => picture_of(alloc, meter, store, edits, *places),
     }
 }

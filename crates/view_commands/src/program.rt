@@ -19,6 +19,7 @@ const USAGE: &str =
     "usage: smp_view trace [--from PLACE] [--to PLACE] [--task NAME].. [--core CORE]..
        smp_view session
        smp_view compare
+       smp_view timeline [--from PLACE] [--to PLACE]
        smp_view --help
 ";
 
@@ -27,6 +28,7 @@ const HELP: &str = "smp_view shows what a run of a session does, and why.
 usage: smp_view trace [--from PLACE] [--to PLACE] [--task NAME].. [--core CORE]..
        smp_view session
        smp_view compare
+       smp_view timeline [--from PLACE] [--to PLACE]
        smp_view --help
 
 It reads a session, or a bench document with edits, from standard input. The
@@ -39,6 +41,8 @@ edits are made one after another; those that are refused are passed over.
   session   the session with its edits made, as a document
   compare   the run before the edits beside the run after them, and what each
             task gained and lost
+  timeline  the run before the edits and that after them as a picture (SVG), at
+            all places or at those from the one to the other
 
 exit status: 0 it was shown, 1 the document is refused, or a task or core that
 it has not (standard output says which), 2 a bad command line, 3 memory or a device failed

@@ -3,7 +3,7 @@ ghost use Rattle.std.specs.Prelude.{◌≡◌, ◌++◌, IfOk, OnOk, map, string
 ghost use Rattle.std.specs.List.{list_any};
 ghost use Rattle.std.specs.Option.{option_map_or};
 ghost use Rattle.view_commands.specs.declared.words.Request.TheVariants.{Show, Bad};
-ghost use Rattle.view_commands.specs.Words.{alone, asked, asks_help, bounds_in, command_in, core_given, each_option, is_help, number_in, places_in, places_of, selection_in, shown_by, task_given, trace_in, with_bound, with_option};
+ghost use Rattle.view_commands.specs.Words.{alone, asked, asks_help, bounds_in, command_in, core_given, each_option, is_help, number_in, places_in, places_of, selection_in, shown_by, task_given, timeline_in, trace_in, with_bound, with_option};
 
 use run_views::Places;
 use std::alloc::{AllocError, Global};
@@ -42,6 +42,8 @@ pub enum Command {
     Session,
     /// The run before the edits beside the run after them.
     Compare,
+    /// The picture of the run before the edits and of that after them, at these places.
+    Timeline(Places),
 }
 
 /// What a command line asks for.
@@ -236,6 +238,18 @@ fn trace_in(alloc: Global, options: &[String]) -> Result<Option<Command>, AllocE
     }
 }
 
+// The options of a picture: those of a trace that name places.
+fn timeline_in(alloc: Global, options: &[String]) -> Result<Option<Command>, AllocError>
+    ensures { IfOk result (λ found. found ≡ timeline_in (map string_bytes options.now)) }
+{
+    match selection_in(alloc, options)? {
+        Some(selection) if selection.tasks.len() == 0 && selection.cores.len() == 0 => {
+            Ok(Some(Command::Timeline(selection.places)))
+        }
+        _ => Ok(None),
+    }
+}
+
 // A command of this name, with its options.
 #[tactic(auto, unfolding(crate::specs::Words::command_in))]
 fn command_in(alloc: Global, name: &str, options: &[String]) -> Result<Option<Command>, AllocError>
@@ -250,6 +264,9 @@ fn command_in(alloc: Global, name: &str, options: &[String]) -> Result<Option<Co
     }
     if name == "compare" {
         return Ok(alone(Command::Compare, options));
+    }
+    if name == "timeline" {
+        return timeline_in(alloc, options);
     }
     Ok(None)
 }

@@ -14,6 +14,8 @@ smp_view trace --to +7 --from 003 => 3 7
 smp_view trace --task B --core 1 --to 7 --task --to => 0 7 task B task --to core 1
 smp_view session => session
 smp_view compare => compare
+smp_view timeline => picture 0 4294967295
+smp_view timeline --to 7 --from 3 => picture 3 7
 smp_view --help => help
 smp_view trace --from --help => help
 smp_view nothing --help => help
@@ -29,6 +31,8 @@ smp_view trace --from 3 --from 3 => bad
 smp_view trace --until 3 => bad
 smp_view session --from 3 => bad
 smp_view compare again => bad
+smp_view timeline 3 => bad
+smp_view timeline --task A => bad
 smp_view --from 3 trace => bad";
 
 #[test]
@@ -56,6 +60,9 @@ fn told_of(alloc: Global, request: &Request) -> Result<String, AllocError> {
         Request::Show(Command::Trace(selection)) => trace_told(alloc, selection),
         Request::Show(Command::Session) => String::from_str(alloc, "session"),
         Request::Show(Command::Compare) => String::from_str(alloc, "compare"),
+        Request::Show(Command::Timeline(places)) => {
+            format!(in alloc; "picture {} {}", places.from, places.to)
+        }
         Request::Help => String::from_str(alloc, "help"),
         Request::Bad => String::from_str(alloc, "bad"),
     }

@@ -4,6 +4,8 @@
 #[cfg(test)]
 mod command_lines;
 #[cfg(test)]
+mod pictures;
+#[cfg(test)]
 mod samples;
 #[cfg(test)]
 mod traces;

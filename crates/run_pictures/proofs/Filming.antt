@@ -1,0 +1,139 @@
+-- What a loop over the steps has filmed so far.
+use Rattle.std.proofs.Common.{◌≡◌, ℕ, zero, suc, ◌+◌, ◌^◌, ◌<◌, ◌≤◌, max, length-append, List, [], ◌∷◌, ◌++◌, length, map, filter, take, drop, get_or, Bool, true, false, refl, subst, sym, ap, ◌∙◌, append_assoc, add-one, arith}
+use Rattle.std.specs.Prelude.{if◌then◌else◌}
+use Rattle.std.proofs.Math.Seq.{drop-cons, take-suc}
+use Rattle.std.specs.Cmp.{first_so}
+use Rattle.std.proofs.lemmas.Bool.{leb-true}
+use Rattle.std.proofs.lemmas.List.{append-nil, drop_all, length-map, map-append}
+use Rattle.list_orders.specs.Search.{numbers}
+use Rattle.list_orders.proofs.Stamped.{numbers_more}
+use Rattle.bench_types.specs.declared.header.Header.{Header}
+use Rattle.bench_types.specs.declared.reply.Reply.{Reply}
+use Rattle.bench_types.specs.declared.step.Step.{Step}
+use Rattle.bench_model.specs.Equal.{StandsFor}
+use Rattle.bench_model.specs.Lists.{View}
+use Rattle.bench_model.specs.Session.{state_after, state_at, step_of}
+use Rattle.bench_model.specs.Start.{start}
+use Rattle.bench_model.specs.Table.{Table}
+use Rattle.run_views.specs.declared.look.Look.{Look}
+use Rattle.run_views.specs.declared.places.Places.{Places}
+use Rattle.run_views.specs.Looks.{look_of}
+use Rattle.run_views.specs.Trace.{shows}
+use Rattle.run_pictures.specs.declared.film.Made.{Made}
+use Rattle.run_pictures.specs.Film.{IsFilmed, looks_of, made_from, shown_look, shown_places}
+
+-- what is seen at the shown ones of the first places
+abbrev pub seen : Places → Header → List Step → ℕ → List Look
+seen places header steps count = map (λ place. look_of (state_at header steps place)) (filter (shows places) (numbers count))
+
+shown_one : {X : Type 0} (b : Bool) (f : ℕ → X) (place : ℕ) → map f (if b then place ∷ [] else []) ≡ (if b then f place ∷ [] else [])
+shown_one true f place = refl
+shown_one false f place = refl
+
+filter_more : (p : ℕ → Bool) (xs : List ℕ) (x : ℕ) → filter p (xs ++ x ∷ []) ≡ filter p xs ++ (if p x then x ∷ [] else [])
+filter_more p [] x = refl
+filter_more p (y ∷ xs) x = at (p y) (filter_more p xs x)
+  where
+    at : (b : Bool) → filter p (xs ++ x ∷ []) ≡ filter p xs ++ (if p x then x ∷ [] else []) → (if b then y ∷ filter p (xs ++ x ∷ []) else filter p (xs ++ x ∷ [])) ≡ (if b then y ∷ filter p xs else filter p xs) ++ (if p x then x ∷ [] else [])
+    at true rest = ap (λ ys. y ∷ ys) rest
+    at false rest = rest
+
+pub seen_more : (places : Places) (header : Header) (steps : List Step) (place : ℕ) → seen places header steps (place + 1) ≡ seen places header steps place ++ shown_look places place (look_of (state_at header steps place))
+seen_more places header steps place =
+    let f = λ (place : ℕ). look_of (state_at header steps place) in
+    ap (λ ns. map f (filter (shows places) ns)) (numbers_more place)
+    ∙ ap (map f) (filter_more (shows places) (numbers place) place)
+    ∙ map-append f (filter (shows places) (numbers place)) (if shows places place then place ∷ [] else [])
+    ∙ ap (λ ls. seen places header steps place ++ ls) (shown_one (shows places place) f place)
+
+after_more : (table : Table) (steps : List Step) (step : Step) → state_after table (steps ++ step ∷ []) ≡ (step_of step (state_after table steps)).1
+after_more table [] step = refl
+after_more table (one ∷ steps) step = after_more (step_of one table).1 steps step
+
+pub next_state : (header : Header) (steps : List Step) (place : ℕ) (d : Step) → place < length steps → state_at header steps (suc place) ≡ (step_of (get_or steps place d) (state_at header steps place)).1
+unfolding state_at
+next_state header steps place d early = ap (state_after (start header)) (take-suc steps place d early) ∙ after_more (start header) (take place steps) (get_or steps place d)
+
+pub record FilmsSoFar (places : Places) (header : Header) (first : View) (steps : List Step) (looks_old looks : List Look) (made_old made : List Made) (kernel : View) (place : ℕ) : Type 0 where
+  pub stands : StandsFor kernel (state_at header steps place)
+  pub settings : kernel.settings ≡ first.settings
+  pub seen_so : looks ≡ looks_old ++ seen places header steps place
+  pub made_so : made ++ made_from (state_at header steps place) (drop place steps) ≡ made_old ++ made_from (start header) steps
+
+pub none_filmed : (places : Places) (header : Header) (first : View) (steps : List Step) (looks : List Look) (made : List Made) → StandsFor first (start header) → FilmsSoFar places header first steps looks looks made made first 0
+unfolding state_at
+none_filmed places header first steps looks made starts = record {
+  stands = starts;
+  settings = refl;
+  seen_so = sym (append-nil looks);
+  made_so = refl;
+}
+
+pub step_filmed : {places : Places} {header : Header} {first : View} {steps : List Step} {looks_old looks : List Look} {made_old made : List Made} {kernel : View} {place : ℕ} (later : View) (looks_next : List Look) (made_next : List Made) (d : Step) (reply : Reply) → FilmsSoFar places header first steps looks_old looks made_old made kernel place → place < length steps
+    → ((table : Table) → StandsFor kernel table → looks_next ≡ looks ++ shown_look places place (look_of table))
+    → ((table : Table) → StandsFor kernel table → reply ≡ (step_of (get_or steps place d) table).0)
+    → made_next ≡ made ++ record { step = get_or steps place d; reply = reply } ∷ []
+    → ((table : Table) → StandsFor kernel table → StandsFor later (step_of (get_or steps place d) table).1)
+    → later.settings ≡ kernel.settings
+    → FilmsSoFar places header first steps looks_old looks_next made_old made_next later (place + 1)
+step_filmed {places} {header} {first} {steps} {looks_old} {looks} {made_old} {made} {kernel} {place} later looks_next made_next d reply were early looked replied pushed moves settings =
+    let now = state_at header steps place in
+    let step = get_or steps place d in
+    let made_one : Made = record { step = step; reply = reply } in
+    let one : Made = record { step = step; reply = (step_of step now).0 } in
+    let same : made_one ≡ one = ap (λ (r : Reply). record { step = step; reply = r }) (replied now were.stands) in
+    let next : state_at header steps (suc place) ≡ (step_of step now).1 = next_state header steps place d early in
+    let rest : drop place steps ≡ step ∷ drop (suc place) steps = drop-cons steps place d early in
+    record {
+      stands = rw add-one (subst (λ (t : Table). StandsFor later t) (sym next) (moves now were.stands));
+      settings = settings ∙ were.settings;
+      seen_so = looked now were.stands ∙ ap (λ ls. ls ++ shown_look places place (look_of now)) were.seen_so
+          ∙ append_assoc looks_old (seen places header steps place) (shown_look places place (look_of now))
+          ∙ ap (λ ls. looks_old ++ ls) (sym (seen_more places header steps place));
+      made_so = rw add-one (
+          ap (λ (t : Table). made_next ++ made_from t (drop (suc place) steps)) next
+          ∙ ap (λ ms. ms ++ made_from (step_of step now).1 (drop (suc place) steps)) (pushed ∙ ap (λ (m : Made). made ++ m ∷ []) same)
+          ∙ append_assoc made (one ∷ []) (made_from (step_of step now).1 (drop (suc place) steps))
+          ∙ ap (λ ss. made ++ made_from now ss) (sym rest)
+          ∙ were.made_so);
+    }
+
+pub all_filmed : {places : Places} {header : Header} {first : View} {steps : List Step} {looks_old looks : List Look} {made_old made : List Made} {kernel : View} {place : ℕ} (looks_new : List Look) → FilmsSoFar places header first steps looks_old looks made_old made kernel place → place ≡ length steps
+    → ((table : Table) → StandsFor kernel table → looks_new ≡ looks ++ shown_look places (length steps) (look_of table))
+    → IsFilmed places header steps looks_old looks_new made_old made
+unfolding looks_of
+all_filmed {places} {header} {first} {steps} {looks_old} {looks} {made_old} {made} {kernel} {place} looks_new were end looked =
+    let now = state_at header steps place in
+    let none : drop place steps ≡ [] = drop_all place steps (omega (arith, end)) in
+    let last : looks_new ≡ looks ++ shown_look places place (look_of now) = looked now were.stands ∙ ap (λ n. looks ++ shown_look places n (look_of now)) (sym end) in
+    record {
+      looks = last ∙ ap (λ ls. ls ++ shown_look places place (look_of now)) were.seen_so
+          ∙ append_assoc looks_old (seen places header steps place) (shown_look places place (look_of now))
+          ∙ ap (λ ls. looks_old ++ ls) (sym (seen_more places header steps place))
+          ∙ ap (λ n. looks_old ++ seen places header steps n) (add-one place ∙ ap suc end);
+      made = sym (append-nil made) ∙ ap (λ ss. made ++ made_from now ss) (sym none) ∙ were.made_so;
+    }
+
+within_few : (from count : ℕ) (b : Bool) (xs : List ℕ) → (b ≡ true → from ≤ count) → from + length xs ≤ max from count → from + length (xs ++ (if b then count ∷ [] else [])) ≤ max from (count + 1)
+within_few from count true xs shown were = let early : from ≤ count = shown refl in omega (arith, length-append xs (count ∷ []))
+within_few from count false xs shown were = let same : length (xs ++ []) ≡ length xs = ap length (append-nil xs) in omega arith
+
+-- as many places are shown as there are from the first on
+shown_few : (places : Places) (count : ℕ) → places.from + length (filter (shows places) (numbers count)) ≤ max places.from count
+shown_few places zero = omega arith
+shown_few places (suc count) =
+    subst (λ n. places.from + length (filter (shows places) (numbers n)) ≤ max places.from n) (add-one count)
+    (subst (λ ns. places.from + length ns ≤ max places.from (count + 1)) (sym (ap (filter (shows places)) (numbers_more count) ∙ filter_more (shows places) (numbers count) count))
+    (within_few places.from count (shows places count) (filter (shows places) (numbers count)) (λ e. leb-true _ _ (first_so _ _ e)) (shown_few places count)))
+
+pub looks_few : (places : Places) (header : Header) (steps : List Step) → places.from < 2 ^ 32 → length steps + 1 < 2 ^ 32 → places.from + length (looks_of places header steps) ≤ 2 ^ 32
+unfolding looks_of
+looks_few places header steps from few =
+    let shown = shown_few places (suc (length steps)) in
+    omega (arith, length-map (shown_places places steps) (λ place. look_of (state_at header steps place)))
+
+pub looks_counted : (places : Places) (header : Header) (steps : List Step) → length steps + 1 < 2 ^ 32 → length (looks_of places header steps) < 2 ^ 32
+unfolding looks_of
+looks_counted places header steps few =
+    let shown = shown_few places (suc (length steps)) in
+    omega (arith, length-map (shown_places places steps) (λ place. look_of (state_at header steps place)))

@@ -1,0 +1,4 @@
+pub mod Filming
+pub mod Replayed
+pub mod Rows
+pub mod Tiling

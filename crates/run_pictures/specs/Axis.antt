@@ -1,0 +1,38 @@
+-- The axis: the places by their numbers, and the tick count at each.
+use Rattle.std.specs.Prelude.{ℕ, ◌+◌, ◌%◌, ◌==◌, List, [], ◌++◌, flat_map, length, codes, decimal, if◌then◌else◌}
+use Rattle.list_orders.specs.Search.{numbers}
+use Rattle.run_views.specs.declared.look.Look.{Look}
+use Rattle.run_pictures.specs.declared.bar.Letters.TheVariants.{Dark}
+use Rattle.run_pictures.specs.declared.frame.Frame.{Frame}
+use Rattle.run_pictures.specs.declared.span.Span.{Span}
+use Rattle.run_pictures.specs.Bar.{bar_text, label_text, name_text, over_text}
+use Rattle.run_pictures.specs.Frame.{every, x_of}
+use Rattle.run_pictures.specs.Ink.{tick_ink}
+use Rattle.run_pictures.specs.Spans.{tick_spans}
+
+-- the number of a place, where it is one of those that are numbered
+unfoldable pub place_label : Frame → ℕ → ℕ → List ℕ
+place_label frame y place =
+    if place % every frame.scale == 0
+    then codes "<text class='s' x='" ++ decimal (x_of frame place + 2) ++ codes "' y='" ++ decimal y
+    ++ codes "'>" ++ decimal place ++ codes "</text>\n"
+    else []
+
+-- a stretch of one tick count, with its number
+unfoldable pub tick_bar : Frame → ℕ → Span ℕ → List ℕ
+tick_bar frame y span =
+    bar_text frame (record {
+      ink = tick_ink span.value;
+      first = span.first;
+      last = span.last;
+      y = y;
+      height = 14;
+    }) (over_text span.first span.last ++ codes "tick " ++ decimal span.value)
+    ++ label_text frame Dark span.first span.last (y + 11) (decimal span.value)
+
+unfoldable pub axis_row : Frame → ℕ → List Look → List ℕ
+axis_row frame y looks =
+    name_text (y + 11) (codes "place")
+    ++ flat_map (λ k. place_label frame (y + 11) (frame.first + k)) (numbers (length looks))
+    ++ name_text (y + 27) (codes "tick")
+    ++ flat_map (tick_bar frame (y + 16)) (tick_spans frame.first looks)

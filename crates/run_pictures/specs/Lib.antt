@@ -1,0 +1,17 @@
+pub mod Axis
+pub mod Bar
+pub mod CoreBands
+pub mod Escape
+pub mod Film
+pub mod Frame
+pub mod Ink
+pub mod Marks
+pub mod Picture
+pub mod Same
+pub mod Shades
+pub mod Spans
+pub mod Stances
+pub mod Stretches
+pub mod TaskBands
+pub mod Theorem
+pub mod Waits

@@ -1,0 +1,73 @@
+-- What the steps are: each is told at its place of the axis, and an interrupt or a refusal is
+-- marked in the row of its core.
+use Rattle.std.specs.Prelude.{ℕ, ◌+◌, ◌-◌, ◌*◌, ◌/◌, List, [], ◌++◌, flat_map, codes, decimal, Option, Some, None, slice_get, if◌then◌else◌}
+use Rattle.bench_types.specs.declared.header.Header.{Header}
+use Rattle.bench_types.specs.declared.reply.Reply.{Reply}
+use Rattle.bench_types.specs.declared.step.Step.{Step}
+use Rattle.bench_types.specs.declared.step.Step.TheVariants as step
+use Rattle.run_views.specs.ReplyWords.{core_of, reply_words}
+use Rattle.run_views.specs.StepWords.{step_text}
+use Rattle.run_pictures.specs.declared.film.Made.{Made}
+use Rattle.run_pictures.specs.declared.frame.Frame.{Frame}
+use Rattle.run_pictures.specs.declared.ink.Ink.TheVariants as ink
+use Rattle.run_pictures.specs.declared.marks.Mark.{Mark}
+use Rattle.run_pictures.specs.declared.marks.Mark.TheVariants.{Refused, Interrupt}
+use Rattle.run_pictures.specs.Bar.{bar_text}
+use Rattle.run_pictures.specs.Escape.{escaped}
+use Rattle.run_pictures.specs.Frame.{pixels, x_of}
+use Rattle.run_pictures.specs.Waits.{is_refused}
+
+abbrev pub interrupt_mark : Step → Option Mark
+interrupt_mark (step.Interrupt core note) = Some Interrupt
+interrupt_mark other = None
+
+-- what is marked of a step
+abbrev pub mark_of : Made → Option Mark
+mark_of made = if is_refused made.reply then Some Refused else interrupt_mark made.step
+
+-- the step in the words of a trace, and its reply on a line of its own
+abbrev pub step_words : Header → ℕ → Step → Reply → List ℕ
+step_words header place step reply =
+    codes "step " ++ decimal place ++ codes ": " ++ step_text header step ++ codes "\n"
+    ++ reply_words header step reply
+
+abbrev pub path_text : Mark → ℕ → ℕ → List ℕ
+path_text Refused x y =
+    codes "<path class='x' d='M" ++ decimal x ++ codes " " ++ decimal (y + 8)
+    ++ codes "l8 8m0-8l-8 8'><title>"
+path_text Interrupt x y =
+    codes "<path class='n' d='M" ++ decimal x ++ codes " " ++ decimal y
+    ++ codes "h8l-4 7z'><title>"
+
+-- where a mark of the place begins: its middle is that of the place
+abbrev pub middle : Frame → ℕ → ℕ
+middle frame place = (x_of frame place + pixels frame.scale 1 / 2) - 4
+
+unfoldable pub mark_text : Frame → ℕ → ℕ → Mark → List ℕ → List ℕ
+mark_text frame y place mark words =
+    path_text mark (middle frame place) y ++ flat_map escaped words ++ codes "</title></path>\n"
+
+abbrev pub mark_in : Frame → ℕ → ℕ → List ℕ → Option Mark → List ℕ
+mark_in frame y place words None = []
+mark_in frame y place words (Some mark) = mark_text frame y place mark words
+
+-- the step of a place, told there and marked in the row of its core
+unfoldable pub step_cell : Header → Frame → ℕ → ℕ → Made → List ℕ
+step_cell header frame top place made =
+    let words = step_words header place made.step made.reply in
+    bar_text frame (record {
+      ink = ink.Clear;
+      first = place;
+      last = place;
+      y = top;
+      height = 14;
+    }) words
+    ++ mark_in frame (top + 36 + 28 * core_of made.step) place words (mark_of made)
+
+abbrev pub step_part : Header → Frame → ℕ → ℕ → Option Made → List ℕ
+step_part header frame top place None = []
+step_part header frame top place (Some made) = step_cell header frame top place made
+
+-- the step that is made at the place, if there is one
+abbrev pub step_at : Header → Frame → ℕ → List Made → ℕ → List ℕ
+step_at header frame top made place = step_part header frame top place (slice_get made place)

@@ -1,0 +1,124 @@
+-- The picture of a run, or of two runs one above the other.
+use Rattle.std.specs.Prelude.{◌≡◌, ◌<◌, ◌≤◌, ℕ, suc, ◌+◌, ◌-◌, ◌*◌, List, ◌++◌, flat_map, length, min, max, codes, decimal, MatchResult, Result, String, string_bytes}
+use Rattle.std.specs.declared.alloc.Global.{Global}
+use Rattle.bench_types.specs.declared.header.Header.{Header}
+use Rattle.bench_types.specs.declared.step.Step.{Step}
+use Rattle.list_orders.specs.Search.{numbers}
+use Rattle.run_views.specs.declared.look.Look.{Look}
+use Rattle.run_views.specs.declared.places.Places.{Places}
+use Rattle.run_pictures.specs.declared.film.Film.{Film}
+use Rattle.run_pictures.specs.declared.frame.Frame.{Frame}
+use Rattle.run_pictures.specs.declared.picture.TooLong.{TooLong}
+use Rattle.run_pictures.specs.declared.picture.TheConstants.{MAX_PLACES}
+use Rattle.run_pictures.specs.declared.style.TheConstants.{LEGEND, OPENING, STYLE}
+use Rattle.run_pictures.specs.Axis.{axis_row}
+use Rattle.run_pictures.specs.CoreBands.{core_row}
+use Rattle.run_pictures.specs.Film.{film}
+use Rattle.run_pictures.specs.Frame.{pixels, scale_for}
+use Rattle.run_pictures.specs.Marks.{step_at}
+use Rattle.run_pictures.specs.Spans.{holder_spans}
+use Rattle.run_pictures.specs.TaskBands.{holder_bar, task_row}
+
+-- how many places are shown of a session of so many steps
+abbrev pub shown_count : Places → ℕ → ℕ
+shown_count places steps = suc (min places.to steps) - places.from
+
+abbrev pub frame_for : Places → ℕ → Frame
+frame_for places count = record { first = places.from; scale = scale_for count }
+
+abbrev pub width_of : Frame → ℕ → ℕ
+width_of frame count = max (162 + pixels frame.scale count) 860
+
+abbrev pub size_text : ℕ → ℕ → List ℕ
+size_text width height =
+    codes " width='" ++ decimal width ++ codes "' height='" ++ decimal height
+    ++ codes "' viewBox='0 0 " ++ decimal width ++ codes " " ++ decimal height ++ codes "'>\n"
+
+-- the picture opens, of so many pixels, with its colours and its ground
+unfoldable pub opening_text : ℕ → ℕ → List ℕ
+opening_text width height = OPENING.now ++ size_text width height ++ STYLE.now
+
+-- what the colours mean, and the end
+unfoldable pub legend_text : ℕ → List ℕ
+legend_text y =
+    codes "<g transform='translate(8," ++ decimal y ++ codes ")'>\n" ++ LEGEND.now
+    ++ codes "</g>\n</svg>\n"
+
+abbrev pub heading_text : ℕ → List ℕ → List ℕ
+heading_text y heading =
+    codes "<text class='k' x='8' y='" ++ decimal y ++ codes "'>" ++ heading ++ codes "</text>\n"
+
+-- a run of a header takes so many pixels from top to bottom
+abbrev pub panel_height : Header → ℕ
+panel_height header = 50 + 28 * header.config.cores + 28 * length header.tasks
+
+abbrev pub core_rows : Header → Frame → ℕ → List Look → List ℕ
+core_rows header frame y looks =
+    flat_map (λ core. core_row header frame (y + 28 * core) looks core)
+    (numbers header.config.cores)
+
+-- of the user tasks
+abbrev pub task_rows : Header → Frame → ℕ → Film → List ℕ
+task_rows header frame y film =
+    flat_map (λ user. task_row header frame (y + 28 * user) film (header.config.cores + user))
+    (numbers (length header.tasks))
+
+-- where tasks hold mutexes, in the rows of these tasks
+abbrev pub mutex_bars : Header → Frame → ℕ → List Look → List ℕ
+mutex_bars header frame y looks =
+    flat_map (λ mutex. flat_map (holder_bar header frame y mutex)
+    (holder_spans frame.first looks mutex))
+    (numbers header.config.mutexes)
+
+-- a run, from the top on
+unfoldable pub panel_text : Header → Frame → ℕ → Film → List ℕ
+panel_text header frame top film =
+    let tasks_top = top + 40 + 28 * header.config.cores in
+    axis_row frame top film.looks ++ core_rows header frame (top + 36) film.looks
+    ++ task_rows header frame tasks_top film ++ mutex_bars header frame tasks_top film.looks
+    ++ flat_map (λ k. step_at header frame top film.made (frame.first + k))
+    (numbers (length film.looks))
+
+-- the picture of one run
+unfoldable pub picture_text : Places → Header → List Step → List ℕ
+picture_text places header steps =
+    let count = shown_count places (length steps) in
+    let frame = frame_for places count in
+    let height = panel_height header in
+    opening_text (width_of frame count) (height + 28)
+    ++ panel_text header frame 4 (film places header steps) ++ legend_text (height + 6)
+
+-- how many places are shown of two sessions on one axis
+abbrev pub count_of_both : Places → ℕ → ℕ → ℕ
+count_of_both places steps later =
+    max (shown_count places steps) (shown_count places later)
+
+-- a run below its heading
+unfoldable pub headed_text :
+    Places → Header → List Step → Frame → ℕ → List ℕ → List ℕ
+headed_text places header steps frame top heading =
+    heading_text (top + 12) heading
+    ++ panel_text header frame (top + 18) (film places header steps)
+
+-- the two runs, of which the upper takes so many pixels from top to bottom
+unfoldable pub both_text :
+    Places → Header → List Step → Header → List Step → Frame → ℕ → List ℕ
+both_text places header steps edited later frame height =
+    headed_text places header steps frame 4 (codes "before the edits")
+    ++ headed_text places edited later frame (height + 22) (codes "after the edits")
+
+-- the picture of a run before the edits and of that after them
+unfoldable pub pictures_text : Places → Header → List Step → Header → List Step → List ℕ
+pictures_text places header steps edited later =
+    let count = count_of_both places (length steps) (length later) in
+    let frame = frame_for places count in
+    let height = panel_height header in
+    let whole = height + panel_height edited in
+    opening_text (width_of frame count) (whole + 64)
+    ++ both_text places header steps edited later frame height ++ legend_text (whole + 42)
+
+-- a picture of so many places, or that these are too many
+abbrev pub Answers : ℕ → List ℕ → Result (String Global) TooLong → Type 0
+Answers count picture answer = MatchResult answer
+    (λ text. (count ≤ MAX_PLACES) × (string_bytes text ≡ picture))
+    (λ why. (MAX_PLACES < count) × (why.places ≡ count))

@@ -1,0 +1,136 @@
+-- The rows of the tasks.
+use Rattle.std.specs.Prelude.{ℕ, ◌+◌, ◌-◌, ◌*◌, ◌%◌, ◌==◌, List, [], ◌++◌, flat_map, codes, decimal, Option, Some, None, if◌then◌else◌}
+use Rattle.bench_types.specs.declared.header.Header.{Header}
+use Rattle.bench_types.specs.Header.{name_of}
+use Rattle.run_views.specs.declared.look.Standing.TheVariants as standing
+use Rattle.run_views.specs.ChangeWords.{standing_text}
+use Rattle.run_pictures.specs.declared.bar.Bar.{Bar}
+use Rattle.run_pictures.specs.declared.bar.Letters.TheVariants.{Dark, Small}
+use Rattle.run_pictures.specs.declared.film.Film.{Film}
+use Rattle.run_pictures.specs.declared.film.Made.{Made}
+use Rattle.run_pictures.specs.declared.frame.Frame.{Frame}
+use Rattle.run_pictures.specs.declared.ink.Ink.{Ink}
+use Rattle.run_pictures.specs.declared.ink.Ink.TheVariants as ink
+use Rattle.run_pictures.specs.declared.shown.Priorities.{Priorities}
+use Rattle.run_pictures.specs.declared.span.Span.{Span}
+use Rattle.run_pictures.specs.declared.stance.Stance.{Stance}
+use Rattle.run_pictures.specs.declared.stance.Stance.TheVariants.{Runs, Ready, Blocked}
+use Rattle.run_pictures.specs.declared.waits.Wait.{Wait}
+use Rattle.run_pictures.specs.declared.waits.Wait.TheVariants.{Delay, Notification, Mutex}
+use Rattle.run_pictures.specs.Bar.{bar_text, label_text, name_text, over_text}
+use Rattle.run_pictures.specs.Spans.{priority_spans, stance_spans}
+use Rattle.run_pictures.specs.Waits.{last_wait}
+
+abbrev pub wait_name : Wait → List ℕ
+wait_name Delay = codes "delay"
+wait_name Notification = codes "notification"
+wait_name (Mutex mutex) = codes "mutex " ++ decimal mutex
+
+abbrev pub reason_text : Option Wait → List ℕ
+reason_text None = []
+reason_text (Some wait) = codes " (" ++ wait_name wait ++ codes ")"
+
+abbrev pub stance_text : Stance → Option Wait → List ℕ
+stance_text (Runs core) wait = codes " runs on core " ++ decimal core
+stance_text Ready wait = codes " ready"
+stance_text (Blocked wake) wait = standing_text (standing.Blocked wake) ++ reason_text wait
+
+abbrev pub stance_words : Header → ℕ → Option Wait → Span Stance → List ℕ
+stance_words header task wait span =
+    over_text span.first span.last ++ name_of header task ++ stance_text span.value wait
+
+abbrev pub stance_ink : ℕ → Stance → Ink
+stance_ink user (Runs core) = ink.Runs user
+stance_ink user Ready = ink.Ready user
+stance_ink user (Blocked wake) = ink.Waits
+
+-- how far below the top of its row the bar begins
+abbrev pub stance_down : Stance → ℕ
+stance_down (Runs core) = 2
+stance_down Ready = 6
+stance_down (Blocked wake) = 8
+
+abbrev pub stance_height : Stance → ℕ
+stance_height (Runs core) = 16
+stance_height Ready = 8
+stance_height (Blocked wake) = 4
+
+-- the bar of the user task of that index
+abbrev pub stance_shape : ℕ → ℕ → Span Stance → Bar
+stance_shape user y span = record {
+  ink = stance_ink user span.value;
+  first = span.first;
+  last = span.last;
+  y = y + stance_down span.value;
+  height = stance_height span.value;
+}
+
+unfoldable pub blocked_label : Frame → ℕ → ℕ → ℕ → Option Wait → List ℕ
+blocked_label frame y first last None = []
+blocked_label frame y first last (Some wait) =
+    label_text frame Small first last (y + 6) (wait_name wait)
+
+abbrev pub label_of : Frame → ℕ → ℕ → ℕ → Option Wait → Stance → List ℕ
+label_of frame y first last wait (Runs core) =
+    label_text frame Dark first last (y + 14) (codes "core " ++ decimal core)
+label_of frame y first last wait Ready = []
+label_of frame y first last wait (Blocked wake) = blocked_label frame y first last wait
+
+-- the core on which the task runs, or what it waits for
+unfoldable pub stance_label : Frame → ℕ → Option Wait → Span Stance → List ℕ
+stance_label frame y wait span = label_of frame y span.first span.last wait span.value
+
+-- a stretch at which the task stands alike
+unfoldable pub stance_bar : Header → Frame → ℕ → ℕ → List Made → Span Stance → List ℕ
+stance_bar header frame y task made span =
+    let wait = last_wait task made span.first in
+    bar_text frame (stance_shape (task - header.config.cores) y span)
+    (stance_words header task wait span)
+    ++ stance_label frame y wait span
+
+abbrev pub inherited_words : Header → ℕ → Span Priorities → List ℕ
+inherited_words header task span =
+    over_text span.first span.last ++ name_of header task ++ codes " priority in use "
+    ++ decimal span.value.in_use ++ codes ", base priority " ++ decimal span.value.base
+
+-- a stretch at which the task has a priority in use that is not its own
+unfoldable pub inherited_bar : Header → Frame → ℕ → ℕ → Span Priorities → List ℕ
+inherited_bar header frame y task span =
+    if span.value.in_use == span.value.base then []
+    else bar_text frame (record {
+      ink = ink.Inherited;
+      first = span.first;
+      last = span.last;
+      y = y + 18;
+      height = 3;
+    }) (inherited_words header task span)
+
+-- the row of a task
+unfoldable pub task_row : Header → Frame → ℕ → Film → ℕ → List ℕ
+task_row header frame y film task =
+    name_text (y + 14) (name_of header task)
+    ++ flat_map (stance_bar header frame y task film.made)
+    (stance_spans frame.first film.looks task)
+    ++ flat_map (inherited_bar header frame y task) (priority_spans frame.first film.looks task)
+
+abbrev pub held_words : Header → ℕ → ℕ → ℕ → ℕ → List ℕ
+held_words header mutex first last task =
+    over_text first last ++ codes "mutex " ++ decimal mutex ++ codes " held by "
+    ++ name_of header task
+
+-- where the task holds the mutex, in the row of that task
+abbrev pub held_part : Header → Frame → ℕ → ℕ → ℕ → ℕ → Option ℕ → List ℕ
+held_part header frame y mutex first last None = []
+held_part header frame y mutex first last (Some task) =
+    bar_text frame (record {
+      ink = ink.Taken;
+      first = first;
+      last = last;
+      y = y + 28 * (task - header.config.cores) + 21 + 3 * (mutex % 2);
+      height = 3;
+    }) (held_words header mutex first last task)
+
+-- a stretch at which a task holds the mutex
+unfoldable pub holder_bar : Header → Frame → ℕ → ℕ → Span (Option ℕ) → List ℕ
+holder_bar header frame y mutex span =
+    held_part header frame y mutex span.first span.last span.value

@@ -1,0 +1,129 @@
+//! The axis: the places by their numbers, and the tick count at each.
+ghost use Rattle.std.specs.Prelude.{◌≡◌, ◌++◌, ◌+◌, ◌<◌, ◌≤◌, ◌^◌, IfOk, OnOk, flat_map, length, map, string_bytes};
+ghost use Rattle.list_orders.specs.Search.{numbers};
+ghost use Rattle.run_pictures.specs.Axis.{axis_row, place_label, tick_bar};
+ghost use Rattle.run_pictures.specs.Spans.{tick_in, tick_spans};
+
+use crate::bar::{Bar, Letters, push_bar, push_label, push_name, push_over};
+use crate::frame::Frame;
+use crate::ink::tick_ink;
+use crate::span::{Span, stretches};
+use run_views::Look;
+use std::alloc::{AllocError, Global};
+
+fn ticks(alloc: Global, looks: &[Look]) -> Result<Vec<u32>, AllocError>
+    ensures { IfOk result (λ values. values.items ≡ map tick_in looks.now) }
+{
+    looks.iter().map(|look| look.tick).collect(alloc)
+}
+
+#[tactic(auto, unfolding(crate::specs::Spans::tick_spans))]
+fn tick_spans(alloc: Global, first: u32, looks: &[Look]) -> Result<Vec<Span<u32>>, AllocError>
+    requires { first + length looks.now ≤ 2 ^ 32 }
+    ensures { IfOk result (λ spans. spans.items ≡ tick_spans first looks.now) }
+{
+    let values = ticks(alloc, looks)?;
+    stretches(alloc, first, values.as_slice())
+}
+
+// The number of a place, where it is one of those that are numbered.
+#[tactic(auto, unfolding(crate::specs::Axis::place_label))]
+fn push_place(text: &mut String, frame: Frame, y: u64, place: u32) -> Result<(), AllocError>
+    ensures { OnOk result
+        (string_bytes text.new ≡ string_bytes text.old ++ place_label frame y place) }
+{
+    if place % frame.scale.every() == 0 {
+        let x = frame.x_of(place) + 2;
+        write!(text, "<text class='s' x='{x}' y='{y}'>{place}</text>\n")?;
+    }
+    Ok(())
+}
+
+fn push_places(text: &mut String, frame: Frame, y: u64, count: u32) -> Result<(), AllocError>
+    requires { frame.first + count ≤ 2 ^ 32 }
+    ensures { OnOk result
+        (string_bytes text.new
+        ≡ string_bytes text.old
+        ++ flat_map (λ k. place_label frame y (frame.first + k)) (numbers count)) }
+{
+    for k in 0..count {
+        push_place(text, frame, y, frame.first + k)?;
+    }
+    Ok(())
+}
+
+// A stretch of one tick count, with its number.
+#[tactic(auto, unfolding(crate::specs::Axis::tick_bar))]
+fn push_tick(
+    alloc: Global,
+    text: &mut String,
+    frame: Frame,
+    y: u64,
+    span: Span<u32>,
+) -> Result<(), AllocError>
+    requires { y < 2 ^ 40 }
+    ensures { OnOk result
+        (string_bytes text.new ≡ string_bytes text.old ++ tick_bar frame y span) }
+{
+    let mut words = String::new(alloc);
+    push_over(&mut words, span.first, span.last)?;
+    write!(words, "tick {}", span.value)?;
+    let bar = Bar {
+        ink: tick_ink(span.value),
+        first: span.first,
+        last: span.last,
+        y,
+        height: 14,
+    };
+    push_bar(text, frame, bar, words.as_str())?;
+    let mut number = String::new(alloc);
+    write!(number, "{}", span.value)?;
+    push_label(
+        text,
+        frame,
+        Letters::Dark,
+        span.first,
+        span.last,
+        y + 11,
+        number.as_str(),
+    )
+}
+
+fn push_ticks(
+    alloc: Global,
+    text: &mut String,
+    frame: Frame,
+    y: u64,
+    spans: &[Span<u32>],
+) -> Result<(), AllocError>
+    requires { y < 2 ^ 40 }
+    ensures { OnOk result
+        (string_bytes text.new ≡ string_bytes text.old ++ flat_map (tick_bar frame y) spans.now) }
+{
+    for span in spans {
+        push_tick(alloc, text, frame, y, *span)?;
+    }
+    Ok(())
+}
+
+/// Writes the axis.
+#[tactic(auto, unfolding(crate::specs::Axis::axis_row))]
+pub(crate) fn push_axis(
+    alloc: Global,
+    text: &mut String,
+    frame: Frame,
+    y: u64,
+    looks: &[Look],
+) -> Result<(), AllocError>
+    requires y { y < 2 ^ 39 }
+    requires few { frame.first + length looks.now ≤ 2 ^ 32 }
+    requires some { length looks.now < 2 ^ 32 }
+    ensures { OnOk result
+        (string_bytes text.new ≡ string_bytes text.old ++ axis_row frame y looks.now) }
+{
+    push_name(text, y + 11, "place")?;
+    push_places(text, frame, y + 11, looks.len() as u32)?;
+    push_name(text, y + 27, "tick")?;
+    let spans = tick_spans(alloc, frame.first, looks)?;
+    push_ticks(alloc, text, frame, y + 16, spans.as_slice())
+}

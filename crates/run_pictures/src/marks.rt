@@ -1,0 +1,192 @@
+//! What the steps are: each is told at its place of the axis, and an interrupt or a refusal is
+//! marked in the row of its core.
+ghost use Rattle.std.specs.Prelude.{◌≡◌, ◌++◌, ◌+◌, ◌<◌, ◌≤◌, ◌^◌, OnOk, flat_map, string_bytes};
+ghost use Rattle.list_orders.specs.Search.{numbers};
+ghost use Rattle.run_views.specs.ReplyWords.{core_of};
+ghost use Rattle.run_pictures.specs.Marks.{mark_in, mark_of, mark_text, middle, path_text, step_at, step_cell, step_words};
+
+use crate::Made;
+use crate::bar::{Bar, push_bar};
+use crate::escape::push_escaped;
+use crate::frame::Frame;
+use crate::ink::Ink;
+use crate::waits::is_refused;
+use bench_types::{Header, Reply, Step};
+use run_views::{push_reply, push_step};
+use std::alloc::{AllocError, Global};
+
+/// What is marked of a step.
+#[derive(Clone, Copy, Debug, PartialEq, Eq)]
+pub(crate) enum Mark {
+    Refused,
+    Interrupt,
+}
+
+fn mark_of(made: Made) -> Option<Mark>
+    ensures { result ≡ mark_of made }
+{
+    if is_refused(made.reply) {
+        return Some(Mark::Refused);
+    }
+    match made.step {
+        Step::Interrupt { .. } => Some(Mark::Interrupt),
+        _ => None,
+    }
+}
+
+fn core_of(step: Step) -> u32
+    ensures { result ≡ core_of step }
+{
+    match step {
+        Step::Tick => 0,
+        Step::Switch { core } | Step::Call { core, .. } | Step::Interrupt { core, .. } => core,
+    }
+}
+
+fn push_step_words(
+    words: &mut String,
+    header: &Header,
+    place: u32,
+    step: Step,
+    reply: Reply,
+) -> Result<(), AllocError>
+    ensures { OnOk result
+        (string_bytes words.new
+        ≡ string_bytes words.old ++ step_words header.now place step reply) }
+{
+    write!(words, "step {place}: ")?;
+    push_step(words, header, step)?;
+    words.push_str("\n")?;
+    push_reply(words, header, step, reply)
+}
+
+fn push_path(text: &mut String, mark: Mark, x: u64, y: u64) -> Result<(), AllocError>
+    requires { y < 2 ^ 40 }
+    ensures { OnOk result
+        (string_bytes text.new ≡ string_bytes text.old ++ path_text mark x y) }
+{
+    match mark {
+        Mark::Refused => {
+            let y = y + 8;
+            write!(text, "<path class='x' d='M{x} {y}l8 8m0-8l-8 8'><title>")
+        }
+        Mark::Interrupt => write!(text, "<path class='n' d='M{x} {y}h8l-4 7z'><title>"),
+    }
+}
+
+// Where a mark of the place begins: its middle is that of the place.
+fn middle(frame: Frame, place: u32) -> u64
+    ensures { result ≡ middle frame place }
+{
+    (frame.x_of(place) + frame.scale.pixels(1) / 2).saturating_sub(4)
+}
+
+#[tactic(auto, unfolding(crate::specs::Marks::mark_text))]
+fn push_mark(
+    text: &mut String,
+    frame: Frame,
+    y: u64,
+    place: u32,
+    mark: Mark,
+    words: &str,
+) -> Result<(), AllocError>
+    requires { y < 2 ^ 40 }
+    ensures { OnOk result
+        (string_bytes text.new ≡ string_bytes text.old ++ mark_text frame y place mark words.now) }
+{
+    push_path(text, mark, middle(frame, place), y)?;
+    push_escaped(text, words)?;
+    text.push_str("</title></path>\n")
+}
+
+fn push_marked(
+    text: &mut String,
+    frame: Frame,
+    y: u64,
+    place: u32,
+    mark: Option<Mark>,
+    words: &str,
+) -> Result<(), AllocError>
+    requires { y < 2 ^ 40 }
+    ensures { OnOk result
+        (string_bytes text.new ≡ string_bytes text.old ++ mark_in frame y place words.now mark) }
+{
+    match mark {
+        Some(mark) => push_mark(text, frame, y, place, mark, words),
+        None => Ok(()),
+    }
+}
+
+// The step of a place, told there and marked in the row of its core.
+#[tactic(auto, unfolding(crate::specs::Marks::step_cell))]
+fn push_cell(
+    alloc: Global,
+    text: &mut String,
+    header: &Header,
+    frame: Frame,
+    top: u64,
+    place: u32,
+    made: Made,
+) -> Result<(), AllocError>
+    requires { top < 2 ^ 38 }
+    ensures { OnOk result
+        (string_bytes text.new
+        ≡ string_bytes text.old ++ step_cell header.now frame top place made) }
+{
+    let mut words = String::new(alloc);
+    push_step_words(&mut words, header, place, made.step, made.reply)?;
+    let bar = Bar {
+        ink: Ink::Clear,
+        first: place,
+        last: place,
+        y: top,
+        height: 14,
+    };
+    push_bar(text, frame, bar, words.as_str())?;
+    let y = top + 36 + 28 * core_of(made.step) as u64;
+    push_marked(text, frame, y, place, mark_of(made), words.as_str())
+}
+
+fn push_at(
+    alloc: Global,
+    text: &mut String,
+    header: &Header,
+    frame: Frame,
+    top: u64,
+    made: &[Made],
+    place: u32,
+) -> Result<(), AllocError>
+    requires { top < 2 ^ 38 }
+    ensures { OnOk result
+        (string_bytes text.new
+        ≡ string_bytes text.old ++ step_at header.now frame top made.now place) }
+{
+    match made.get(place as usize) {
+        Some(made) => push_cell(alloc, text, header, frame, top, place, *made),
+        None => Ok(()),
+    }
+}
+
+/// Writes the steps that are made at so many places from the first on.
+pub(crate) fn push_steps(
+    alloc: Global,
+    text: &mut String,
+    header: &Header,
+    frame: Frame,
+    top: u64,
+    made: &[Made],
+    count: u32,
+) -> Result<(), AllocError>
+    requires top { top < 2 ^ 38 }
+    requires few { frame.first + count ≤ 2 ^ 32 }
+    ensures { OnOk result
+        (string_bytes text.new
+        ≡ string_bytes text.old
+        ++ flat_map (λ k. step_at header.now frame top made.now (frame.first + k))
+        (numbers count)) }
+{
+    for k in 0..count {
+        push_at(alloc, text, header, frame, top, made, frame.first + k)?;
+    }
+    Ok(())
+}

@@ -1,0 +1,398 @@
+//! The picture of a run, or of two runs one above the other.
+ghost use Rattle.std.specs.Prelude.{◌≡◌, ℕ, ◌++◌, ◌+◌, ◌*◌, ◌<◌, ◌≤◌, ◌^◌, All, IfOk, OnOk, flat_map, length, map, min, string_bytes};
+ghost use Rattle.list_orders.specs.Search.{numbers};
+ghost use Rattle.bench_types.specs.Header.{IsCheckedHeader};
+ghost use Rattle.bench_types.specs.Step.{settings_of, IsCheckedStep};
+ghost use Rattle.run_pictures.specs.CoreBands.{core_row};
+ghost use Rattle.run_pictures.specs.Picture.{both_text, core_rows, count_of_both, frame_for, headed_text, heading_text, legend_text, opening_text, panel_height, mutex_bars, panel_text, picture_text, pictures_text, shown_count, size_text, task_rows, width_of, Answers};
+ghost use Rattle.run_pictures.specs.Theorem.{IsTiled};
+
+use crate::axis::push_axis;
+use crate::core_bands::push_core_row;
+use crate::film::Film;
+use crate::frame::{Frame, scale_for};
+use crate::marks::push_steps;
+use crate::style::{LEGEND, OPENING, STYLE};
+use crate::task_bands::{push_mutex, push_task_row};
+use bench_types::{Header, Step};
+use run_views::{Look, Places};
+use smp_kernel::Meter;
+use std::alloc::{AllocError, Global};
+
+/// How many places a picture shows at most.
+pub const MAX_PLACES: u64 = 4000;
+
+/// A picture would show so many places.
+#[derive(Clone, Copy, Debug, PartialEq, Eq)]
+pub struct TooLong {
+    pub places: u64,
+}
+
+// How many places are shown of a session of so many steps.
+fn shown_count(places: Places, steps: usize) -> u64
+    requires { steps + 1 < 2 ^ 32 }
+    ensures { result ≡ shown_count places steps }
+{
+    let last = u64::from(places.to).min(steps as u64);
+    (last + 1).saturating_sub(u64::from(places.from))
+}
+
+fn frame_for(places: Places, count: u64) -> Frame
+    ensures { result ≡ frame_for places count }
+{
+    Frame {
+        first: places.from,
+        scale: scale_for(count),
+    }
+}
+
+fn panel_height(header: &Header) -> u64
+    requires { length header.now.tasks ≤ 64 }
+    ensures value { result ≡ panel_height header.now }
+    ensures few { result < 2 ^ 37 }
+{
+    50 + 28 * u64::from(header.config.cores) + 28 * header.tasks.as_slice().len() as u64
+}
+
+fn width_of(frame: Frame, count: u64) -> u64
+    requires { count ≤ 2 ^ 32 }
+    ensures { result ≡ width_of frame count }
+{
+    (162 + frame.scale.pixels(count)).max(860)
+}
+
+fn push_size(text: &mut String, width: u64, height: u64) -> Result<(), AllocError>
+    ensures { OnOk result
+        (string_bytes text.new ≡ string_bytes text.old ++ size_text width height) }
+{
+    write!(
+        text,
+        " width='{width}' height='{height}' viewBox='0 0 {width} {height}'>\n"
+    )
+}
+
+#[tactic(auto, unfolding(crate::specs::Picture::opening_text))]
+fn push_opening(text: &mut String, width: u64, height: u64) -> Result<(), AllocError>
+    ensures { OnOk result
+        (string_bytes text.new ≡ string_bytes text.old ++ opening_text width height) }
+{
+    text.push_str(OPENING)?;
+    push_size(text, width, height)?;
+    text.push_str(STYLE)
+}
+
+#[tactic(auto, unfolding(crate::specs::Picture::legend_text))]
+fn push_legend(text: &mut String, y: u64) -> Result<(), AllocError>
+    ensures { OnOk result (string_bytes text.new ≡ string_bytes text.old ++ legend_text y) }
+{
+    write!(text, "<g transform='translate(8,{y})'>\n")?;
+    text.push_str(LEGEND)?;
+    text.push_str("</g>\n</svg>\n")
+}
+
+fn push_heading(text: &mut String, y: u64, heading: &str) -> Result<(), AllocError>
+    ensures { OnOk result
+        (string_bytes text.new ≡ string_bytes text.old ++ heading_text y heading.now) }
+{
+    write!(text, "<text class='k' x='8' y='{y}'>{heading}</text>\n")
+}
+
+fn push_cores(
+    alloc: Global,
+    text: &mut String,
+    header: &Header,
+    frame: Frame,
+    y: u64,
+    looks: &[Look],
+) -> Result<(), AllocError>
+    requires y { y < 2 ^ 39 }
+    requires few { frame.first + length looks.now ≤ 2 ^ 32 }
+    ensures { OnOk result
+        (string_bytes text.new ≡ string_bytes text.old ++ core_rows header.now frame y looks.now) }
+{
+    for core in 0..header.config.cores {
+        push_core_row(
+            alloc,
+            text,
+            header,
+            frame,
+            y + 28 * core as u64,
+            looks,
+            core,
+        )?;
+    }
+    Ok(())
+}
+
+// The rows of the user tasks.
+fn push_tasks(
+    alloc: Global,
+    text: &mut String,
+    header: &Header,
+    frame: Frame,
+    y: u64,
+    film: &Film,
+) -> Result<(), AllocError>
+    requires y { y < 2 ^ 39 }
+    requires few { frame.first + length film.now.looks ≤ 2 ^ 32 }
+    requires tasks { header.now.config.cores + length header.now.tasks < 2 ^ 32 }
+    ensures { OnOk result
+        (string_bytes text.new ≡ string_bytes text.old ++ task_rows header.now frame y film.now) }
+{
+    let cores = header.config.cores;
+    for user in 0..header.tasks.as_slice().len() as u32 {
+        let below = y + 28 * user as u64;
+        push_task_row(alloc, text, header, frame, below, film, cores + user)?;
+    }
+    Ok(())
+}
+
+// Where tasks hold mutexes.
+fn push_mutexes(
+    alloc: Global,
+    text: &mut String,
+    header: &Header,
+    frame: Frame,
+    y: u64,
+    looks: &[Look],
+) -> Result<(), AllocError>
+    requires y { y < 2 ^ 39 }
+    requires few { frame.first + length looks.now ≤ 2 ^ 32 }
+    ensures { OnOk result
+        (string_bytes text.new
+        ≡ string_bytes text.old ++ mutex_bars header.now frame y looks.now) }
+{
+    for mutex in 0..header.config.mutexes {
+        push_mutex(alloc, text, header, frame, y, looks, mutex)?;
+    }
+    Ok(())
+}
+
+// The rows of one run, from the top on.
+#[tactic(auto, unfolding(crate::specs::Picture::panel_text))]
+fn push_rows(
+    alloc: Global,
+    text: &mut String,
+    header: &Header,
+    frame: Frame,
+    top: u64,
+    film: &Film,
+) -> Result<(), AllocError>
+    requires top { top < 2 ^ 38 }
+    requires few { frame.first + length film.now.looks ≤ 2 ^ 32 }
+    requires some { length film.now.looks < 2 ^ 32 }
+    requires tasks { header.now.config.cores + length header.now.tasks < 2 ^ 32 }
+    ensures { OnOk result
+        (string_bytes text.new
+        ≡ string_bytes text.old ++ panel_text header.now frame top film.now) }
+{
+    let looks = film.looks.as_slice();
+    let tasks_top = top + 40 + 28 * header.config.cores as u64;
+    push_axis(alloc, text, frame, top, looks)?;
+    push_cores(alloc, text, header, frame, top + 36, looks)?;
+    push_tasks(alloc, text, header, frame, tasks_top, film)?;
+    push_mutexes(alloc, text, header, frame, tasks_top, looks)?;
+    push_steps(
+        alloc,
+        text,
+        header,
+        frame,
+        top,
+        film.made.as_slice(),
+        looks.len() as u32,
+    )
+}
+
+#[tactic(auto, unfolding(crate::specs::Picture::picture_text))]
+fn draw_run(
+    alloc: Global,
+    meter: &mut Meter,
+    places: Places,
+    header: &Header,
+    steps: &[Step],
+    count: u64,
+) -> Result<String, AllocError>
+    requires header { IsCheckedHeader header.now }
+    requires steps { All (IsCheckedStep (settings_of header.now)) steps.now }
+    requires few { length steps.now + 1 < 2 ^ 32 }
+    requires count { count ≡ shown_count places (length steps.now) }
+    ensures { IfOk result
+        (λ text. string_bytes text ≡ picture_text places header.now steps.now) }
+{
+    let frame = frame_for(places, count);
+    let height = panel_height(header);
+    let film = Film::of_run(alloc, meter, places, header, steps)?;
+    let mut text = String::new(alloc);
+    push_opening(&mut text, width_of(frame, count), height + 28)?;
+    push_rows(alloc, &mut text, header, frame, 4, &film)?;
+    push_legend(&mut text, height + 6)?;
+    Ok(text)
+}
+
+/// The picture of a checked session's run, at the places that are shown. `TooLong` where these are
+/// more than `MAX_PLACES`.
+pub fn timeline(
+    alloc: Global,
+    meter: &mut Meter,
+    places: Places,
+    header: &Header,
+    steps: &[Step],
+) -> Result<Result<String, TooLong>, AllocError>
+    requires header { IsCheckedHeader header.now }
+    requires steps { All (IsCheckedStep (settings_of header.now)) steps.now }
+    requires few { length steps.now + 1 < 2 ^ 32 }
+    ensures picture { IfOk result (Answers (shown_count places (length steps.now))
+        (picture_text places header.now steps.now)) }
+    // The spans that are drawn tile what the replay has.
+    ensures tiled { IsTiled places header.now steps.now }
+{
+    let count = shown_count(places, steps.len());
+    if count > MAX_PLACES {
+        return Ok(Err(TooLong { places: count }));
+    }
+    let text = draw_run(alloc, meter, places, header, steps, count)?;
+    Ok(Ok(text))
+}
+
+fn count_of_both(places: Places, steps: usize, later: usize) -> u64
+    requires steps { steps + 1 < 2 ^ 32 }
+    requires later { later + 1 < 2 ^ 32 }
+    ensures { result ≡ count_of_both places steps later }
+{
+    shown_count(places, steps).max(shown_count(places, later))
+}
+
+// A run below its heading.
+#[tactic(auto, unfolding(crate::specs::Picture::headed_text))]
+fn push_headed(
+    alloc: Global,
+    meter: &mut Meter,
+    text: &mut String,
+    places: Places,
+    header: &Header,
+    steps: &[Step],
+    frame: Frame,
+    top: u64,
+    heading: &str,
+) -> Result<(), AllocError>
+    requires header { IsCheckedHeader header.now }
+    requires steps { All (IsCheckedStep (settings_of header.now)) steps.now }
+    requires few { length steps.now + 1 < 2 ^ 32 }
+    requires first { frame.first ≡ places.from }
+    requires top { top + 18 < 2 ^ 38 }
+    ensures { OnOk result
+        (string_bytes text.new
+        ≡ string_bytes text.old
+        ++ headed_text places header.now steps.now frame top heading.now) }
+{
+    let film = Film::of_run(alloc, meter, places, header, steps)?;
+    push_heading(text, top + 12, heading)?;
+    push_rows(alloc, text, header, frame, top + 18, &film)
+}
+
+// The two runs, the one above the other.
+#[tactic(auto, unfolding(crate::specs::Picture::both_text))]
+fn push_both(
+    alloc: Global,
+    meter: &mut Meter,
+    text: &mut String,
+    places: Places,
+    header: &Header,
+    steps: &[Step],
+    edited: &Header,
+    later: &[Step],
+    frame: Frame,
+    height: u64,
+) -> Result<(), AllocError>
+    requires header { IsCheckedHeader header.now }
+    requires steps { All (IsCheckedStep (settings_of header.now)) steps.now }
+    requires few { length steps.now + 1 < 2 ^ 32 }
+    requires edited { IsCheckedHeader edited.now }
+    requires later { All (IsCheckedStep (settings_of edited.now)) later.now }
+    requires few_later { length later.now + 1 < 2 ^ 32 }
+    requires first { frame.first ≡ places.from }
+    requires height { height < 2 ^ 37 }
+    ensures { OnOk result
+        (string_bytes text.new
+        ≡ string_bytes text.old
+        ++ both_text places header.now steps.now edited.now later.now frame height) }
+{
+    let before = "before the edits";
+    push_headed(alloc, meter, text, places, header, steps, frame, 4, before)?;
+    let after = "after the edits";
+    push_headed(
+        alloc,
+        meter,
+        text,
+        places,
+        edited,
+        later,
+        frame,
+        height + 22,
+        after,
+    )
+}
+
+#[tactic(auto, unfolding(crate::specs::Picture::pictures_text))]
+fn draw_runs(
+    alloc: Global,
+    meter: &mut Meter,
+    places: Places,
+    header: &Header,
+    steps: &[Step],
+    edited: &Header,
+    later: &[Step],
+    count: u64,
+) -> Result<String, AllocError>
+    requires header { IsCheckedHeader header.now }
+    requires steps { All (IsCheckedStep (settings_of header.now)) steps.now }
+    requires few { length steps.now + 1 < 2 ^ 32 }
+    requires edited { IsCheckedHeader edited.now }
+    requires later { All (IsCheckedStep (settings_of edited.now)) later.now }
+    requires few_later { length later.now + 1 < 2 ^ 32 }
+    requires count { count ≡ count_of_both places (length steps.now) (length later.now) }
+    ensures { IfOk result (λ text. string_bytes text
+        ≡ pictures_text places header.now steps.now edited.now later.now) }
+{
+    let frame = frame_for(places, count);
+    let height = panel_height(header);
+    let whole = height + panel_height(edited);
+    let mut text = String::new(alloc);
+    push_opening(&mut text, width_of(frame, count), whole + 64)?;
+    push_both(
+        alloc, meter, &mut text, places, header, steps, edited, later, frame, height,
+    )?;
+    push_legend(&mut text, whole + 42)?;
+    Ok(text)
+}
+
+/// The picture of two checked sessions' runs, the one above the other on one axis: before edits and
+/// after them. `TooLong` where either shows more places than `MAX_PLACES`.
+pub fn timelines(
+    alloc: Global,
+    meter: &mut Meter,
+    places: Places,
+    header: &Header,
+    steps: &[Step],
+    edited: &Header,
+    later: &[Step],
+) -> Result<Result<String, TooLong>, AllocError>
+    requires header { IsCheckedHeader header.now }
+    requires steps { All (IsCheckedStep (settings_of header.now)) steps.now }
+    requires few { length steps.now + 1 < 2 ^ 32 }
+    requires edited { IsCheckedHeader edited.now }
+    requires later { All (IsCheckedStep (settings_of edited.now)) later.now }
+    requires few_later { length later.now + 1 < 2 ^ 32 }
+    ensures picture { IfOk result
+        (Answers (count_of_both places (length steps.now) (length later.now))
+        (pictures_text places header.now steps.now edited.now later.now)) }
+    // The spans that are drawn tile what each replay has.
+    ensures tiled { IsTiled places header.now steps.now × IsTiled places edited.now later.now }
+{
+    let count = count_of_both(places, steps.len(), later.len());
+    if count > MAX_PLACES {
+        return Ok(Err(TooLong { places: count }));
+    }
+    let text = draw_runs(alloc, meter, places, header, steps, edited, later, count)?;
+    Ok(Ok(text))
+}

@@ -1,0 +1,90 @@
+//! What bands show beside numbers and stances.
+ghost use Rattle.std.specs.Prelude.{◌≡◌};
+ghost use Rattle.bench_model.specs.SameTest.{are_same_bools, are_same_holds, are_same_options};
+ghost use Rattle.run_views.specs.Changes.{are_same_numbers};
+ghost use Rattle.run_pictures.specs.Same.{are_same_dues, are_same_priorities};
+
+use crate::span::Shade;
+use bench_types::Hold;
+
+/// By whom a core was asked to switch.
+#[derive(Clone, Copy, Debug, PartialEq, Eq)]
+pub(crate) struct Due {
+    pub(crate) pend: bool,
+    pub(crate) asked: bool,
+}
+
+impl Shade for Due {
+    ghost use Rattle.run_pictures.specs.Shades.{dues_told};
+
+    ghost same = { are_same_dues };
+
+    ghost tells = { dues_told };
+
+    fn is_same(self, other: Self) -> bool {
+        is_same_flag(self.pend, other.pend) && is_same_flag(self.asked, other.asked)
+    }
+}
+
+impl Shade for Option<Hold> {
+    ghost use Rattle.run_pictures.specs.Shades.{holds_told};
+
+    ghost same = { are_same_options are_same_holds };
+
+    ghost tells = { holds_told };
+
+    fn is_same(self, other: Self) -> bool {
+        match (self, other) {
+            (None, None) => true,
+            (Some(hold), Some(other)) => hold.core == other.core && hold.depth == other.depth,
+            _ => false,
+        }
+    }
+}
+
+/// The priorities of a task.
+#[derive(Clone, Copy, Debug, PartialEq, Eq)]
+pub(crate) struct Priorities {
+    pub(crate) in_use: u32,
+    pub(crate) base: u32,
+}
+
+impl Shade for Priorities {
+    ghost use Rattle.run_pictures.specs.Shades.{priorities_told};
+
+    ghost same = { are_same_priorities };
+
+    ghost tells = { priorities_told };
+
+    fn is_same(self, other: Self) -> bool {
+        self.in_use == other.in_use && self.base == other.base
+    }
+}
+
+impl Shade for Option<u32> {
+    ghost use Rattle.run_pictures.specs.Shades.{holders_told};
+
+    ghost same = { are_same_numbers };
+
+    ghost tells = { holders_told };
+
+    fn is_same(self, other: Self) -> bool {
+        is_same_number(self, other)
+    }
+}
+
+pub(crate) fn is_same_number(number: Option<u32>, other: Option<u32>) -> bool
+    ensures { result ≡ are_same_numbers number other }
+{
+    match (number, other) {
+        (None, None) => true,
+        (Some(number), Some(other)) => number == other,
+        _ => false,
+    }
+}
+
+fn is_same_flag(flag: bool, other: bool) -> bool
+    ensures { result ≡ are_same_bools flag other }
+{
+    if flag { other } else { !other }
+}

@@ -1,0 +1,80 @@
+//! How a task stands at a place.
+ghost use Rattle.std.specs.Prelude.{◌≡◌};
+ghost use Rattle.run_views.specs.Changes.{are_same_numbers};
+ghost use Rattle.run_pictures.specs.Same.{are_same_stances};
+ghost use Rattle.run_pictures.specs.Stances.{core_of, stance_in, status_in};
+
+use crate::shown::is_same_number;
+use crate::span::Shade;
+use bench_types::NoteState;
+use run_views::{Look, Standing, TaskStatus};
+
+/// How a task stands at a place.
+#[derive(Clone, Copy, Debug, PartialEq, Eq)]
+pub enum Stance {
+    /// It is ready, and the current task of the core.
+    Runs { core: usize },
+    /// It is ready, and the current task of no core.
+    Ready,
+    /// It waits until this tick count, or without end.
+    Blocked { wake: Option<u32> },
+}
+
+impl Shade for Stance {
+    ghost use Rattle.run_pictures.specs.Shades.{stances_told};
+
+    ghost same = { are_same_stances };
+
+    ghost tells = { stances_told };
+
+    fn is_same(self, other: Self) -> bool {
+        match (self, other) {
+            (Stance::Runs { core }, Stance::Runs { core: other }) => core == other,
+            (Stance::Ready, Stance::Ready) => true,
+            (Stance::Blocked { wake }, Stance::Blocked { wake: other }) => {
+                is_same_number(wake, other)
+            }
+            _ => false,
+        }
+    }
+}
+
+/// What a look shows of a task.
+pub(crate) fn status_in(look: &Look, task: u32) -> TaskStatus
+    ensures { result ≡ status_in task look.now }
+{
+    match look.tasks.as_slice().get(task as usize) {
+        Some(status) => *status,
+        None => TaskStatus {
+            standing: Standing::Ready,
+            in_use: 0,
+            base: 0,
+            mask: 0,
+            preempt: false,
+            in_call: false,
+            value: 0,
+            state: NoteState::NotWaiting,
+        },
+    }
+}
+
+// The first core of which the task is the current one.
+fn core_of(look: &Look, task: u32) -> Option<usize>
+    ensures { result ≡ core_of task look.now.cores }
+{
+    let cores = look.cores.as_slice();
+    cores.iter().position(|core| core.current == task)
+}
+
+/// How the task stands.
+pub(crate) fn stance_in(look: &Look, task: u32) -> Stance
+    ensures { result ≡ stance_in task look.now }
+{
+    match status_in(look, task).standing {
+        Standing::Blocked(wake) => Stance::Blocked { wake },
+        Standing::Ready => match core_of(look, task) {
+            Some(core) => Stance::Runs { core },
+            None => Stance::Ready,
+        },
+    }
+}

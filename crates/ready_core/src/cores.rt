@@ -609,7 +609,9 @@ impl Cores {
         ensures task { IfSome result (λ task. task < length self.now.control.tasks) }
     {
         let mut task = self.lists.first(priority)?;
-        for _place in 0..self.lists.len(priority) {
+        // Which says that the list has no more than so many tasks.
+        let _len = self.lists.len(priority);
+        for _place in 0..u32::MAX {
             if self.is_selectable(core, task) {
                 return Some(task);
             }

@@ -240,7 +240,7 @@ impl Scheduler {
                 self.switch(*core);
                 Reply::Done
             }
-            Step::Call { core, task, call } => self.call(*core, *task, *call),
+            Step::Call { core, task, call } => self.call(*core, *task, call),
             Step::Interrupt { core, note } => self.interrupt(*core, *note),
         }
     }
@@ -295,17 +295,17 @@ impl Scheduler {
     // What a call that is not refused answers and does.
     #[inline(always)]
     #[tactic(auto, unfolding(bench_model::specs::Steps::called))]
-    fn call(&mut self, core: u32, task: u32, call: Call) -> Reply
+    fn call(&mut self, core: u32, task: u32, call: &Call) -> Reply
         requires core { core < self.old.settings.cores }
         requires task { task < self.old.settings.tasks }
         requires ready { has task self.old.orders.ready ≡ true }
-        requires checked { call_check self.old.settings call ≡ Ok tt }
-        requires own { give_refusal self.old.holders task call ≡ None }
+        requires checked { call_check self.old.settings call.now ≡ Ok tt }
+        requires own { give_refusal self.old.holders task call.now ≡ None }
         requires depth { depth_of self.old.hold ≤ max_depth }
         requires mutexes { HasTheirMutexes self.old }
-        ensures { (result, self.new) ≡ called list_queues core task call self.old }
+        ensures { (result, self.new) ≡ called list_queues core task call.now self.old }
     {
-        match call {
+        match *call {
             Call::Yield => self.ask_itself(core),
             Call::PrioritySet { task, priority } => self.set_priority(core, task, priority),
             Call::AffinitySet { task, mask } => self.set_affinity(core, task, mask),
@@ -317,9 +317,9 @@ impl Scheduler {
             Call::DelayUntil { prev, inc } => return self.delay_until(core, task, prev, inc),
             Call::Notify(note) => return Reply::Flag(self.notify(core, note)),
             Call::NotifyWait { entry, ticks, .. } => return self.wait(
-                core, task, call, entry, ticks,
+                core, task, *call, entry, ticks,
             ),
-            Call::NotifyTake { ticks, .. } => return self.take(core, task, call, ticks),
+            Call::NotifyTake { ticks, .. } => return self.take(core, task, *call, ticks),
             Call::MutexTake { mutex, ticks } => return self.take_mutex(core, task, mutex, ticks),
             Call::MutexGive(mutex) => return self.give_mutex(core, task, mutex),
             Call::StateClear(task) => return self.clear_state(task),

@@ -51,14 +51,21 @@ impl Scheduler {
         ensures { result ≡ own_refusal list_queues core task call self.now }
     {
         if self.cores.running(core) != task {
-            Some(Refusal::Displaced)
-        } else if self.is_due(core) && !self.is_held_by(core) {
-            Some(Refusal::SwitchDue)
-        } else {
-            let held = self.hold_refusal(core, task, call);
-            let given = self.give_refusal(task, call);
-            unfinished_refusal(self.calls[task as usize], call).or(held.or(given))
+            return Some(Refusal::Displaced);
         }
+        if self.is_due(core) && !self.is_held_by(core) {
+            return Some(Refusal::SwitchDue);
+        }
+        // One after another, so that most calls are asked few questions.
+        let unfinished = unfinished_refusal(self.calls[task as usize], call);
+        if unfinished.is_some() {
+            return unfinished;
+        }
+        let held = self.hold_refusal(core, task, call);
+        if held.is_some() {
+            return held;
+        }
+        self.give_refusal(task, call)
     }
 
     // Whether the core was asked to switch, by itself or by another.
@@ -78,11 +85,12 @@ impl Scheduler {
         requires checked { call_check self.now.settings call ≡ Ok tt }
         ensures { result ≡ hold_refusal list_queues core task call self.now }
     {
-        let is_held = self.is_held_by(core);
+        if !self.is_held_by(core) {
+            return matches!(call, Call::HoldClose).then_some(Refusal::NoHold);
+        }
         match call {
-            Call::HoldClose if !is_held => Some(Refusal::NoHold),
-            Call::HoldOpen if is_held && self.depth() == MAX_DEPTH => Some(Refusal::HoldDeep),
-            _ if is_held && self.would_block(task, call) => Some(Refusal::HoldBlock),
+            Call::HoldOpen if self.depth() == MAX_DEPTH => Some(Refusal::HoldDeep),
+            _ if self.would_block(task, call) => Some(Refusal::HoldBlock),
             _ => None,
         }
     }

@@ -108,5 +108,5 @@ returns-clause-first c =
     let shown : ready_list p c.args.self.now ≡ tasks_of lists p = ap (ready_list p) (sym view) ∙ ready_of control lists p c.self.inside.priorities c.self.invariant.at_home low in
     let sized = ap (λ (xs : List ℕ). length xs) shown in
     let end = length-map (row_at lists p) (λ (e : Listed). e.item) in
-    let none = drop_all i (ready_list p c.args.self.now) (omega (arith, sized, end, c.len-place-end.ensures, c.loop-place-test.false, c.loop-place.auto._place-end)) in
+    let none = drop_all i (ready_list p c.args.self.now) (omega (arith, sized, end, c.len-len.ensures, c.loop-place-test.false, c.loop-place.auto._place-end)) in
     ap (find passes) (sym none) ∙ c.loop-place.invariant.first

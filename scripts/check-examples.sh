@@ -34,14 +34,15 @@ wrong() { # TEXT
     printf 'WRONG %s\n' "$1"
 }
 
-# Input that is refused has an output that begins with `refused`, and status 1; all other outputs go with status 0.
+# Input that is refused has an output that begins with `refused`, a line on standard error, and status 1; all other outputs go with
+# status 0 and with nothing there.
 hold() { # DOCUMENT FILE WORD..
     local document="$1" file="$2" want=0
     shift 2
     "$program" "$@" <"$document" >"$folder/out" 2>"$folder/err"
     status=$?
     ! grep -q '^refused ' "$folder/out" || want=1
-    if [ "$status" != "$want" ] || [ -s "$folder/err" ]; then
+    if [ "$status" != "$want" ] || [ "$(wc -l <"$folder/err")" != "$want" ]; then
         wrong "$document: status $status, $(head -c 200 "$folder/err")"
     elif [ "$write" = yes ]; then
         cmp -s "$folder/out" "$file" || printf 'wrote %s\n' "$file"

@@ -122,16 +122,17 @@ run 'whatif of a session, which has no edits' 0 '' '' whatif
 
 # What one run prints, whatever the number of parts: of documents with edits, refused ones, and one with none.
 in_parts() { # NAME WORD..: the document is the file `in`
-    local name="$1" parts whole want
+    local name="$1" parts whole want told
     shift
-    "$program" whatif "$@" <"$folder/in" >"$folder/whole"
+    "$program" whatif "$@" <"$folder/in" >"$folder/whole" 2>"$folder/told"
     want=$?
+    told="$(cat "$folder/told")"
     whole="$(cat "$folder/whole" && echo .)"
     whole="${whole%.}"
     for parts in 1 3 8; do
         bash scripts/whatif-many.sh "$@" "$folder/in" "$parts" >"$folder/out" 2>"$folder/err"
         status=$?
-        compare "$name, in $parts parts" "$want" "$whole" ''
+        compare "$name, in $parts parts" "$want" "$whole" "$told"
     done
 }
 if command -v parallel >/dev/null && command -v jq >/dev/null; then
@@ -195,54 +196,54 @@ fi
 # ---- refused input
 
 : >"$folder/in"
-run 'no input' 1 $'refused H1\n' '' replay
+run 'no input' 1 $'refused H1\n' 'not JSON: line 1, column 0' replay
 printf '{' >"$folder/in"
-run 'a text that is not JSON' 1 $'refused H1\n' '' replay
+run 'a text that is not JSON' 1 $'refused H1\n' 'not JSON: line 1, column 1' replay
 printf '"\377"' >"$folder/in"
-run 'a text that is not UTF-8' 1 $'refused H1\n' '' replay
+run 'a text that is not UTF-8' 1 $'refused H1\n' 'not JSON: not UTF-8' replay
 printf '{}' >"$folder/in"
-run 'a missing member' 1 $'refused H2 format\n' '' replay
+run 'a missing member' 1 $'refused H2 format\n' 'format: a member is missing, ill-typed or unknown' replay
 session '"core": 0' '"core": "0"'
-run 'an ill-typed member' 1 $'refused H2 steps[0].core\n' '' replay
+run 'an ill-typed member' 1 $'refused H2 steps[0].core\n' 'steps[0].core: a member is missing, ill-typed or unknown' replay
 head -c 67108864 /dev/zero | tr '\0' ' ' >"$folder/in"
-run 'the longest input' 1 $'refused H1\n' '' replay
+run 'the longest input' 1 $'refused H1\n' 'not JSON: line 1, column 67108864' replay
 printf ' ' >>"$folder/in"
-run 'an input one byte longer' 1 $'refused H3\n' '' replay
+run 'an input one byte longer' 1 $'refused H3\n' 'the input has more than 67108864 bytes' replay
 session '"cores": 2' '"cores": 1'
-run 'a header that is outside its limits' 1 $'refused F1\n' '' replay
+run 'a header that is outside its limits' 1 $'refused F1\n' 'header: cores is 1, and may be 2 to 8' replay
 session '"core": 0' '"core": 2'
-run 'no such core' 1 $'refused F2 steps[0]\n' '' replay
+run 'no such core' 1 $'refused F2 steps[0]\n' 'steps[0]: there is no such core' replay
 session '"by": "C"' '"by": "D"'
-run 'no such task' 1 $'refused F3 steps[3]\n' '' replay
+run 'no such task' 1 $'refused F3 steps[3]\n' 'steps[3]: no user task has such a name' replay
 sed 's/"by": "A"}}/"by": "D"}}/' examples/another-call.json >"$folder/in"
-run 'no such task in an edit' 1 $'refused F3 edits[0]\n' '' replay
+run 'no such task in an edit' 1 $'refused F3 edits[0]\n' 'edits[0]: no user task has such a name' replay
 sed 's/"at": 6, //' examples/another-call.json >"$folder/in"
-run 'an edit at no place' 1 $'refused H2 edits[1].at\n' '' replay
+run 'an edit at no place' 1 $'refused H2 edits[1].at\n' 'edits[1].at: a member is missing' replay
 ticks="$(printf '%0100001d' 0 | sed 's/0/{"do":"tick"},/g')"
 session '"steps": [' "\"steps\": [$ticks"
-run 'more steps than a session may have' 1 $'refused J2\n' '' replay
+run 'more steps than a session may have' 1 $'refused J2\n' 'the session has more than 100000 steps' replay
 
 : >"$folder/in"
-run 'no document' 1 $'refused H1\n' '' whatif
-run 'no rig' 1 $'refused H1\n' '' record
+run 'no document' 1 $'refused H1\n' 'not JSON: line 1, column 0' whatif
+run 'no rig' 1 $'refused H1\n' 'not JSON: line 1, column 0' record
 session '' ''
-run 'a session in place of a rig' 1 $'refused H2 session\n' '' record
+run 'a session in place of a rig' 1 $'refused H2 session\n' 'session: a member is missing' record
 with '"steps": []' '"steps": [{"do": "tick"}]'
-run 'a rig whose session has steps' 1 $'refused H2 session.steps\n' '' record
+run 'a rig whose session has steps' 1 $'refused H2 session.steps\n' 'session.steps: a member is missing' record
 with ', []]}' ']}'
-run 'a core without a script' 1 $'refused H2 scripts\n' '' record
+run 'a core without a script' 1 $'refused H2 scripts\n' 'scripts: a member is missing' record
 with '"cores": 2' '"cores": 1'
-run 'more scripts than cores' 1 $'refused H2 scripts\n' '' record
+run 'more scripts than cores' 1 $'refused H2 scripts\n' 'scripts: a member is missing' record
 with '"priorities": 5' '"priorities": 2'
-run 'a rig with a header outside its limits' 1 $'refused F1\n' '' record
+run 'a rig with a header outside its limits' 1 $'refused F1\n' 'header: tasks[0].priority has to be below 2' record
 with '"limit": 9' '"limit": 100001'
-run 'a limit above the greatest' 1 $'refused F5 limit\n' '' record
+run 'a limit above the greatest' 1 $'refused F5 limit\n' 'limit: an argument is outside its limits' record
 with ', []]}' ', [{"do": "tick"}]]}'
-run 'a tick on another core than 0' 1 $'refused F2 scripts[1][0]\n' '' record
+run 'a tick on another core than 0' 1 $'refused F2 scripts[1][0]\n' 'scripts[1][0]: there is no such core, or it is a tick on another core than 0' record
 head -c 67108865 /dev/zero | tr '\0' ' ' >"$folder/in"
-run 'a rig one byte longer than the longest input' 1 $'refused H3\n' '' record
+run 'a rig one byte longer than the longest input' 1 $'refused H3\n' 'the input has more than 67108864 bytes' record
 with '' ''
-run 'a rig in place of a session' 1 $'refused H2 edits\n' '' replay
+run 'a rig in place of a session' 1 $'refused H2 edits\n' 'edits: a member is missing' replay
 
 # ---- help
 
@@ -258,6 +259,19 @@ Commands:
 
 Options:
   -h, --help  Print help
+
+Documents, each a JSON text on standard input:
+  session         the cores, priorities and tasks, and the steps of a run
+  bench document  a session, and edits of it
+  rig             a session without steps, and a script of actions for each core
+
+Exit status:
+  0  all went well
+  1  the input is refused: standard output has the code, standard error says why
+  2  a bad command line
+  3  memory was refused, or a read or a write failed
+
+Example: smp_bench replay < examples/first-run.json
 '
 what_if_help='Tries each edit of the document on standard input alone, and prints what it would change
 
@@ -266,6 +280,15 @@ Usage: smp_bench whatif [OPTIONS]
 Options:
       --span <STEPS>  Steps from one checkpoint to the next, 1 to 1000, or 64 if left out
   -h, --help          Print help
+
+It reads a bench document: {"session": SESSION, "edits": [EDIT, ..]}
+Each edit is made alone, of the session as it is read:
+  {"edit": "insert", "at": INDEX, "step": STEP}
+  {"edit": "remove", "at": INDEX}
+  {"edit": "replace", "at": INDEX, "step": STEP}
+  {"edit": "change", "task": NAME, "priority": NUMBER, "mask": NUMBER}
+
+Example: smp_bench whatif < examples/what-if/ends-an-inversion.json
 '
 record_help='Plays the scripts of the rig on standard input, one thread a core, and prints the session
 
@@ -273,6 +296,11 @@ Usage: smp_bench record
 
 Options:
   -h, --help  Print help
+
+It reads a rig: {"session": SESSION, "limit": ENTRIES, "scripts": [[ACTION, ..], ..]}
+The session has no steps, and each core has a script. An action is a step without core and task.
+
+Example: smp_bench record < examples/rigs/interrupt-driven-driver.json
 '
 replay_help='Replays the session on standard input, and prints the tasks that run after each step
 
@@ -282,6 +310,15 @@ Options:
       --span <STEPS>  Steps from one checkpoint to the next, 1 to 1000, or 64 if left out
       --tally         Prints how each task fared, after the steps
   -h, --help          Print help
+
+It reads a session, or a bench document: {"session": SESSION, "edits": [EDIT, ..]}
+The edits are made one after another, before the replay:
+  {"edit": "insert", "at": INDEX, "step": STEP}
+  {"edit": "remove", "at": INDEX}
+  {"edit": "replace", "at": INDEX, "step": STEP}
+  {"edit": "change", "task": NAME, "priority": NUMBER, "mask": NUMBER}
+
+Example: smp_bench replay --tally < examples/another-call.json
 '
 run '--help' 0 "$help" '' --help
 run '-h' 0 "$help" '' -h
@@ -503,7 +540,7 @@ little 'record with little memory' record
     head -c 40000000 /dev/zero | tr '\0' ' '
     printf ']'
 } >"$folder/in"
-run 'a long input, with memory' 1 $'refused H2 top\n' '' replay
+run 'a long input, with memory' 1 $'refused H2 top\n' 'top: a member is missing' replay
 (
     ulimit -v 40000
     exec "$program" replay <"$folder/in" >"$folder/out" 2>"$folder/err"

@@ -10,5 +10,6 @@ pub mod Opened
 mod SpanTexts
 mod CommandLines
 mod Recordings
+mod Told
 mod TrialLines
 pub mod EditsMade

@@ -2,6 +2,7 @@ pub mod Answer
 pub mod Command
 pub mod CommandLines
 pub mod Device
+pub mod Hint
 pub mod Lines
 pub mod Program
 pub mod Record

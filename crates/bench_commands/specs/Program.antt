@@ -1,5 +1,5 @@
 -- How the program ends, and what it has read and written then.
-use Rattle.std.specs.Prelude.{◌≡◌, ℕ, List, [], Bool, true, false, Option, Some, Result, Ok, Err, String, codes, map, string_bytes}
+use Rattle.std.specs.Prelude.{◌≡◌, ◌≢◌, ℕ, List, [], Bool, true, false, Option, Some, Result, Ok, Err, String, codes, map, string_bytes}
 use Rattle.std.specs.Io.KnownBytes.{Appends}
 use Rattle.std.specs.Vec.Iter.{into_iter_items}
 use Rattle.std.specs.declared.vec.IntoIter.{IntoIter}
@@ -14,15 +14,17 @@ use Rattle.bench_commands.specs.declared.execution.Status.TheVariants.{Fine, Ref
 use Rattle.bench_commands.specs.declared.execution.RunFault.{RunFault}
 use Rattle.bench_commands.specs.declared.execution.RunFault.TheVariants.{Memory, Read, Write}
 use Rattle.bench_commands.specs.declared.program.Ending.{Ending}
-use Rattle.bench_commands.specs.declared.program.Ending.TheVariants.{Ran, BadCommandLine}
+use Rattle.bench_commands.specs.declared.program.Ending.TheVariants.{Ran, RefusedInput, BadCommandLine}
 use Rattle.bench_commands.specs.Command.{Asked, a_run, a_recording, help, a_mistake, asked}
 use Rattle.bench_commands.specs.Device.{AppendsPrefix, failures_after}
-use Rattle.bench_commands.specs.Record.{EndsRecord}
-use Rattle.bench_commands.specs.Run.{Ran as RunEnds, reads_well, writes_well}
+use Rattle.bench_commands.specs.Hint.{IsBenchHint, IsRigHint}
+use Rattle.bench_commands.specs.Record.{EndsRecord, WroteAnswer}
+use Rattle.bench_commands.specs.Run.{Ran as RunEnds, Wrote, reads_well, writes_well}
 
 abbrev pub exit_code : Ending → ℕ
 exit_code (Ran Fine) = 0
 exit_code (Ran Refused) = 1
+exit_code (RefusedInput hint) = 1
 exit_code (BadCommandLine text) = 2
 exit_code (Ran (Fault fault)) = 3
 
@@ -36,6 +38,7 @@ abbrev pub message : Ending → List ℕ
 message (Ran Fine) = []
 message (Ran Refused) = []
 message (Ran (Fault fault)) = fault_line fault
+message (RefusedInput hint) = string_bytes hint
 message (BadCommandLine text) = string_bytes text
 
 -- a text was written, or some first bytes of it
@@ -56,6 +59,7 @@ EndsHelp (Ran (Fault Memory)) read_old read_new write_old write_new =
     Untouched read_old read_new write_old write_new
 EndsHelp (Ran status) read_old read_new write_old write_new =
     (read_new ≡ read_old) × ((text : List ℕ) × Shows status text write_old write_new)
+EndsHelp (RefusedInput hint) read_old read_new write_old write_new = ⊥
 EndsHelp (BadCommandLine text) read_old read_new write_old write_new = ⊥
 
 -- a bad command line, or memory was refused before that was known
@@ -67,18 +71,33 @@ EndsBad (Ran (Fault Memory)) read_old read_new write_old write_new =
     Untouched read_old read_new write_old write_new
 EndsBad _ read_old read_new write_old write_new = ⊥
 
--- a run; a bad command line is none
+-- the input was read and refused, its refusal line written, and people are told why
+pub record RefusesRun (mode : Mode) (hint : List ℕ)
+    (read_old read_new write_old write_new : Option (List ℕ)) : Type 0 where
+  pub wrote : Wrote mode read_old read_new write_old write_new true
+  pub told : IsBenchHint wrote.input hint
+
+-- a run: people are told of a refused input; a bad command line is none
 abbrev pub EndsRun :
     Mode → Ending → Option (List ℕ) → Option (List ℕ) → Option (List ℕ) → Option (List ℕ) → Type 0
 EndsRun mode (Ran status) read_old read_new write_old write_new =
-    RunEnds mode status read_old read_new write_old write_new
+    RunEnds mode status read_old read_new write_old write_new × (status ≢ Refused)
+EndsRun mode (RefusedInput hint) read_old read_new write_old write_new =
+    RefusesRun mode (string_bytes hint) read_old read_new write_old write_new
 EndsRun mode (BadCommandLine text) read_old read_new write_old write_new = ⊥
 
--- a recording; a bad command line is none
+-- the same of a recording
+pub record RefusesRecording (hint : List ℕ)
+    (read_old read_new write_old write_new : Option (List ℕ)) : Type 0 where
+  pub wrote : WroteAnswer read_old read_new write_old write_new true
+  pub told : IsRigHint wrote.input hint
+
 abbrev pub EndsRecording :
     Ending → Option (List ℕ) → Option (List ℕ) → Option (List ℕ) → Option (List ℕ) → Type 0
 EndsRecording (Ran status) read_old read_new write_old write_new =
-    EndsRecord status read_old read_new write_old write_new
+    EndsRecord status read_old read_new write_old write_new × (status ≢ Refused)
+EndsRecording (RefusedInput hint) read_old read_new write_old write_new =
+    RefusesRecording (string_bytes hint) read_old read_new write_old write_new
 EndsRecording (BadCommandLine text) read_old read_new write_old write_new = ⊥
 
 -- by what was asked, how the program ends, and what was read and written then
@@ -92,11 +111,13 @@ Ends a_mistake ending = EndsBad ending
 -- whether no read failed
 abbrev pub all_reads_well : Ending → Bool
 all_reads_well (Ran status) = reads_well status
+all_reads_well (RefusedInput hint) = true
 all_reads_well (BadCommandLine text) = true
 
 -- whether no write failed
 abbrev pub all_writes_well : Ending → Bool
 all_writes_well (Ran status) = writes_well status
+all_writes_well (RefusedInput hint) = true
 all_writes_well (BadCommandLine text) = true
 
 -- a device: its bytes, where they are known, and how many of its reads or writes failed

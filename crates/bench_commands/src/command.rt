@@ -28,6 +28,49 @@ pub enum Request {
     Bad(String),
 }
 
+// What stands below the commands in the program's help.
+const DOCUMENTS: &str = r#"Documents, each a JSON text on standard input:
+  session         the cores, priorities and tasks, and the steps of a run
+  bench document  a session, and edits of it
+  rig             a session without steps, and a script of actions for each core
+
+Exit status:
+  0  all went well
+  1  the input is refused: standard output has the code, standard error says why
+  2  a bad command line
+  3  memory was refused, or a read or a write failed
+
+Example: smp_bench replay < examples/first-run.json"#;
+
+// Below the options of a replay.
+const REPLAY_DOCUMENTS: &str =
+    r#"It reads a session, or a bench document: {"session": SESSION, "edits": [EDIT, ..]}
+The edits are made one after another, before the replay:
+  {"edit": "insert", "at": INDEX, "step": STEP}
+  {"edit": "remove", "at": INDEX}
+  {"edit": "replace", "at": INDEX, "step": STEP}
+  {"edit": "change", "task": NAME, "priority": NUMBER, "mask": NUMBER}
+
+Example: smp_bench replay --tally < examples/another-call.json"#;
+
+// Below the options of trials.
+const WHAT_IF_DOCUMENTS: &str =
+    r#"It reads a bench document: {"session": SESSION, "edits": [EDIT, ..]}
+Each edit is made alone, of the session as it is read:
+  {"edit": "insert", "at": INDEX, "step": STEP}
+  {"edit": "remove", "at": INDEX}
+  {"edit": "replace", "at": INDEX, "step": STEP}
+  {"edit": "change", "task": NAME, "priority": NUMBER, "mask": NUMBER}
+
+Example: smp_bench whatif < examples/what-if/ends-an-inversion.json"#;
+
+// Below the options of a recording.
+const RIG_DOCUMENTS: &str =
+    r#"It reads a rig: {"session": SESSION, "limit": ENTRIES, "scripts": [[ACTION, ..], ..]}
+The session has no steps, and each core has a script. An action is a step without core and task.
+
+Example: smp_bench record < examples/rigs/interrupt-driven-driver.json"#;
+
 fn span_option<'a>(alloc: Global) -> Arg<'a>
     ensures { rule_of result ≡ span_rule }
 {
@@ -52,6 +95,7 @@ fn replay_command<'a>(alloc: Global) -> Result<Command<'a>, AllocError>
     ensures local { IfOk result (λ command. (fields_of command).has_globals ≡ false) }
 {
     Command::new(alloc, "replay")
+        .after_help(REPLAY_DOCUMENTS)
         .about(
             "Replays the session on standard input, and prints the tasks that run after each step",
         )
@@ -64,6 +108,7 @@ fn what_if_command<'a>(alloc: Global) -> Result<Command<'a>, AllocError>
     ensures local { IfOk result (λ command. (fields_of command).has_globals ≡ false) }
 {
     Command::new(alloc, "whatif")
+        .after_help(WHAT_IF_DOCUMENTS)
         .about(
             "Tries each edit of the document on standard input alone, and prints what it would change",
         )
@@ -74,9 +119,11 @@ fn record_command<'a>(alloc: Global) -> Command<'a>
     ensures app { app_of result ≡ record_app }
     ensures local { (fields_of result).has_globals ≡ false }
 {
-    Command::new(alloc, "record").about(
-        "Plays the scripts of the rig on standard input, one thread a core, and prints the session",
-    )
+    Command::new(alloc, "record")
+        .after_help(RIG_DOCUMENTS)
+        .about(
+            "Plays the scripts of the rig on standard input, one thread a core, and prints the session",
+        )
 }
 
 // The program's commands. Help for one of them is asked for by its `--help`, so `help` is no
@@ -89,6 +136,7 @@ fn command<'a>(alloc: Global) -> Result<Command<'a>, AllocError>
     let record = record_command(alloc);
     Command::new(alloc, "smp_bench")
         .about("Records and replays FreeRTOS SMP scheduling sessions")
+        .after_help(DOCUMENTS)
         .disable_help_subcommand(true)
         .subcommand_required(true)
         .subcommand(replay)?

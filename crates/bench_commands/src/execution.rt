@@ -1,13 +1,17 @@
-ghost use Rattle.std.specs.Prelude.{◌≡◌, true};
+ghost use Rattle.std.specs.Prelude.{◌≡◌, IfOk, string_bytes, true};
 ghost use Rattle.bench_commands.specs.Device.{failures_after};
+ghost use Rattle.bench_commands.specs.Hint.{IsBenchHint};
+ghost use Rattle.bench_commands.specs.Program.{EndsRun, all_reads_well, all_writes_well};
 ghost use Rattle.bench_commands.specs.Run.{Ran, has_span, reads_well, writes_well};
-ghost use Rattle.bench_commands.specs.Answer.{span_of};
+ghost use Rattle.bench_commands.specs.Answer.{output, span_of};
 
 use crate::answer::{Answer, answer_to};
 use crate::device::{CountedRead, CountedWrite};
+use crate::hint::bench_hint;
 use crate::input::{InputFault, read_input};
+use crate::program::Ending;
 use crate::writing::write_text;
-use std::alloc::Global;
+use std::alloc::{AllocError, Global};
 use std::thread::Threads;
 use thiserror::Error;
 
@@ -59,6 +63,70 @@ pub enum Status {
     Fault(RunFault),
 }
 
+// What people are told of the input, where it is refused.
+fn hint_where(alloc: Global, is_refused: bool, input: &[u8]) -> Result<String, AllocError>
+    ensures { IfOk result (λ hint. is_refused ≡ true → IsBenchHint input.now (string_bytes hint)) }
+{
+    if is_refused {
+        bench_hint(alloc, input)
+    } else {
+        Ok(String::new(alloc))
+    }
+}
+
+// The whole output for the input and, where that is refused, what people are told.
+fn answer_and_hint<T: Threads + Sync>(
+    rt: &T,
+    host: &HostRuntime,
+    alloc: Global,
+    input: &[u8],
+    mode: Mode,
+) -> Result<(Answer, String), AllocError>
+    requires { has_span mode ≡ true }
+    ensures output { IfOk result (λ told. told.0 ≡ output mode input.now) }
+    ensures hint { IfOk result
+        (λ told. told.0.is_refused ≡ true → IsBenchHint input.now (string_bytes told.1)) }
+{
+    let answer = answer_to(rt, host, alloc, input, mode)?;
+    let hint = hint_where(alloc, answer.is_refused, input)?;
+    Ok((answer, hint))
+}
+
+/// Makes the run, and gives what people are told where its input is refused.
+pub(crate) fn end_of_run<T: Threads + Sync, R: CountedRead, W: CountedWrite>(
+    rt: &T,
+    host: &HostRuntime,
+    alloc: Global,
+    reader: &mut R,
+    writer: &mut W,
+    mode: &Mode,
+) -> Ending
+    requires { has_span mode.now ≡ true }
+    ensures bytes { EndsRun mode.now result (R.Read.remaining reader.old)
+        (R.Read.remaining reader.new) (W.Write.contents writer.old) (W.Write.contents writer.new) }
+    ensures reads { R.CountedRead.failures reader.new
+        ≡ failures_after (all_reads_well result) (R.CountedRead.failures reader.old) }
+    ensures writes { W.CountedWrite.failures writer.new
+        ≡ failures_after (all_writes_well result) (W.CountedWrite.failures writer.old) }
+{
+    let input = match read_input(alloc, reader) {
+        Ok(input) => input,
+        Err(InputFault::Memory) => return Ending::Ran(Status::Fault(RunFault::Memory)),
+        Err(InputFault::Read) => return Ending::Ran(Status::Fault(RunFault::Read)),
+    };
+    let Ok((answer, hint)) = answer_and_hint(rt, host, alloc, &input, *mode) else {
+        return Ending::Ran(Status::Fault(RunFault::Memory));
+    };
+    if write_text(writer, answer.text.as_bytes()).is_err() {
+        return Ending::Ran(Status::Fault(RunFault::Write));
+    }
+    if answer.is_refused {
+        Ending::RefusedInput(hint)
+    } else {
+        Ending::Ran(Status::Fine)
+    }
+}
+
 /// Reads the input to its end, or one byte past the most that is a bench document, then writes its
 /// whole output. Edits that are each tried alone are tried in several threads.
 pub fn run<T: Threads + Sync, R: CountedRead, W: CountedWrite>(
@@ -77,20 +145,9 @@ pub fn run<T: Threads + Sync, R: CountedRead, W: CountedWrite>(
     ensures writes { W.CountedWrite.failures writer.new
         ≡ failures_after (writes_well result) (W.CountedWrite.failures writer.old) }
 {
-    let input = match read_input(alloc, reader) {
-        Ok(input) => input,
-        Err(InputFault::Memory) => return Status::Fault(RunFault::Memory),
-        Err(InputFault::Read) => return Status::Fault(RunFault::Read),
-    };
-    let Ok(answer) = answer_to(rt, host, alloc, &input, *mode) else {
-        return Status::Fault(RunFault::Memory);
-    };
-    if write_text(writer, answer.text.as_bytes()).is_err() {
-        return Status::Fault(RunFault::Write);
-    }
-    if answer.is_refused {
-        Status::Refused
-    } else {
-        Status::Fine
+    match end_of_run(rt, host, alloc, reader, writer, mode) {
+        Ending::Ran(status) => status,
+        Ending::RefusedInput(_) => Status::Refused,
+        Ending::BadCommandLine(_) => unreachable!(),
     }
 }

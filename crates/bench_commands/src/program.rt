@@ -7,9 +7,9 @@ ghost use Rattle.bench_commands.specs.Run.{writes_well};
 
 use crate::command::{Request, request_of};
 use crate::device::{CountedRead, CountedWrite};
-use crate::execution::{RunFault, Status, run};
+use crate::execution::{RunFault, Status, end_of_run};
 use crate::gate::OpenGate;
-use crate::recording::record;
+use crate::recording::end_of_recording;
 use crate::writing::write_text;
 use std::alloc::Global;
 use std::convert::AsStr;
@@ -25,6 +25,8 @@ use std::thread::Threads;
 pub enum Ending {
     /// What was asked for was run.
     Ran(Status),
+    /// The input was refused, and the text tells people why. Its refusal line was written.
+    RefusedInput(String),
     /// The command line asks for nothing that the program does, and the text says why.
     BadCommandLine(String),
 }
@@ -36,7 +38,7 @@ impl Ending {
     {
         match self {
             Ending::Ran(Status::Fine) => 0,
-            Ending::Ran(Status::Refused) => 1,
+            Ending::Ran(Status::Refused) | Ending::RefusedInput(_) => 1,
             Ending::BadCommandLine(_) => 2,
             Ending::Ran(Status::Fault(_)) => 3,
         }
@@ -48,7 +50,7 @@ impl Ending {
     {
         match self {
             Ending::Ran(Status::Fine) | Ending::Ran(Status::Refused) => "",
-            Ending::BadCommandLine(text) => text.as_str(),
+            Ending::RefusedInput(text) | Ending::BadCommandLine(text) => text.as_str(),
             Ending::Ran(Status::Fault(RunFault::Memory)) => "fault memory\n",
             Ending::Ran(Status::Fault(RunFault::Read)) => "fault read\n",
             Ending::Ran(Status::Fault(RunFault::Write)) => "fault write\n",
@@ -87,8 +89,8 @@ pub fn carry_out<T: Threads + Wait + Sync, S: AsStr, R: CountedRead, W: CountedW
         ≡ failures_after (all_writes_well result) (W.CountedWrite.failures writer.old) }
 {
     match request_of(alloc, words) {
-        Ok(Request::Run(mode)) => Ending::Ran(run(rt, host, alloc, reader, writer, &mode)),
-        Ok(Request::Record) => Ending::Ran(record(rt, host, alloc, reader, writer, &OpenGate)),
+        Ok(Request::Run(mode)) => end_of_run(rt, host, alloc, reader, writer, &mode),
+        Ok(Request::Record) => end_of_recording(rt, host, alloc, reader, writer, &OpenGate),
         Ok(Request::Help(text)) => Ending::Ran(show_help(writer, text.as_str())),
         Ok(Request::Bad(text)) => Ending::BadCommandLine(text),
         Err(_) => Ending::Ran(Status::Fault(RunFault::Memory)),

@@ -1,15 +1,19 @@
 //! Recordings of the scripts of a rig document.
-ghost use Rattle.std.specs.Prelude.{◌≡◌, All, IfOk, Ok};
+ghost use Rattle.std.specs.Prelude.{◌≡◌, All, IfOk, Ok, string_bytes, true};
 ghost use Rattle.bench_types.specs.Step.{IsCheckedStep, settings_of, step_check};
 ghost use Rattle.session_text.specs.Rig.{IsCheckedRig, rig_text};
 ghost use Rattle.bench_commands.specs.Device.{failures_after};
+ghost use Rattle.bench_commands.specs.Hint.{IsRigHint};
+ghost use Rattle.bench_commands.specs.Program.{EndsRecording, all_reads_well, all_writes_well};
 ghost use Rattle.bench_commands.specs.Record.{EndsRecord, IsAnswer, IsAnswerTo, IsRecorded};
 ghost use Rattle.bench_commands.specs.Run.{reads_well, writes_well};
 
 use crate::answer::{Answer, refused, refused_for};
 use crate::device::{CountedRead, CountedWrite};
 use crate::execution::{RunFault, Status};
+use crate::hint::rig_hint;
 use crate::input::{InputFault, read_input};
+use crate::program::Ending;
 use crate::writing::write_text;
 use bench_types::{Header, MAX_INPUT, Step};
 use core_scripts::{Gate, play};
@@ -115,6 +119,68 @@ fn recording_of<R: Threads + Wait + Sync, G: Gate>(
     answer_to_rig(rt, host, alloc, input, gate)
 }
 
+// What people are told of the input, where it is refused.
+fn hint_where(alloc: Global, is_refused: bool, input: &[u8]) -> Result<String, AllocError>
+    ensures { IfOk result (λ hint. is_refused ≡ true → IsRigHint input.now (string_bytes hint)) }
+{
+    if is_refused {
+        rig_hint(alloc, input)
+    } else {
+        Ok(String::new(alloc))
+    }
+}
+
+// What is written of the input and, where that is refused, what people are told.
+fn recording_and_hint<R: Threads + Wait + Sync, G: Gate>(
+    rt: &R,
+    host: &HostRuntime,
+    alloc: Global,
+    input: &[u8],
+    gate: &G,
+) -> Result<(Written, String), AllocError>
+    ensures answer { IfOk result (λ told. IsAnswer input.now told.0) }
+    ensures hint { IfOk result
+        (λ told. told.0.is_refused ≡ true → IsRigHint input.now (string_bytes told.1)) }
+{
+    let recording = recording_of(rt, host, alloc, input, gate)?;
+    let hint = hint_where(alloc, recording.is_refused, input)?;
+    Ok((recording, hint))
+}
+
+/// Makes the recording, and gives what people are told where its input is refused.
+pub(crate) fn end_of_recording<R: Threads + Wait + Sync, I: CountedRead, O: CountedWrite, G: Gate>(
+    rt: &R,
+    host: &HostRuntime,
+    alloc: Global,
+    reader: &mut I,
+    writer: &mut O,
+    gate: &G,
+) -> Ending
+    ensures bytes { EndsRecording result (I.Read.remaining reader.old)
+        (I.Read.remaining reader.new) (O.Write.contents writer.old) (O.Write.contents writer.new) }
+    ensures reads { I.CountedRead.failures reader.new
+        ≡ failures_after (all_reads_well result) (I.CountedRead.failures reader.old) }
+    ensures writes { O.CountedWrite.failures writer.new
+        ≡ failures_after (all_writes_well result) (O.CountedWrite.failures writer.old) }
+{
+    let input = match read_input(alloc, reader) {
+        Ok(input) => input,
+        Err(InputFault::Memory) => return Ending::Ran(Status::Fault(RunFault::Memory)),
+        Err(InputFault::Read) => return Ending::Ran(Status::Fault(RunFault::Read)),
+    };
+    let Ok((recording, hint)) = recording_and_hint(rt, host, alloc, &input, gate) else {
+        return Ending::Ran(Status::Fault(RunFault::Memory));
+    };
+    if write_text(writer, recording.text.as_slice()).is_err() {
+        return Ending::Ran(Status::Fault(RunFault::Write));
+    }
+    if recording.is_refused {
+        Ending::RefusedInput(hint)
+    } else {
+        Ending::Ran(Status::Fine)
+    }
+}
+
 /// Reads a rig document to its end, or one byte past the most that it is, plays its scripts, one
 /// thread a core, and then writes the session that was recorded and a line feed.
 ///
@@ -135,20 +201,9 @@ pub fn record<R: Threads + Wait + Sync, I: CountedRead, O: CountedWrite, G: Gate
     ensures writes { O.CountedWrite.failures writer.new
         ≡ failures_after (writes_well result) (O.CountedWrite.failures writer.old) }
 {
-    let input = match read_input(alloc, reader) {
-        Ok(input) => input,
-        Err(InputFault::Memory) => return Status::Fault(RunFault::Memory),
-        Err(InputFault::Read) => return Status::Fault(RunFault::Read),
-    };
-    let Ok(recording) = recording_of(rt, host, alloc, &input, gate) else {
-        return Status::Fault(RunFault::Memory);
-    };
-    if write_text(writer, recording.text.as_slice()).is_err() {
-        return Status::Fault(RunFault::Write);
-    }
-    if recording.is_refused {
-        Status::Refused
-    } else {
-        Status::Fine
+    match end_of_recording(rt, host, alloc, reader, writer, gate) {
+        Ending::Ran(status) => status,
+        Ending::RefusedInput(_) => Status::Refused,
+        Ending::BadCommandLine(_) => unreachable!(),
     }
 }

@@ -215,7 +215,7 @@ fn wanted_of(asked: &str) -> Wanted<'_> {
             task,
             code: 1,
             output: "refused H1\n",
-            message: "",
+            message: "not JSON: line 1",
         };
     }
     Wanted {

@@ -76,9 +76,9 @@ fn check_end<R: Threads + Wait + Abort + Sync>(
 fn exit_statuses(rt: HostRuntime) -> Result<(), Fail> {
     for (line, code, output, message) in [
         ("smp_bench --help", 0, "Records and replays", ""),
-        ("smp_bench replay", 1, "refused H1\n", ""),
-        ("smp_bench whatif", 1, "refused H1\n", ""),
-        ("smp_bench record", 1, "refused H1\n", ""),
+        ("smp_bench replay", 1, "refused H1\n", "not JSON: line 1"),
+        ("smp_bench whatif", 1, "refused H1\n", "not JSON: line 1"),
+        ("smp_bench record", 1, "refused H1\n", "not JSON: line 1"),
         ("smp_bench", 2, "", "error: "),
     ] {
         let end = End {

@@ -1,5 +1,5 @@
 -- Tasks are taken over one after another, up to the first whose name is none.
-use Rattle.std.proofs.Common.{◌≡◌, ℕ, suc, ◌+◌, ◌<◌, Bool, true, false, ◌&&◌, List, [], ◌∷◌, ◌++◌, length, get_or, take, drop, cond, Result, Ok, Err, refl, sym, ap, ◌∙◌, arith, add-one, drop-cons}
+use Rattle.std.proofs.Common.{◌≡◌, ℕ, suc, ◌+◌, ◌<◌, Bool, true, false, ◌&&◌, List, [], ◌∷◌, ◌++◌, length, get_or, take, drop, cond, Result, Ok, Err, is_ok, refl, sym, ap, ◌∙◌, arith, add-one, drop-cons}
 use Rattle.std.specs.List.{list_all}
 use Rattle.std.proofs.lemmas.List.{take_more}
 use Rattle.bench_types.specs.declared.fault.Fault.{Fault}
@@ -35,6 +35,11 @@ refused false rest all valid x y fault e is = let same : BadHeader ≡ fault = c
 pub args_of : (test : Bool) (text name : List ℕ) (priority mask : ℕ) → cond test (name_made text) (Err BadHeader) ≡ Ok name → task_made name priority mask ≡ cond test (task_made text priority mask) (Err BadHeader)
 args_of true text name priority mask e = let same : text ≡ name = cc in rw same refl
 args_of false text name priority mask e = absurd cc
+
+-- a name is made of the texts that are names, and of no others
+pub made_of_names : (test : Bool) (text : List ℕ) → is_ok (cond test (name_made text) (Err BadHeader)) ≡ test
+made_of_names true text = refl
+made_of_names false text = refl
 
 named_ok : (shape task : TaskArgs) → named shape ≡ Ok task → (is_name shape.name ≡ true) × (shape ≡ task)
 named_ok shape task e = (grind arith, grind arith)

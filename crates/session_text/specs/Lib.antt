@@ -4,6 +4,7 @@ pub mod Action
 pub mod Array
 pub mod Bench
 pub mod Edit
+pub mod Flaw
 pub mod Header
 pub mod Member
 pub mod Names

@@ -13,10 +13,10 @@ use std::marker::Model;
 
 /// A user task as the text has it: its name may still be any text.
 #[derive(Drop)]
-struct TaskShape<'v> {
-    name: &'v str,
-    priority: u32,
-    mask: u32,
+pub(crate) struct TaskShape<'v> {
+    pub(crate) name: &'v str,
+    pub(crate) priority: u32,
+    pub(crate) mask: u32,
 }
 
 impl<'v> Model for TaskShape<'v> {
@@ -55,7 +55,7 @@ pub(crate) fn config_at(node: &Node<'_, '_>) -> Result<Config, ReadFault>
 }
 
 /// Reads the user tasks.
-struct TaskReader;
+pub(crate) struct TaskReader;
 
 impl<'v> ReadItem<'v> for TaskReader {
     type Item = TaskShape<'v>;

@@ -7,7 +7,7 @@ use Rattle.std.specs.declared.io.ErrorKind.TheVariants.{InvalidData}
 use Rattle.bench_commands.specs.declared.execution.Status.TheVariants.{Fault}
 use Rattle.bench_commands.specs.declared.execution.RunFault.TheVariants.{Memory}
 use Rattle.bench_commands.specs.declared.program.Ending.{Ending}
-use Rattle.bench_commands.specs.declared.program.Ending.TheVariants.{Ran, BadCommandLine}
+use Rattle.bench_commands.specs.declared.program.Ending.TheVariants.{Ran, RefusedInput, BadCommandLine}
 use Rattle.bench_commands.specs.Device.{failures_after}
 use Rattle.bench_commands.specs.Program.{DeviceState, Shows, Tells, Untouched, Words, all_reads_well, all_writes_well, exit_code, message}
 use Rattle.view_commands.specs.declared.words.Command.{Command}
@@ -58,6 +58,7 @@ EndsHelp (Ran (Fault Memory)) read_old read_new write_old write_new =
     Untouched read_old read_new write_old write_new
 EndsHelp (Ran status) read_old read_new write_old write_new =
     (read_new ≡ read_old) × Shows status help write_old write_new
+EndsHelp (RefusedInput hint) read_old read_new write_old write_new = ⊥
 EndsHelp (BadCommandLine text) read_old read_new write_old write_new = ⊥
 
 -- a view; a bad command line is none
@@ -66,6 +67,7 @@ abbrev pub EndsView :
     → Type 0
 EndsView command (Ran status) read_old read_new write_old write_new =
     Viewed command status read_old read_new write_old write_new
+EndsView command (RefusedInput hint) read_old read_new write_old write_new = ⊥
 EndsView command (BadCommandLine text) read_old read_new write_old write_new = ⊥
 
 -- by what was asked, how the program ends, and what was read and written then

@@ -1,0 +1,247 @@
+//! What people are told of a refused input, beside its refusal line.
+ghost use Rattle.std.specs.Prelude.{◌≡◌, ◌++◌, None, IfOk, IsErr, OnOk, string_bytes};
+ghost use Rattle.serde_json.specs.Read.{read};
+ghost use Rattle.bench_types.specs.declared.fault.Fault.TheVariants.{BadHeader};
+ghost use Rattle.session_text.specs.declared.fault.Why.TheVariants.{NoMemory};
+ghost use Rattle.session_text.specs.Bench.{bench_text};
+ghost use Rattle.session_text.specs.Flaw.{flaw_in};
+ghost use Rattle.session_text.specs.Rig.{rig_text};
+ghost use Rattle.bench_commands.specs.Hint.{IsBenchHint, IsBenchTextHint, IsFaultHint, IsNotJsonHint, IsRigHint, IsRigTextHint, TellsPlace, fault_line, flaw_line, header_line, limits_line, line_at, task_limit_line, task_line, too_long_line, too_many_steps_line};
+
+use bench_types::{
+    Fault, MAX_CORES, MAX_INPUT, MAX_MUTEXES, MAX_PRIORITIES, MAX_STEPS, MAX_TASKS, MIN_CORES,
+};
+use serde_json::{Error, Value};
+use session_text::{HeaderFlaw, TextFault, Why, header_flaw, read_bench, read_rig};
+use std::alloc::{AllocError, Global};
+
+fn place_hint(alloc: Global, error: &Error) -> Result<String, AllocError>
+    ensures { IfOk result (λ hint. TellsPlace (string_bytes hint)) }
+{
+    let line = error.line();
+    let column = error.column();
+    let mut hint = String::new(alloc);
+    write!(hint, "not JSON: line {line}, column {column}\n")?;
+    Ok(hint)
+}
+
+// The line of a text that serde_json doesn't read: it is read again for the place.
+fn no_value_hint(alloc: Global, text: &str) -> Result<String, AllocError>
+    ensures { IfOk result (λ hint. read text.now ≡ None → TellsPlace (string_bytes hint)) }
+{
+    match Value::from_str(alloc, text) {
+        Ok(_) => Ok(String::new(alloc)),
+        Err(error) => {
+            if error.is_memory() {
+                return Err(AllocError);
+            }
+            place_hint(alloc, &error)
+        }
+    }
+}
+
+fn not_json_hint(alloc: Global, input: &[u8]) -> Result<String, AllocError>
+    ensures { IfOk result (λ hint. IsNotJsonHint input.now (string_bytes hint)) }
+{
+    match std::str::from_utf8(input) {
+        Ok(text) => no_value_hint(alloc, text),
+        Err(_) => String::from_str(alloc, "not JSON: not UTF-8\n"),
+    }
+}
+
+fn push_limits(
+    text: &mut String,
+    member: &str,
+    number: usize,
+    least: u32,
+    most: u32,
+) -> Result<(), AllocError>
+    ensures { OnOk result
+        (string_bytes text.new
+        ≡ string_bytes text.old ++ limits_line member.now number least most) }
+{
+    write!(
+        text,
+        "header: {member} is {number}, and may be {least} to {most}\n"
+    )
+}
+
+fn push_task(text: &mut String, task: usize, wrong: &str) -> Result<(), AllocError>
+    ensures { OnOk result
+        (string_bytes text.new ≡ string_bytes text.old ++ task_line task wrong.now) }
+{
+    write!(text, "header: tasks[{task}]{wrong}\n")
+}
+
+// The same with a number at the end.
+fn push_task_limit(
+    text: &mut String,
+    task: usize,
+    wrong: &str,
+    number: u32,
+) -> Result<(), AllocError>
+    ensures { OnOk result
+        (string_bytes text.new
+        ≡ string_bytes text.old ++ task_limit_line task wrong.now number) }
+{
+    write!(text, "header: tasks[{task}]{wrong}{number}\n")
+}
+
+fn push_flaw(text: &mut String, flaw: HeaderFlaw) -> Result<(), AllocError>
+    ensures { OnOk result (string_bytes text.new ≡ string_bytes text.old ++ flaw_line flaw) }
+{
+    match flaw {
+        HeaderFlaw::Cores(n) => push_limits(text, "cores", n as usize, MIN_CORES, MAX_CORES),
+        HeaderFlaw::Priorities(n) => push_limits(text, "priorities", n as usize, 1, MAX_PRIORITIES),
+        HeaderFlaw::Mutexes(n) => push_limits(text, "mutexes", n as usize, 0, MAX_MUTEXES),
+        HeaderFlaw::TaskCount(n) => push_limits(text, "the number of tasks", n, 1, MAX_TASKS),
+        HeaderFlaw::NoName(task) => push_task(
+            text,
+            task,
+            ".name has to be 1 to 15 characters from ! to ~, and not begin with IDLE",
+        ),
+        HeaderFlaw::Priority { task, priorities } => {
+            push_task_limit(text, task, ".priority has to be below ", priorities)
+        }
+        HeaderFlaw::Mask { task, cores } => {
+            push_task_limit(text, task, ".mask has to have a bit below bit ", cores)
+        }
+        HeaderFlaw::SharedName(task) => push_task(text, task, ".name is that of another task too"),
+    }
+}
+
+fn push_header(text: &mut String, flaw: Option<HeaderFlaw>) -> Result<(), AllocError>
+    ensures { OnOk result (string_bytes text.new ≡ string_bytes text.old ++ header_line flaw) }
+{
+    match flaw {
+        Some(flaw) => push_flaw(text, flaw),
+        None => text.push_str(
+            "header: a number is outside its limits, or a name is none or comes twice\n",
+        ),
+    }
+}
+
+fn header_hint(alloc: Global, input: &[u8]) -> Result<String, AllocError>
+    ensures { IfOk result (λ hint. string_bytes hint ≡ header_line (flaw_in input.now)) }
+{
+    let flaw = header_flaw(alloc, input)?;
+    let mut hint = String::new(alloc);
+    push_header(&mut hint, flaw)?;
+    Ok(hint)
+}
+
+fn hint_at(alloc: Global, path: &str, meaning: &str) -> Result<String, AllocError>
+    ensures { IfOk result (λ hint. string_bytes hint ≡ line_at path.now meaning.now) }
+{
+    let mut hint = String::from_str(alloc, path)?;
+    hint.push_str(": ")?;
+    hint.push_str(meaning)?;
+    hint.push_str("\n")?;
+    Ok(hint)
+}
+
+// F1, of the header where there is no path.
+fn bad_header_hint(alloc: Global, input: &[u8], path: &str) -> Result<String, AllocError>
+    ensures { IfOk result (λ hint. string_bytes hint ≡ fault_line input.now BadHeader path.now) }
+{
+    if path.is_empty() {
+        return header_hint(alloc, input);
+    }
+    hint_at(
+        alloc,
+        path,
+        "no task may have this priority and core affinity mask",
+    )
+}
+
+fn bench_fault_hint(
+    alloc: Global,
+    input: &[u8],
+    fault: Fault,
+    path: &str,
+) -> Result<String, AllocError>
+    ensures { IfOk result (λ hint. string_bytes hint ≡ fault_line input.now fault path.now) }
+{
+    match fault {
+        Fault::BadHeader => bad_header_hint(alloc, input, path),
+        Fault::BadCore => hint_at(
+            alloc,
+            path,
+            "there is no such core, or it is a tick on another core than 0",
+        ),
+        Fault::BadTask => hint_at(alloc, path, "no user task has such a name"),
+        Fault::BadMutex => hint_at(alloc, path, "there is no such mutex"),
+        Fault::BadArgument => hint_at(alloc, path, "an argument is outside its limits"),
+    }
+}
+
+// The line of a text that was not read. Want of memory has none.
+fn fault_hint(alloc: Global, input: &[u8], fault: TextFault) -> Result<String, AllocError>
+    ensures line { IfOk result
+        (λ hint. IsFaultHint input.now fault.why fault.path (string_bytes hint)) }
+    ensures memory { fault.why ≡ NoMemory → IsErr result }
+{
+    let path = fault.path.as_str();
+    match fault.why {
+        Why::NotJson => not_json_hint(alloc, input),
+        Why::BadShape => hint_at(alloc, path, "a member is missing, ill-typed or unknown"),
+        Why::Bench(fault) => bench_fault_hint(alloc, input, fault, path),
+        Why::NoMemory => Err(AllocError),
+    }
+}
+
+fn too_long_hint(alloc: Global) -> Result<String, AllocError>
+    ensures { IfOk result (λ hint. string_bytes hint ≡ too_long_line) }
+{
+    let mut hint = String::new(alloc);
+    write!(hint, "the input has more than {MAX_INPUT} bytes\n")?;
+    Ok(hint)
+}
+
+fn too_many_steps_hint(alloc: Global) -> Result<String, AllocError>
+    ensures { IfOk result (λ hint. string_bytes hint ≡ too_many_steps_line) }
+{
+    let mut hint = String::new(alloc);
+    write!(hint, "the session has more than {MAX_STEPS} steps\n")?;
+    Ok(hint)
+}
+
+fn bench_text_hint(alloc: Global, input: &[u8]) -> Result<String, AllocError>
+    ensures { IfOk result
+        (λ hint. IsBenchTextHint input.now (bench_text input.now) (string_bytes hint)) }
+{
+    match read_bench(alloc, input) {
+        Ok(_) => too_many_steps_hint(alloc),
+        Err(fault) => fault_hint(alloc, input, fault),
+    }
+}
+
+fn rig_text_hint(alloc: Global, input: &[u8]) -> Result<String, AllocError>
+    ensures { IfOk result
+        (λ hint. IsRigTextHint input.now (rig_text input.now) (string_bytes hint)) }
+{
+    match read_rig(alloc, input) {
+        Ok(_) => Ok(String::new(alloc)),
+        Err(fault) => fault_hint(alloc, input, fault),
+    }
+}
+
+/// What people are told of a bench document that is refused, a line. It is read again for that.
+pub(crate) fn bench_hint(alloc: Global, input: &[u8]) -> Result<String, AllocError>
+    ensures { IfOk result (λ hint. IsBenchHint input.now (string_bytes hint)) }
+{
+    if input.len() > MAX_INPUT {
+        return too_long_hint(alloc);
+    }
+    bench_text_hint(alloc, input)
+}
+
+/// The same of a rig document.
+pub(crate) fn rig_hint(alloc: Global, input: &[u8]) -> Result<String, AllocError>
+    ensures { IfOk result (λ hint. IsRigHint input.now (string_bytes hint)) }
+{
+    if input.len() > MAX_INPUT {
+        return too_long_hint(alloc);
+    }
+    rig_text_hint(alloc, input)
+}

@@ -211,7 +211,7 @@ row() { # CELL TEXT..: each text gets the refusal of that row
     want="$(grep -F -- "| $cell | \`refused " docs/FORMATS.md | sed 's/.* | `\(.*\)` |$/\1/')"
     held=$((held + 1))
     for text in "$@"; do
-        got="$(printf '%s' "$text" | "$program" "$command")"
+        got="$(printf '%s' "$text" | "$program" "$command" 2>/dev/null)"
         [ "$got" = "$want" ] || wrong "docs/FORMATS.md: $cell: '$got' and not '$want'"
     done
 }

@@ -23,7 +23,7 @@ const RIG: &str = r#"{"session": {"format": 1, "cores": 2, "priorities": 5, "sli
 const SESSIONS: [(&str, &str, &str); 22] = [
     ("}", "", "not JSON: line 3, column"),
     ("\"cores\"", "cores", "not JSON: line 1, column"),
-    ("\"tick\": 0", "\"tick\": 1e400", "not JSON: line 1, column"),
+    ("\"tick\": 0", "\"tick\": 1e400", "not JSON: line 2, column"),
     (
         "\"format\": 1",
         "\"format\": 2",

@@ -2,3 +2,4 @@ pub mod Filming
 pub mod Replayed
 pub mod Rows
 pub mod Tiling
+pub mod Waiting

@@ -31,6 +31,7 @@ use Rattle.run_pictures.specs.Stretches.{Tiles}
 use Rattle.run_pictures.specs.Shades.{numbers_told, stances_told}
 use Rattle.run_pictures.specs.Theorem.{currents_of, stances_of, ticks_of, IsTiled}
 use Rattle.run_pictures.proofs.Tiling.{tiled}
+use Rattle.run_pictures.proofs.Waiting.{told_last}
 
 switched_settings : (cores : List ℕ) (table : Table) → (fold (λ kernel core. after_switch stamp_queues core kernel) table cores).settings ≡ table.settings
 switched_settings [] table = refl
@@ -112,4 +113,4 @@ module _ (places : Places) (header : Header) (steps : List Step) (is : IsChecked
       (tiled _ numbers_told places.from (map tick_in (looks_of places header steps)))
 
   pub all_tiled : IsTiled places header steps
-  all_tiled = record { cores = core_tiled; tasks = task_tiled; ticks = ticks_tiled }
+  all_tiled = record { cores = core_tiled; tasks = task_tiled; ticks = ticks_tiled; waits = told_last places header steps }

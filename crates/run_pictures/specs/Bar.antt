@@ -34,7 +34,8 @@ letters_text Small = codes "s"
 -- where words begin
 abbrev pub origin_text : Letters → ℕ → ℕ → List ℕ
 origin_text letters x y =
-    codes "<text class='" ++ letters_text letters ++ codes "' x='" ++ decimal x ++ codes "' y='" ++ decimal y ++ codes "'>"
+    codes "<text class='" ++ letters_text letters ++ codes "' x='" ++ decimal x
+    ++ codes "' y='" ++ decimal y ++ codes "'>"
 
 unfoldable pub word_text : Letters → ℕ → ℕ → List ℕ → List ℕ
 word_text letters x y words =

@@ -7,10 +7,11 @@ use Rattle.bench_model.specs.Session.{state_at}
 use Rattle.bench_model.specs.Table.{tick_count}
 use Rattle.run_views.specs.declared.places.Places.{Places}
 use Rattle.run_pictures.specs.declared.stance.Stance.{Stance}
-use Rattle.run_pictures.specs.Film.{looks_of, shown_places}
+use Rattle.run_pictures.specs.Film.{film, looks_of, shown_places}
 use Rattle.run_pictures.specs.Spans.{current_spans, stance_spans, tick_spans}
 use Rattle.run_pictures.specs.Stances.{stance_of}
 use Rattle.run_pictures.specs.Stretches.{Tiles}
+use Rattle.run_pictures.specs.Waits.{last_wait, wait_made, IsLast}
 
 -- the current task of the core at each place that is shown
 abbrev pub currents_of : Places → Header → List Step → ℕ → List ℕ
@@ -27,7 +28,8 @@ abbrev pub ticks_of : Places → Header → List Step → List ℕ
 ticks_of places header steps =
     map (λ place. tick_count (state_at header steps place).orders) (shown_places places steps)
 
--- the spans that are drawn tile what the replay has at the places that are shown
+-- the spans that are drawn tile what the replay has at the places that are shown, and a task is told
+-- to wait for what it began to wait for last in the replay
 pub record IsTiled (places : Places) (header : Header) (steps : List Step) : Type 0 where
   pub cores : (core : ℕ) → core < header.config.cores
       → Tiles places.from (currents_of places header steps core)
@@ -37,3 +39,6 @@ pub record IsTiled (places : Places) (header : Header) (steps : List Step) : Typ
       (stance_spans places.from (looks_of places header steps) task)
   pub ticks : Tiles places.from (ticks_of places header steps)
       (tick_spans places.from (looks_of places header steps))
+  pub waits : (task : ℕ) (place : ℕ)
+      → IsLast (wait_made header steps task) place
+      (last_wait task (film places header steps).made place)

@@ -115,4 +115,5 @@ reply_words header step (Isr pass pend) =
     codes "isr " ++ flag_text pass ++ codes " " ++ flag_text pend ++ pass_meaning pass
     ++ pend_meaning pend
 reply_words header step (Refused why) =
-    codes "refused " ++ refusal_code why ++ codes ": " ++ refusal_meaning header (core_of step) (caller_of step) why
+    codes "refused " ++ refusal_code why ++ codes ": "
+    ++ refusal_meaning header (core_of step) (caller_of step) why

@@ -3,13 +3,13 @@
 
 use bench_commands::Counted;
 use std::process::ExitCode;
-use view_commands::run_program;
+use view_commands::{HostSource, run_program};
 
 fn main(rt: HostRuntime) -> ExitCode {
     run_program(
         &rt,
         std::env::args(&rt),
-        &mut Counted::new(rt.stdin()),
+        &mut HostSource::new(&rt),
         &mut Counted::new(rt.stdout()),
         &mut Counted::new(rt.stderr()),
     )

@@ -1,5 +1,5 @@
 -- Names of tasks as words and as their bytes.
-use Rattle.std.proofs.Common.{◌≡◌, ℕ, zero, suc, ◌<◌, Bool, List, [], ◌∷◌, length, get_or, nat_lt, map, Option, Some, None, not, string_bytes, refl, ap₂, arith}
+use Rattle.std.proofs.Common.{◌≡◌, ℕ, zero, suc, ◌<◌, Bool, List, [], ◌∷◌, length, get_or, nat_lt, map, Some, None, not, string_bytes, refl, ap₂, arith}
 use Rattle.std.specs.Prelude.{String, if◌then◌else◌, position}
 use Rattle.std.specs.List.{prefix_len}
 use Rattle.std.specs.declared.alloc.Global.{Global}

@@ -4,7 +4,6 @@ use Rattle.std.specs.Prelude.{IsErr, OnOk, if◌then◌else◌}
 use Rattle.std.proofs.lemmas.Bool.Decides.{nat_tests}
 use Rattle.bench_types.specs.Name.{is_within}
 use Rattle.bench_types.specs.Limits.{max_span, max_steps}
-use Rattle.bench_types.specs.Session.{Session}
 use Rattle.bench_model.specs.Meeting.{CheckpointedSession, first_kept}
 use Rattle.session_store.specs.declared.fault.OpenRefusal.{OpenRefusal}
 use Rattle.session_store.specs.declared.fault.OpenRefusal.TheVariants as refusal

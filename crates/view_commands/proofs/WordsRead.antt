@@ -1,5 +1,5 @@
 -- What the words of a command line are read as.
-use Rattle.std.proofs.Common.{◌≡◌, ℕ, ◌-◌, ◌≤◌, ◌&&◌, ◌^◌, Bool, true, false, List, [], ◌∷◌, ◌++◌, append_assoc, length, nat_lt, map, take, drop, get_or, Option, Some, None, Result, Ok, Err, option_and_then, string_bytes, ltb-true, refl, sym, ap, subst, ◌∙◌, arith}
+use Rattle.std.proofs.Common.{◌≡◌, ℕ, ◌-◌, ◌≤◌, ◌&&◌, ◌^◌, Bool, true, false, List, [], ◌∷◌, length, nat_lt, map, take, drop, get_or, Option, Some, None, Result, Ok, Err, option_and_then, string_bytes, ltb-true, refl, sym, ap, subst, ◌∙◌, arith}
 use Rattle.std.specs.Prelude.{String, if◌then◌else◌}
 use Rattle.std.specs.List.{list_any}
 use Rattle.std.specs.Result.{result_ok}
@@ -10,7 +10,7 @@ use Rattle.std.proofs.lemmas.Bool.Decides.{nat_tests}
 use Rattle.std.proofs.lemmas.List.{take_all}
 use Rattle.std.proofs.lemmas.Str.Parse.{IsNumeralModel, numerals_by_value, tells_all_ascii_digits}
 use Rattle.view_commands.specs.declared.words.Bounds.{Bounds}
-use Rattle.view_commands.specs.Words.{Word, bounds_in, each_option, number_in, with_option}
+use Rattle.view_commands.specs.Words.{Word, bounds_in, number_in, with_option}
 
 numerals : IsNumeralModel (λ ds. all_ascii_digits ds ≡ true) (digits_value 10)
 numerals = numerals_by_value (λ ds. all_ascii_digits ds ≡ true) tells_all_ascii_digits
@@ -54,20 +54,6 @@ option_read bounds more (one ∷ other ∷ words) name word read two is_name is_
     ∙ sym told ∙ found in
     ap (λ (words : List (String Global)). bounds_in more (map string_bytes words)) (rest_is one other words)
     ∙ sym (ap (λ (set : Option Bounds). option_and_then (λ more. bounds_in more rest) set) first)
-
--- what an option gave, and then what the rest give
-pub option_given : {X : Type 0} (given : Word → Word → List X) (words : List (String Global)) (name word : String Global) (before between after : List X) → 2 ≤ length words → name ≡ get_or words 0 name → word ≡ get_or words 1 word
-    → between ≡ before ++ given (string_bytes name) (string_bytes word) → after ≡ between ++ each_option given (map string_bytes (take (length words - 2) (drop 2 words)))
-    → after ≡ before ++ each_option given (map string_bytes words)
-option_given given [] name word before between after two is_name is_word told rest = absurd (omega (arith, two))
-option_given given (one ∷ []) name word before between after two is_name is_word told rest = absurd (omega (arith, two))
-option_given given (one ∷ other ∷ words) name word before between after two is_name is_word told rest =
-    let more = each_option given (map string_bytes words) in
-    rest ∙ ap (λ (words : List (String Global)). between ++ each_option given (map string_bytes words)) (rest_is one other words)
-    ∙ ap (λ list. list ++ more) told
-    ∙ ap (λ (name : String Global). (before ++ given (string_bytes name) (string_bytes word)) ++ more) is_name
-    ∙ ap (λ (word : String Global). (before ++ given (string_bytes one) (string_bytes word)) ++ more) is_word
-    ∙ append_assoc before (given (string_bytes one) (string_bytes other)) more
 
 -- a test of words is a test of their bytes
 pub any_mapped : (p : Word → Bool) (words : List (String Global)) → list_any p (map string_bytes words) ≡ list_any (λ word. p (string_bytes word)) words

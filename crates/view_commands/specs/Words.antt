@@ -1,9 +1,9 @@
 -- What a command line asks for, by its words.
-use Rattle.std.specs.Prelude.{◌==◌, ℕ, ◌^◌, ◌-◌, ◌&&◌, List, [], ◌∷◌, ◌++◌, Bool, length, nat_lt, codes, Option, Some, None, is_none, option_and_then, option_map, unwrap_or, if◌then◌else◌}
+use Rattle.std.specs.Prelude.{◌==◌, ℕ, ◌^◌, ◌-◌, ◌%◌, ◌&&◌, List, [], ◌∷◌, ◌++◌, Bool, length, nat_lt, codes, slice_get, Option, Some, None, is_none, option_and_then, option_map, unwrap_or, if◌then◌else◌}
 use Rattle.std.specs.List.{list_any}
 use Rattle.std.specs.Option.{option_map_or}
 use Rattle.std.specs.Str.{bytes_eq, all_ascii_digits}
-use Rattle.std.specs.Str.Parse.{digits_value, without_leading_plus}
+use Rattle.std.specs.Str.Parse.{digits_value, starts_with_minus, without_leading_plus}
 use Rattle.run_views.specs.declared.places.Places.{Places}
 use Rattle.view_commands.specs.Selected.{Selected}
 use Rattle.view_commands.specs.declared.words.Bounds.{Bounds}
@@ -27,6 +27,21 @@ number_in word =
     let number = digits_value 10 digits in
     if is_numeral digits && nat_lt number (2 ^ 32) then Some number else None
 
+-- ---- the file
+
+-- a word that is an option, and no file's name
+abbrev pub is_option : Word → Bool
+is_option word = starts_with_minus word
+
+-- what stands before the last word; nothing, where that is an option and names no file
+abbrev pub before_file : {X : Type 0} → Word → X → Option X
+before_file word value = if is_option word then None else Some value
+
+-- the name of a file behind options, each of which has a word after it: the last word, where the
+-- number of words is odd
+abbrev pub file_in : List Word → Option Word
+file_in words = if length words % 2 == 1 then slice_get words (length words - 1) else None
+
 -- ---- the options of a trace
 
 -- an option sets its bound, where none is set
@@ -47,10 +62,10 @@ with_option bounds name word =
     else with_bound bounds name number)
     (number_in word)
 
--- options, each with its word after it
+-- options, each with its word after it, and behind them the name of a file or nothing
 abbrev pub bounds_in : Bounds → List Word → Option Bounds
 bounds_in bounds [] = Some bounds
-bounds_in bounds (name ∷ []) = None
+bounds_in bounds (word ∷ []) = before_file word bounds
 bounds_in bounds (name ∷ word ∷ words) =
     option_and_then (λ more. bounds_in more words) (with_option bounds name word)
 
@@ -96,10 +111,11 @@ selection_in options =
 abbrev pub trace_in : List Word → Option Command
 trace_in options = option_map command.Trace (selection_in options)
 
--- a command that has no options
+-- a command that has no options, with the name of a file behind it or nothing
 abbrev pub alone : Command → List Word → Option Command
 alone command [] = Some command
-alone command (option ∷ options) = None
+alone command (word ∷ []) = before_file word command
+alone command (word ∷ other ∷ words) = None
 
 -- the places alone, where no task and no core is named
 abbrev pub places_alone : Selected → Option Command
@@ -120,10 +136,15 @@ command_in name options =
     else if bytes_eq name (codes "timeline") then timeline_in options
     else None
 
--- the command that the words give, its name first
-abbrev pub shown_by : List Word → Option Command
-shown_by [] = None
-shown_by (name ∷ options) = command_in name options
+-- a view by the command of this name, of the file that its options name or of standard input
+abbrev pub view_by : Word → List Word → Request
+view_by name options =
+    option_map_or (λ command. Show command (file_in options)) (command_in name options) Bad
+
+-- what the words ask for, the command's name first
+abbrev pub shown_by : List Word → Request
+shown_by [] = Bad
+shown_by (name ∷ options) = view_by name options
 
 -- whether one of the words asks for help
 abbrev pub is_help : Word → Bool
@@ -136,4 +157,4 @@ asks_help words = list_any is_help words
 unfoldable pub asked : List Word → Request
 asked [] = Bad
 asked (program ∷ words) =
-    if asks_help words then Help else option_map_or Show (shown_by words) Bad
+    if asks_help words then Help else shown_by words

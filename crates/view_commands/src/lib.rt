@@ -6,8 +6,10 @@ mod edited;
 mod execution;
 mod interest;
 mod program;
+mod source;
 mod words;
 
 pub use execution::run;
-pub use program::run_program;
-pub use words::{Command, Request, Selection, request_in};
+pub use program::{ViewEnding, carry_out, run_program};
+pub use source::{HostSource, Source};
+pub use words::{Command, FileName, Request, Selection, request_in};

@@ -1,38 +1,73 @@
 ghost use Rattle.std.specs.Prelude.{◌≡◌, map, string_bytes};
 ghost use Rattle.std.specs.Process.{exit_status};
 ghost use Rattle.bench_commands.specs.Device.{failures_after};
-ghost use Rattle.bench_commands.specs.Program.{device, Shows, all_reads_well, all_writes_well};
+ghost use Rattle.bench_commands.specs.Program.{device, Shows};
 ghost use Rattle.bench_commands.specs.Run.{writes_well};
+ghost use Rattle.view_commands.specs.declared.words.Request.TheVariants.{Show};
 ghost use Rattle.view_commands.specs.Words.{asked};
-ghost use Rattle.view_commands.specs.ViewProgram.{Ends, EndsProcess, EndsWith, IsToldBad, help};
+ghost use Rattle.view_commands.specs.ViewProgram.{Ends, EndsFile, EndsProcess, EndsWith, IsToldBad, all_reads_well, all_writes_well, exit_code, help, message};
 
+use crate::Command;
 use crate::execution::run;
-use crate::words::{Request, request_in};
-use bench_commands::{CountedRead, CountedWrite, Ending, RunFault, Status, write_text};
+use crate::source::Source;
+use crate::words::{FileName, Request, request_in};
+use bench_commands::{CountedWrite, Ending, RunFault, Status, write_text};
 use std::alloc::Global;
 use std::env::Args;
 use std::io;
 use std::io::ErrorKind;
 use std::process::ExitCode;
 
+/// How the program ends.
+#[derive(Debug, Drop)]
+pub enum ViewEnding {
+    /// As the bench ends: a view or help was shown, or the command line is a bad one.
+    AsBench(Ending),
+    /// The file that the command line names can't be opened.
+    NotOpened,
+}
+
+impl ViewEnding {
+    /// The exit status of the process.
+    pub fn code(&self) -> u8
+        ensures { result ≡ exit_code self.now }
+    {
+        match self {
+            ViewEnding::AsBench(ending) => ending.code(),
+            ViewEnding::NotOpened => 3,
+        }
+    }
+
+    /// What goes to standard error.
+    pub fn message(&self) -> &str
+        ensures { result.now ≡ message self.now }
+    {
+        match self {
+            ViewEnding::AsBench(ending) => ending.message(),
+            ViewEnding::NotOpened => "fault open\n",
+        }
+    }
+}
+
 const USAGE: &str =
-    "usage: smp_view trace [--from PLACE] [--to PLACE] [--task NAME].. [--core CORE]..
-       smp_view session
-       smp_view compare
-       smp_view timeline [--from PLACE] [--to PLACE]
+    "usage: smp_view trace [--from PLACE] [--to PLACE] [--task NAME].. [--core CORE].. [FILE]
+       smp_view session [FILE]
+       smp_view compare [FILE]
+       smp_view timeline [--from PLACE] [--to PLACE] [FILE]
        smp_view --help
 ";
 
 const HELP: &str = "smp_view shows what a run of a session does, and why.
 
-usage: smp_view trace [--from PLACE] [--to PLACE] [--task NAME].. [--core CORE]..
-       smp_view session
-       smp_view compare
-       smp_view timeline [--from PLACE] [--to PLACE]
+usage: smp_view trace [--from PLACE] [--to PLACE] [--task NAME].. [--core CORE].. [FILE]
+       smp_view session [FILE]
+       smp_view compare [FILE]
+       smp_view timeline [--from PLACE] [--to PLACE] [FILE]
        smp_view --help
 
-It reads a session, or a bench document with edits, from standard input. The
-edits are made one after another; those that are refused are passed over.
+It reads a session, or a bench document with edits, from standard input, or from
+the file that the last word names. The edits are made one after another; those
+that are refused are passed over.
 
   trace     each place and each step of the session with its edits made, and all
             that the step changed
@@ -42,12 +77,13 @@ edits are made one after another; those that are refused are passed over.
   compare   the run before the edits beside the run after them, and what each
             task gained and lost
   timeline  the run before the edits and that after them as a picture (SVG), at
-            all places or at those from the one to the other
+            all places or at those from the one to the other, 4000 at most
 
-exit status: 0 it was shown, 1 the document is refused, or a task or core that
-it has not (standard output says which), 2 a bad command line, 3 memory or a device failed
+exit status: 0 it was shown; 1 the document is refused, or a task or core that it
+has not, or a picture of more than 4000 places (standard output says which); 2 a
+bad command line; 3 memory or a device failed, or the file can't be opened
 
-example: smp_view trace --from 2 --to 3 < examples/first-run.json
+example: smp_view trace --from 2 --to 3 examples/first-run.json
 ";
 
 #[tactic(auto, unfolding(crate::specs::ViewProgram::help))]
@@ -78,15 +114,62 @@ fn bad_command_line(alloc: Global) -> Ending
     }
 }
 
-// Does what the command line asks for. Only a view reads.
-fn carry_out<R: CountedRead, W: CountedWrite>(
+// A view of the file of this name.
+fn show_file<R: Source, W: CountedWrite>(
+    host: &HostRuntime,
+    alloc: Global,
+    command: &Command,
+    name: &str,
+    reader: &mut R,
+    writer: &mut W,
+) -> ViewEnding
+    ensures bytes { EndsFile command.now result (R.Source.file reader.old name.now)
+        (R.Read.remaining reader.old) (R.Read.remaining reader.new) (W.Write.contents writer.old)
+        (W.Write.contents writer.new) }
+    ensures reads { R.CountedRead.failures reader.new
+        ≡ failures_after (all_reads_well result) (R.CountedRead.failures reader.old) }
+    ensures writes { W.CountedWrite.failures writer.new
+        ≡ failures_after (all_writes_well result) (W.CountedWrite.failures writer.old) }
+{
+    match reader.open(name) {
+        Ok(()) => ViewEnding::AsBench(Ending::Ran(run(host, alloc, reader, writer, command))),
+        Err(_) => ViewEnding::NotOpened,
+    }
+}
+
+// A view of the file that is named, or of standard input.
+fn show_document<R: Source, W: CountedWrite>(
+    host: &HostRuntime,
+    alloc: Global,
+    command: &Command,
+    file: Option<FileName>,
+    reader: &mut R,
+    writer: &mut W,
+) -> ViewEnding
+    ensures bytes { Ends (Show command.now file) result (R.Source.file reader.old)
+        (R.Read.remaining reader.old) (R.Read.remaining reader.new) (W.Write.contents writer.old)
+        (W.Write.contents writer.new) }
+    ensures reads { R.CountedRead.failures reader.new
+        ≡ failures_after (all_reads_well result) (R.CountedRead.failures reader.old) }
+    ensures writes { W.CountedWrite.failures writer.new
+        ≡ failures_after (all_writes_well result) (W.CountedWrite.failures writer.old) }
+{
+    match file {
+        Some(name) => show_file(host, alloc, command, name.text.as_str(), reader, writer),
+        None => ViewEnding::AsBench(Ending::Ran(run(host, alloc, reader, writer, command))),
+    }
+}
+
+/// Does what the command line asks for. Only a view reads, of standard input or of the file that
+/// is named.
+pub fn carry_out<R: Source, W: CountedWrite>(
     host: &HostRuntime,
     alloc: Global,
     request: Request,
     reader: &mut R,
     writer: &mut W,
-) -> Ending
-    ensures bytes { Ends request result (R.Read.remaining reader.old)
+) -> ViewEnding
+    ensures bytes { Ends request result (R.Source.file reader.old) (R.Read.remaining reader.old)
         (R.Read.remaining reader.new) (W.Write.contents writer.old) (W.Write.contents writer.new) }
     ensures reads { R.CountedRead.failures reader.new
         ≡ failures_after (all_reads_well result) (R.CountedRead.failures reader.old) }
@@ -94,21 +177,24 @@ fn carry_out<R: CountedRead, W: CountedWrite>(
         ≡ failures_after (all_writes_well result) (W.CountedWrite.failures writer.old) }
 {
     match request {
-        Request::Show(command) => Ending::Ran(run(host, alloc, reader, writer, &command)),
-        Request::Help => Ending::Ran(show(writer, help())),
-        Request::Bad => bad_command_line(alloc),
+        Request::Show(command, file) => {
+            show_document(host, alloc, &command, file, reader, writer)
+        }
+        Request::Help => ViewEnding::AsBench(Ending::Ran(show(writer, help()))),
+        Request::Bad => ViewEnding::AsBench(bad_command_line(alloc)),
     }
 }
 
 // How the program ends with these words.
-fn ending_with<R: CountedRead, W: CountedWrite>(
+fn ending_with<R: Source, W: CountedWrite>(
     host: &HostRuntime,
     words: &[String],
     reader: &mut R,
     writer: &mut W,
-) -> Ending
-    ensures bytes { Ends (asked (map string_bytes words.now)) result (R.Read.remaining reader.old)
-        (R.Read.remaining reader.new) (W.Write.contents writer.old) (W.Write.contents writer.new) }
+) -> ViewEnding
+    ensures bytes { Ends (asked (map string_bytes words.now)) result (R.Source.file reader.old)
+        (R.Read.remaining reader.old) (R.Read.remaining reader.new) (W.Write.contents writer.old)
+        (W.Write.contents writer.new) }
     ensures reads { R.CountedRead.failures reader.new
         ≡ failures_after (all_reads_well result) (R.CountedRead.failures reader.old) }
     ensures writes { W.CountedWrite.failures writer.new
@@ -116,18 +202,18 @@ fn ending_with<R: CountedRead, W: CountedWrite>(
 {
     match request_in(host.alloc(), words) {
         Ok(request) => carry_out(host, host.alloc(), request, reader, writer),
-        Err(_) => Ending::Ran(Status::Fault(RunFault::Memory)),
+        Err(_) => ViewEnding::AsBench(Ending::Ran(Status::Fault(RunFault::Memory))),
     }
 }
 
 // How the program ends with the words that the system hands over.
-fn ending_of<R: CountedRead, W: CountedWrite>(
+fn ending_of<R: Source, W: CountedWrite>(
     host: &HostRuntime,
     words: io::Result<Args>,
     reader: &mut R,
     writer: &mut W,
-) -> Ending
-    ensures bytes { EndsWith words result (R.Read.remaining reader.old)
+) -> ViewEnding
+    ensures bytes { EndsWith words result (R.Source.file reader.old) (R.Read.remaining reader.old)
         (R.Read.remaining reader.new) (W.Write.contents writer.old) (W.Write.contents writer.new) }
     ensures reads { R.CountedRead.failures reader.new
         ≡ failures_after (all_reads_well result) (R.CountedRead.failures reader.old) }
@@ -137,29 +223,30 @@ fn ending_of<R: CountedRead, W: CountedWrite>(
     match words {
         Ok(words) => match words.collect::<Vec<String>>(host.alloc()) {
             Ok(words) => ending_with(host, words.as_slice(), reader, writer),
-            Err(_) => Ending::Ran(Status::Fault(RunFault::Memory)),
+            Err(_) => ViewEnding::AsBench(Ending::Ran(Status::Fault(RunFault::Memory))),
         },
         Err(error) if error.kind() == ErrorKind::InvalidData => {
             carry_out(host, host.alloc(), Request::Bad, reader, writer)
         }
-        Err(_) => Ending::Ran(Status::Fault(RunFault::Memory)),
+        Err(_) => ViewEnding::AsBench(Ending::Ran(Status::Fault(RunFault::Memory))),
     }
 }
 
-/// The whole program: it shows what the words of the command line ask for, over standard input and
-/// output, and tells standard error why it didn't. The exit status is 0 where all went
-/// well, 1 for a refused input, 2 for a bad command line, and 3 where memory or a device failed.
+/// The whole program: it shows what the words of the command line ask for, over standard input or
+/// the file that they name, and standard output, and tells standard error why it didn't. The exit
+/// status is 0 where all went well, 1 for a refused input, 2 for a bad command line, and 3 where
+/// memory or a device failed or the file can't be opened.
 ///
 /// The words are those of [`std::env::args`]. Where standard error takes nothing, the exit status
 /// still tells.
-pub fn run_program<R: CountedRead, W: CountedWrite, E: CountedWrite>(
+pub fn run_program<R: Source, W: CountedWrite, E: CountedWrite>(
     host: &HostRuntime,
     words: io::Result<Args>,
     reader: &mut R,
     writer: &mut W,
     errors: &mut E,
 ) -> ExitCode
-    ensures { EndsProcess words (exit_status result)
+    ensures { EndsProcess words (exit_status result) (R.Source.file reader.old)
         (device (R.Read.remaining reader.old) (R.CountedRead.failures reader.old))
         (device (R.Read.remaining reader.new) (R.CountedRead.failures reader.new))
         (device (W.Write.contents writer.old) (W.CountedWrite.failures writer.old))

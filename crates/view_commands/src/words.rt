@@ -1,9 +1,7 @@
 //! The words of the command line.
 ghost use Rattle.std.specs.Prelude.{◌≡◌, ◌++◌, IfOk, OnOk, map, string_bytes};
 ghost use Rattle.std.specs.List.{list_any};
-ghost use Rattle.std.specs.Option.{option_map_or};
-ghost use Rattle.view_commands.specs.declared.words.Request.TheVariants.{Show, Bad};
-ghost use Rattle.view_commands.specs.Words.{alone, asked, asks_help, bounds_in, command_in, core_given, each_option, is_help, number_in, places_in, places_of, selection_in, shown_by, task_given, timeline_in, trace_in, with_bound, with_option};
+ghost use Rattle.view_commands.specs.Words.{alone, asked, asks_help, before_file, bounds_in, command_in, core_given, each_option, file_in, is_help, is_option, number_in, places_in, places_of, selection_in, shown_by, task_given, timeline_in, trace_in, view_by, with_bound, with_option};
 
 use run_views::Places;
 use std::alloc::{AllocError, Global};
@@ -46,11 +44,25 @@ pub enum Command {
     Timeline(Places),
 }
 
+/// The name of a file.
+#[derive(Drop)]
+pub struct FileName {
+    pub text: String,
+}
+
+impl Model for FileName {
+    ghost use Rattle.std.specs.Prelude.{ℕ, List, string_bytes};
+
+    ghost Value = { List ℕ };
+
+    ghost view = { λ it. string_bytes it.text };
+}
+
 /// What a command line asks for.
 #[derive(Drop)]
 pub enum Request {
-    /// A view of the document on standard input.
-    Show(Command),
+    /// A view of the document in the file of this name, or on standard input.
+    Show(Command, Option<FileName>),
     /// The text of help.
     Help,
     /// Nothing that the program does.
@@ -117,12 +129,32 @@ fn with_option(bounds: Bounds, name: &str, word: &str) -> Option<Bounds>
     bounds.with(name, number)
 }
 
+// Whether a word is an option, and no file's name.
+fn is_option(word: &str) -> bool
+    ensures { result ≡ is_option word.now }
+{
+    match word.as_bytes() {
+        [first, ..] => *first == b'-',
+        [] => false,
+    }
+}
+
+// What stands before the last word, if that may name a file.
+fn before_file<T: Drop>(word: &str, value: T) -> Option<T>
+    ensures { result ≡ before_file word.now value }
+{
+    if is_option(word) {
+        return None;
+    }
+    Some(value)
+}
+
 fn bounds_in(bounds: Bounds, words: &[String]) -> Option<Bounds>
     ensures { result ≡ bounds_in bounds (map string_bytes words.now) }
 {
     match words {
         [] => Some(bounds),
-        [_] => None,
+        [word] => before_file(word.as_str(), bounds),
         [name, number, others @ ..] => {
             let more = with_option(bounds, name.as_str(), number.as_str())?;
             bounds_in(more, others)
@@ -219,12 +251,13 @@ fn selection_in(alloc: Global, options: &[String]) -> Result<Option<Selection>, 
     }))
 }
 
-// A command that has no options.
+// A command that has no options, and behind which a file may be named.
 fn alone(command: Command, options: &[String]) -> Option<Command>
     ensures { result ≡ alone command (map string_bytes options.now) }
 {
     match options {
         [] => Some(command),
+        [word] => before_file(word.as_str(), command),
         _ => None,
     }
 }
@@ -283,22 +316,37 @@ fn asks_help(words: &[String]) -> bool
     has_help(words)
 }
 
-fn shown_by(alloc: Global, words: &[String]) -> Result<Option<Command>, AllocError>
-    ensures { IfOk result (λ found. found ≡ shown_by (map string_bytes words.now)) }
+// The file that is named behind options with their words.
+fn file_in(alloc: Global, options: &[String]) -> Result<Option<FileName>, AllocError>
+    ensures { IfOk result (λ file. file ≡ file_in (map string_bytes options.now)) }
 {
-    let [name, options @ ..] = words else {
+    let count = options.len();
+    if count % 2 == 0 {
         return Ok(None);
-    };
-    command_in(alloc, name.as_str(), options)
+    }
+    let text = String::from_str(alloc, options[count - 1].as_str())?;
+    Ok(Some(FileName { text }))
 }
 
-fn shown_or_bad(found: Option<Command>) -> Request
-    ensures { result ≡ option_map_or Show found Bad }
+// A view by the command of this name.
+fn view_by(alloc: Global, name: &str, options: &[String]) -> Result<Request, AllocError>
+    ensures { IfOk result
+        (λ request. request ≡ view_by name.now (map string_bytes options.now)) }
 {
-    match found {
-        Some(command) => Request::Show(command),
-        None => Request::Bad,
-    }
+    let Some(command) = command_in(alloc, name, options)? else {
+        return Ok(Request::Bad);
+    };
+    let file = file_in(alloc, options)?;
+    Ok(Request::Show(command, file))
+}
+
+fn shown_by(alloc: Global, words: &[String]) -> Result<Request, AllocError>
+    ensures { IfOk result (λ request. request ≡ shown_by (map string_bytes words.now)) }
+{
+    let [name, options @ ..] = words else {
+        return Ok(Request::Bad);
+    };
+    view_by(alloc, name.as_str(), options)
 }
 
 /// What a command line asks for, its words with the program's name first.
@@ -312,6 +360,5 @@ pub fn request_in(alloc: Global, words: &[String]) -> Result<Request, AllocError
     if asks_help(words) {
         return Ok(Request::Help);
     }
-    let found = shown_by(alloc, words)?;
-    Ok(shown_or_bad(found))
+    shown_by(alloc, words)
 }

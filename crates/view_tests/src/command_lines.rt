@@ -3,10 +3,11 @@
 use std::alloc::{AllocError, Global};
 use std::process::Abort;
 use std::test::Fail;
-use view_commands::{Command, Request, Selection, request_in};
+use view_commands::{Command, FileName, Request, Selection, request_in};
 
 /// Command lines, and what each asks for: a trace with its first place, its last, its tasks and its
-/// cores, another command, help, or nothing that the program does.
+/// cores, another command, each with the file that is named, help, or nothing that the program
+/// does.
 const COMMAND_LINES: &str = "\
 smp_view trace => 0 4294967295
 smp_view trace --from 3 => 3 4294967295
@@ -16,12 +17,22 @@ smp_view session => session
 smp_view compare => compare
 smp_view timeline => picture 0 4294967295
 smp_view timeline --to 7 --from 3 => picture 3 7
+smp_view trace run.json => 0 4294967295 file run.json
+smp_view trace 3 => 0 4294967295 file 3
+smp_view trace --from 3 --task A run.json => 3 4294967295 task A file run.json
+smp_view trace --task run.json => 0 4294967295 task run.json
+smp_view session run.json => session file run.json
+smp_view compare ./--run => compare file ./--run
+smp_view timeline --to 7 run.json => picture 0 7 file run.json
 smp_view --help => help
 smp_view trace --from --help => help
 smp_view nothing --help => help
 smp_view => bad
 smp_view help => bad
-smp_view trace 3 => bad
+smp_view trace - => bad
+smp_view trace -x => bad
+smp_view trace run.json --from 3 => bad
+smp_view trace run.json other.json => bad
 smp_view trace --from => bad
 smp_view trace --task => bad
 smp_view trace --core x => bad
@@ -30,8 +41,9 @@ smp_view trace --from -1 => bad
 smp_view trace --from 3 --from 3 => bad
 smp_view trace --until 3 => bad
 smp_view session --from 3 => bad
-smp_view compare again => bad
-smp_view timeline 3 => bad
+smp_view compare run.json other.json => bad
+smp_view compare -x => bad
+smp_view timeline -3 => bad
 smp_view timeline --task A => bad
 smp_view --from 3 trace => bad";
 
@@ -57,14 +69,31 @@ fn check_line(rt: &impl Abort, alloc: Global, line: &str, asked: &str) -> Result
 
 fn told_of(alloc: Global, request: &Request) -> Result<String, AllocError> {
     match request {
-        Request::Show(Command::Trace(selection)) => trace_told(alloc, selection),
-        Request::Show(Command::Session) => String::from_str(alloc, "session"),
-        Request::Show(Command::Compare) => String::from_str(alloc, "compare"),
-        Request::Show(Command::Timeline(places)) => {
-            format!(in alloc; "picture {} {}", places.from, places.to)
-        }
+        Request::Show(command, file) => view_told(alloc, command, file.as_ref()),
         Request::Help => String::from_str(alloc, "help"),
         Request::Bad => String::from_str(alloc, "bad"),
+    }
+}
+
+fn view_told(
+    alloc: Global,
+    command: &Command,
+    file: Option<&FileName>,
+) -> Result<String, AllocError> {
+    let mut text = command_told(alloc, command)?;
+    if let Some(file) = file {
+        text.push_str(" file ")?;
+        text.push_str(file.text.as_str())?;
+    }
+    Ok(text)
+}
+
+fn command_told(alloc: Global, command: &Command) -> Result<String, AllocError> {
+    match command {
+        Command::Trace(selection) => trace_told(alloc, selection),
+        Command::Session => String::from_str(alloc, "session"),
+        Command::Compare => String::from_str(alloc, "compare"),
+        Command::Timeline(places) => { format!(in alloc; "picture {} {}", places.from, places.to) }
     }
 }
 

@@ -4,6 +4,8 @@
 #[cfg(test)]
 mod command_lines;
 #[cfg(test)]
+mod files;
+#[cfg(test)]
 mod pictures;
 #[cfg(test)]
 mod samples;

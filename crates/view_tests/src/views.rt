@@ -31,7 +31,8 @@ const UNEDITED: &str = "  0 0 delay core 0 by A ticks 2: blocked; A B
 the runs do not differ
 ";
 
-const KEPT: &str =
+/// The session of `SHARED_MUTEX` with its edits made.
+pub(crate) const KEPT: &str =
     "{\"cores\":2,\"format\":1,\"mutexes\":1,\"priorities\":4,\"slicing\":false,\"steps\":[\
     {\"by\":\"logger\",\"core\":1,\"do\":\"mutex_take\",\"mutex\":0,\"ticks\":0},\
     {\"by\":\"logger\",\"core\":1,\"do\":\"mutex_give\",\"mutex\":0},\

@@ -1,4 +1,4 @@
-use Rattle.std.proofs.Common.{◌≡◌, ℕ, List, flat_map, map, string_bytes, ap, ap₂, sym, ◌∙◌}
+use Rattle.std.proofs.Common.{ℕ, List, flat_map, string_bytes, ap, ap₂, sym, ◌∙◌}
 use Rattle.std.specs.Prelude.{String}
 use Rattle.std.specs.declared.alloc.Global.{Global}
 use Rattle.std.proofs.lemmas.List.Folds.{flat_map-map}

@@ -28,8 +28,8 @@ abbrev pub ticks_of : Places → Header → List Step → List ℕ
 ticks_of places header steps =
     map (λ place. tick_count (state_at header steps place).orders) (shown_places places steps)
 
--- the spans that are drawn tile what the replay has at the places that are shown, and a task is told
--- to wait for what it began to wait for last in the replay
+-- the spans that are drawn tile what the replay has at the places that are shown, and a task is
+-- told to wait for what it began to wait for last in the replay
 pub record IsTiled (places : Places) (header : Header) (steps : List Step) : Type 0 where
   pub cores : (core : ℕ) → core < header.config.cores
       → Tiles places.from (currents_of places header steps core)

@@ -1,15 +1,18 @@
 #!/usr/bin/env bash
-# Runs the built program over every kind of command line, input and device, and compares its exit status, its whole
-# standard output and the first words of its standard error. One line a case, then a total; status 1 where one differs.
+# Runs the built programs, smp_bench and then smp_view, over every kind of command line, input and device, and compares their exit
+# status, their whole standard output and the first words of their standard error. One line a case, then a total; status 1 where one
+# differs.
 set -u
 export LC_ALL=C
 cd "$(dirname -- "${BASH_SOURCE[0]}")/.." || exit 1
 
-program="$PWD/crates/smp_bench/out/smp_bench"
-if ! [ -x "$program" ]; then
-    echo "no program at $program: build it first, with (cd crates/smp_bench && rt run -- --help)" >&2
-    exit 1
-fi
+for name in smp_view smp_bench; do
+    program="$PWD/crates/$name/out/$name"
+    if ! [ -x "$program" ]; then
+        echo "no program at $program: build it first, with (cd crates/$name && rt run -- --help)" >&2
+        exit 1
+    fi
+done
 
 folder="$(mktemp -d)"
 trap 'rm -rf -- "$folder"' EXIT
@@ -559,6 +562,277 @@ for ((memory = 2000000; memory < 20000000; memory += 100000)); do
 done
 compare 'long words, with little memory' 3 '' $'fault memory\n'
 run 'long words, with memory' 2 '' "error: unrecognized subcommand 'aaa" "${words[@]}"
+
+# ==== the program that shows a run
+
+program="$PWD/crates/smp_view/out/smp_view"
+first=examples/first-run.json
+traced="$(cat crates/smp_view/stdout)
+"
+
+# The output is to be the file WANTED.
+run_to() { # NAME WANTED WORD..
+    local name="$1" wanted
+    wanted="$(cat "$2" && echo .)"
+    shift 2
+    run "$name" 0 "${wanted%.}" '' "$@"
+}
+
+# ---- views
+
+session '' ''
+run 'a trace' 0 "$traced" '' trace
+run 'a trace of two places' 0 'place 2, tick 0; core 0 C; core 1 B
+step 2: tick
+  done: the step was made
+  tick 0 to 1
+place 3, tick 1; core 0 C; core 1 B
+' '' trace --from 2 --to 3
+run 'a trace of the last place, with a sign and zeros' 0 'place 5, tick 1; core 0 C; core 1 B
+' '' trace --to +0005 --from 5
+run 'a trace after the last place' 0 '' '' trace --from 6
+run 'a trace from a place after its last one' 0 '' '' trace --from 3 --to 2
+run 'a trace of the greatest place' 0 "$traced" '' trace --to 4294967295
+run 'a trace of a task' 0 'place 1, tick 0; core 0 A, due by pend; core 1 B
+step 1: switch core 0
+  done: the step was made
+  core 0 current A to C
+  core 0 pend cleared
+place 3, tick 1; core 0 C; core 1 B
+step 3: yield core 0 by C
+  done: the step was made
+  core 0 pend set
+place 5, tick 1; core 0 C; core 1 B
+' '' trace --task C
+run 'a trace of a core of which no step is' 0 'place 5, tick 1; core 0 C; core 1 B
+' '' trace --core 1
+run 'a trace of all tasks and cores' 0 'place 0, tick 0; core 0 A; core 1 B
+step 0: delay core 0 by A ticks 2
+  blocked: the call was made, and its task waits
+  core 0 pend set
+  A blocked until tick 2
+  A call begun
+place 1, tick 0; core 0 A, due by pend; core 1 B
+' '' trace --task B --core 1 --task A --core 0 --to 1
+run 'a session' 0 '{"cores":2,"format":1,"mutexes":0,"priorities":5,"slicing":false,"steps":[{"by":"A","core":0,"do":"delay","ticks":2},{"core":0,"do":"switch"},{"do":"tick"},{"by":"C","core":0,"do":"yield"},{"core":0,"do":"switch"}],"tasks":[{"mask":3,"name":"A","priority":2},{"mask":3,"name":"B","priority":1},{"mask":3,"name":"C","priority":1}],"tick":0}
+' '' session
+"$program" session <"$folder/in" >"$folder/kept"
+run_to 'a session in a file, which is written as it was' "$folder/kept" session "$folder/kept"
+run 'a comparison without edits' 0 '  0 0 delay core 0 by A ticks 2: blocked; A B
+  1 1 switch core 0: done; C B
+  2 2 tick: done; C B
+  3 3 yield core 0 by C: done; C B
+  4 4 switch core 0: done; C B
+the runs do not differ
+' '' compare
+awk '/^```$/ { inside = !inside; next } inside' docs/VIEW.md >"$folder/compared"
+cp examples/compare/shared-mutex.json "$folder/in"
+run_to 'the comparison of VIEW.md' "$folder/compared" compare
+cp examples/questions/shared-mutex.json "$folder/in"
+run_to 'a picture' docs/pictures/shared-mutex.svg timeline
+cp examples/priority-inversion-ended.json "$folder/in"
+run_to 'a picture before edits and after them' docs/pictures/priority-inversion-ended.svg timeline
+cp examples/held-kernel.json "$folder/in"
+run_to 'a picture with a hold' docs/pictures/held-kernel.svg timeline --to 4294967295 --from 0
+
+# ---- files
+
+: >"$folder/in"
+run 'a trace of a file' 0 "$traced" '' trace "$first"
+run 'a trace of places of a file' 0 'place 5, tick 1; core 0 C; core 1 B
+' '' trace --from 5 "$first"
+run_to 'the comparison of a file' "$folder/compared" compare examples/compare/shared-mutex.json
+run_to 'a picture of a file' docs/pictures/held-kernel.svg timeline examples/held-kernel.json
+run 'a file whose document is refused' 1 $'refused H2 edits\n' '' trace examples/rigs/interrupt-driven-driver.json
+run 'a file that is not there' 3 '' $'fault open\n' trace "$folder/none"
+run 'a file without a name' 3 '' $'fault open\n' session ''
+run 'a file in a folder that is none' 3 '' $'fault open\n' compare "$first/run.json"
+run 'a file with a long name' 3 '' $'fault open\n' timeline "$(head -c 5000 /dev/zero | tr '\0' a)"
+run 'a folder in place of a file' 3 '' $'fault read\n' trace examples
+cp "$first" "$folder/-run.json"
+(
+    cd "$folder" || exit 126
+    exec "$program" trace ./-run.json <in >out 2>err
+)
+status=$?
+compare 'a file whose name begins with a hyphen, by its path' 0 "$traced" ''
+if [ "$(id -u)" != 0 ]; then
+    cp "$first" "$folder/closed.json"
+    chmod 0 "$folder/closed.json"
+    run 'a file that may not be read' 3 '' $'fault open\n' trace "$folder/closed.json"
+fi
+{ "$program" trace "$first" >/dev/null 2>&1; cat >"$folder/out"; } <examples/another-call.json
+status=$?
+: >"$folder/err"
+compare 'nothing is read of standard input where a file is named' 0 "$(cat examples/another-call.json)
+" ''
+"$program" trace "$first" <&- >"$folder/out" 2>"$folder/err"
+status=$?
+compare 'a file, with closed input' 0 "$traced" ''
+"$program" trace "$first" >&- 2>"$folder/err"
+status=$?
+: >"$folder/out"
+compare 'a file, with closed output' 3 '' $'fault write\n'
+"$program" trace "$folder/none" 2>/dev/full >"$folder/out"
+status=$?
+: >"$folder/err"
+compare 'a file that is not there, with a full device for standard error' 3 '' ''
+
+# ---- refused input
+
+: >"$folder/in"
+run 'no document' 1 $'refused H1\n' '' trace
+printf '{' >"$folder/in"
+run 'a text that is not JSON' 1 $'refused H1\n' '' session
+printf '{}' >"$folder/in"
+run 'a missing member' 1 $'refused H2 format\n' '' compare
+head -c 67108865 /dev/zero | tr '\0' ' ' >"$folder/in"
+run 'an input one byte longer than the longest' 1 $'refused H3\n' '' timeline
+session '"cores": 2' '"cores": 1'
+run 'a header that is outside its limits' 1 $'refused F1\n' '' trace
+session '"core": 0' '"core": 2'
+run 'no such core' 1 $'refused F2 steps[0]\n' '' session
+sed 's/"by": "A"}}/"by": "D"}}/' examples/another-call.json >"$folder/in"
+run 'no such task in an edit' 1 $'refused F3 edits[0]\n' '' compare
+ticks="$(printf '%0100001d' 0 | sed 's/0/{"do":"tick"},/g')"
+session '"steps": [' "\"steps\": [$ticks"
+run 'more steps than a session may have' 1 $'refused J2\n' '' timeline
+session '' ''
+run 'a task that the session has not' 1 $'refused task D\n' '' trace --task A --task D --task E
+run 'an idle task' 1 $'refused task IDLE0\n' '' trace --task IDLE0
+run 'a task without a name' 1 $'refused task \n' '' trace --task ''
+run 'a core that the session has not' 1 $'refused core 2\n' '' trace --core 1 --core 2 --core 3
+run 'a task before a core' 1 $'refused task D\n' '' trace --core 2 --task D
+ticks="$(printf '%03995d' 0 | sed 's/0/{"do":"tick"},/g')"
+session '"steps": [' "\"steps\": [$ticks"
+range=': name fewer by --from and --to'
+run 'a picture of a place too many' 1 "refused range of 4001 places, and a picture shows at most 4000$range
+" '' timeline
+for words in '--from 1' '--to 3999'; do
+    # shellcheck disable=SC2086
+    "$program" timeline $words <"$folder/in" >"$folder/picture" 2>"$folder/err"
+    status=$?
+    tail -n 1 "$folder/picture" >"$folder/out"
+    compare "a picture of 4,000 places, $words" 0 '</svg>
+' ''
+done
+
+# ---- help
+
+session '' ''
+"$program" --help </dev/null >"$folder/help" 2>"$folder/err"
+run_to 'trace --help' "$folder/help" trace --help
+run_to 'a file, then --help' "$folder/help" trace "$folder/none" --help
+run_to '--help behind what is no command' "$folder/help" --to 3 --help
+sed -n 's/^ *smp_view --help$/&/p; /^usage: smp_view trace/p' "$folder/help" >"$folder/out"
+status=0
+: >"$folder/err"
+compare 'the help names its commands' 0 'usage: smp_view trace [--from PLACE] [--to PLACE] [--task NAME].. [--core CORE].. [FILE]
+       smp_view --help
+' ''
+
+# ---- bad command lines
+
+usage='usage: smp_view trace [--from PLACE] [--to PLACE] [--task NAME].. [--core CORE].. [FILE]
+       smp_view session [FILE]
+       smp_view compare [FILE]
+       smp_view timeline [--from PLACE] [--to PLACE] [FILE]
+       smp_view --help
+'
+bad_line() { # NAME WORD..
+    local name="$1"
+    shift
+    run "$name" 2 '' "$usage" "$@"
+}
+bad_line 'no command'
+bad_line 'an unknown command' replay
+bad_line 'a command in capitals' TRACE
+bad_line 'an empty word' ''
+bad_line 'a file before the command' "$first" trace
+bad_line 'an option before the command' --from 3 trace
+bad_line '-h' -h
+bad_line 'an unknown option' trace --until 3
+bad_line 'an option without its word' trace --from
+bad_line 'a task without its word' trace --from 3 --task
+bad_line 'a place that is no number' trace --from x
+bad_line 'a negative place' trace --from -1
+bad_line 'a place that is too great' trace --to 4294967296
+bad_line 'a core that is no number' trace --core x
+bad_line 'two first places' trace --from 3 --from 3
+bad_line 'a place behind an equals sign' trace --from=3
+bad_line 'two files' trace "$first" "$first"
+bad_line 'a file before an option' trace "$first" --from 3
+bad_line 'a hyphen in place of a file' trace -
+bad_line 'a file whose name begins with a hyphen' trace -run.json
+bad_line 'the end of the options' trace --
+bad_line 'a session from a place' session --from 3
+bad_line 'a session of two files' session "$first" "$first"
+bad_line 'a comparison of a task' compare --task A
+bad_line 'a comparison with an unknown option' compare -x
+bad_line 'a picture of a task' timeline --task A
+bad_line 'a picture of a core' timeline --from 3 --core 0
+bad_line 'a word that is not UTF-8' $'\377'
+bad_line 'a file whose name is not UTF-8' trace $'run\300'
+for words in '' --help 'trace --from' 'session a b'; do
+    # shellcheck disable=SC2086
+    { "$program" $words >/dev/null 2>&1; cat >"$folder/out"; } <"$first"
+    status=0
+    : >"$folder/err"
+    compare "nothing is read with the words '$words'" 0 "$(cat "$first")
+" ''
+done
+
+# ---- devices that fail
+
+for command in trace session compare timeline; do
+    : >"$folder/out"
+    "$program" "$command" </ >"$folder/out" 2>"$folder/err"
+    status=$?
+    compare "$command of a folder" 3 '' $'fault read\n'
+    "$program" "$command" <&- >"$folder/out" 2>"$folder/err"
+    status=$?
+    compare "$command with closed input" 3 '' $'fault read\n'
+    : >"$folder/out"
+    "$program" "$command" <"$first" >/dev/full 2>"$folder/err"
+    status=$?
+    compare "$command to a full device" 3 '' $'fault write\n'
+    "$program" "$command" <"$first" >&- 2>"$folder/err"
+    status=$?
+    compare "$command with closed output" 3 '' $'fault write\n'
+done
+"$program" --help >/dev/full 2>"$folder/err"
+status=$?
+compare '--help to a full device' 3 '' $'fault write\n'
+"$program" trace --task D <"$first" >/dev/full 2>"$folder/err"
+status=$?
+compare 'a refusal to a full device' 3 '' $'fault write\n'
+exec 3<>"$folder/pipe" 4>"$folder/pipe" 3<&-
+"$program" trace <"$first" >&4 2>"$folder/err"
+status=$?
+exec 4>&-
+compare 'a closed pipe as output' 3 '' $'fault write\n'
+"$program" trace -x 2>/dev/full >"$folder/out"
+status=$?
+: >"$folder/err"
+compare 'a bad command line, with a full device for standard error' 2 '' ''
+"$program" trace "$folder/none" 2>&- >"$folder/out"
+status=$?
+: >"$folder/err"
+compare 'a file that is not there, with closed standard error' 3 '' ''
+
+# ---- what a user does to a run
+
+ticks="$(printf '%02000d' 0 | sed 's/0/{"do":"tick"},/g')"
+session '"steps": [' "\"steps\": [$ticks"
+"$program" trace <"$folder/in" >"$folder/whole" 2>"$folder/err"
+for bytes in 0 1 4096 65536; do
+    { "$program" trace <"$folder/in" 2>"$folder/err"; echo $? >"$folder/status"; } | head -c "$bytes" >"$folder/out"
+    status="$(cat "$folder/status")"
+    cut_off "a trace to a pipe that is closed after $bytes bytes" 3
+done
+little 'a trace with little memory' trace
+"$program" timeline <"$folder/in" >"$folder/whole" 2>"$folder/err"
+little 'a picture with little memory' timeline
 
 printf '%d passed, %d failed\n' "$good" "$bad"
 [ "$bad" = 0 ]

@@ -7,7 +7,7 @@ use Rattle.std.proofs.lemmas.Str.{IsUtf8-from_is_utf8, is_utf8-from_IsUtf8}
 use Rattle.serde_json.specs.Read.{read}
 use Rattle.bench_types.specs.declared.fault.Fault.TheVariants.{BadHeader}
 use Rattle.bench_commands.specs.Device.{AppendsPrefix}
-use Rattle.bench_commands.specs.Hint.{fault_line, line_at, IsNotJsonHint, TellsPlace}
+use Rattle.bench_commands.specs.Hint.{fault_line, line_at, IsShortTextHint, TellsPlace}
 
 -- what a write that failed has written
 pub part_written : {A E : Type 0} (result : Result A E) (old new : Option (List ℕ)) (bytes text : List ℕ) → is_err result ≡ true → OnErr result (AppendsPrefix old new bytes) → bytes ≡ text → AppendsPrefix old new text
@@ -16,7 +16,7 @@ part_written (Err fault) old new bytes text failed part same = subst (λ (text :
 
 -- of a text
 pub text_told : {E : Type 0} (input text : List ℕ) (result : Result (String Global) E) → text ≡ input → IsUtf8 input → IfOk result (λ hint. read text ≡ None → TellsPlace (string_bytes hint))
-    → IfOk result (λ hint. IsNotJsonHint input (string_bytes hint))
+    → IfOk result (λ hint. IsShortTextHint input (string_bytes hint))
 text_told input text (Err e) same utf8 told = tt
 text_told input text (Ok hint) same utf8 told = record {
   place = λ is none. told (ap read same ∙ none);
@@ -24,7 +24,7 @@ text_told input text (Ok hint) same utf8 told = record {
 }
 
 -- of bytes that are none
-pub bytes_told : {E : Type 0} (input : List ℕ) (result : Result (String Global) E) → (IsUtf8 input → ⊥) → IfOk result (λ hint. string_bytes hint ≡ codes "not JSON: not UTF-8\n") → IfOk result (λ hint. IsNotJsonHint input (string_bytes hint))
+pub bytes_told : {E : Type 0} (input : List ℕ) (result : Result (String Global) E) → (IsUtf8 input → ⊥) → IfOk result (λ hint. string_bytes hint ≡ codes "not JSON: not UTF-8\n") → IfOk result (λ hint. IsShortTextHint input (string_bytes hint))
 bytes_told input (Err e) none told = tt
 bytes_told input (Ok hint) none told = record {
   place = λ is. absurd (none (IsUtf8-from_is_utf8 input is));

@@ -28,9 +28,24 @@ pub record TellsPlace (hint : List ℕ) : Type 0 where
       ≡ codes "not JSON: line " ++ decimal line ++ codes ", column " ++ decimal column ++ codes "\n"
 
 -- of a text, that place; of bytes that are none, that they are no UTF-8
-pub record IsNotJsonHint (input hint : List ℕ) : Type 0 where
+pub record IsShortTextHint (input hint : List ℕ) : Type 0 where
   pub place : is_utf8 input ≡ true → read input ≡ None → TellsPlace hint
   pub bytes : is_utf8 input ≡ false → hint ≡ codes "not JSON: not UTF-8\n"
+
+-- the most bytes that are read again for the place; a tree of them takes up to 130 times as many
+abbrev pub max_placed : ℕ
+max_placed = 8388608
+
+abbrev pub no_place_line : List ℕ
+no_place_line = codes "not JSON\n"
+
+-- by whether the input is too long for that
+abbrev pub IsNotJsonHintWhere : Bool → List ℕ → List ℕ → Type 0
+IsNotJsonHintWhere true input hint = hint ≡ no_place_line
+IsNotJsonHintWhere false input hint = IsShortTextHint input hint
+
+abbrev pub IsNotJsonHint : List ℕ → List ℕ → Type 0
+IsNotJsonHint input hint = IsNotJsonHintWhere (nat_lt max_placed (length input)) input hint
 
 -- ---- F1 of the header
 

@@ -6,7 +6,7 @@ ghost use Rattle.session_text.specs.declared.fault.Why.TheVariants.{NoMemory};
 ghost use Rattle.session_text.specs.Bench.{bench_text};
 ghost use Rattle.session_text.specs.Flaw.{flaw_in};
 ghost use Rattle.session_text.specs.Rig.{rig_text};
-ghost use Rattle.bench_commands.specs.Hint.{IsBenchHint, IsBenchTextHint, IsFaultHint, IsNotJsonHint, IsRigHint, IsRigTextHint, TellsPlace, fault_line, flaw_line, header_line, limits_line, line_at, task_limit_line, task_line, too_long_line, too_many_steps_line};
+ghost use Rattle.bench_commands.specs.Hint.{IsBenchHint, IsBenchTextHint, IsFaultHint, IsNotJsonHint, IsRigHint, IsRigTextHint, IsShortTextHint, TellsPlace, fault_line, flaw_line, header_line, limits_line, line_at, task_limit_line, task_line, too_long_line, too_many_steps_line};
 
 use bench_types::{
     Fault, MAX_CORES, MAX_INPUT, MAX_MUTEXES, MAX_PRIORITIES, MAX_STEPS, MAX_TASKS, MIN_CORES,
@@ -14,6 +14,10 @@ use bench_types::{
 use serde_json::{Error, Value};
 use session_text::{HeaderFlaw, TextFault, Why, header_flaw, read_bench, read_rig};
 use std::alloc::{AllocError, Global};
+
+/// The most bytes that are read again for the place of a fault: serde_json's tree of them takes up
+/// to 130 times as many.
+const MAX_PLACED: usize = 8_388_608;
 
 fn place_hint(alloc: Global, error: &Error) -> Result<String, AllocError>
     ensures { IfOk result (λ hint. TellsPlace (string_bytes hint)) }
@@ -40,13 +44,22 @@ fn no_value_hint(alloc: Global, text: &str) -> Result<String, AllocError>
     }
 }
 
-fn not_json_hint(alloc: Global, input: &[u8]) -> Result<String, AllocError>
-    ensures { IfOk result (λ hint. IsNotJsonHint input.now (string_bytes hint)) }
+fn short_text_hint(alloc: Global, input: &[u8]) -> Result<String, AllocError>
+    ensures { IfOk result (λ hint. IsShortTextHint input.now (string_bytes hint)) }
 {
     match std::str::from_utf8(input) {
         Ok(text) => no_value_hint(alloc, text),
         Err(_) => String::from_str(alloc, "not JSON: not UTF-8\n"),
     }
+}
+
+fn not_json_hint(alloc: Global, input: &[u8]) -> Result<String, AllocError>
+    ensures { IfOk result (λ hint. IsNotJsonHint input.now (string_bytes hint)) }
+{
+    if input.len() > MAX_PLACED {
+        return String::from_str(alloc, "not JSON\n");
+    }
+    short_text_hint(alloc, input)
 }
 
 fn push_limits(

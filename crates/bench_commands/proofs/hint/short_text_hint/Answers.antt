@@ -1,5 +1,5 @@
 use Rattle.bench_commands.proofs.Told.{bytes_told, text_told}
-use Rattle.bench_commands.proofs.hint.not_json_hint.Goals as goal
+use Rattle.bench_commands.proofs.hint.short_text_hint.Goals as goal
 
 pub returns-in-Ok : goal.returns-in-Ok
 returns-in-Ok c = text_told c.args.input.now c.in-Ok.text.now c.no_value_hint.result c.in-Ok.ensures.cases.0 c.in-Ok.ensures.cases.1 c.no_value_hint.ensures

@@ -110,6 +110,7 @@ abbrev pub EndsFile : Command → ViewEnding → Bytes → Bytes → Bytes → B
 EndsFile command (AsBench (Ran status)) file read_old read_new write_old write_new =
     Viewed command status file read_new write_old write_new
     ⊎ ((status ≡ Fault Memory) × Untouched read_old read_new write_old write_new)
+EndsFile command (AsBench (RefusedInput hint)) file read_old read_new write_old write_new = ⊥
 EndsFile command (AsBench (BadCommandLine text)) file read_old read_new write_old write_new = ⊥
 EndsFile command NotOpened file read_old read_new write_old write_new =
     Untouched read_old read_new write_old write_new

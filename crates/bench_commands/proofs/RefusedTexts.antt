@@ -1,6 +1,7 @@
 -- What is written for a text that was not read.
 use Rattle.std.proofs.Common.{◌≡◌, ◌⊎◌, ℕ, List, [], length, Bool, true, false, Result, Ok, Err, IfOk, nat_lt, nat_le, codes, refl, sym, ap, ◌∙◌, arith, inl, inr}
-use Rattle.std.specs.Prelude.{IsErr, OnOk, if◌then◌else◌}
+use Rattle.std.specs.Prelude.{IsErr, OnOk, String, if◌then◌else◌}
+use Rattle.std.specs.declared.alloc.Global.{Global}
 use Rattle.std.proofs.lemmas.Bool.Decides.{nat_tests}
 use Rattle.bench_types.specs.Name.{is_within}
 use Rattle.bench_types.specs.Limits.{max_span, max_steps}
@@ -17,11 +18,11 @@ use Rattle.bench_commands.specs.declared.execution.Mode.{Mode}
 use Rattle.bench_commands.specs.Answer.{why_text, refused, bench_output, output_of, output_of_bench, span_of, store_text, Output}
 use Rattle.bench_commands.proofs.Opened.{few_steps, opens}
 
-pub refused_output : {E : Type 0} (text : Bench → List ℕ) (input : List ℕ) (fault : TextFault) (result : Result Output E) → (bench_text input ≡ Err fault) ⊎ (fault ≡ record { why = NoMemory; path = [] })
-    → IfOk result (λ answer. answer ≡ refused (why_text fault.why) fault.path) → (fault.why ≡ NoMemory → IsErr result) → IfOk result (λ answer. answer ≡ output_of text (bench_text input))
+pub refused_output : {E : Type 0} (text : Bench → List ℕ) (input : List ℕ) (fault : TextFault) (result : Result (Output × String Global) E) → (bench_text input ≡ Err fault) ⊎ (fault ≡ record { why = NoMemory; path = [] })
+    → IfOk result (λ told. told.0 ≡ refused (why_text fault.why) fault.path) → (fault.why ≡ NoMemory → IsErr result) → IfOk result (λ told. told.0 ≡ output_of text (bench_text input))
 refused_output text input fault (Err e) reading line memory = tt
-refused_output text input fault (Ok answer) (inl read) line memory = line ∙ sym (ap (output_of text) read)
-refused_output text input fault (Ok answer) (inr none) line memory = absurd (cc (memory (ap (λ (f : TextFault). f.why) none)))
+refused_output text input fault (Ok told) (inl read) line memory = line ∙ sym (ap (output_of text) read)
+refused_output text input fault (Ok told) (inr none) line memory = absurd (cc (memory (ap (λ (f : TextFault). f.why) none)))
 
 -- a session that was checked is not opened only where it has too many steps
 pub too_long_output : (text : Bench → List ℕ) (bench : Bench) (span : ℕ) (why : OpenRefusal) → IsCheckedBench bench → is_within 1 max_span span ≡ true → (open_check bench.header bench.steps span ≡ Ok tt → why ≡ refusal.NoMemory) → why ≡ TooLong

@@ -3,9 +3,11 @@ ghost use Rattle.session_store.specs.declared.fault.OpenRefusal.TheVariants.{Too
 ghost use Rattle.session_text.specs.declared.fault.Why.TheVariants.{NoMemory};
 ghost use Rattle.session_text.specs.Bench.{IsCheckedBench, bench_text};
 ghost use Rattle.bench_commands.specs.Answer.{why_text, path_text, refusal_line, refused, bench_output, output, output_of, output_of_bench, store_text, Output};
+ghost use Rattle.bench_commands.specs.Hint.{IsBenchHint, IsBenchTextHint, IsFaultHint, too_long_line, too_many_steps_line};
 ghost use Rattle.bench_commands.specs.Run.{has_span};
 
 use crate::execution::Mode;
+use crate::hint::{bench_hint, fault_hint, too_long_hint};
 use crate::lines::push_spaced;
 use crate::output::edited_replay;
 use crate::trials::trial_lines;
@@ -142,25 +144,75 @@ fn answer_of_bench<T: Threads + Sync>(
     }
 }
 
-// The output, but for H3.
-fn answer_to_text<T: Threads + Sync>(
+/// The answer to a text that was not read for this, and what people are told.
+pub(crate) fn explained(
+    alloc: Global,
+    input: &[u8],
+    fault: TextFault,
+) -> Result<(Answer, String), AllocError>
+    ensures line { IfOk result
+        (λ told. told.0
+        ≡ record { is_refused = true; text = refusal_line (why_text fault.why) fault.path }) }
+    ensures hint { IfOk result
+        (λ told. IsFaultHint input.now fault.why fault.path (string_bytes told.1)) }
+    ensures memory { fault.why ≡ NoMemory → IsErr result }
+{
+    let hint = fault_hint(alloc, input, &fault)?;
+    let answer = refused_for(alloc, fault)?;
+    Ok((answer, hint))
+}
+
+/// The same of an input that is too long to be read.
+pub(crate) fn too_long(alloc: Global) -> Result<(Answer, String), AllocError>
+    ensures line { IfOk result (λ told. told.0 ≡ refused (codes "H3") []) }
+    ensures hint { IfOk result (λ told. string_bytes told.1 ≡ too_long_line) }
+{
+    let answer = refused(alloc, "H3", "")?;
+    let hint = too_long_hint(alloc)?;
+    Ok((answer, hint))
+}
+
+// The output of a bench document that was read and, where that is refused, what people are told.
+fn told_of_bench<T: Threads + Sync>(
+    rt: &T,
+    host: &HostRuntime,
+    alloc: Global,
+    bench: Bench,
+    mode: Mode,
+) -> Result<(Answer, String), AllocError>
+    requires checked { IsCheckedBench bench }
+    requires span { has_span mode ≡ true }
+    ensures output { IfOk result (λ told. told.0 ≡ output_of_bench (bench_output mode) bench) }
+    ensures hint { IfOk result
+        (λ told. told.0.is_refused ≡ true → string_bytes told.1 ≡ too_many_steps_line) }
+{
+    let answer = answer_of_bench(rt, host, alloc, bench, mode)?;
+    let hint = bench_hint(alloc, answer.is_refused)?;
+    Ok((answer, hint))
+}
+
+// The same of a text, but for H3.
+fn told_of_text<T: Threads + Sync>(
     rt: &T,
     host: &HostRuntime,
     alloc: Global,
     input: &[u8],
     mode: Mode,
-) -> Result<Answer, AllocError>
+) -> Result<(Answer, String), AllocError>
     requires { has_span mode ≡ true }
-    ensures { IfOk result
-        (λ answer. answer ≡ output_of (bench_output mode) (bench_text input.now)) }
+    ensures output { IfOk result
+        (λ told. told.0 ≡ output_of (bench_output mode) (bench_text input.now)) }
+    ensures hint { IfOk result
+        (λ told. told.0.is_refused ≡ true
+        → IsBenchTextHint input.now (bench_text input.now) (string_bytes told.1)) }
 {
     match read_bench(alloc, input) {
-        Err(fault) => refused_for(alloc, fault),
-        Ok(bench) => answer_of_bench(rt, host, alloc, bench, mode),
+        Err(fault) => explained(alloc, input, fault),
+        Ok(bench) => told_of_bench(rt, host, alloc, bench, mode),
     }
 }
 
-/// The whole output of a run for the input.
+/// The whole output of a run for the input and, where that is refused, what people are told.
 #[tactic(auto, unfolding(crate::specs::Answer::output))]
 pub(crate) fn answer_to<T: Threads + Sync>(
     rt: &T,
@@ -168,14 +220,16 @@ pub(crate) fn answer_to<T: Threads + Sync>(
     alloc: Global,
     input: &[u8],
     mode: Mode,
-) -> Result<Answer, AllocError>
+) -> Result<(Answer, String), AllocError>
     requires { has_span mode ≡ true }
-    ensures { IfOk result (λ answer. answer ≡ output mode input.now) }
+    ensures output { IfOk result (λ told. told.0 ≡ output mode input.now) }
+    ensures hint { IfOk result
+        (λ told. told.0.is_refused ≡ true → IsBenchHint input.now (string_bytes told.1)) }
 {
     if input.len() > MAX_INPUT {
-        return refused(alloc, "H3", "");
+        return too_long(alloc);
     }
-    answer_to_text(rt, host, alloc, input, mode)
+    told_of_text(rt, host, alloc, input, mode)
 }
 
 fn why_text(why: Why) -> &'static str

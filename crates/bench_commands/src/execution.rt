@@ -1,17 +1,15 @@
-ghost use Rattle.std.specs.Prelude.{◌≡◌, IfOk, string_bytes, true};
+ghost use Rattle.std.specs.Prelude.{◌≡◌, true};
 ghost use Rattle.bench_commands.specs.Device.{failures_after};
-ghost use Rattle.bench_commands.specs.Hint.{IsBenchHint};
 ghost use Rattle.bench_commands.specs.Program.{EndsRun, all_reads_well, all_writes_well};
 ghost use Rattle.bench_commands.specs.Run.{Ran, has_span, reads_well, writes_well};
-ghost use Rattle.bench_commands.specs.Answer.{output, span_of};
+ghost use Rattle.bench_commands.specs.Answer.{span_of};
 
-use crate::answer::{Answer, answer_to};
+use crate::answer::answer_to;
 use crate::device::{CountedRead, CountedWrite};
-use crate::hint::bench_hint;
 use crate::input::{InputFault, read_input};
 use crate::program::Ending;
 use crate::writing::write_text;
-use std::alloc::{AllocError, Global};
+use std::alloc::Global;
 use std::thread::Threads;
 use thiserror::Error;
 
@@ -63,35 +61,6 @@ pub enum Status {
     Fault(RunFault),
 }
 
-// What people are told of the input, where it is refused.
-fn hint_where(alloc: Global, is_refused: bool, input: &[u8]) -> Result<String, AllocError>
-    ensures { IfOk result (λ hint. is_refused ≡ true → IsBenchHint input.now (string_bytes hint)) }
-{
-    if is_refused {
-        bench_hint(alloc, input)
-    } else {
-        Ok(String::new(alloc))
-    }
-}
-
-// The whole output for the input and, where that is refused, what people are told.
-fn answer_and_hint<T: Threads + Sync>(
-    rt: &T,
-    host: &HostRuntime,
-    alloc: Global,
-    input: &[u8],
-    mode: Mode,
-) -> Result<(Answer, String), AllocError>
-    requires { has_span mode ≡ true }
-    ensures output { IfOk result (λ told. told.0 ≡ output mode input.now) }
-    ensures hint { IfOk result
-        (λ told. told.0.is_refused ≡ true → IsBenchHint input.now (string_bytes told.1)) }
-{
-    let answer = answer_to(rt, host, alloc, input, mode)?;
-    let hint = hint_where(alloc, answer.is_refused, input)?;
-    Ok((answer, hint))
-}
-
 /// Makes the run, and gives what people are told where its input is refused.
 pub(crate) fn end_of_run<T: Threads + Sync, R: CountedRead, W: CountedWrite>(
     rt: &T,
@@ -114,7 +83,7 @@ pub(crate) fn end_of_run<T: Threads + Sync, R: CountedRead, W: CountedWrite>(
         Err(InputFault::Memory) => return Ending::Ran(Status::Fault(RunFault::Memory)),
         Err(InputFault::Read) => return Ending::Ran(Status::Fault(RunFault::Read)),
     };
-    let Ok((answer, hint)) = answer_and_hint(rt, host, alloc, &input, *mode) else {
+    let Ok((answer, hint)) = answer_to(rt, host, alloc, &input, *mode) else {
         return Ending::Ran(Status::Fault(RunFault::Memory));
     };
     if write_text(writer, answer.text.as_bytes()).is_err() {

@@ -1,18 +1,16 @@
 //! What people are told of a refused input, beside its refusal line.
-ghost use Rattle.std.specs.Prelude.{◌≡◌, ◌++◌, None, IfOk, IsErr, OnOk, string_bytes};
+ghost use Rattle.std.specs.Prelude.{◌≡◌, ◌++◌, None, IfOk, IsErr, OnOk, string_bytes, true};
 ghost use Rattle.serde_json.specs.Read.{read};
 ghost use Rattle.bench_types.specs.declared.fault.Fault.TheVariants.{BadHeader};
 ghost use Rattle.session_text.specs.declared.fault.Why.TheVariants.{NoMemory};
-ghost use Rattle.session_text.specs.Bench.{bench_text};
 ghost use Rattle.session_text.specs.Flaw.{flaw_in};
-ghost use Rattle.session_text.specs.Rig.{rig_text};
-ghost use Rattle.bench_commands.specs.Hint.{IsBenchHint, IsBenchTextHint, IsFaultHint, IsNotJsonHint, IsRigHint, IsRigTextHint, IsShortTextHint, TellsPlace, fault_line, flaw_line, header_line, limits_line, line_at, task_limit_line, task_line, too_long_line, too_many_steps_line};
+ghost use Rattle.bench_commands.specs.Hint.{IsFaultHint, IsNotJsonHint, IsShortTextHint, TellsPlace, fault_line, flaw_line, header_line, limits_line, line_at, task_limit_line, task_line, too_long_line, too_many_steps_line};
 
 use bench_types::{
     Fault, MAX_CORES, MAX_INPUT, MAX_MUTEXES, MAX_PRIORITIES, MAX_STEPS, MAX_TASKS, MIN_CORES,
 };
 use serde_json::{Error, Value};
-use session_text::{HeaderFlaw, TextFault, Why, header_flaw, read_bench, read_rig};
+use session_text::{HeaderFlaw, TextFault, Why, header_flaw};
 use std::alloc::{AllocError, Global};
 
 /// The most bytes that are read again for the place of a fault: serde_json's tree of them takes up
@@ -188,11 +186,16 @@ fn bench_fault_hint(
     }
 }
 
-// The line of a text that was not read. Want of memory has none.
-fn fault_hint(alloc: Global, input: &[u8], fault: TextFault) -> Result<String, AllocError>
+/// What people are told of a text that was not read, a line. Want of memory has none. Only for the
+/// place of what is no JSON, and for the flaw of a header, is the text read again.
+pub(crate) fn fault_hint(
+    alloc: Global,
+    input: &[u8],
+    fault: &TextFault,
+) -> Result<String, AllocError>
     ensures line { IfOk result
-        (λ hint. IsFaultHint input.now fault.why fault.path (string_bytes hint)) }
-    ensures memory { fault.why ≡ NoMemory → IsErr result }
+        (λ hint. IsFaultHint input.now fault.now.why fault.now.path (string_bytes hint)) }
+    ensures memory { fault.now.why ≡ NoMemory → IsErr result }
 {
     let path = fault.path.as_str();
     match fault.why {
@@ -203,7 +206,8 @@ fn fault_hint(alloc: Global, input: &[u8], fault: TextFault) -> Result<String, A
     }
 }
 
-fn too_long_hint(alloc: Global) -> Result<String, AllocError>
+/// The same of an input that is too long to be read.
+pub(crate) fn too_long_hint(alloc: Global) -> Result<String, AllocError>
     ensures { IfOk result (λ hint. string_bytes hint ≡ too_long_line) }
 {
     let mut hint = String::new(alloc);
@@ -219,42 +223,14 @@ fn too_many_steps_hint(alloc: Global) -> Result<String, AllocError>
     Ok(hint)
 }
 
-fn bench_text_hint(alloc: Global, input: &[u8]) -> Result<String, AllocError>
+/// The same of a bench document that was read, and is refused for its number of steps alone.
+pub(crate) fn bench_hint(alloc: Global, is_refused: bool) -> Result<String, AllocError>
     ensures { IfOk result
-        (λ hint. IsBenchTextHint input.now (bench_text input.now) (string_bytes hint)) }
+        (λ hint. is_refused ≡ true → string_bytes hint ≡ too_many_steps_line) }
 {
-    match read_bench(alloc, input) {
-        Ok(_) => too_many_steps_hint(alloc),
-        Err(fault) => fault_hint(alloc, input, fault),
+    if is_refused {
+        too_many_steps_hint(alloc)
+    } else {
+        Ok(String::new(alloc))
     }
-}
-
-fn rig_text_hint(alloc: Global, input: &[u8]) -> Result<String, AllocError>
-    ensures { IfOk result
-        (λ hint. IsRigTextHint input.now (rig_text input.now) (string_bytes hint)) }
-{
-    match read_rig(alloc, input) {
-        Ok(_) => Ok(String::new(alloc)),
-        Err(fault) => fault_hint(alloc, input, fault),
-    }
-}
-
-/// What people are told of a bench document that is refused, a line. It is read again for that.
-pub(crate) fn bench_hint(alloc: Global, input: &[u8]) -> Result<String, AllocError>
-    ensures { IfOk result (λ hint. IsBenchHint input.now (string_bytes hint)) }
-{
-    if input.len() > MAX_INPUT {
-        return too_long_hint(alloc);
-    }
-    bench_text_hint(alloc, input)
-}
-
-/// The same of a rig document.
-pub(crate) fn rig_hint(alloc: Global, input: &[u8]) -> Result<String, AllocError>
-    ensures { IfOk result (λ hint. IsRigHint input.now (string_bytes hint)) }
-{
-    if input.len() > MAX_INPUT {
-        return too_long_hint(alloc);
-    }
-    rig_text_hint(alloc, input)
 }

@@ -3,15 +3,14 @@ ghost use Rattle.std.specs.Prelude.{◌≡◌, All, IfOk, Ok, string_bytes, true
 ghost use Rattle.bench_types.specs.Step.{IsCheckedStep, settings_of, step_check};
 ghost use Rattle.session_text.specs.Rig.{IsCheckedRig, rig_text};
 ghost use Rattle.bench_commands.specs.Device.{failures_after};
-ghost use Rattle.bench_commands.specs.Hint.{IsRigHint};
+ghost use Rattle.bench_commands.specs.Hint.{IsRigHint, IsRigTextHint};
 ghost use Rattle.bench_commands.specs.Program.{EndsRecording, all_reads_well, all_writes_well};
 ghost use Rattle.bench_commands.specs.Record.{EndsRecord, IsAnswer, IsAnswerTo, IsRecorded};
 ghost use Rattle.bench_commands.specs.Run.{reads_well, writes_well};
 
-use crate::answer::{Answer, refused, refused_for};
+use crate::answer::{Answer, explained, too_long};
 use crate::device::{CountedRead, CountedWrite};
 use crate::execution::{RunFault, Status};
-use crate::hint::rig_hint;
 use crate::input::{InputFault, read_input};
 use crate::program::Ending;
 use crate::writing::write_text;
@@ -85,53 +84,32 @@ fn recorded<R: Threads + Wait + Sync, G: Gate>(
     })
 }
 
-fn answer_to_rig<R: Threads + Wait + Sync, G: Gate>(
+// What is written of a text and, where that is refused, what people are told; but for H3.
+fn recording_of_text<R: Threads + Wait + Sync, G: Gate>(
     rt: &R,
     host: &HostRuntime,
     alloc: Global,
     input: &[u8],
     gate: &G,
-) -> Result<Written, AllocError>
-    ensures { IfOk result (IsAnswerTo (rig_text input.now)) }
+) -> Result<(Written, String), AllocError>
+    ensures answer { IfOk result (λ told. IsAnswerTo (rig_text input.now) told.0) }
+    ensures hint { IfOk result
+        (λ told. IsRigTextHint input.now (rig_text input.now) (string_bytes told.1)) }
 {
     match read_rig(alloc, input) {
         Err(fault) => {
-            let answer = refused_for(alloc, fault)?;
-            Ok(told(answer))
+            let (answer, hint) = explained(alloc, input, fault)?;
+            Ok((told(answer), hint))
         }
-        Ok(rig) => recorded(rt, host, alloc, &rig, gate),
+        Ok(rig) => {
+            let written = recorded(rt, host, alloc, &rig, gate)?;
+            Ok((written, String::new(alloc)))
+        }
     }
 }
 
+// The same of the input.
 fn recording_of<R: Threads + Wait + Sync, G: Gate>(
-    rt: &R,
-    host: &HostRuntime,
-    alloc: Global,
-    input: &[u8],
-    gate: &G,
-) -> Result<Written, AllocError>
-    ensures { IfOk result (IsAnswer input.now) }
-{
-    if input.len() > MAX_INPUT {
-        let answer = refused(alloc, "H3", "")?;
-        return Ok(told(answer));
-    }
-    answer_to_rig(rt, host, alloc, input, gate)
-}
-
-// What people are told of the input, where it is refused.
-fn hint_where(alloc: Global, is_refused: bool, input: &[u8]) -> Result<String, AllocError>
-    ensures { IfOk result (λ hint. is_refused ≡ true → IsRigHint input.now (string_bytes hint)) }
-{
-    if is_refused {
-        rig_hint(alloc, input)
-    } else {
-        Ok(String::new(alloc))
-    }
-}
-
-// What is written of the input and, where that is refused, what people are told.
-fn recording_and_hint<R: Threads + Wait + Sync, G: Gate>(
     rt: &R,
     host: &HostRuntime,
     alloc: Global,
@@ -139,12 +117,13 @@ fn recording_and_hint<R: Threads + Wait + Sync, G: Gate>(
     gate: &G,
 ) -> Result<(Written, String), AllocError>
     ensures answer { IfOk result (λ told. IsAnswer input.now told.0) }
-    ensures hint { IfOk result
-        (λ told. told.0.is_refused ≡ true → IsRigHint input.now (string_bytes told.1)) }
+    ensures hint { IfOk result (λ told. IsRigHint input.now (string_bytes told.1)) }
 {
-    let recording = recording_of(rt, host, alloc, input, gate)?;
-    let hint = hint_where(alloc, recording.is_refused, input)?;
-    Ok((recording, hint))
+    if input.len() > MAX_INPUT {
+        let (answer, hint) = too_long(alloc)?;
+        return Ok((told(answer), hint));
+    }
+    recording_of_text(rt, host, alloc, input, gate)
 }
 
 /// Makes the recording, and gives what people are told where its input is refused.
@@ -168,7 +147,7 @@ pub(crate) fn end_of_recording<R: Threads + Wait + Sync, I: CountedRead, O: Coun
         Err(InputFault::Memory) => return Ending::Ran(Status::Fault(RunFault::Memory)),
         Err(InputFault::Read) => return Ending::Ran(Status::Fault(RunFault::Read)),
     };
-    let Ok((recording, hint)) = recording_and_hint(rt, host, alloc, &input, gate) else {
+    let Ok((recording, hint)) = recording_of(rt, host, alloc, &input, gate) else {
         return Ending::Ran(Status::Fault(RunFault::Memory));
     };
     if write_text(writer, recording.text.as_slice()).is_err() {

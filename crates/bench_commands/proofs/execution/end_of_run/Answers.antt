@@ -8,7 +8,7 @@ returns-then-is_err-clause-bytes g c = (search rules, λ e. cc e)
 
 pub returns-then-answer-clause-bytes : goal.returns-then-answer-clause-bytes
 returns-then-answer-clause-bytes g c =
-    let made = c.in-Ok-answer_and_hint in
+    let made = c.in-Ok-answer_to in
     let refused : made.answer.is_refused ≡ true = search rules in
     record {
       wrote = record {

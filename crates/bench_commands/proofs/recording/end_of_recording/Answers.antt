@@ -7,7 +7,7 @@ use Rattle.bench_commands.proofs.recording.end_of_recording.Goals as goal
 
 pub returns-then-is_err-clause-bytes : goal.returns-then-is_err-clause-bytes
 returns-then-is_err-clause-bytes g c =
-    let made = c.in-Ok-recording_and_hint in
+    let made = c.in-Ok-recording_of in
     let failed : is_err c.write_text.result ≡ true = search rules in
     let same : c.as_slice.result.now ≡ made.recording.text = search rules in (
       record {
@@ -22,7 +22,7 @@ returns-then-is_err-clause-bytes g c =
 
 pub returns-then-recording-clause-bytes : goal.returns-then-recording-clause-bytes
 returns-then-recording-clause-bytes g c =
-    let made = c.in-Ok-recording_and_hint in
+    let made = c.in-Ok-recording_of in
     let refused : made.recording.is_refused ≡ true = search rules in
     record {
       wrote = record {
@@ -33,5 +33,5 @@ returns-then-recording-clause-bytes g c =
         status = search rules;
         writes = search rules;
       };
-      told = subst (λ (input : List ℕ). IsRigHint input (string_bytes made.hint)) c.deref.ensures.value (made.ensures.hint refused);
+      told = subst (λ (input : List ℕ). IsRigHint input (string_bytes made.hint)) c.deref.ensures.value made.ensures.hint;
     }

@@ -100,16 +100,24 @@ fn check_after(rt: &impl Abort, delays: &Delays, turn: u32)
     assert_eq!(rt; delays.turn(), after_wrap);
 }
 
-fn check_wrap(rt: &impl Abort, delays: &mut Delays)
+// Task 0 is due at the last tick count, after which the count wraps.
+fn check_last_tick(rt: &impl Abort, delays: &mut Delays)
     requires { delays.old.tasks ≡ 2 }
+    ensures { delays.new.tasks ≡ 2 }
 {
-    let turn = check_before(rt, delays);
     advance(rt, delays);
     assert_eq!(rt; pop_due(delays), Some(0));
     assert_eq!(rt; delays.left(1), Some(2));
     advance(rt, delays);
     let due = pop_due(delays);
     assert!(rt; due.is_none());
+}
+
+fn check_wrap(rt: &impl Abort, delays: &mut Delays)
+    requires { delays.old.tasks ≡ 2 }
+{
+    let turn = check_before(rt, delays);
+    check_last_tick(rt, delays);
     check_after(rt, delays, turn);
     advance(rt, delays);
     assert_eq!(rt; pop_due(delays), Some(1));

@@ -2,6 +2,7 @@
 ghost use Rattle.std.specs.Prelude.{◌≡◌, ◌<◌, length, IsTrue};
 
 use crate::started::started;
+use index_lists::Lists;
 use mutex_inherit::Mutexes;
 use ready_core::Cores;
 use std::alloc::Global;
@@ -176,6 +177,12 @@ fn queue(rt: &impl Abort, cores: &mut Cores, mutexes: &mut Mutexes)
     wait(rt, cores, mutexes, 5, 4, 1);
 }
 
+fn next(lists: &Lists, task: u32) -> Option<u32>
+    requires { task < lists.now.items }
+{
+    lists.next(task)
+}
+
 // The waiters of mutex 1 stand by their priorities, and then in the order in which they came.
 fn check_queue(rt: &impl Abort, mutexes: &Mutexes)
     requires tasks { mutexes.now.tasks ≡ 5 }
@@ -185,9 +192,9 @@ fn check_queue(rt: &impl Abort, mutexes: &Mutexes)
     assert_eq!(rt; lists.len(0), 0);
     assert_eq!(rt; lists.len(1), 3);
     assert_eq!(rt; lists.first(1), Some(4));
-    assert_eq!(rt; lists.next(4), Some(3));
-    assert_eq!(rt; lists.next(3), Some(2));
-    assert_eq!(rt; lists.next(2), None);
+    assert_eq!(rt; next(lists, 4), Some(3));
+    assert_eq!(rt; next(lists, 3), Some(2));
+    assert_eq!(rt; next(lists, 2), None);
 }
 
 #[test]

@@ -18,14 +18,14 @@ fn notify(rt: &impl Abort, notes: &mut Notes, task: u32, action: Action)
     assert!(rt; passed && waited);
 }
 
-// A take waits, until a notification comes.
-fn take(rt: &impl Abort, notes: &mut Notes, task: u32)
+// A take waits, until a notification comes. Then it clears the value, or takes one from it.
+fn take(rt: &impl Abort, notes: &mut Notes, task: u32, clear: bool)
     requires { task < length notes.old }
     ensures { length notes.new ≡ length notes.old }
 {
     assert!(rt; notes.begin_take(task));
     notify(rt, notes, task, Action::Set(7));
-    assert_eq!(rt; notes.end_take(task, false), 7);
+    assert_eq!(rt; notes.end_take(task, clear), 7);
 }
 
 // A wait ends with a notification. The masks are those of its entry and of its exit. Returns what
@@ -53,7 +53,7 @@ fn check_wait(rt: &impl Abort, notes: &mut Notes, task: u32)
 #[test]
 fn notes(rt: HostRuntime) -> Result<(), Fail> {
     let mut notes = Notes::new(rt.alloc(), 2)?;
-    take(&rt, &mut notes, 1);
+    take(&rt, &mut notes, 1, false);
     let copy = notes.copy(rt.alloc())?;
     assert!(&rt; copy.same(&notes));
     check_wait(&rt, &mut notes, 1);

@@ -4,16 +4,9 @@ ghost use Rattle.bench_model.specs.Lists.{due_tasks};
 ghost use Rattle.tick_delay.specs.Parts.{is_waiting};
 
 use bench_model::until::{is_ahead, next_wake};
+use std::process::Abort;
 use std::test::Fail;
 use tick_delay::Delays;
-
-#[tactic(auto, unfolding(tick_delay::specs::Parts::advanced))]
-fn advance(delays: &mut Delays)
-    requires { due_tasks delays.old.delayed ≡ [] }
-    ensures { delays.new.tasks ≡ delays.old.tasks }
-{
-    delays.advance();
-}
 
 fn pop_due(delays: &mut Delays) -> Option<u32>
     ensures tasks { delays.new.tasks ≡ delays.old.tasks }
@@ -25,6 +18,16 @@ fn pop_due(delays: &mut Delays) -> Option<u32>
     }
 }
 
+// No task is due, and a tick passes.
+#[tactic(auto, unfolding(tick_delay::specs::Parts::advanced))]
+fn advance(rt: &impl Abort, delays: &mut Delays)
+    ensures { delays.new.tasks ≡ delays.old.tasks }
+{
+    let due = pop_due(delays);
+    assert!(rt; due.is_none());
+    delays.advance();
+}
+
 #[tactic(auto, unfolding(tick_delay::specs::Parts::until_delayed))]
 fn delay_until(delays: &mut Delays, task: u32, prev: u32, inc: u32) -> (bool, u32)
     requires task { task < delays.old.tasks }
@@ -34,21 +37,92 @@ fn delay_until(delays: &mut Delays, task: u32, prev: u32, inc: u32) -> (bool, u3
     delays.delay_until(task, prev, inc)
 }
 
+// Task 0 waits for the next tick.
+fn check_delay(rt: &impl Abort, delays: &mut Delays, copy: &Delays)
+    requires { delays.old.tasks ≡ 2 }
+{
+    assert!(rt; copy.same(delays));
+    advance(rt, delays);
+    assert_eq!(rt; delays.tick(), 0);
+    assert_eq!(rt; delays.left(0), Some(0));
+    assert!(rt; !copy.same(delays));
+    assert_eq!(rt; pop_due(delays), Some(0));
+    assert_eq!(rt; delays.left(0), None);
+}
+
 #[test]
 fn delays(rt: HostRuntime) -> Result<(), Fail> {
     let mut delays = Delays::new(rt.alloc(), 4_294_967_295, 2)?;
     delays.delay(0, 1);
     let copy = delays.copy(rt.alloc())?;
-    assert!(&rt; copy.same(&delays));
-    let due = pop_due(&mut delays);
-    assert!(&rt; due.is_none());
-    advance(&mut delays);
-    assert_eq!(&rt; delays.tick(), 0);
-    assert_eq!(&rt; delays.left(0), Some(0));
-    assert!(&rt; !copy.same(&delays));
-    assert_eq!(&rt; pop_due(&mut delays), Some(0));
-    assert_eq!(&rt; delays.left(0), None);
+    check_delay(&rt, &mut delays, &copy);
     Ok(())
+}
+
+// The keys of two tasks, in whichever list they stand.
+fn keys(delays: &Delays) -> (Option<u64>, Option<u64>)
+    requires { delays.now.tasks ≡ 2 }
+{
+    let lists = delays.lists();
+    (lists.key_of(0), lists.key_of(1))
+}
+
+// The list that is this turn's, and the first task of each: of this one, and of the other.
+fn firsts(delays: &Delays) -> (u32, Option<u32>, Option<u32>) {
+    let (turn, lists) = delays.in_turn();
+    (turn, lists.first(turn), lists.first(1 - turn))
+}
+
+// Task 0 waits for the last tick count, and task 1 for the second one after it. Returns the turn.
+fn check_before(rt: &impl Abort, delays: &Delays) -> u32
+    requires { delays.now.tasks ≡ 2 }
+{
+    let (zero, one) = keys(delays);
+    assert_eq!(rt; zero, Some(4_294_967_295));
+    assert_eq!(rt; one, Some(1));
+    let (turn, first, other) = firsts(delays);
+    assert_eq!(rt; first, Some(0));
+    assert_eq!(rt; other, Some(1));
+    assert_eq!(rt; delays.turn(), turn);
+    turn
+}
+
+// The lists have changed places, and task 1 waits for this turn.
+fn check_after(rt: &impl Abort, delays: &Delays, turn: u32)
+    requires { delays.now.tasks ≡ 2 }
+{
+    assert_eq!(rt; delays.left(1), Some(1));
+    let (after_wrap, first, other) = firsts(delays);
+    assert!(rt; turn < 2);
+    assert_eq!(rt; after_wrap, 1 - turn);
+    assert_eq!(rt; first, Some(1));
+    assert_eq!(rt; other, None);
+    assert_eq!(rt; delays.turn(), after_wrap);
+}
+
+// Task 0 is due at the last tick count, after which the count wraps.
+fn check_last_tick(rt: &impl Abort, delays: &mut Delays)
+    requires { delays.old.tasks ≡ 2 }
+    ensures { delays.new.tasks ≡ 2 }
+{
+    advance(rt, delays);
+    assert_eq!(rt; pop_due(delays), Some(0));
+    assert_eq!(rt; delays.left(1), Some(2));
+    advance(rt, delays);
+    let due = pop_due(delays);
+    assert!(rt; due.is_none());
+}
+
+fn check_wrap(rt: &impl Abort, delays: &mut Delays)
+    requires { delays.old.tasks ≡ 2 }
+{
+    let turn = check_before(rt, delays);
+    check_last_tick(rt, delays);
+    check_after(rt, delays, turn);
+    advance(rt, delays);
+    assert_eq!(rt; pop_due(delays), Some(1));
+    assert_eq!(rt; delays.tick(), 1);
+    assert_eq!(rt; delays.left(1), None);
 }
 
 #[test]
@@ -57,34 +131,20 @@ fn lists_change_places_where_the_tick_count_wraps(rt: HostRuntime) -> Result<(),
     let mut delays = Delays::new(rt.alloc(), 4_294_967_294, 2)?;
     delays.delay(0, 1);
     delays.delay(1, 3);
-    let lists = delays.lists();
-    let keys = (lists.key_of(0), lists.key_of(1));
-    assert_eq!(&rt; keys, (Some(4_294_967_295), Some(1)));
-    let (turn, lists) = delays.in_turn();
-    assert_eq!(&rt;
-        (lists.first(turn), lists.first(1 - turn)),
-        (Some(0), Some(1))
-    );
-    assert_eq!(&rt; delays.turn(), turn);
-    let due = pop_due(&mut delays);
-    assert!(&rt; due.is_none());
-    advance(&mut delays);
-    assert_eq!(&rt; pop_due(&mut delays), Some(0));
-    assert_eq!(&rt; delays.left(1), Some(2));
-    let due = pop_due(&mut delays);
-    assert!(&rt; due.is_none());
-    advance(&mut delays);
-    let due = pop_due(&mut delays);
-    assert!(&rt; due.is_none());
-    assert_eq!(&rt; delays.left(1), Some(1));
-    let (after_wrap, lists) = delays.in_turn();
-    assert_eq!(&rt; (after_wrap, lists.first(after_wrap)), (1 - turn, Some(1)));
-    assert_eq!(&rt; lists.first(turn), None);
-    assert_eq!(&rt; delays.turn(), after_wrap);
-    advance(&mut delays);
-    assert_eq!(&rt; pop_due(&mut delays), Some(1));
-    assert_eq!(&rt; (delays.tick(), delays.left(1)), (1, None));
+    check_wrap(&rt, &mut delays);
     Ok(())
+}
+
+fn check_until(rt: &impl Abort, delays: &mut Delays)
+    requires tasks { delays.old.tasks ≡ 1 }
+    requires free { is_waiting 0 delays.old.delayed ≡ false }
+{
+    let (is_delayed, wake) = delay_until(delays, 0, 4_294_967_290, 10);
+    assert!(rt; is_delayed);
+    assert_eq!(rt; wake, 4);
+    assert_eq!(rt; delays.left(0), Some(1));
+    delays.cancel(0);
+    assert_eq!(rt; delays.left(0), None);
 }
 
 #[test]
@@ -92,9 +152,6 @@ fn delays_until_a_tick_count(rt: HostRuntime) -> Result<(), Fail> {
     assert_eq!(&rt; next_wake(4_294_967_290, 10), 4);
     assert!(&rt; is_ahead(3, 4_294_967_290, 4) && !is_ahead(4, 4_294_967_290, 4));
     let mut delays = Delays::new(rt.alloc(), 3, 1)?;
-    assert_eq!(&rt; delay_until(&mut delays, 0, 4_294_967_290, 10), (true, 4));
-    assert_eq!(&rt; delays.left(0), Some(1));
-    delays.cancel(0);
-    assert_eq!(&rt; delays.left(0), None);
+    check_until(&rt, &mut delays);
     Ok(())
 }

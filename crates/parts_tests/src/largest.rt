@@ -1,7 +1,8 @@
 //! The kernel's parts, each of the most tasks on the most cores, with the most mutexes.
-ghost use Rattle.std.specs.Prelude.{◌≡◌, Ok};
+ghost use Rattle.std.specs.Prelude.{◌≡◌, ◌<◌, Ok, length};
 ghost use Rattle.bench_types.specs.Header.{header_check};
 
+use crate::ready::{expect_mask, expect_priorities};
 use crate::started::is_checked;
 use bench_samples::{LARGEST, crowd};
 use bench_types::{Action, Header, MAX_CORES, MAX_MUTEXES, MAX_PRIORITIES, MAX_TASKS, NoteState};
@@ -18,19 +19,22 @@ const TASKS: u32 = MAX_CORES + MAX_TASKS;
 
 const LAST: u32 = TASKS - 1;
 
-fn check_cores(rt: &impl Abort, alloc: Global, header: &Header) -> Result<(), Fail>
+// The copy is the same as the cores of the largest header.
+fn check_cores(rt: &impl Abort, cores: &Cores, copy: &Cores) {
+    assert!(rt; copy.same(cores));
+    assert!(rt; copy.has_core(MAX_CORES - 1) && !copy.has_core(MAX_CORES));
+    assert!(rt; copy.has_priority(MAX_PRIORITIES - 1) && !copy.has_priority(MAX_PRIORITIES));
+    assert!(rt; copy.has_task(LAST) && !copy.has_task(TASKS));
+    expect_priorities(rt, copy, LAST, 1, 1);
+    expect_mask(rt, copy, LAST, 3);
+}
+
+fn copy_cores(rt: &impl Abort, alloc: Global, header: &Header) -> Result<(), Fail>
     requires { header_check header.now ≡ Ok tt }
 {
     let cores = Cores::new(alloc, header)?;
     let copy = cores.copy(alloc)?;
-    assert!(rt; copy.same(&cores));
-    assert!(rt; copy.has_core(MAX_CORES - 1) && !copy.has_core(MAX_CORES));
-    assert!(rt; copy.has_priority(MAX_PRIORITIES - 1) && !copy.has_priority(MAX_PRIORITIES));
-    assert!(rt; copy.has_task(LAST) && !copy.has_task(TASKS));
-    assert_eq!(rt;
-        (copy.base(LAST), copy.in_use(LAST), copy.mask(LAST)),
-        (1, 1, 3)
-    );
+    check_cores(rt, &cores, &copy);
     Ok(())
 }
 
@@ -38,32 +42,77 @@ fn check_cores(rt: &impl Abort, alloc: Global, header: &Header) -> Result<(), Fa
 fn cores(rt: HostRuntime) -> Result<(), Fail> {
     let header = crowd(rt.alloc(), LARGEST, MAX_TASKS as usize)?;
     assert!(&rt; is_checked(&header));
-    check_cores(&rt, rt.alloc(), &header)
+    copy_cores(&rt, rt.alloc(), &header)
+}
+
+fn notify(rt: &impl Abort, notes: &mut Notes, task: u32, action: Action)
+    requires { task < length notes.old }
+    ensures { length notes.new ≡ length notes.old }
+{
+    let (passed, waited) = notes.notify(task, action);
+    assert!(rt; passed && !waited);
+}
+
+fn expect_note(rt: &impl Abort, notes: &Notes, task: u32, value: u32, state: NoteState)
+    requires { task < length notes.now }
+{
+    assert_eq!(rt; notes.value(task), value);
+    assert_eq!(rt; notes.state(task), state);
+}
+
+fn check_notes(rt: &impl Abort, notes: &Notes, copy: &Notes)
+    requires { length copy.now ≡ TASKS }
+{
+    assert!(rt; copy.same(notes));
+    expect_note(rt, copy, LAST, 7, NoteState::Received);
+    expect_note(rt, copy, 0, 0, NoteState::NotWaiting);
 }
 
 #[test]
 fn notes(rt: HostRuntime) -> Result<(), Fail> {
     let mut notes = Notes::new(rt.alloc(), TASKS)?;
-    assert_eq!(&rt; notes.notify(LAST, Action::Set(7)), (true, false));
+    notify(&rt, &mut notes, LAST, Action::Set(7));
     let copy = notes.copy(rt.alloc())?;
-    assert!(&rt; copy.same(&notes));
-    assert_eq!(&rt;
-        (copy.value(LAST), copy.state(LAST)),
-        (7, NoteState::Received)
-    );
-    assert_eq!(&rt; (copy.value(0), copy.state(0)), (0, NoteState::NotWaiting));
+    check_notes(&rt, &notes, &copy);
     Ok(())
+}
+
+// The task holds the mutex alone, and nobody holds the first one.
+fn check_mutexes(rt: &impl Abort, mutexes: &Mutexes, copy: &Mutexes, task: u32, mutex: u32)
+    requires { mutex < length copy.now.holders }
+{
+    assert!(rt; copy.same(mutexes));
+    assert_eq!(rt; copy.holder(mutex), Some(task));
+    assert_eq!(rt; copy.holder(0), None);
+    assert_eq!(rt; copy.held(task), 1);
+}
+
+fn take(rt: &impl Abort, mutexes: &mut Mutexes, task: u32, mutex: u32)
+    requires task { task < mutexes.old.tasks }
+    requires mutex { mutex < length mutexes.old.holders }
+    ensures tasks { mutexes.new.tasks ≡ mutexes.old.tasks }
+    ensures mutexes { length mutexes.new.holders ≡ length mutexes.old.holders }
+{
+    assert!(rt; mutexes.try_take(task, mutex));
 }
 
 #[test]
 fn mutexes(rt: HostRuntime) -> Result<(), Fail> {
     let mut mutexes = Mutexes::new(rt.alloc(), TASKS, MAX_PRIORITIES, MAX_MUTEXES)?;
-    assert!(&rt; mutexes.try_take(LAST, MAX_MUTEXES - 1));
+    take(&rt, &mut mutexes, LAST, MAX_MUTEXES - 1);
     let copy = mutexes.copy(rt.alloc())?;
-    assert!(&rt; copy.same(&mutexes));
-    assert_eq!(&rt; copy.holder(MAX_MUTEXES - 1), Some(LAST));
-    assert_eq!(&rt; (copy.holder(0), copy.held(LAST)), (None, 1));
+    check_mutexes(&rt, &mutexes, &copy, LAST, MAX_MUTEXES - 1);
     Ok(())
+}
+
+// The task waits for so many ticks from the last tick, and the first task does not.
+fn check_delays(rt: &impl Abort, delays: &Delays, copy: &Delays, task: u32, ticks: u32)
+    requires { task < copy.now.tasks }
+{
+    assert!(rt; copy.same(delays));
+    assert_eq!(rt; copy.tick(), u32::MAX);
+    assert_eq!(rt; copy.left(task), Some(ticks));
+    assert_eq!(rt; copy.left(0), None);
 }
 
 #[test]
@@ -71,11 +120,6 @@ fn delays(rt: HostRuntime) -> Result<(), Fail> {
     let mut delays = Delays::new(rt.alloc(), u32::MAX, TASKS)?;
     delays.delay(LAST, u32::MAX - 1);
     let copy = delays.copy(rt.alloc())?;
-    assert!(&rt; copy.same(&delays));
-    assert_eq!(&rt;
-        (copy.tick(), copy.left(LAST)),
-        (u32::MAX, Some(u32::MAX - 1))
-    );
-    assert_eq!(&rt; copy.left(0), None);
+    check_delays(&rt, &delays, &copy, LAST, u32::MAX - 1);
     Ok(())
 }

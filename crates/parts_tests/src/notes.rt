@@ -1,5 +1,5 @@
 //! Notifications of tasks, and the parts of their rules.
-ghost use Rattle.std.specs.Prelude.{◌≡◌, length};
+ghost use Rattle.std.specs.Prelude.{◌≡◌, ◌<◌, length};
 
 use bench_model::notes::{acted, is_received, is_waiting, notified, passes, without_bits};
 use bench_types::{Action, NoteState, Notification};
@@ -7,39 +7,56 @@ use notify_core::Notes;
 use std::process::Abort;
 use std::test::Fail;
 
-// A take waits, until a notification comes.
-fn take(rt: &impl Abort, notes: &mut Notes)
-    requires { length notes.old ≡ 2 }
-    ensures { length notes.new ≡ 2 }
+// The task waits, and the notification ends its wait.
+fn notify(rt: &impl Abort, notes: &mut Notes, task: u32, action: Action)
+    requires { task < length notes.old }
+    ensures { length notes.new ≡ length notes.old }
 {
-    assert!(rt; notes.begin_take(1));
-    assert!(rt; is_waiting(notes.state(1)));
-    let (passed, waited) = notes.notify(1, Action::Set(7));
+    let state = notes.state(task);
+    assert!(rt; is_waiting(state));
+    let (passed, waited) = notes.notify(task, action);
     assert!(rt; passed && waited);
-    assert_eq!(rt; notes.end_take(1, false), 7);
 }
 
-// A wait that begins with the value 6 ends with a notification.
-fn wait(rt: &impl Abort, notes: &mut Notes)
-    requires { length notes.old ≡ 2 }
-    ensures { length notes.new ≡ 2 }
+// A take waits, until a notification comes. Then it clears the value, or takes one from it.
+fn take(rt: &impl Abort, notes: &mut Notes, task: u32, clear: bool)
+    requires { task < length notes.old }
+    ensures { length notes.new ≡ length notes.old }
 {
-    assert_eq!(rt; notes.clear_value(1, 4), 6);
-    assert!(rt; notes.begin_wait(1, 2));
-    let (passed, waited) = notes.notify(1, Action::SetBits(5));
-    assert!(rt; passed && waited);
-    let (come, value) = notes.end_wait(1, 1);
+    assert!(rt; notes.begin_take(task));
+    notify(rt, notes, task, Action::Set(7));
+    assert_eq!(rt; notes.end_take(task, clear), 7);
+}
+
+// A wait ends with a notification. The masks are those of its entry and of its exit. Returns what
+// the wait does.
+fn wait(rt: &impl Abort, notes: &mut Notes, task: u32, entry: u32, exit: u32) -> (bool, u32)
+    requires { task < length notes.old }
+    ensures { length notes.new ≡ length notes.old }
+{
+    assert!(rt; notes.begin_wait(task, entry));
+    notify(rt, notes, task, Action::SetBits(5));
+    notes.end_wait(task, exit)
+}
+
+// A wait that begins with the value 6.
+fn check_wait(rt: &impl Abort, notes: &mut Notes, task: u32)
+    requires { task < length notes.old }
+    ensures { length notes.new ≡ length notes.old }
+{
+    assert_eq!(rt; notes.clear_value(task, 4), 6);
+    let (come, value) = wait(rt, notes, task, 2, 1);
     assert!(rt; come && value == 5);
-    assert!(rt; !notes.clear_state(1));
+    assert!(rt; !notes.clear_state(task));
 }
 
 #[test]
 fn notes(rt: HostRuntime) -> Result<(), Fail> {
     let mut notes = Notes::new(rt.alloc(), 2)?;
-    take(&rt, &mut notes);
+    take(&rt, &mut notes, 1, false);
     let copy = notes.copy(rt.alloc())?;
     assert!(&rt; copy.same(&notes));
-    wait(&rt, &mut notes);
+    check_wait(&rt, &mut notes, 1);
     assert_eq!(&rt; notes.value(1), 4);
     assert!(&rt; !copy.same(&notes));
     Ok(())

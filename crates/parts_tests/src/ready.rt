@@ -1,9 +1,53 @@
 //! Cores and ready lists.
 
 use crate::started::{select, started};
+use Move::{
+    Ask, AskItsCore, Base, HasMask, InUse, IsUnready, List, Looks, Mask, Preempt, Priorities,
+    Select, Unready, Wake, YieldFor,
+};
 use ready_core::Cores;
+use std::alloc::Global;
 use std::process::Abort;
 use std::test::Fail;
+
+/// A core's task, and whether it asked itself or was asked.
+type Look = (u32, bool, bool);
+
+/// What is done to cores, or looked for. Unless it names another, the acting core is 0.
+#[derive(Clone, Copy)]
+enum Move {
+    Unready(u32),
+    IsUnready(u32),
+    Wake(u32),
+    InUse(u32, u32),
+    Base(u32, u32),
+    Mask(u32, u32),
+    Preempt(u32, bool),
+    /// A core asks another.
+    Ask(u32, u32),
+    /// A core asks that of a task.
+    AskItsCore(u32, u32),
+    /// Core 1 seeks the task one of these cores.
+    YieldFor(u32, u32),
+    Select(u32),
+    /// Cores 0 and 1 look so.
+    Looks(Look, Look),
+    /// The ready list of the priority has these tasks.
+    List(u32, &'static [u32]),
+    HasMask(u32, u32),
+    /// The task has this base priority and this one in use.
+    Priorities(u32, u32, u32),
+}
+
+fn unready(rt: &impl Abort, cores: &mut Cores, task: u32) {
+    assert!(rt; cores.has_task(task));
+    cores.unready(task);
+}
+
+fn expect_unready(rt: &impl Abort, cores: &Cores, task: u32) {
+    assert!(rt; cores.has_task(task));
+    assert!(rt; !cores.ready(task));
+}
 
 fn wake(rt: &impl Abort, cores: &mut Cores, task: u32) {
     assert!(rt; cores.has_task(task));
@@ -16,6 +60,12 @@ fn set_in_use(rt: &impl Abort, cores: &mut Cores, task: u32, priority: u32) {
     cores.set_in_use(task, priority);
 }
 
+fn set_base(rt: &impl Abort, cores: &mut Cores, task: u32, priority: u32) {
+    assert!(rt; cores.has_task(task));
+    assert!(rt; cores.has_priority(priority));
+    cores.set_base(task, priority);
+}
+
 fn set_mask(rt: &impl Abort, cores: &mut Cores, task: u32, mask: u32) {
     assert!(rt; cores.has_task(task));
     cores.set_mask(task, mask);
@@ -26,20 +76,9 @@ fn set_preempt(rt: &impl Abort, cores: &mut Cores, task: u32, on: bool) {
     cores.set_preempt(task, on);
 }
 
-fn set_base(rt: &impl Abort, cores: &mut Cores, task: u32, priority: u32) {
-    assert!(rt; cores.has_task(task));
-    assert!(rt; cores.has_priority(priority));
-    cores.set_base(task, priority);
-}
-
-fn unready(rt: &impl Abort, cores: &mut Cores, task: u32) {
-    assert!(rt; cores.has_task(task));
-    cores.unready(task);
-}
-
-fn is_ready(rt: &impl Abort, cores: &Cores, task: u32) -> bool {
-    assert!(rt; cores.has_task(task));
-    cores.ready(task)
+fn ask(rt: &impl Abort, cores: &mut Cores, acting: u32, core: u32) {
+    assert!(rt; cores.has_core(core));
+    cores.ask(acting, core);
 }
 
 fn ask_its_core(rt: &impl Abort, cores: &mut Cores, acting: u32, task: u32) {
@@ -47,8 +86,11 @@ fn ask_its_core(rt: &impl Abort, cores: &mut Cores, acting: u32, task: u32) {
     cores.ask_its_core(acting, task);
 }
 
-// A core's task, and whether it asked itself or was asked.
-type Look = (u32, bool, bool);
+fn yield_for(rt: &impl Abort, cores: &mut Cores, task: u32, among: u32) {
+    assert!(rt; cores.has_task(task));
+    assert!(rt; cores.ready(task));
+    cores.yield_for(1, task, among);
+}
 
 fn look(rt: &impl Abort, cores: &Cores, core: u32) -> Look {
     assert!(rt; cores.has_core(core));
@@ -61,7 +103,6 @@ fn expect(rt: &impl Abort, cores: &Cores, one: Look, other: Look) {
     assert_eq!(rt; look(rt, cores, 1), other);
 }
 
-// The ready list of the priority has these tasks.
 fn expect_list(rt: &impl Abort, cores: &Cores, priority: u32, tasks: &[u32]) {
     assert!(rt; cores.has_priority(priority));
     let lists = cores.lists();
@@ -74,147 +115,271 @@ fn expect_list(rt: &impl Abort, cores: &Cores, priority: u32, tasks: &[u32]) {
     }
 }
 
+pub(crate) fn expect_mask(rt: &impl Abort, cores: &Cores, task: u32, mask: u32) {
+    assert!(rt; cores.has_task(task));
+    assert_eq!(rt; cores.mask(task), mask);
+}
+
+pub(crate) fn expect_priorities(rt: &impl Abort, cores: &Cores, task: u32, base: u32, in_use: u32) {
+    assert!(rt; cores.has_task(task));
+    assert_eq!(rt; (cores.base(task), cores.in_use(task)), (base, in_use));
+}
+
+fn make(rt: &impl Abort, cores: &mut Cores, made: Move) {
+    match made {
+        Unready(task) => unready(rt, cores, task),
+        IsUnready(task) => expect_unready(rt, cores, task),
+        Wake(task) => wake(rt, cores, task),
+        InUse(task, priority) => set_in_use(rt, cores, task, priority),
+        Base(task, priority) => set_base(rt, cores, task, priority),
+        Mask(task, mask) => set_mask(rt, cores, task, mask),
+        Preempt(task, on) => set_preempt(rt, cores, task, on),
+        Ask(acting, core) => ask(rt, cores, acting, core),
+        AskItsCore(acting, task) => ask_its_core(rt, cores, acting, task),
+        YieldFor(task, among) => yield_for(rt, cores, task, among),
+        Select(core) => select(rt, cores, core),
+        Looks(one, other) => expect(rt, cores, one, other),
+        List(priority, tasks) => expect_list(rt, cores, priority, tasks),
+        HasMask(task, mask) => expect_mask(rt, cores, task, mask),
+        Priorities(task, base, in_use) => expect_priorities(rt, cores, task, base, in_use),
+    }
+}
+
+fn play(rt: &impl Abort, cores: &mut Cores, moves: &[Move]) {
+    for made in moves {
+        make(rt, cores, *made);
+    }
+}
+
+/// Plays the moves from the start of a session with these priorities and masks.
+fn play_from(
+    rt: &impl Abort,
+    alloc: Global,
+    args: &[(u32, u32)],
+    moves: &[Move],
+) -> Result<(), Fail> {
+    let mut cores = started(rt, alloc, false, args)?;
+    play(rt, &mut cores, moves);
+    Ok(())
+}
+
+fn check_sizes(rt: &impl Abort, cores: &Cores) {
+    assert!(rt; cores.has_core(1) && !cores.has_core(2));
+    assert!(rt; cores.has_priority(4) && !cores.has_priority(5));
+    assert!(rt; cores.has_task(4) && !cores.has_task(5));
+}
+
+// What is told of a task that is ready, and may be preempted.
+fn check_task(rt: &impl Abort, cores: &Cores, task: u32) {
+    assert!(rt; cores.has_task(task));
+    assert!(rt; cores.preempt(task));
+    assert!(rt; cores.ready(task));
+}
+
+// The task of the first number runs on core 0, and stands above the others, of which the last
+// runs nowhere.
+fn check_order(rt: &impl Abort, cores: &Cores, first: u32, second: u32, third: u32) {
+    assert!(rt; cores.has_task(first));
+    assert!(rt; cores.has_task(second));
+    assert!(rt; cores.has_task(third));
+    assert!(rt; cores.stands_below(second, first) && !cores.stands_below(second, third));
+    assert_eq!(rt; cores.its_core(first), Some(0));
+    assert_eq!(rt; cores.its_core(third), None);
+}
+
+fn check_cores_of_task(rt: &impl Abort, cores: &Cores) {
+    assert!(rt; cores.has_core(1));
+    assert!(rt; cores.has_task(4));
+    assert!(rt; cores.is_allowed(1, 4) && !cores.is_allowed(0, 4));
+    assert!(rt; cores.is_in_mask(4, 1) && !cores.is_in_mask(4, 0));
+}
+
+fn check_start(rt: &impl Abort, cores: &Cores) {
+    expect(rt, cores, (2, false, false), (3, false, false));
+    check_sizes(rt, cores);
+    expect_priorities(rt, cores, 4, 1, 1);
+    expect_mask(rt, cores, 4, 2);
+    check_task(rt, cores, 4);
+    check_order(rt, cores, 2, 3, 4);
+    check_cores_of_task(rt, cores);
+}
+
 #[test]
 fn start(rt: HostRuntime) -> Result<(), Fail> {
     let cores = started(&rt, rt.alloc(), false, &[(2, 3), (1, 3), (1, 0xFFFF_FFFE)])?;
-    expect(&rt, &cores, (2, false, false), (3, false, false));
-    assert!(&rt; cores.has_core(1) && !cores.has_core(2));
-    assert!(&rt; cores.has_priority(4) && !cores.has_priority(5));
-    assert!(&rt; cores.has_task(4) && !cores.has_task(5));
-    assert_eq!(&rt; cores.base(4), 1);
-    assert_eq!(&rt; cores.in_use(4), 1);
-    assert_eq!(&rt; cores.mask(4), 2);
-    assert!(&rt; cores.preempt(4));
-    assert!(&rt; cores.ready(4));
-    assert!(&rt; cores.stands_below(3, 2) && !cores.stands_below(3, 4));
-    assert!(&rt; cores.is_allowed(1, 4) && !cores.is_allowed(0, 4));
-    assert!(&rt; cores.is_in_mask(4, 1) && !cores.is_in_mask(4, 0));
-    assert_eq!(&rt; (cores.its_core(2), cores.its_core(4)), (Some(0), None));
+    check_start(&rt, &cores);
     Ok(())
+}
+
+fn check_current(rt: &impl Abort, cores: &Cores) {
+    assert!(rt; cores.has_task(4) && !cores.has_task(5));
+    assert!(rt; cores.is_current(2) && cores.is_current(3) && !cores.is_current(4));
+    assert!(rt; !cores.is_current(0) && !cores.ready(3));
 }
 
 #[test]
 fn current_tasks(rt: HostRuntime) -> Result<(), Fail> {
     let mut cores = started(&rt, rt.alloc(), false, &[(2, 3), (1, 3), (1, 3)])?;
     unready(&rt, &mut cores, 3);
-    assert!(&rt; cores.has_task(4) && !cores.has_task(5));
-    assert!(&rt; cores.is_current(2) && cores.is_current(3) && !cores.is_current(4));
-    assert!(&rt; !cores.is_current(0) && !cores.ready(3));
+    check_current(&rt, &cores);
     Ok(())
 }
 
 #[test]
 fn woken_task_is_sought_a_core(rt: HostRuntime) -> Result<(), Fail> {
     let mut cores = started(&rt, rt.alloc(), false, &[(2, 3), (1, 3), (1, 3)])?;
-    unready(&rt, &mut cores, 2);
-    assert!(&rt; !is_ready(&rt, &cores, 2));
-    select(&rt, &mut cores, 0);
-    expect(&rt, &cores, (4, false, false), (3, false, false));
+    play(
+        &rt,
+        &mut cores,
+        &[
+            Unready(2),
+            IsUnready(2),
+            Select(0),
+            Looks((4, false, false), (3, false, false)),
+        ],
+    );
     let mut other = cores.copy(rt.alloc())?;
     // Of two cores of one priority that of the greater number is asked.
-    wake(&rt, &mut cores, 2);
-    expect(&rt, &cores, (4, false, false), (3, false, true));
+    play(
+        &rt,
+        &mut cores,
+        &[Wake(2), Looks((4, false, false), (3, false, true))],
+    );
     // The task there is not to be preempted.
-    set_preempt(&rt, &mut other, 3, false);
-    wake(&rt, &mut other, 2);
-    expect(&rt, &other, (4, true, false), (3, false, false));
+    play(
+        &rt,
+        &mut other,
+        &[
+            Preempt(3, false),
+            Wake(2),
+            Looks((4, true, false), (3, false, false)),
+        ],
+    );
     Ok(())
 }
 
 #[test]
 fn idle_is_below_priority_0(rt: HostRuntime) -> Result<(), Fail> {
-    let mut cores = started(&rt, rt.alloc(), false, &[(0, 3), (1, 3)])?;
-    unready(&rt, &mut cores, 3);
-    select(&rt, &mut cores, 0);
-    expect(&rt, &cores, (0, false, false), (2, false, false));
-    wake(&rt, &mut cores, 3);
-    expect(&rt, &cores, (0, true, false), (2, false, false));
-    Ok(())
+    play_from(
+        &rt,
+        rt.alloc(),
+        &[(0, 3), (1, 3)],
+        &[
+            Unready(3),
+            Select(0),
+            Looks((0, false, false), (2, false, false)),
+            Wake(3),
+            Looks((0, true, false), (2, false, false)),
+        ],
+    )
 }
 
 #[test]
 fn yields_for_a_task_among_cores(rt: HostRuntime) -> Result<(), Fail> {
-    let mut cores = started(&rt, rt.alloc(), false, &[(1, 3), (1, 3), (1, 3)])?;
-    set_in_use(&rt, &mut cores, 4, 3);
-    assert!(&rt; cores.has_task(4));
-    assert!(&rt; cores.ready(4));
-    cores.yield_for(1, 4, 0);
-    expect(&rt, &cores, (2, false, false), (3, false, false));
-    assert!(&rt; cores.has_task(4));
-    assert!(&rt; cores.ready(4));
-    cores.yield_for(1, 4, 1);
-    expect(&rt, &cores, (2, false, true), (3, false, false));
-    Ok(())
+    play_from(
+        &rt,
+        rt.alloc(),
+        &[(1, 3), (1, 3), (1, 3)],
+        &[
+            InUse(4, 3),
+            YieldFor(4, 0),
+            Looks((2, false, false), (3, false, false)),
+            YieldFor(4, 1),
+            Looks((2, false, true), (3, false, false)),
+        ],
+    )
 }
 
 #[test]
 fn displaced_task_finds_another_core(rt: HostRuntime) -> Result<(), Fail> {
-    let mut cores = started(&rt, rt.alloc(), false, &[(3, 1), (2, 1), (1, 3)])?;
-    unready(&rt, &mut cores, 2);
-    select(&rt, &mut cores, 0);
-    set_mask(&rt, &mut cores, 3, 0xFFFF_FFFF);
-    assert!(&rt; cores.has_task(3));
-    assert_eq!(&rt; cores.mask(3), 3);
-    wake(&rt, &mut cores, 2);
-    expect(&rt, &cores, (3, true, false), (4, false, false));
-    select(&rt, &mut cores, 0);
-    expect(&rt, &cores, (2, false, false), (4, false, true));
-    select(&rt, &mut cores, 1);
-    expect(&rt, &cores, (2, false, false), (3, false, false));
-    Ok(())
+    play_from(
+        &rt,
+        rt.alloc(),
+        &[(3, 1), (2, 1), (1, 3)],
+        &[
+            Unready(2),
+            Select(0),
+            Mask(3, 0xFFFF_FFFF),
+            HasMask(3, 3),
+            Wake(2),
+            Looks((3, true, false), (4, false, false)),
+            Select(0),
+            Looks((2, false, false), (4, false, true)),
+            Select(1),
+            Looks((2, false, false), (3, false, false)),
+        ],
+    )
 }
 
 #[test]
 fn asked_cores_are_due(rt: HostRuntime) -> Result<(), Fail> {
-    let mut cores = started(&rt, rt.alloc(), false, &[(1, 3), (1, 3), (1, 3)])?;
-    for core in 0..2 {
-        assert!(&rt; cores.has_core(core));
-        cores.ask(1, core);
-    }
-    expect(&rt, &cores, (2, false, true), (3, true, false));
-    select(&rt, &mut cores, 1);
-    expect(&rt, &cores, (2, false, true), (4, false, false));
-    Ok(())
+    play_from(
+        &rt,
+        rt.alloc(),
+        &[(1, 3), (1, 3), (1, 3)],
+        &[
+            Ask(1, 0),
+            Ask(1, 1),
+            Looks((2, false, true), (3, true, false)),
+            Select(1),
+            Looks((2, false, true), (4, false, false)),
+        ],
+    )
 }
 
 #[test]
 fn priority_in_use(rt: HostRuntime) -> Result<(), Fail> {
-    let mut cores = started(&rt, rt.alloc(), false, &[(1, 3), (1, 3), (1, 3), (1, 3)])?;
-    // The priority that it has: the task goes to the end of its list.
-    set_in_use(&rt, &mut cores, 4, 1);
-    select(&rt, &mut cores, 0);
-    assert_eq!(&rt; look(&rt, &cores, 0), (5, false, false));
-    set_base(&rt, &mut cores, 4, 3);
-    set_in_use(&rt, &mut cores, 4, 3);
-    assert!(&rt; cores.has_task(4));
-    assert_eq!(&rt; (cores.base(4), cores.in_use(4)), (3, 3));
-    select(&rt, &mut cores, 0);
-    assert_eq!(&rt; look(&rt, &cores, 0), (4, false, false));
-    Ok(())
+    play_from(
+        &rt,
+        rt.alloc(),
+        &[(1, 3), (1, 3), (1, 3), (1, 3)],
+        &[
+            // The priority that it has: the task goes to the end of its list.
+            InUse(4, 1),
+            Select(0),
+            Looks((5, false, false), (3, false, false)),
+            Base(4, 3),
+            InUse(4, 3),
+            Priorities(4, 3, 3),
+            Select(0),
+            Looks((4, false, false), (3, false, false)),
+        ],
+    )
 }
 
 #[test]
 fn core_of_a_running_task_is_asked(rt: HostRuntime) -> Result<(), Fail> {
-    let mut cores = started(&rt, rt.alloc(), false, &[(2, 3), (1, 3), (1, 3)])?;
-    // It runs on none.
-    ask_its_core(&rt, &mut cores, 0, 4);
-    expect(&rt, &cores, (2, false, false), (3, false, false));
-    ask_its_core(&rt, &mut cores, 0, 3);
-    expect(&rt, &cores, (2, false, false), (3, false, true));
-    // A core that another asked is asked no more.
-    ask_its_core(&rt, &mut cores, 1, 3);
-    expect(&rt, &cores, (2, false, false), (3, false, true));
-    ask_its_core(&rt, &mut cores, 0, 2);
-    expect(&rt, &cores, (2, true, false), (3, false, true));
+    play_from(
+        &rt,
+        rt.alloc(),
+        &[(2, 3), (1, 3), (1, 3)],
+        &[
+            // It runs on none.
+            AskItsCore(0, 4),
+            Looks((2, false, false), (3, false, false)),
+            AskItsCore(0, 3),
+            Looks((2, false, false), (3, false, true)),
+            // A core that another asked is asked no more.
+            AskItsCore(1, 3),
+            Looks((2, false, false), (3, false, true)),
+            AskItsCore(0, 2),
+            Looks((2, true, false), (3, false, true)),
+        ],
+    )
+}
+
+// One time slice ends.
+fn check_slice(rt: &impl Abort, alloc: Global, slicing: bool) -> Result<(), Fail> {
+    let mut cores = started(rt, alloc, slicing, &[(2, 3), (1, 3), (1, 3)])?;
+    cores.slice();
+    expect(rt, &cores, (2, false, false), (3, false, slicing));
     Ok(())
 }
 
 #[test]
 fn time_slices(rt: HostRuntime) -> Result<(), Fail> {
     for slicing in [false, true] {
-        let mut cores = started(&rt, rt.alloc(), slicing, &[(2, 3), (1, 3), (1, 3)])?;
-        cores.slice();
-        expect(&rt, &cores, (2, false, false), (3, false, slicing));
+        check_slice(&rt, rt.alloc(), slicing)?;
     }
     Ok(())
 }
@@ -223,29 +388,37 @@ fn time_slices(rt: HostRuntime) -> Result<(), Fail> {
 fn same_lists_in_another_turn(rt: HostRuntime) -> Result<(), Fail> {
     let mut one = started(&rt, rt.alloc(), false, &[(2, 3), (1, 3), (1, 3)])?;
     let mut other = one.copy(rt.alloc())?;
-    assert!(&rt; one.same(&other));
-    set_in_use(&rt, &mut one, 3, 1);
-    assert!(&rt; !one.same(&other));
-    set_in_use(&rt, &mut one, 2, 2);
-    set_in_use(&rt, &mut other, 2, 2);
-    set_in_use(&rt, &mut other, 3, 1);
-    assert!(&rt; one.same(&other));
-    set_preempt(&rt, &mut one, 4, false);
-    assert!(&rt; !one.same(&other));
+    check_turns(&rt, &mut one, &mut other);
     Ok(())
+}
+
+fn check_turns(rt: &impl Abort, one: &mut Cores, other: &mut Cores) {
+    assert!(rt; one.same(other));
+    play(rt, one, &[InUse(3, 1)]);
+    assert!(rt; !one.same(other));
+    play(rt, one, &[InUse(2, 2)]);
+    play(rt, other, &[InUse(2, 2), InUse(3, 1)]);
+    assert!(rt; one.same(other));
+    play(rt, one, &[Preempt(4, false)]);
+    assert!(rt; !one.same(other));
 }
 
 #[test]
 fn each_priority_has_its_list(rt: HostRuntime) -> Result<(), Fail> {
-    let mut cores = started(&rt, rt.alloc(), false, &[(2, 3), (1, 3), (1, 3)])?;
-    expect_list(&rt, &cores, 0, &[0, 1]);
-    expect_list(&rt, &cores, 1, &[3, 4]);
-    expect_list(&rt, &cores, 2, &[2]);
-    select(&rt, &mut cores, 1);
-    expect_list(&rt, &cores, 1, &[4, 3]);
-    set_in_use(&rt, &mut cores, 4, 2);
-    unready(&rt, &mut cores, 3);
-    expect_list(&rt, &cores, 1, &[]);
-    expect_list(&rt, &cores, 2, &[2, 4]);
-    Ok(())
+    play_from(
+        &rt,
+        rt.alloc(),
+        &[(2, 3), (1, 3), (1, 3)],
+        &[
+            List(0, &[0, 1]),
+            List(1, &[3, 4]),
+            List(2, &[2]),
+            Select(1),
+            List(1, &[4, 3]),
+            InUse(4, 2),
+            Unready(3),
+            List(1, &[]),
+            List(2, &[2, 4]),
+        ],
+    )
 }

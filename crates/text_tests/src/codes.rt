@@ -1,5 +1,9 @@
 //! Codes of faults and refusals, what errors say, and the cores of a mask.
+
+use crate::answers::check_text;
 use bench_types::{EditFault, Fault, Refusal, cores_of_mask};
+use std::alloc::Global;
+use std::process::Abort;
 use std::test::Fail;
 
 const FAULTS: &[(Fault, &str)] = &[
@@ -23,28 +27,51 @@ const REFUSALS: &[(Refusal, &str)] = &[
     (Refusal::NotDue, "E10"),
 ];
 
+fn check_code(rt: &impl Abort, fault: Fault, code: &str) {
+    check_text(rt, fault.code(), code);
+    check_text(rt, EditFault::from(fault).code(), code);
+}
+
+fn check_refusals(rt: &impl Abort) {
+    for (refusal, code) in REFUSALS {
+        check_text(rt, refusal.code(), code);
+    }
+}
+
 #[test]
 fn codes(rt: HostRuntime) {
     for (fault, code) in FAULTS {
-        assert_eq!(&rt; fault.code(), *code);
-        assert_eq!(&rt; EditFault::from(*fault).code(), *code);
+        check_code(&rt, *fault, code);
     }
-    for (refusal, code) in REFUSALS {
-        assert_eq!(&rt; refusal.code(), *code);
-    }
-    assert_eq!(&rt; EditFault::NoPlace.code(), "J1");
-    assert_eq!(&rt; EditFault::TooLong.code(), "J2");
+    check_refusals(&rt);
+    check_text(&rt, EditFault::NoPlace.code(), "J1");
+    check_text(&rt, EditFault::TooLong.code(), "J2");
+}
+
+fn check_fault(rt: &impl Abort, alloc: Global, fault: Fault, want: &str) -> Result<(), Fail> {
+    let said = format!(in alloc; "{fault}")?;
+    check_text(rt, said.as_str(), want);
+    Ok(())
+}
+
+fn check_edit_fault(
+    rt: &impl Abort,
+    alloc: Global,
+    fault: EditFault,
+    want: &str,
+) -> Result<(), Fail> {
+    let said = format!(in alloc; "{fault}")?;
+    check_text(rt, said.as_str(), want);
+    Ok(())
 }
 
 #[test]
 fn what_errors_say(rt: HostRuntime) -> Result<(), Fail> {
-    let fault = format!(in rt.alloc(); "{}", Fault::BadCore)?;
-    assert_eq!(&rt; fault.as_str(), "there is no such core");
-    let edit_fault = format!(in rt.alloc(); "{}", EditFault::Bench(Fault::BadCore))?;
-    assert_eq!(&rt; edit_fault.as_str(), "there is no such core");
-    let no_place = format!(in rt.alloc(); "{}", EditFault::NoPlace)?;
-    assert_eq!(&rt; no_place.as_str(), "the session has no such place");
-    Ok(())
+    let no_core = "there is no such core";
+    check_fault(&rt, rt.alloc(), Fault::BadCore, no_core)?;
+    check_edit_fault(&rt, rt.alloc(), EditFault::Bench(Fault::BadCore), no_core)?;
+    let no_place = "the session has no such place";
+    check_edit_fault(&rt, rt.alloc(), EditFault::NoPlace, no_place)
 }
 
 #[test]

@@ -47,38 +47,50 @@ fn nested(alloc: Global, depth: usize) -> Result<Vec<u8>, AllocError> {
     Ok(text)
 }
 
+fn check_read(rt: &impl Abort, alloc: Global, text: &[u8], reads: bool) {
+    let refused = (!reads).then_some(Refused::NotJson);
+    assert_eq!(rt; refusal(alloc, text), refused, "{text:?}");
+}
+
 #[test]
 fn reads_what_serde_json_reads(rt: HostRuntime) -> Result<(), Fail> {
     for (text, reads) in TEXTS {
-        let refused = (!*reads).then_some(Refused::NotJson);
-        assert_eq!(&rt; refusal(rt.alloc(), text.as_bytes()), refused, "{text}");
+        check_read(&rt, rt.alloc(), text.as_bytes(), *reads);
     }
-    assert_eq!(&rt;
-        refusal(rt.alloc(), b"\"\xff\"".as_slice()),
-        Some(Refused::NotJson)
-    );
+    check_read(&rt, rt.alloc(), b"\"\xff\"".as_slice(), false);
+    Ok(())
+}
+
+fn check_depth(rt: &impl Abort, alloc: Global, depth: usize, reads: bool) -> Result<(), Fail> {
+    let text = nested(alloc, depth)?;
+    check_read(rt, alloc, text.as_slice(), reads);
     Ok(())
 }
 
 #[test]
 fn nests_to_127(rt: HostRuntime) -> Result<(), Fail> {
-    for (depth, refused) in &[
-        (127, None),
-        (128, Some(Refused::NotJson)),
-        (129, Some(Refused::NotJson)),
-    ] {
-        let text = nested(rt.alloc(), *depth)?;
-        assert_eq!(&rt; refusal(rt.alloc(), text.as_slice()), *refused, "{depth}");
+    for (depth, reads) in &[(127, true), (128, false), (129, false)] {
+        check_depth(&rt, rt.alloc(), *depth, *reads)?;
     }
+    Ok(())
+}
+
+fn check_number(
+    rt: &impl Abort,
+    alloc: Global,
+    text: &str,
+    number: Option<u64>,
+) -> Result<(), Fail> {
+    let mut scratch = Scratch::new(alloc);
+    let document = Document::parse(alloc, text.as_bytes(), &mut scratch)?;
+    assert_eq!(rt; document.root().as_u64(), number, "{text}");
     Ok(())
 }
 
 #[test]
 fn whole_numbers(rt: HostRuntime) -> Result<(), Fail> {
     for (text, number) in NUMBERS {
-        let mut scratch = Scratch::new(rt.alloc());
-        let document = Document::parse(rt.alloc(), text.as_bytes(), &mut scratch)?;
-        assert_eq!(&rt; document.root().as_u64(), *number, "{text}");
+        check_number(&rt, rt.alloc(), text, *number)?;
     }
     Ok(())
 }
@@ -93,24 +105,36 @@ fn finds_members(rt: HostRuntime) -> Result<(), Fail> {
     let mut scratch = Scratch::new(rt.alloc());
     let document = Document::parse(rt.alloc(), text.as_slice(), &mut scratch)?;
     let root = document.root();
-    assert_eq!(&rt; number_at(&root, "b"), Some(2));
-    assert_eq!(&rt; number_at(&root, "a"), None);
-    assert!(&rt; root.get("e").is_none());
+    check_members(&rt, &root);
     check_values(&rt, &root);
     check_names(&rt, &root);
     Ok(())
 }
 
+fn check_members(rt: &impl Abort, root: &Item<'_, '_>) {
+    assert_eq!(rt; number_at(root, "b"), Some(2));
+    assert_eq!(rt; number_at(root, "a"), None);
+    assert!(rt; root.get("e").is_none());
+}
+
+fn check_string(rt: &impl Abort, item: &Item<'_, '_>) {
+    assert_eq!(rt; item.as_str(), Some("x"));
+    assert_eq!(rt; item.as_bool(), None);
+    assert!(rt; item.as_array().is_none());
+}
+
+fn check_bool(rt: &impl Abort, item: &Item<'_, '_>) {
+    assert_eq!(rt; item.as_bool(), Some(false));
+    assert_eq!(rt; item.as_str(), None);
+    assert!(rt; item.as_object().is_none());
+}
+
 fn check_values(rt: &impl Abort, root: &Item<'_, '_>) {
-    if let Some(c) = root.get("c") {
-        assert_eq!(rt; c.as_str(), Some("x"));
-        assert_eq!(rt; c.as_bool(), None);
-        assert!(rt; c.as_array().is_none());
+    if let Some(item) = root.get("c") {
+        check_string(rt, &item);
     }
-    if let Some(d) = root.get("d") {
-        assert_eq!(rt; d.as_bool(), Some(false));
-        assert_eq!(rt; d.as_str(), None);
-        assert!(rt; d.as_object().is_none());
+    if let Some(item) = root.get("d") {
+        check_bool(rt, &item);
     }
 }
 
@@ -132,18 +156,20 @@ fn next_number(items: &mut Items<'_, '_>) -> Option<Option<u64>> {
     }
 }
 
+fn check_array(rt: &impl Abort, items: &mut Items<'_, '_>) {
+    assert_eq!(rt; next_number(items), Some(Some(3)));
+    assert_eq!(rt; next_number(items), Some(None));
+    assert_eq!(rt; next_number(items), Some(Some(6)));
+    assert_eq!(rt; next_number(items), None);
+}
+
 #[test]
 fn walks_items(rt: HostRuntime) -> Result<(), Fail> {
     let text = b"[3,[4,5],6]";
     let mut scratch = Scratch::new(rt.alloc());
     let document = Document::parse(rt.alloc(), text.as_slice(), &mut scratch)?;
     match document.root().as_array() {
-        Some(mut items) => {
-            assert_eq!(&rt; next_number(&mut items), Some(Some(3)));
-            assert_eq!(&rt; next_number(&mut items), Some(None));
-            assert_eq!(&rt; next_number(&mut items), Some(Some(6)));
-            assert_eq!(&rt; next_number(&mut items), None);
-        }
+        Some(mut items) => check_array(&rt, &mut items),
         None => assert!(&rt; false),
     }
     Ok(())

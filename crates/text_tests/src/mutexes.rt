@@ -16,11 +16,11 @@ const CALLS: CallTables = CallTables {
 };
 
 // The table of sessions by the number of their mutexes.
-const NUMBERS: Table = Table {
+const NUMBERS: &[Table] = &[Table {
     document: Document::Session,
     base: Base::Text(NO_MUTEX),
     rows: NUMBERS_OF_MUTEXES,
-};
+}];
 
 // Steps, and what reading the session of them gives, which has two mutexes: each member is missing,
 // ill-typed, out of its order or joined by an unknown one.
@@ -189,5 +189,5 @@ const ROWS: &str = r#"
 #[test]
 fn mutex_calls_as_texts(rt: HostRuntime) -> Result<(), Fail> {
     check_calls(&rt, rt.alloc(), &CALLS)?;
-    check_tables(&rt, rt.alloc(), &[NUMBERS])
+    check_tables(&rt, rt.alloc(), NUMBERS)
 }

@@ -14,7 +14,7 @@ use std::test::Fail;
 
 /// Rows, each with a text, and after a bar the outcome of reading it: `read`, or the code of the
 /// fault and its path.
-#[derive(Drop)]
+#[derive(Clone, Copy)]
 pub struct Table {
     pub document: Document,
     pub base: Base,
@@ -187,11 +187,15 @@ impl Document {
     }
 }
 
+fn check_row(rt: &impl Abort, alloc: Global, table: &Table, line: &str) -> Result<(), Fail> {
+    let (given, want) = line.split_once(" | ").ok_or("a row has an outcome")?;
+    let text = table.base.text(alloc, given)?;
+    table.document.check(rt, alloc, text.as_bytes(), want)
+}
+
 fn check_table(rt: &impl Abort, alloc: Global, table: &Table) -> Result<(), Fail> {
     for line in table.rows.trim().lines() {
-        let (given, want) = line.split_once(" | ").ok_or("a row has an outcome")?;
-        let text = table.base.text(alloc, given)?;
-        table.document.check(rt, alloc, text.as_bytes(), want)?;
+        check_row(rt, alloc, table, line)?;
     }
     Ok(())
 }

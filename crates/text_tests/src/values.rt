@@ -148,15 +148,19 @@ fn check_orders(rt: &impl Abort, alloc: Global, orders: &Orders) -> Result<(), F
 
 const ORDERS: &[&Orders] = &[&notes::ORDERS, &mutexes::ORDERS, &holds::ORDERS];
 
+fn check_sessions(rt: &impl Abort, alloc: Global) -> Result<(), Fail> {
+    for text in sets::SESSIONS {
+        check_steps(rt, alloc, text, sets::SESSION_STEPS)?;
+    }
+    check_steps(rt, alloc, SESSION, SESSION_STEPS)
+}
+
 #[test]
 fn steps(rt: HostRuntime) -> Result<(), Fail> {
     for orders in ORDERS {
         check_orders(&rt, rt.alloc(), orders)?;
     }
-    for text in sets::SESSIONS {
-        check_steps(&rt, rt.alloc(), text, sets::SESSION_STEPS)?;
-    }
-    check_steps(&rt, rt.alloc(), SESSION, SESSION_STEPS)
+    check_sessions(&rt, rt.alloc())
 }
 
 /// Read under this header, the text is this edit.

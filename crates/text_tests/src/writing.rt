@@ -128,11 +128,15 @@ fn check_kind(rt: &impl Abort, alloc: Global, step: &str, written: &str) -> Resu
     check_step(rt, alloc, written, want.as_str())
 }
 
+fn check_line(rt: &impl Abort, alloc: Global, line: &str) -> Result<(), Fail> {
+    let (step, written) = line.split_once(" | ").ok_or("a row has two parts")?;
+    check_kind(rt, alloc, step, written)
+}
+
 #[test]
 fn steps_of_every_kind(rt: HostRuntime) -> Result<(), Fail> {
     for line in STEPS.trim().lines() {
-        let (step, written) = line.split_once(" | ").ok_or("a row has two parts")?;
-        check_kind(&rt, rt.alloc(), step, written)?;
+        check_line(&rt, rt.alloc(), line)?;
     }
     Ok(())
 }

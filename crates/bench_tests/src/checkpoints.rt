@@ -121,8 +121,8 @@ const SEVENTH: (Edit, u32, u32) = tick!(7, 4, 8);
 
 const EIGHTH: (Edit, u32, u32) = tick!(8, 6, 9);
 
-/// The cases, and how many replies there are then: first one more with each edit, where A clears
-/// and then nothing is due, and then one less.
+/// The cases with the replies then: where A clears and nothing is due then, and where steps of the
+/// yield are removed.
 const MEETINGS: [(Case<'static>, &[Reply]); 6] = [
     (
         Case {

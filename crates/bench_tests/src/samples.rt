@@ -2,7 +2,8 @@
 ghost use Rattle.std.specs.Prelude.{◌≡◌};
 ghost use Rattle.bench_types.specs.Step.{settings_of};
 
-use bench_types::{Call, Config, Edit, EditFault, Header, Items, Name, Reply, Step, TaskArgs};
+use bench_samples::{PLAIN, header_of};
+use bench_types::{Call, Config, Edit, EditFault, Header, Reply, Step};
 use session_store::{Outcome, Store, StoreFault};
 use smp_kernel::{Kernel, Meter};
 use std::alloc::{AllocError, Global};
@@ -28,27 +29,10 @@ pub const SWITCH_1: Step = Step::Switch { core: 1 };
 pub fn three_tasks(alloc: Global, cores: u32, slicing: bool) -> Result<Header, Fail> {
     let config = Config {
         cores,
-        priorities: 5,
         slicing,
-        tick: 0,
-        mutexes: 0,
+        ..PLAIN
     };
-    let mut tasks = Vec::new(alloc);
-    for (name, priority) in &[("A", 2), ("B", 1), ("C", 1)] {
-        tasks.push(task_args(name, *priority)?)?;
-    }
-    Ok(Header {
-        config,
-        tasks: Items::new(tasks),
-    })
-}
-
-fn task_args(name: &str, priority: u32) -> Result<TaskArgs, Fail> {
-    Ok(TaskArgs {
-        name: Name::new(name)?,
-        priority,
-        mask: 3,
-    })
+    Ok(header_of(alloc, config, &[("A", 2, 3), ("B", 1, 3), ("C", 1, 3)])?)
 }
 
 /// What was made is what was wanted. Tests call this, since each `assert_eq!` with a message is

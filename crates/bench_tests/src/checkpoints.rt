@@ -1,8 +1,11 @@
 //! Which steps are replayed for an edit, and where the checkpoints lie after it. A program that was
 //! written apart from this one computed the numbers, over a flat table.
-use crate::samples::{A_DELAYS, Opened, SWITCH_0, SWITCH_1, assert_replay, assert_row, make_edits};
+use crate::samples::{
+    A_DELAYS, Opened, SWITCH_0, SWITCH_1, assert_at, assert_replay, assert_replies, assert_row,
+    assert_same, make_edits, tick_at,
+};
 use crate::spans::check_as_new;
-use crate::store_edits::{A_YIELDS, change, insert, replace};
+use crate::store_edits::{A_YIELDS, change};
 use Reply::Done;
 use bench_types::{Call, Edit, Refusal, Reply, Step};
 use session_store::Store;
@@ -39,6 +42,20 @@ const A_SETS_C: Step = Step::Call {
     },
 };
 
+/// A step is removed, and the replay is between the two places.
+macro_rules! remove {
+    ($at:expr, $from:expr, $met:expr) => {
+        (Edit::Remove { at: $at }, $from, $met)
+    };
+}
+
+/// A tick is put in at the place, and the replay is between the two others.
+macro_rules! tick {
+    ($at:expr, $from:expr, $met:expr) => {
+        (Edit::Insert { at: $at, step: TICK }, $from, $met)
+    };
+}
+
 /// A session of A, B and C with a checkpoint every so many steps, its edits with where their
 /// replays begin and end, and the checkpoints then.
 #[derive(Clone, Copy)]
@@ -61,66 +78,106 @@ fn edited(rt: &impl Abort, host: &HostRuntime, case: &Case<'_>) -> Result<Opened
 fn assert_checkpoints(rt: &impl Abort, store: &Store, places: &[u32]) {
     assert!(rt; places.len() <= store.len() as usize + 1);
     for (k, place) in places.iter().enumerate() {
-        assert_eq!(rt; store.checkpoint(k as u32), Some(*place), "checkpoint {k}");
+        assert_at(
+            rt,
+            "checkpoint",
+            k as u32,
+            &store.checkpoint(k as u32),
+            &Some(*place),
+        );
     }
-    assert_eq!(rt; store.checkpoint(places.len() as u32), None);
+    assert_same(rt, "next", &store.checkpoint(places.len() as u32), &None);
 }
 
-fn check_case(rt: &impl Abort, host: &HostRuntime, case: &Case<'_>) -> Result<(), Fail> {
-    let mut opened = edited(rt, host, case)?;
-    check_as_new(rt, host, &mut opened)
-}
-
-fn check_replies(rt: &impl Abort, store: &Store, replies: &[Reply]) {
-    assert_eq!(rt; store.len() as usize, replies.len());
-    for (i, reply) in replies.iter().enumerate() {
-        assert_eq!(rt; store.reply(i as u32), Some(*reply), "step {i}");
+fn check_cases(rt: &impl Abort, host: &HostRuntime, cases: &[Case<'_>]) -> Result<(), Fail> {
+    for case in cases {
+        let mut opened = edited(rt, host, case)?;
+        check_as_new(rt, host, &mut opened)?;
     }
+    Ok(())
 }
 
-fn check_rows(rt: &impl Abort, store: &Store, rows: &[[u32; 2]]) {
-    assert_eq!(rt; store.len() as usize + 1, rows.len());
-    for (place, row) in rows.iter().enumerate() {
-        assert_row(rt, store, place as u32, *row);
-    }
-}
+/// Where A yields, with a checkpoint every second step.
+const YIELDED: Case<'static> = Case {
+    slicing: false,
+    steps: &YIELD,
+    span: 2,
+    edits: &[],
+    checkpoints: &[0, 2, 4],
+};
 
-/// The replies where A clears and then nothing is due.
-const CLEARED: [Reply; 9] = [
-    Reply::Flag(false),
-    NOT_DUE,
-    Done,
-    Done,
-    Done,
-    Done,
-    Done,
-    Done,
-    Done,
+const CLEAR: (Edit, u32, u32) = (
+    Edit::Replace {
+        at: 0,
+        step: A_CLEARS,
+    },
+    0,
+    2,
+);
+
+const SIXTH: (Edit, u32, u32) = tick!(6, 4, 7);
+
+const SEVENTH: (Edit, u32, u32) = tick!(7, 4, 8);
+
+const EIGHTH: (Edit, u32, u32) = tick!(8, 6, 9);
+
+/// The cases with the replies then: where A clears and nothing is due then, and where steps of the
+/// yield are removed.
+const MEETINGS: [(Case<'static>, &[Reply]); 6] = [
+    (
+        Case {
+            edits: &[CLEAR],
+            ..YIELDED
+        },
+        &[CLEARED, NOT_DUE, Done, Done, Done, Done],
+    ),
+    (
+        Case {
+            edits: &[CLEAR, SIXTH],
+            ..YIELDED
+        },
+        &[CLEARED, NOT_DUE, Done, Done, Done, Done, Done],
+    ),
+    (
+        Case {
+            edits: &[CLEAR, SIXTH, SEVENTH],
+            checkpoints: &[0, 2, 4, 6],
+            ..YIELDED
+        },
+        &[CLEARED, NOT_DUE, Done, Done, Done, Done, Done, Done],
+    ),
+    (
+        Case {
+            edits: &[CLEAR, SIXTH, SEVENTH, EIGHTH],
+            checkpoints: &[0, 2, 4, 6],
+            ..YIELDED
+        },
+        &[CLEARED, NOT_DUE, Done, Done, Done, Done, Done, Done, Done],
+    ),
+    (
+        Case {
+            edits: &[remove!(2, 2, 5)],
+            checkpoints: &[0, 2, 3],
+            ..YIELDED
+        },
+        &[Done; 5],
+    ),
+    (
+        Case {
+            edits: &[remove!(2, 2, 5), remove!(2, 2, 4)],
+            checkpoints: &[0, 2],
+            ..YIELDED
+        },
+        &[Done; 4],
+    ),
 ];
+
+const CLEARED: Reply = Reply::Flag(false);
 
 #[test]
 fn an_edit_meets_the_session_or_the_end(rt: HostRuntime) -> Result<(), Fail> {
-    let remove = Edit::Remove { at: 2 };
-    let clear = (replace(0, A_CLEARS), 0, 2);
-    let (sixth, seventh) = ((insert(6, TICK), 4, 7), (insert(7, TICK), 4, 8));
-    let all = [clear, sixth, seventh, (insert(8, TICK), 6, 9)];
-    let removed = [(remove, 2, 5), (remove, 2, 4)];
-    for (edits, checkpoints, replies) in &[
-        (&all[..1], [0, 2, 4].as_slice(), &CLEARED[..6]),
-        (&all[..2], &[0, 2, 4], &CLEARED[..7]),
-        (&all[..3], &[0, 2, 4, 6], &CLEARED[..8]),
-        (&all, &[0, 2, 4, 6], &CLEARED),
-        (&removed[..1], &[0, 2, 3], &CLEARED[4..]),
-        (&removed, &[0, 2], &CLEARED[5..]),
-    ] {
-        let case = Case {
-            slicing: false,
-            steps: &YIELD,
-            span: 2,
-            edits,
-            checkpoints,
-        };
-        check_yield(&rt, &rt, &case, replies)?;
+    for (case, replies) in &MEETINGS {
+        check_yield(&rt, &rt, case, replies)?;
     }
     Ok(())
 }
@@ -133,314 +190,462 @@ fn check_yield(
     replies: &[Reply],
 ) -> Result<(), Fail> {
     let mut opened = edited(rt, host, case)?;
-    check_replies(rt, &opened.store, replies);
-    for place in 0..=opened.store.len() {
-        assert_row(rt, &opened.store, place, [2, 3]);
-    }
+    check_shown(rt, &opened.store, replies);
     check_as_new(rt, host, &mut opened)
 }
 
+fn check_shown(rt: &impl Abort, store: &Store, replies: &[Reply]) {
+    assert_replies(rt, store, replies);
+    for place in 0..=store.len() {
+        assert_row(rt, store, place, [2, 3]);
+    }
+}
+
+/// Where A yields in place of its delay.
+const LASTING: Case<'static> = Case {
+    slicing: true,
+    steps: &DELAY,
+    span: 64,
+    edits: &[(
+        Edit::Replace {
+            at: 0,
+            step: A_YIELDS,
+        },
+        0,
+        8,
+    )],
+    checkpoints: &[0],
+};
+
+const LASTING_CASES: [Case<'static>; 3] = [
+    LASTING,
+    Case {
+        span: 3,
+        checkpoints: &[0, 3, 6],
+        ..LASTING
+    },
+    Case {
+        span: 1,
+        checkpoints: &[0, 1, 2, 3, 4, 5, 6, 7],
+        ..LASTING
+    },
+];
+
 #[test]
 fn an_edit_lasts_to_the_end(rt: HostRuntime) -> Result<(), Fail> {
-    for (span, checkpoints) in &[
-        (64, [0].as_slice()),
-        (3, &[0, 3, 6]),
-        (1, &[0, 1, 2, 3, 4, 5, 6, 7]),
-    ] {
-        let case = Case {
-            slicing: true,
-            steps: &DELAY,
-            span: *span,
-            edits: &[(replace(0, A_YIELDS), 0, 8)],
-            checkpoints,
-        };
-        check_lasting(&rt, &edited(&rt, &rt, &case)?.store);
+    for case in &LASTING_CASES {
+        check_lasting(&rt, &edited(&rt, &rt, case)?.store);
     }
     Ok(())
 }
 
+/// B runs on core 1 but at these places, where C does.
+const WITH_C: [u32; 3] = [5, 6, 7];
+
 fn check_lasting(rt: &impl Abort, store: &Store) {
-    let (before, after) = ([2, 3], [2, 4]);
-    check_replies(
-        rt,
-        store,
-        &[Done, Done, Done, NOT_DUE, Done, Done, NOT_DUE, Done],
-    );
-    check_rows(
-        rt,
-        store,
-        &[
-            before, before, before, before, before, after, after, after, before,
-        ],
-    );
+    let replies = [Done, Done, Done, NOT_DUE, Done, Done, NOT_DUE, Done];
+    assert_replies(rt, store, &replies);
+    for place in 0..=8 {
+        let other = if WITH_C.contains(&place) { 4 } else { 3 };
+        assert_row(rt, store, place, [2, other]);
+    }
 }
+
+/// Of no steps.
+const STARTED: Case<'static> = Case {
+    slicing: true,
+    steps: &[],
+    span: 64,
+    edits: &[],
+    checkpoints: &[0],
+};
+
+const STARTS: [(Case<'static>, [u32; 2]); 2] = [
+    (
+        Case {
+            edits: &[(change!(3, 3), 0, 0)],
+            ..STARTED
+        },
+        [3, 2],
+    ),
+    (
+        Case {
+            edits: &[(change!(3, 1), 0, 0)],
+            ..STARTED
+        },
+        [2, 3],
+    ),
+];
 
 #[test]
 fn a_task_is_changed_at_the_start(rt: HostRuntime) -> Result<(), Fail> {
-    for (edit, row) in &[(change(3, 3), [3, 2]), (change(3, 1), [2, 3])] {
-        let case = Case {
-            slicing: true,
-            steps: &[],
-            span: 64,
-            edits: &[(*edit, 0, 0)],
-            checkpoints: &[0],
-        };
-        let opened = edited(&rt, &rt, &case)?;
-        assert_replay(&rt, &opened.store, &[], *row);
+    for (case, row) in &STARTS {
+        assert_replay(&rt, &edited(&rt, &rt, case)?.store, &[], *row);
     }
     Ok(())
 }
+
+/// Where A gives C a priority.
+const SET: Case<'static> = Case {
+    slicing: false,
+    steps: &[A_SETS_C, TICK, TICK, TICK],
+    span: 1,
+    edits: &[],
+    checkpoints: &[0, 1, 2, 3],
+};
+
+const MORE_BITS: Edit = Edit::ChangeTask {
+    task: 4,
+    priority: 1,
+    mask: 7,
+};
+
+const CHANGED: [Case<'static>; 7] = [
+    Case {
+        edits: &[(change!(4, 1), 0, 0)],
+        ..SET
+    },
+    Case {
+        span: 3,
+        edits: &[(MORE_BITS, 0, 0)],
+        checkpoints: &[0, 3],
+        ..SET
+    },
+    Case {
+        edits: &[(change!(4, 0), 0, 1)],
+        ..SET
+    },
+    Case {
+        span: 2,
+        edits: &[(change!(4, 0), 0, 2)],
+        checkpoints: &[0, 2],
+        ..SET
+    },
+    Case {
+        span: 3,
+        edits: &[(change!(4, 0), 0, 3)],
+        checkpoints: &[0, 3],
+        ..SET
+    },
+    Case {
+        span: 4,
+        edits: &[(change!(4, 0), 0, 4)],
+        checkpoints: &[0],
+        ..SET
+    },
+    Case {
+        edits: &[(change!(3, 0), 0, 4)],
+        ..SET
+    },
+];
 
 #[test]
 fn a_changed_task_is_met(rt: HostRuntime) -> Result<(), Fail> {
-    let more_bits = Edit::ChangeTask {
-        task: 4,
-        priority: 1,
-        mask: 7,
-    };
-    for (span, edit, met, checkpoints) in &[
-        (1, change(4, 1), 0, [0, 1, 2, 3].as_slice()),
-        (3, more_bits, 0, &[0, 3]),
-        (1, change(4, 0), 1, &[0, 1, 2, 3]),
-        (2, change(4, 0), 2, &[0, 2]),
-        (3, change(4, 0), 3, &[0, 3]),
-        (4, change(4, 0), 4, &[0]),
-        (1, change(3, 0), 4, &[0, 1, 2, 3]),
-    ] {
-        let case = Case {
-            slicing: false,
-            steps: &[A_SETS_C, TICK, TICK, TICK],
-            span: *span,
-            edits: &[(*edit, 0, *met)],
-            checkpoints,
-        };
-        check_case(&rt, &rt, &case)?;
-    }
-    Ok(())
+    check_cases(&rt, &rt, &CHANGED)
 }
+
+/// Where A leaves its core for two ticks, with a checkpoint every second step.
+const DELAYED: Case<'static> = Case {
+    slicing: false,
+    steps: &DELAY,
+    span: 2,
+    edits: &[],
+    checkpoints: &[0, 2, 4, 6],
+};
+
+const SWITCH_FOURTH: Edit = Edit::Replace {
+    at: 3,
+    step: SWITCH_1,
+};
+
+const FOURTH: (Edit, u32, u32) = (
+    Edit::Insert {
+        at: 4,
+        step: SWITCH_0,
+    },
+    4,
+    7,
+);
+
+const SWITCHED: [Case<'static>; 5] = [
+    Case {
+        slicing: true,
+        edits: &[(SWITCH_FOURTH, 2, 6)],
+        ..DELAYED
+    },
+    Case {
+        edits: &[(SWITCH_FOURTH, 2, 4)],
+        ..DELAYED
+    },
+    Case {
+        edits: &[(
+            Edit::Insert {
+                at: 0,
+                step: SWITCH_0,
+            },
+            0,
+            3,
+        )],
+        checkpoints: &[0, 3, 5, 7],
+        ..DELAYED
+    },
+    Case {
+        edits: &[FOURTH],
+        checkpoints: &[0, 2, 4, 7],
+        ..DELAYED
+    },
+    Case {
+        edits: &[FOURTH, remove!(4, 4, 6)],
+        ..DELAYED
+    },
+];
 
 #[test]
 fn a_refused_switch_changes_little(rt: HostRuntime) -> Result<(), Fail> {
-    let (switch_1, first) = (replace(3, SWITCH_1), (insert(0, SWITCH_0), 0, 3));
-    let (fourth, back) = ((insert(4, SWITCH_0), 4, 7), (Edit::Remove { at: 4 }, 4, 6));
-    for (slicing, edits, checkpoints) in &[
-        (true, [(switch_1, 2, 6)].as_slice(), [0, 2, 4, 6]),
-        (false, &[(switch_1, 2, 4)], [0, 2, 4, 6]),
-        (false, &[first], [0, 3, 5, 7]),
-        (false, &[fourth], [0, 2, 4, 7]),
-        (false, &[fourth, back], [0, 2, 4, 6]),
-    ] {
-        let case = Case {
-            slicing: *slicing,
-            steps: &DELAY,
-            span: 2,
-            edits,
-            checkpoints,
-        };
-        check_case(&rt, &rt, &case)?;
-    }
-    Ok(())
+    check_cases(&rt, &rt, &SWITCHED)
 }
 
-fn remove(at: u32, from: u32, met: u32) -> (Edit, u32, u32) {
-    (Edit::Remove { at }, from, met)
-}
+/// Of ticks, with a checkpoint every second step.
+const TICKS_BY_2: Case<'static> = Case {
+    slicing: false,
+    steps: &[TICK; 6],
+    span: 2,
+    edits: &[],
+    checkpoints: &[0, 2, 4],
+};
 
-/// A tick is put in at the place.
-fn tick(at: u32, from: u32, met: u32) -> (Edit, u32, u32) {
-    (insert(at, TICK), from, met)
-}
+const TICKS_BY_3: Case<'static> = Case {
+    steps: &[TICK; 7],
+    span: 3,
+    ..TICKS_BY_2
+};
+
+const TICKS_BY_1: Case<'static> = Case {
+    steps: &[TICK; 3],
+    span: 1,
+    ..TICKS_BY_2
+};
+
+const NO_TICKS: Case<'static> = Case {
+    steps: &[],
+    ..TICKS_BY_2
+};
+
+const MOVES: [Case<'static>; 8] = [
+    Case {
+        edits: &[tick!(1, 0, 7)],
+        checkpoints: &[0, 3, 5],
+        ..TICKS_BY_2
+    },
+    Case {
+        edits: &[tick!(2, 2, 7)],
+        checkpoints: &[0, 2, 5],
+        ..TICKS_BY_2
+    },
+    Case {
+        edits: &[(
+            Edit::Replace {
+                at: 3,
+                step: SWITCH_0,
+            },
+            2,
+            6,
+        )],
+        ..TICKS_BY_2
+    },
+    Case {
+        edits: &[remove!(1, 0, 5)],
+        checkpoints: &[0, 1, 3],
+        ..TICKS_BY_2
+    },
+    Case {
+        edits: &[remove!(5, 4, 5), remove!(4, 4, 4)],
+        ..TICKS_BY_2
+    },
+    Case {
+        edits: &[(change!(4, 0), 0, 6)],
+        ..TICKS_BY_2
+    },
+    Case {
+        edits: &[tick!(4, 3, 8), tick!(5, 3, 9)],
+        checkpoints: &[0, 3, 8],
+        ..TICKS_BY_3
+    },
+    Case {
+        span: 1000,
+        checkpoints: &[0],
+        ..TICKS_BY_3
+    },
+];
 
 #[test]
 fn checkpoints_move_with_their_steps(rt: HostRuntime) -> Result<(), Fail> {
-    for (count, span, edits, checkpoints) in &[
-        (6, 2, [tick(1, 0, 7)].as_slice(), [0, 3, 5].as_slice()),
-        (6, 2, &[tick(2, 2, 7)], &[0, 2, 5]),
-        (6, 2, &[(replace(3, SWITCH_0), 2, 6)], &[0, 2, 4]),
-        (6, 2, &[remove(1, 0, 5)], &[0, 1, 3]),
-        (6, 2, &[remove(5, 4, 5), remove(4, 4, 4)], &[0, 2, 4]),
-        (6, 2, &[(change(4, 0), 0, 6)], &[0, 2, 4]),
-        (7, 3, &[tick(4, 3, 8), tick(5, 3, 9)], &[0, 3, 8]),
-        (7, 1000, &[], &[0]),
-    ] {
-        check_ticks(&rt, &rt, *count, *span, edits, checkpoints)?;
-    }
-    Ok(())
+    check_cases(&rt, &rt, &MOVES)
 }
 
-fn check_ticks(
-    rt: &impl Abort,
-    host: &HostRuntime,
-    count: usize,
-    span: u32,
-    edits: &[(Edit, u32, u32)],
-    checkpoints: &[u32],
-) -> Result<(), Fail> {
-    let ticks = [TICK; 8];
-    assert!(rt; count <= ticks.len());
-    let case = Case {
-        slicing: false,
-        steps: &ticks[..count],
-        span,
-        edits,
-        checkpoints,
-    };
-    check_case(rt, host, &case)
-}
+const JOINED: [Case<'static>; 4] = [
+    Case {
+        edits: &[remove!(2, 2, 5), remove!(2, 2, 4)],
+        checkpoints: &[0, 2],
+        ..TICKS_BY_2
+    },
+    Case {
+        edits: &[remove!(1, 0, 5), remove!(0, 0, 4)],
+        checkpoints: &[0, 2],
+        ..TICKS_BY_2
+    },
+    Case {
+        edits: &[remove!(1, 1, 2)],
+        checkpoints: &[0, 1],
+        ..TICKS_BY_1
+    },
+    Case {
+        edits: &[remove!(2, 2, 2), remove!(1, 1, 1), remove!(0, 0, 0)],
+        checkpoints: &[0],
+        ..TICKS_BY_1
+    },
+];
 
 #[test]
 fn two_checkpoints_at_one_place_become_one(rt: HostRuntime) -> Result<(), Fail> {
-    for (count, span, edits, checkpoints) in &[
-        (
-            6,
-            2,
-            [remove(2, 2, 5), remove(2, 2, 4)].as_slice(),
-            [0, 2].as_slice(),
-        ),
-        (6, 2, &[remove(1, 0, 5), remove(0, 0, 4)], &[0, 2]),
-        (3, 1, &[remove(1, 1, 2)], &[0, 1]),
-        (
-            3,
-            1,
-            &[remove(2, 2, 2), remove(1, 1, 1), remove(0, 0, 0)],
-            &[0],
-        ),
-    ] {
-        check_ticks(&rt, &rt, *count, *span, edits, checkpoints)?;
-    }
-    Ok(())
+    check_cases(&rt, &rt, &JOINED)
 }
+
+const PARTED: [Case<'static>; 7] = [
+    Case {
+        edits: &[tick!(3, 2, 7), tick!(3, 2, 8)],
+        checkpoints: &[0, 2, 4, 6],
+        ..TICKS_BY_2
+    },
+    Case {
+        edits: &[tick!(6, 4, 7), tick!(7, 4, 8)],
+        checkpoints: &[0, 2, 4, 6],
+        ..TICKS_BY_2
+    },
+    Case {
+        edits: &[tick!(4, 3, 8), tick!(5, 3, 9), tick!(6, 3, 10)],
+        checkpoints: &[0, 3, 6, 9],
+        ..TICKS_BY_3
+    },
+    Case {
+        edits: &[tick!(3, 2, 4)],
+        checkpoints: &[0, 1, 2, 3],
+        ..TICKS_BY_1
+    },
+    Case {
+        edits: &[tick!(0, 0, 4)],
+        checkpoints: &[0, 1, 2, 3],
+        ..TICKS_BY_1
+    },
+    Case {
+        span: 1,
+        edits: &[tick!(0, 0, 1), tick!(1, 0, 2), tick!(2, 1, 3)],
+        checkpoints: &[0, 1, 2],
+        ..NO_TICKS
+    },
+    Case {
+        edits: &[
+            tick!(0, 0, 1),
+            tick!(0, 0, 2),
+            tick!(0, 0, 3),
+            tick!(0, 0, 4),
+        ],
+        checkpoints: &[0, 2],
+        ..NO_TICKS
+    },
+];
 
 #[test]
 fn two_spans_get_a_checkpoint(rt: HostRuntime) -> Result<(), Fail> {
-    let from_nothing = [tick(0, 0, 1), tick(0, 0, 2), tick(0, 0, 3), tick(0, 0, 4)];
-    for (count, span, edits, checkpoints) in &[
-        (
-            6,
-            2,
-            [tick(3, 2, 7), tick(3, 2, 8)].as_slice(),
-            [0, 2, 4, 6].as_slice(),
-        ),
-        (6, 2, &[tick(6, 4, 7), tick(7, 4, 8)], &[0, 2, 4, 6]),
-        (
-            7,
-            3,
-            &[tick(4, 3, 8), tick(5, 3, 9), tick(6, 3, 10)],
-            &[0, 3, 6, 9],
-        ),
-        (3, 1, &[tick(3, 2, 4)], &[0, 1, 2, 3]),
-        (3, 1, &[tick(0, 0, 4)], &[0, 1, 2, 3]),
-        (
-            0,
-            1,
-            &[tick(0, 0, 1), tick(1, 0, 2), tick(2, 1, 3)],
-            &[0, 1, 2],
-        ),
-        (0, 2, &from_nothing, &[0, 2]),
-    ] {
-        check_ticks(&rt, &rt, *count, *span, edits, checkpoints)?;
-    }
-    Ok(())
-}
-
-#[test]
-fn a_state_counts_from_the_checkpoint(rt: HostRuntime) -> Result<(), Fail> {
-    let places = [
-        (0, 0, 0),
-        (2, 2, 2),
-        (3, 3, 0),
-        (5, 5, 2),
-        (6, 6, 0),
-        (7, 7, 1),
-    ];
-    let removed = [remove(2, 2, 5), remove(2, 2, 4)];
-    for (steps, span, edits, checkpoints, places) in &[
-        (
-            [TICK; 7].as_slice(),
-            3,
-            [].as_slice(),
-            [0, 3, 6].as_slice(),
-            places.as_slice(),
-        ),
-        (
-            &YIELD,
-            2,
-            &removed,
-            &[0, 2],
-            &[(4, 2, 2), (2, 0, 0), (1, 0, 1)],
-        ),
-    ] {
-        let case = Case {
-            slicing: false,
-            steps,
-            span: *span,
-            edits,
-            checkpoints,
-        };
-        check_states(&rt, &rt, &case, places)?;
-    }
-    Ok(())
+    check_cases(&rt, &rt, &PARTED)
 }
 
 /// Each place, its tick count, and how many steps are counted for its state.
-fn check_states(
-    rt: &impl Abort,
-    host: &HostRuntime,
-    case: &Case<'_>,
-    places: &[(u32, u32, u64)],
-) -> Result<(), Fail> {
-    let mut opened = edited(rt, host, case)?;
-    for place in places {
-        check_state(rt, host.alloc(), &mut opened, place)?;
+const STATES: [(Case<'static>, &[(u32, u32, u64)]); 2] = [
+    (
+        Case {
+            checkpoints: &[0, 3, 6],
+            ..TICKS_BY_3
+        },
+        &[
+            (0, 0, 0),
+            (2, 2, 2),
+            (3, 3, 0),
+            (5, 5, 2),
+            (6, 6, 0),
+            (7, 7, 1),
+        ],
+    ),
+    (
+        Case {
+            edits: &[remove!(2, 2, 5), remove!(2, 2, 4)],
+            checkpoints: &[0, 2],
+            ..YIELDED
+        },
+        &[(4, 2, 2), (2, 0, 0), (1, 0, 1)],
+    ),
+];
+
+#[test]
+fn a_state_counts_from_the_checkpoint(rt: HostRuntime) -> Result<(), Fail> {
+    for (case, places) in &STATES {
+        let mut opened = edited(&rt, &rt, case)?;
+        check_states(&rt, rt.alloc(), &mut opened, places)?;
     }
-    check_past(rt, host.alloc(), &mut opened)
+    Ok(())
 }
 
-fn check_state(
+fn check_states(
     rt: &impl Abort,
     alloc: Global,
     opened: &mut Opened,
-    place: &(u32, u32, u64),
+    places: &[(u32, u32, u64)],
 ) -> Result<(), Fail> {
-    let (place, tick, counted) = *place;
-    let count = opened.meter.count();
-    match opened.store.state(alloc, place, &mut opened.meter)? {
-        Some(kernel) => assert_eq!(rt; kernel.tick(), tick, "place {place}"),
-        None => panic!(rt; "no place {place}"),
+    for (place, tick, counted) in places {
+        let count = opened.meter.count().saturating_add(*counted);
+        let shown = tick_at(alloc, opened, *place)?;
+        assert_at(rt, "tick at place", *place, &shown, &Some(*tick));
+        assert_at(rt, "count at place", *place, &opened.meter.count(), &count);
     }
-    assert_eq!(rt;
-        opened.meter.count(),
-        count.saturating_add(counted),
-        "place {place}"
-    );
-    Ok(())
+    check_past(rt, alloc, opened)
 }
 
 fn check_past(rt: &impl Abort, alloc: Global, opened: &mut Opened) -> Result<(), Fail> {
     let (count, past) = (opened.meter.count(), opened.store.len() + 1);
-    let state = opened.store.state(alloc, past, &mut opened.meter)?;
-    assert!(rt; state.is_none());
-    assert_eq!(rt; opened.meter.count(), count);
+    assert_at(
+        rt,
+        "tick at place",
+        past,
+        &tick_at(alloc, opened, past)?,
+        &None,
+    );
+    assert_at(rt, "count at place", past, &opened.meter.count(), &count);
     Ok(())
 }
 
+/// Each place and core, and the task that runs there.
+const WHO_RUNS: [(u32, u32, Option<u32>); 10] = [
+    (0, 0, Some(2)),
+    (0, 1, Some(3)),
+    (2, 0, Some(4)),
+    (3, 0, Some(4)),
+    (7, 0, Some(2)),
+    (8, 1, Some(4)),
+    (9, 0, None),
+    (9, 1, None),
+    (8, 2, None),
+    (0, 2, None),
+];
+
 #[test]
 fn tells_who_runs_on_a_core(rt: HostRuntime) -> Result<(), Fail> {
-    let opened = Opened::by_span(&rt, true, &DELAY, 3)?;
-    for (place, core, task) in &[
-        (0, 0, Some(2)),
-        (0, 1, Some(3)),
-        (2, 0, Some(4)),
-        (3, 0, Some(4)),
-        (7, 0, Some(2)),
-        (8, 1, Some(4)),
-        (9, 0, None),
-        (9, 1, None),
-        (8, 2, None),
-        (0, 2, None),
-    ] {
-        let running = opened.store.running(*place, *core);
-        assert_eq!(&rt; running, *task, "core {core} at place {place}");
-    }
+    check_running(&rt, &Opened::by_span(&rt, true, &DELAY, 3)?.store);
     Ok(())
+}
+
+fn check_running(rt: &impl Abort, store: &Store) {
+    for (place, core, task) in &WHO_RUNS {
+        let shown = (*core, store.running(*place, *core));
+        assert_at(rt, "core at place", *place, &shown, &(*core, *task));
+    }
 }

@@ -1,7 +1,9 @@
 //! Random sessions against numbers that a program apart from this one computed.
 
-use crate::random::{Mix, random_session};
+use crate::random::{Mix, Played, random_session};
+use crate::samples::assert_same;
 use bench_types::{Refusal, Reply, Row};
+use std::process::Abort;
 use std::test::Fail;
 
 fn code_of(why: Refusal) -> u32 {
@@ -49,14 +51,15 @@ fn two_thousand_steps(rt: HostRuntime) -> Result<(), Fail> {
         (Mix::Nothing, (370_025_982, 32, 2000)),
         (Mix::Notes, (33_837_225, 20, 2000)),
     ] {
-        let played = random_session(&rt, &rt, 2000, *mix)?;
-        let digest = digest_of(&played.outcomes);
-        assert_eq!(rt;
-            (digest, played.kernel.tick(), played.meter.count()),
-            *expected
-        );
+        check_digest(&rt, &random_session(&rt, &rt, 2000, *mix)?, expected);
     }
     Ok(())
+}
+
+fn check_digest(rt: &impl Abort, played: &Played, expected: &(u32, u32, u64)) {
+    let digest = digest_of(&played.outcomes);
+    let made = (digest, played.kernel.tick(), played.meter.count());
+    assert_same(rt, "digest, tick and count", &made, expected);
 }
 
 fn digest_of(outcomes: &[(Reply, Row)]) -> u32 {

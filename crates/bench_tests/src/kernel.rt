@@ -6,7 +6,7 @@ ghost use Rattle.bench_model.specs.Table.{Table};
 ghost use Rattle.bench_model.specs.Session.{step_of};
 ghost use Rattle.bench_model.specs.Equal.{StandsFor};
 
-use crate::samples::{Started, three_tasks};
+use crate::samples::{Started, assert_at, assert_same, three_tasks};
 use bench_types::{Call, NoteState, Refusal, Reply, Settings, Step, TaskLook};
 use smp_kernel::{Kernel, Meter, StartFault};
 use std::alloc::Global;
@@ -28,9 +28,7 @@ const IDLE: TaskLook = TaskLook {
 
 #[test]
 fn starts_from_a_good_header(rt: HostRuntime) -> Result<(), Fail> {
-    let header = three_tasks(rt.alloc(), 2, true)?;
-    let kernel = Kernel::start(rt.alloc(), &header)?;
-    check_start(&rt, &kernel);
+    check_start(&rt, &Started::new(&rt)?.kernel);
     Ok(())
 }
 
@@ -44,7 +42,7 @@ fn check_start(rt: &impl Abort, kernel: &Kernel) {
     };
     assert_eq!(rt; kernel.settings(), settings);
     for task in 0..kernel.settings().cores {
-        assert_eq!(rt; kernel.look(task), IDLE, "of idle task {task}");
+        assert_at(rt, "idle task", task, &kernel.look(task), &IDLE);
     }
 }
 
@@ -72,18 +70,17 @@ fn make_both(kernel: &mut Kernel, meter: &mut Meter, first: &Step, second: &Step
 
 #[test]
 fn two_steps(rt: HostRuntime) -> Result<(), Fail> {
-    let header = three_tasks(rt.alloc(), 2, true)?;
-    let mut started = Started::new(&rt, &header)?;
+    let mut started = Started::new(&rt)?;
     check_both(&rt, &mut started);
     Ok(())
 }
 
-fn check_both(rt: &impl Abort, started: &mut Started<'_>) {
+fn check_both(rt: &impl Abort, started: &mut Started) {
     let tick = Step::Tick;
     let (first, second) = make_both(&mut started.kernel, &mut started.meter, &tick, &tick);
-    assert_eq!(rt; first, Reply::Done);
-    assert_eq!(rt; second, Reply::Done);
-    assert_eq!(rt; (started.kernel.tick(), started.meter.count()), (2, 2));
+    let (done, counts) = (Reply::Done, (started.kernel.tick(), started.meter.count()));
+    assert_same(rt, "replies", &(first, second), &(done, done));
+    assert_same(rt, "tick and count", &counts, &(2, 2));
 }
 
 /// A call of A on core 0.
@@ -92,38 +89,36 @@ fn call(call: Call) -> Step {
     Step::Call { core, task, call }
 }
 
-fn make(rt: &impl Abort, started: &mut Started<'_>, step: Step, reply: Reply) {
+fn make(rt: &impl Abort, started: &mut Started, step: Step, reply: Reply) {
     assert_eq!(rt; started.step(rt, &step), reply, "{step:?}");
 }
 
 #[test]
 fn a_hold_is_255_deep(rt: HostRuntime) -> Result<(), Fail> {
-    let header = three_tasks(rt.alloc(), 2, true)?;
-    let mut started = Started::new(&rt, &header)?;
+    let mut started = Started::new(&rt)?;
     check_depths(&rt, &mut started);
     Ok(())
 }
 
-fn check_depths(rt: &impl Abort, started: &mut Started<'_>) {
-    assert_eq!(rt; started.kernel.hold(), None);
+fn check_depths(rt: &impl Abort, started: &mut Started) {
+    assert_same(rt, "hold", &started.kernel.hold(), &None);
     for depth in 1..=255 {
         make(rt, started, call(Call::HoldOpen), Reply::Done);
-        assert_eq!(rt; started.kernel.hold(), Some((0, depth)));
+        assert_same(rt, "hold", &started.kernel.hold(), &Some((0, depth)));
     }
     let too_deep = Reply::Refused(Refusal::HoldDeep);
     make(rt, started, call(Call::HoldOpen), too_deep);
-    assert_eq!(rt; started.kernel.hold(), Some((0, 255)));
-    assert_eq!(rt; started.meter.count(), 256);
+    assert_same(rt, "hold", &started.kernel.hold(), &Some((0, 255)));
+    assert_same(rt, "steps", &started.meter.count(), &256);
 }
 
 #[test]
 fn a_copy_goes_its_own_way(rt: HostRuntime) -> Result<(), Fail> {
-    let header = three_tasks(rt.alloc(), 2, true)?;
-    let mut started = Started::new(&rt, &header)?;
+    let mut started = Started::new(&rt)?;
     check_copy(&rt, rt.alloc(), &mut started)
 }
 
-fn check_copy(rt: &impl Abort, alloc: Global, started: &mut Started<'_>) -> Result<(), Fail> {
+fn check_copy(rt: &impl Abort, alloc: Global, started: &mut Started) -> Result<(), Fail> {
     make(rt, started, call(Call::HoldOpen), Reply::Done);
     make(rt, started, call(Call::HoldOpen), Reply::Done);
     let copy = started.kernel.copy(alloc)?;
@@ -131,18 +126,18 @@ fn check_copy(rt: &impl Abort, alloc: Global, started: &mut Started<'_>) -> Resu
     Ok(())
 }
 
-fn check_ways(rt: &impl Abort, started: &mut Started<'_>, copy: &Kernel) {
+fn check_ways(rt: &impl Abort, started: &mut Started, copy: &Kernel) {
     assert!(rt; copy.same(&started.kernel) && started.kernel.same(copy));
     make(rt, started, call(Call::HoldClose), Reply::Done);
     make(rt, started, Step::Tick, Reply::Done);
-    assert_eq!(rt; (copy.hold(), copy.tick()), (Some((0, 2)), 0));
+    assert_same(rt, "hold", &copy.hold(), &Some((0, 2)));
+    assert_same(rt, "tick", &copy.tick(), &0);
     assert!(rt; !copy.same(&started.kernel) && !started.kernel.same(copy));
 }
 
 #[test]
 fn shows_ranks_and_ready_tasks(rt: HostRuntime) -> Result<(), Fail> {
-    let header = three_tasks(rt.alloc(), 2, true)?;
-    let mut started = Started::new(&rt, &header)?;
+    let mut started = Started::new(&rt)?;
     make(&rt, &mut started, call(Call::Delay(2)), Reply::Blocked);
     check_ranks(&rt, &started.kernel);
     Ok(())
@@ -151,10 +146,8 @@ fn shows_ranks_and_ready_tasks(rt: HostRuntime) -> Result<(), Fail> {
 fn check_ranks(rt: &impl Abort, kernel: &Kernel) {
     let settings = kernel.settings();
     assert!(rt; settings.tasks == 5 && settings.cores == 2);
-    assert_eq!(rt;
-        (kernel.in_use(0), kernel.in_use(2), kernel.in_use(3)),
-        (0, 2, 1)
-    );
+    let in_use = (kernel.in_use(0), kernel.in_use(2), kernel.in_use(3));
+    assert_same(rt, "priorities", &in_use, &(0, 2, 1));
     assert!(rt; kernel.stands_below(0, 3) && kernel.stands_below(3, 2));
     assert!(rt; !kernel.stands_below(3, 4) && !kernel.stands_below(2, 3));
     assert!(rt; kernel.is_allowed(1, 2));

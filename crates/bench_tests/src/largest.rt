@@ -2,7 +2,7 @@
 //! 100,000 steps.
 
 use crate::replays::check_store;
-use crate::samples::{Opened, SWITCH_0, Started, make_edit, ticks};
+use crate::samples::{Opened, SWITCH_0, Started, assert_same, make_edit, tick_at, ticks};
 use bench_samples::{LARGEST, crowd};
 use bench_types::{Edit, Header, MAX_CORES, MAX_MUTEXES, MAX_SPAN, MAX_STEPS, MAX_TASKS};
 use session_store::Store;
@@ -23,24 +23,27 @@ fn check_header(rt: &impl Abort, copy: &Header, header: &Header) {
 
 fn check_copy(rt: &impl Abort, alloc: Global, kernel: &Kernel) -> Result<(), Fail> {
     let settings = kernel.settings();
-    assert_eq!(rt;
-        (settings.tasks, settings.mutexes),
-        (MAX_CORES + MAX_TASKS, MAX_MUTEXES)
+    let most = (MAX_CORES + MAX_TASKS, MAX_MUTEXES);
+    assert_same(
+        rt,
+        "tasks and mutexes",
+        &(settings.tasks, settings.mutexes),
+        &most,
     );
     let copy = kernel.copy(alloc)?;
     assert!(rt; copy.same(kernel));
     Ok(())
 }
 
-fn check_started(rt: &impl Abort, host: &HostRuntime, header: &Header) -> Result<(), Fail> {
-    let started = Started::new(host, header)?;
+fn check_started(rt: &impl Abort, host: &HostRuntime, header: Header) -> Result<(), Fail> {
+    let started = Started::of(host, header)?;
     check_copy(rt, host.alloc(), &started.kernel)
 }
 
 fn check_copied(rt: &impl Abort, host: &HostRuntime, header: &Header) -> Result<(), Fail> {
     let copy = header.copy(host.alloc())?;
     check_header(rt, &copy, header);
-    check_started(rt, host, &copy)
+    check_started(rt, host, copy)
 }
 
 #[test]
@@ -70,14 +73,12 @@ fn replace_last(rt: &impl Abort, alloc: Global, opened: &mut Opened) {
 
 // The tick count wraps once, and the last step is no tick.
 fn check_last_place(rt: &impl Abort, alloc: Global, opened: &mut Opened) -> Result<(), Fail> {
-    let Opened { store, meter } = opened;
-    assert_eq!(rt; store.step(MAX_STEPS - 1), Some(SWITCH_0));
-    let count = meter.count();
-    match store.state(alloc, MAX_STEPS, meter)? {
-        Some(kernel) => assert_eq!(rt; kernel.tick(), MAX_STEPS - 2),
-        None => panic!(rt; "the last place has no state"),
-    }
-    assert_eq!(rt; meter.count(), count.saturating_add(u64::from(MAX_SPAN)));
+    let Opened { store, meter } = &*opened;
+    assert_same(rt, "last step", &store.step(MAX_STEPS - 1), &Some(SWITCH_0));
+    let counted = meter.count().saturating_add(u64::from(MAX_SPAN));
+    let tick = tick_at(alloc, opened, MAX_STEPS)?;
+    assert_same(rt, "last tick", &tick, &Some(MAX_STEPS - 2));
+    assert_same(rt, "steps", &opened.meter.count(), &counted);
     Ok(())
 }
 

@@ -2,7 +2,8 @@
 ghost use Rattle.std.specs.Prelude.{◌≡◌, ◌<◌, ◌^◌, IfOk};
 ghost use Rattle.bench_types.specs.Step.{settings_of};
 
-use bench_types::{Action, Call, Config, Header, Items, Name, Note, Reply, Row, Step, TaskArgs};
+use bench_samples::numbered_header;
+use bench_types::{Action, Call, Config, Header, Note, Reply, Row, Step};
 use smp_kernel::{Kernel, Meter};
 use std::alloc::Global;
 use std::process::Abort;
@@ -102,27 +103,18 @@ fn large_header(alloc: Global) -> Result<Header, Fail>
         tick: 4_294_967_200,
         mutexes: 4,
     };
-    let tasks = numbered_tasks(alloc)?;
-    Ok(Header { config, tasks })
-}
-
-fn numbered_tasks(alloc: Global) -> Result<Items<TaskArgs>, Fail> {
-    let mut tasks = Vec::with_capacity(alloc, 64)?;
+    let mut tasks = [(0, 0); 64];
     for task in 0..64 {
-        tasks.push(numbered_task(alloc, task)?)?;
+        tasks[task as usize] = some_task(task);
     }
-    Ok(Items::new(tasks))
+    Ok(numbered_header(alloc, config, &tasks)?)
 }
 
-fn numbered_task(alloc: Global, task: u32) -> Result<TaskArgs, Fail>
+// Some priority and mask for each task.
+fn some_task(task: u32) -> (u32, u32)
     requires { task < 64 }
 {
-    let name = Name::new(&format!(in alloc; "t{task}")?)?;
-    Ok(TaskArgs {
-        name,
-        priority: task % 5,
-        mask: 1 << (task % 8) | task * 5 % 256,
-    })
+    (task % 5, 1 << (task % 8) | task * 5 % 256)
 }
 
 /// A number of 16 bits, from a seed that moves on.

@@ -3,7 +3,7 @@ ghost use Rattle.std.specs.Prelude.{◌≡◌, All, IsTrue, Ok};
 ghost use Rattle.bench_types.specs.Step.{settings_of, step_check};
 
 use crate::random::{Mix, Played, random_session};
-use crate::samples::Opened;
+use crate::samples::{Opened, assert_at};
 use bench_types::{Edit, Header, Reply, Row, Step};
 use session_store::Store;
 use slow_replay::replay_slow;
@@ -95,9 +95,15 @@ pub(crate) fn check_store(
 
 fn check_step(rt: &impl Abort, store: &Store, place: u32, step: Step, outcome: &(Reply, Row)) {
     let (reply, row) = outcome;
-    assert_eq!(rt; store.step(place), Some(step), "step {place}");
-    assert_eq!(rt; store.reply(place), Some(*reply), "reply {place}");
-    assert!(rt; has_row(store, place, row), "after step {place}");
+    assert_at(rt, "step", place, &store.step(place), &Some(step));
+    assert_at(rt, "reply", place, &store.reply(place), &Some(*reply));
+    assert_at(
+        rt,
+        "row after step",
+        place,
+        &has_row(store, place, row),
+        &true,
+    );
 }
 
 fn has_row(store: &Store, step: u32, row: &Row) -> bool {
@@ -150,13 +156,7 @@ fn make_edits(rt: &impl Abort, alloc: Global, opened: &mut Opened) {
 }
 
 fn opened_with(host: &HostRuntime, played: &Played) -> Result<Opened, Fail> {
-    let header = played.header.copy(host.alloc())?;
-    Opened::of(
-        host,
-        header,
-        Vec::from_slice(host.alloc(), &played.steps)?,
-        64,
-    )
+    Opened::with(host, played.header.copy(host.alloc())?, &played.steps, 64)
 }
 
 // What the edits make of the steps.

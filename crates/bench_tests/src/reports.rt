@@ -5,7 +5,9 @@ ghost use Rattle.bench_types.specs.Step.{step_check};
 ghost use Rattle.bench_model.specs.Tallied.{shape, shape_of, AllCountsBelow};
 
 use crate::replays::are_checked;
-use crate::samples::{A_DELAYS, Opened, SWITCH_0, SWITCH_1, three_tasks};
+use crate::samples::{
+    A_DELAYS, Opened, SWITCH_0, SWITCH_1, assert_same, assert_tallies, assert_text, three_tasks,
+};
 use bench_reports::Tallies;
 use bench_samples::low_and_high;
 use bench_types::{Call, Edit, Header, Step, Tally};
@@ -30,12 +32,30 @@ fn begun(host: &HostRuntime, header: &Header) -> Result<Tallies, Fail> {
 
 #[test]
 fn tallies_as_text(rt: HostRuntime) -> Result<(), Fail> {
-    let header = three_tasks(rt.alloc(), 2, true)?;
-    let tallies = begun(&rt, &header)?;
-    let text = tallies.text(rt.alloc(), &header)?;
-    assert_eq!(&rt; text.as_str(), BEGUN);
-    let copy = tallies.copy(rt.alloc())?.text(rt.alloc(), &header)?;
-    assert_eq!(&rt; copy.as_str(), BEGUN);
+    check_begun(&rt, &rt, &three_tasks(rt.alloc(), 2, true)?)
+}
+
+fn check_begun(rt: &impl Abort, host: &HostRuntime, header: &Header) -> Result<(), Fail> {
+    let tallies = begun(host, header)?;
+    assert_has_text(rt, host.alloc(), header, &tallies, BEGUN)?;
+    assert_has_text(
+        rt,
+        host.alloc(),
+        header,
+        &tallies.copy(host.alloc())?,
+        BEGUN,
+    )
+}
+
+/// The tallies have this text under the header.
+fn assert_has_text(
+    rt: &impl Abort,
+    alloc: Global,
+    header: &Header,
+    tallies: &Tallies,
+    wanted: &str,
+) -> Result<(), Fail> {
+    assert_text(rt, &tallies.text(alloc, header)?, wanted);
     Ok(())
 }
 
@@ -118,12 +138,6 @@ task B run 0 1 wait 0 inverted 0 in 0 displaced 0 timeouts 0 top 1
 task C run 1 0 wait 0 inverted 0 in 1 displaced 0 timeouts 0 top 1
 ";
 
-fn assert_tallies(rt: &impl Abort, alloc: Global, store: &Store, wanted: &str) -> Result<(), Fail> {
-    let text = store.tallies(alloc)?.text(alloc, store.header())?;
-    assert_eq!(rt; text.as_str(), wanted);
-    Ok(())
-}
-
 fn check_session(
     rt: &impl Abort,
     host: &HostRuntime,
@@ -131,8 +145,7 @@ fn check_session(
     steps: &[Step],
     wanted: &str,
 ) -> Result<(), Fail> {
-    let steps = Vec::from_slice(host.alloc(), steps)?;
-    let opened = Opened::of(host, header, steps, 64)?;
+    let opened = Opened::with(host, header, steps, 64)?;
     assert_tallies(rt, host.alloc(), &opened.store, wanted)
 }
 
@@ -154,10 +167,6 @@ fn tallies_of_a_session(rt: HostRuntime) -> Result<(), Fail> {
         INVERTED_TALLIES,
     )?;
     check_session(&rt, &rt, low_and_high(alloc)?, &RUN_OUT, RUN_OUT_TALLIES)
-}
-
-fn insert(at: u32, step: Step) -> Edit {
-    Edit::Insert { at, step }
 }
 
 /// After a switch that is refused has come and gone, and a tick has come at the end.
@@ -184,27 +193,85 @@ const A_YIELDS: Step = Step::Call {
     call: Call::Yield,
 };
 
+/// The steps of a session with a checkpoint every so many steps, its edits, and the tallies then.
+#[derive(Clone, Copy)]
+struct Edited<'a> {
+    span: u32,
+    steps: &'a [Step],
+    edits: &'a [Edit],
+    wanted: &'a str,
+}
+
+const DISPLACED: Edited<'static> = Edited {
+    span: 1,
+    steps: &THEN_DISPLACED,
+    edits: &[
+        Edit::Insert {
+            at: 0,
+            step: A_DELAYS,
+        },
+        Edit::Insert {
+            at: 1,
+            step: SWITCH_0,
+        },
+    ],
+    wanted: DISPLACED_TALLIES,
+};
+
+const EDITED: [Edited<'static>; 6] = [
+    DISPLACED,
+    Edited {
+        span: 2,
+        ..DISPLACED
+    },
+    Edited {
+        span: 64,
+        ..DISPLACED
+    },
+    Edited {
+        span: 3,
+        steps: &SHARED,
+        edits: &[
+            Edit::Insert {
+                at: 3,
+                step: SWITCH_1,
+            },
+            Edit::Remove { at: 3 },
+        ],
+        wanted: SHARED_TALLIES,
+    },
+    Edited {
+        span: 3,
+        steps: &SHARED,
+        edits: &[
+            Edit::Insert {
+                at: 3,
+                step: SWITCH_1,
+            },
+            Edit::Remove { at: 3 },
+            Edit::Insert {
+                at: 8,
+                step: Step::Tick,
+            },
+        ],
+        wanted: LONGER_TALLIES,
+    },
+    Edited {
+        span: 2,
+        steps: &SHARED,
+        edits: &[Edit::Replace {
+            at: 0,
+            step: A_YIELDS,
+        }],
+        wanted: YIELDED_TALLIES,
+    },
+];
+
 #[test]
 fn tallies_of_edited_sessions(rt: HostRuntime) -> Result<(), Fail> {
-    let displaced = [insert(0, A_DELAYS), insert(1, SWITCH_0)];
-    let (more, less) = (insert(3, SWITCH_1), Edit::Remove { at: 3 });
-    let longer = [more, less, insert(8, Step::Tick)];
-    let (at, step) = (0, A_YIELDS);
-    for (span, steps, edits, wanted) in &[
-        (
-            1,
-            THEN_DISPLACED.as_slice(),
-            displaced.as_slice(),
-            DISPLACED_TALLIES,
-        ),
-        (2, &THEN_DISPLACED, &displaced, DISPLACED_TALLIES),
-        (64, &THEN_DISPLACED, &displaced, DISPLACED_TALLIES),
-        (3, &SHARED, &longer[..2], SHARED_TALLIES),
-        (3, &SHARED, &longer, LONGER_TALLIES),
-        (2, &SHARED, &[Edit::Replace { at, step }], YIELDED_TALLIES),
-    ] {
-        let mut opened = Opened::by_span(&rt, true, steps, *span)?;
-        check_edits(&rt, rt.alloc(), &mut opened, edits, wanted)?;
+    for case in &EDITED {
+        let mut opened = Opened::by_span(&rt, true, case.steps, case.span)?;
+        check_edits(&rt, rt.alloc(), &mut opened, case.edits, case.wanted)?;
     }
     Ok(())
 }
@@ -287,40 +354,71 @@ fn add_part(tallies: &mut Tallies, more: &Tallies)
     tallies.add(more);
 }
 
-fn assert_text(
-    rt: &impl Abort,
+// What both parts of the steps take, the second counted by itself and added.
+fn tallied_in_parts(
     alloc: Global,
-    header: &Header,
-    tallies: &Tallies,
-) -> Result<(), Fail> {
-    let text = tallies.text(alloc, header)?;
-    assert_eq!(rt; text.as_str(), SHARED_TALLIES);
-    Ok(())
+    kernel: &mut Kernel,
+    meter: &mut Meter,
+    first: &[Step],
+    second: &[Step],
+) -> Result<Tallies, AllocError>
+    requires first { All (λ step. step_check kernel.old.settings step ≡ Ok tt) first.now }
+    requires second { All (λ step. step_check kernel.old.settings step ≡ Ok tt) second.now }
+    requires few { length first.now < 1000 }
+    requires few_more { length second.now < 1000 }
+{
+    let mut tallies = tallied(alloc, kernel, meter, first)?;
+    add_part(&mut tallies, &tallied(alloc, kernel, meter, second)?);
+    Ok(tallies)
+}
+
+fn in_parts(rt: &impl Abort, host: &HostRuntime, header: &Header) -> Result<Tallies, Fail> {
+    let (first, second) = SHARED.split_at(5);
+    assert!(rt; are_checked(header, first) && are_checked(header, second));
+    let mut kernel = Kernel::start(host.alloc(), header)?;
+    let mut meter = Meter::new(host);
+    Ok(tallied_in_parts(host.alloc(), &mut kernel, &mut meter, first, second)?)
 }
 
 #[test]
 fn tallies_of_two_parts(rt: HostRuntime) -> Result<(), Fail> {
-    let alloc = rt.alloc();
-    let header = three_tasks(alloc, 2, true)?;
-    let (first, second) = SHARED.split_at(5);
-    assert!(&rt; are_checked(&header, first) && are_checked(&header, second));
-    let (mut kernel, mut meter) = (Kernel::start(alloc, &header)?, Meter::new(&rt));
-    let mut tallies = tallied(alloc, &mut kernel, &mut meter, first)?;
-    add_part(
-        &mut tallies,
-        &tallied(alloc, &mut kernel, &mut meter, second)?,
-    );
-    assert_text(&rt, alloc, &header, &tallies)
+    check_parts(&rt, &rt, &three_tasks(rt.alloc(), 2, true)?)
+}
+
+fn check_parts(rt: &impl Abort, host: &HostRuntime, header: &Header) -> Result<(), Fail> {
+    let tallies = in_parts(rt, host, header)?;
+    assert_has_text(rt, host.alloc(), header, &tallies, SHARED_TALLIES)
+}
+
+fn by_copies(rt: &impl Abort, host: &HostRuntime, header: &Header) -> Result<Tallies, Fail> {
+    assert!(rt; are_checked(header, &SHARED));
+    let mut kernel = Kernel::start(host.alloc(), header)?;
+    let mut meter = Meter::new(host);
+    Ok(tallied_by_copies(host.alloc(), &mut kernel, &mut meter, &SHARED)?)
 }
 
 #[test]
 fn tallies_by_copies_of_the_kernel(rt: HostRuntime) -> Result<(), Fail> {
-    let alloc = rt.alloc();
-    let header = three_tasks(alloc, 2, true)?;
-    assert!(&rt; are_checked(&header, &SHARED));
-    let (mut kernel, mut meter) = (Kernel::start(alloc, &header)?, Meter::new(&rt));
-    let tallies = tallied_by_copies(alloc, &mut kernel, &mut meter, &SHARED)?;
-    assert_text(&rt, alloc, &header, &tallies)
+    check_copies(&rt, &rt, &three_tasks(rt.alloc(), 2, true)?)
+}
+
+fn check_copies(rt: &impl Abort, host: &HostRuntime, header: &Header) -> Result<(), Fail> {
+    let tallies = by_copies(rt, host, header)?;
+    assert_has_text(rt, host.alloc(), header, &tallies, SHARED_TALLIES)
+}
+
+fn in_turn(
+    rt: &impl Abort,
+    host: &HostRuntime,
+    header: &Header,
+    steps: &[Step],
+) -> Result<Tallies, Fail>
+    requires { length steps.now < 1000 }
+{
+    assert!(rt; are_checked(header, steps));
+    let mut kernel = Kernel::start(host.alloc(), header)?;
+    let mut meter = Meter::new(host);
+    Ok(tallied_in_turn(host.alloc(), &mut kernel, &mut meter, steps)?)
 }
 
 fn check_in_turn(
@@ -332,26 +430,22 @@ fn check_in_turn(
 ) -> Result<(), Fail>
     requires { length steps.now < 1000 }
 {
-    let alloc = host.alloc();
-    assert!(rt; are_checked(header, steps));
-    let (mut kernel, mut meter) = (Kernel::start(alloc, header)?, Meter::new(host));
-    let tallies = tallied_in_turn(alloc, &mut kernel, &mut meter, steps)?;
-    let text = tallies.text(alloc, header)?;
-    assert_eq!(rt; text.as_str(), wanted);
-    Ok(())
+    let tallies = in_turn(rt, host, header, steps)?;
+    assert_has_text(rt, host.alloc(), header, &tallies, wanted)
 }
 
 #[test]
 fn tallies_step_after_step(rt: HostRuntime) -> Result<(), Fail> {
-    let alloc = rt.alloc();
-    check_in_turn(
-        &rt,
-        &rt,
-        &three_tasks(alloc, 2, true)?,
-        &SHARED,
-        SHARED_TALLIES,
-    )?;
-    check_in_turn(&rt, &rt, &low_and_high(alloc)?, &RUN_OUT, RUN_OUT_TALLIES)
+    check_shared(&rt, &rt, &three_tasks(rt.alloc(), 2, true)?)?;
+    check_run_out(&rt, &rt, &low_and_high(rt.alloc())?)
+}
+
+fn check_shared(rt: &impl Abort, host: &HostRuntime, header: &Header) -> Result<(), Fail> {
+    check_in_turn(rt, host, header, &SHARED, SHARED_TALLIES)
+}
+
+fn check_run_out(rt: &impl Abort, host: &HostRuntime, header: &Header) -> Result<(), Fail> {
+    check_in_turn(rt, host, header, &RUN_OUT, RUN_OUT_TALLIES)
 }
 
 const OF_C: Tally = Tally {
@@ -366,11 +460,22 @@ const OF_C: Tally = Tally {
 #[test]
 fn numbers_of_a_task(rt: HostRuntime) -> Result<(), Fail> {
     let opened = Opened::new(&rt, true, &SHARED)?;
-    let tallies = opened.store.tallies(rt.alloc())?;
-    assert_eq!(&rt; tallies.len(), 5);
-    assert!(&rt; 4 < tallies.len());
-    assert_eq!(&rt; tallies.get(4), OF_C);
-    assert!(&rt; 1 < tallies.cores(4));
-    assert_eq!(&rt; (tallies.run_on(4, 0), tallies.run_on(4, 1)), (2, 0));
+    check_tallied(&rt, rt.alloc(), &opened.store)
+}
+
+fn check_tallied(rt: &impl Abort, alloc: Global, store: &Store) -> Result<(), Fail> {
+    check_numbers(rt, &store.tallies(alloc)?);
     Ok(())
+}
+
+fn check_numbers(rt: &impl Abort, tallies: &Tallies) {
+    assert_eq!(rt; tallies.len(), 5);
+    assert!(rt; 1 < tallies.cores(4));
+    assert_same(rt, "numbers of C", &tallies.get(4), &OF_C);
+    assert_same(
+        rt,
+        "ticks of C",
+        &(tallies.run_on(4, 0), tallies.run_on(4, 1)),
+        &(2, 0),
+    );
 }

@@ -2,10 +2,12 @@
 ghost use Rattle.std.specs.Prelude.{◌≡◌};
 ghost use Rattle.bench_types.specs.Step.{settings_of};
 
-use bench_types::{Call, Config, Edit, EditFault, Header, Items, Name, Reply, Step, TaskArgs};
+use bench_samples::{PLAIN, header_of};
+use bench_types::{Call, Config, Edit, EditFault, Header, Reply, Step};
 use session_store::{Outcome, Store, StoreFault};
 use smp_kernel::{Kernel, Meter};
 use std::alloc::{AllocError, Global};
+use std::fmt::Debug;
 use std::process::Abort;
 use std::test::Fail;
 
@@ -27,51 +29,61 @@ pub const SWITCH_1: Step = Step::Switch { core: 1 };
 pub fn three_tasks(alloc: Global, cores: u32, slicing: bool) -> Result<Header, Fail> {
     let config = Config {
         cores,
-        priorities: 5,
         slicing,
-        tick: 0,
-        mutexes: 0,
+        ..PLAIN
     };
-    let mut tasks = Vec::new(alloc);
-    for (name, priority) in &[("A", 2), ("B", 1), ("C", 1)] {
-        tasks.push(task_args(name, *priority)?)?;
-    }
-    Ok(Header {
-        config,
-        tasks: Items::new(tasks),
-    })
+    Ok(header_of(alloc, config, &[("A", 2, 3), ("B", 1, 3), ("C", 1, 3)])?)
 }
 
-fn task_args(name: &str, priority: u32) -> Result<TaskArgs, Fail> {
-    Ok(TaskArgs {
-        name: Name::new(name)?,
-        priority,
-        mask: 3,
-    })
+/// What was made is what was wanted. Tests call this, since each `assert_eq!` with a message is
+/// dear to prove where it stands.
+pub fn assert_same<T: PartialEq + Debug>(rt: &impl Abort, what: &str, made: &T, wanted: &T) {
+    assert_eq!(rt; made, wanted, "{what}");
+}
+
+/// What was made is what was wanted, at the place or index.
+pub fn assert_at<T: PartialEq + Debug>(rt: &impl Abort, what: &str, at: u32, made: &T, wanted: &T) {
+    assert_eq!(rt; made, wanted, "{what} {at}");
+}
+
+/// What the edit led to is what was wanted.
+pub fn assert_edit<T: PartialEq + Debug>(rt: &impl Abort, edit: Edit, made: &T, wanted: &T) {
+    assert_eq!(rt; made, wanted, "{edit:?}");
+}
+
+/// The text is what was wanted.
+pub fn assert_text(rt: &impl Abort, text: &str, wanted: &str) {
+    assert_eq!(rt; text, wanted);
 }
 
 /// A kernel that was started from a header, with the meter of its steps.
 #[derive(Drop)]
-pub struct Started<'a> {
-    header: &'a Header,
+pub struct Started {
+    header: Header,
     pub kernel: Kernel,
     pub meter: Meter,
-    ghost fits: { kernel.settings ≡ settings_of header.now },
+    ghost fits: { kernel.settings ≡ settings_of header },
 }
 
-impl<'a> Started<'a> {
+impl Started {
+    /// A kernel at the start of A, B and C on two cores, with time slices.
+    pub fn new(rt: &HostRuntime) -> Result<Self, Fail> {
+        Started::of(rt, three_tasks(rt.alloc(), 2, true)?)
+    }
+
     /// A kernel at the start of the header.
-    pub fn new(rt: &HostRuntime, header: &'a Header) -> Result<Started<'a>, Fail> {
+    pub fn of(rt: &HostRuntime, header: Header) -> Result<Self, Fail> {
+        let kernel = Kernel::start(rt.alloc(), &header)?;
         Ok(Started {
             header,
-            kernel: Kernel::start(rt.alloc(), header)?,
+            kernel,
             meter: Meter::new(rt),
         })
     }
 
     /// Makes a step, which has to be one under the header.
     pub fn step(&mut self, rt: &impl Abort, step: &Step) -> Reply {
-        assert_eq!(rt; step.check(self.header), Ok(()));
+        assert_eq!(rt; step.check(&self.header), Ok(()));
         self.kernel.step(&mut self.meter, step)
     }
 }
@@ -96,8 +108,13 @@ impl Opened {
         steps: &[Step],
         span: u32,
     ) -> Result<Self, Fail> {
-        let header = three_tasks(rt.alloc(), 2, slicing)?;
-        Opened::of(rt, header, Vec::from_slice(rt.alloc(), steps)?, span)
+        Opened::with(rt, three_tasks(rt.alloc(), 2, slicing)?, steps, span)
+    }
+
+    /// Of these steps under the header, with a checkpoint every so many steps.
+    pub fn with(rt: &HostRuntime, header: Header, steps: &[Step], span: u32) -> Result<Self, Fail> {
+        let steps = Vec::from_slice(rt.alloc(), steps)?;
+        Opened::of(rt, header, steps, span)
     }
 
     /// Of the session, with a checkpoint every so many steps.
@@ -135,8 +152,8 @@ pub fn make_edit(rt: &impl Abort, alloc: Global, opened: &mut Opened, edit: &(Ed
         .count()
         .saturating_add(u64::from(wanted.replayed));
     let answer = opened.store.apply(alloc, edit, &mut opened.meter);
-    assert_eq!(rt; answer, Ok(wanted), "{edit:?}");
-    assert_eq!(rt; opened.meter.count(), count, "{edit:?}");
+    assert_edit(rt, edit, &answer, &Ok(wanted));
+    assert_edit(rt, edit, &opened.meter.count(), &count);
 }
 
 /// Makes the edits in their order.
@@ -156,29 +173,32 @@ pub fn refuse_edit(
 ) {
     let count = opened.meter.count();
     let answer = opened.store.apply(alloc, edit, &mut opened.meter);
-    assert_eq!(rt; answer, Err(StoreFault::Edit(why)), "{edit:?}");
-    assert_eq!(rt; opened.meter.count(), count, "{edit:?}");
+    assert_edit(rt, edit, &answer, &Err(StoreFault::Edit(why)));
+    assert_edit(rt, edit, &opened.meter.count(), &count);
 }
 
 /// The store has these replies and no more, and these tasks run at the last place.
 pub fn assert_replay(rt: &impl Abort, store: &Store, replies: &[Reply], last: [u32; 2]) {
-    let len = store.len();
-    assert_eq!(rt; len as usize, replies.len());
-    for (i, reply) in replies.iter().enumerate() {
-        assert_eq!(rt; store.reply(i as u32), Some(*reply), "step {i}");
+    assert_replies(rt, store, replies);
+    assert_row(rt, store, store.len(), last);
+}
+
+/// The store has these replies and no more.
+pub fn assert_replies(rt: &impl Abort, store: &Store, replies: &[Reply]) {
+    assert_same(rt, "replies", &(store.len() as usize), &replies.len());
+    for place in 0..=store.len() {
+        let reply = replies.get(place as usize).copied();
+        assert_at(rt, "reply", place, &store.reply(place), &reply);
     }
-    assert_eq!(rt; store.reply(len), None);
-    assert_row(rt, store, len, last);
 }
 
 /// The store has these steps and no more.
 pub fn assert_steps(rt: &impl Abort, store: &Store, steps: &[Step]) {
-    let len = store.len();
-    assert_eq!(rt; len as usize, steps.len());
-    for (i, step) in steps.iter().enumerate() {
-        assert_eq!(rt; store.step(i as u32), Some(*step), "step {i}");
+    assert_same(rt, "steps", &(store.len() as usize), &steps.len());
+    for place in 0..=store.len() {
+        let step = steps.get(place as usize).copied();
+        assert_at(rt, "step", place, &store.step(place), &step);
     }
-    assert_eq!(rt; store.step(len), None);
 }
 
 /// The tasks of both cores at the place.
@@ -187,4 +207,26 @@ pub fn assert_row(rt: &impl Abort, store: &Store, place: u32, tasks: [u32; 2]) {
         Some(row) => assert_eq!(rt; row.as_slice(), tasks.as_slice(), "place {place}"),
         None => panic!(rt; "no place {place}"),
     }
+}
+
+/// The store's tallies, as text.
+pub fn tallies_text(alloc: Global, store: &Store) -> Result<String, AllocError> {
+    store.tallies(alloc)?.text(alloc, store.header())
+}
+
+/// The store's tallies have this text.
+pub fn assert_tallies(
+    rt: &impl Abort,
+    alloc: Global,
+    store: &Store,
+    wanted: &str,
+) -> Result<(), Fail> {
+    assert_text(rt, &tallies_text(alloc, store)?, wanted);
+    Ok(())
+}
+
+/// The tick count at the place, where there is one.
+pub fn tick_at(alloc: Global, opened: &mut Opened, place: u32) -> Result<Option<u32>, Fail> {
+    let kernel = opened.store.state(alloc, place, &mut opened.meter)?;
+    Ok(kernel.map(|kernel| kernel.tick()))
 }

@@ -6,7 +6,9 @@ ghost use Rattle.bench_types.specs.Step.{settings_of, IsCheckedStep};
 ghost use Rattle.segment_laws.specs.Segments.{all_steps};
 ghost use Rattle.smp_kernel.specs.Kernel.{StandsForSome};
 
-use crate::samples::{A_DELAYS, SWITCH_0, SWITCH_1, three_tasks};
+use crate::samples::{
+    A_DELAYS, SWITCH_0, SWITCH_1, assert_at, assert_same, assert_text, three_tasks,
+};
 use bench_types::{Header, MAX_CORES, Reply, Step};
 use session_segments::{Segment, Segments, advance};
 use smp_kernel::{Kernel, Meter};
@@ -112,38 +114,60 @@ fn in_two(rt: &impl Abort, host: &HostRuntime, header: &Header) -> Result<Vec<Se
     assert!(rt; are_checked(header, first) && are_checked(header, second));
     let (mut kernel, mut meter) = (started(rt, host.alloc(), header)?, Meter::new(host));
     let segments = two_segments(host.alloc(), &mut kernel, first, second, &mut meter)?;
-    assert_eq!(rt; meter.count(), 8);
+    assert_same(rt, "steps", &meter.count(), &8);
     Ok(segments)
 }
 
 #[test]
 fn a_segment_shows_its_steps(rt: HostRuntime) -> Result<(), Fail> {
-    let header = three_tasks(rt.alloc(), 2, true)?;
-    let segments = in_two(&rt, &rt, &header)?;
-    check_shown(&rt, &segments[1]);
-    check_tallies(&rt, rt.alloc(), &header, &segments[1])?;
-    check_states(&rt, &rt, &header, &segments[1])
+    check_second(&rt, &rt, &three_tasks(rt.alloc(), 2, true)?)
 }
 
+fn check_second(rt: &impl Abort, host: &HostRuntime, header: &Header) -> Result<(), Fail> {
+    let segments = in_two(rt, host, header)?;
+    check_segment(rt, host, header, &segments[1])
+}
+
+fn check_segment(
+    rt: &impl Abort,
+    host: &HostRuntime,
+    header: &Header,
+    segment: &Segment,
+) -> Result<(), Fail> {
+    check_shown(rt, segment);
+    check_running(rt, segment);
+    check_tallies(rt, host.alloc(), header, segment)?;
+    check_states(rt, host, header, segment)
+}
+
+const REPLIES: [(u32, Option<Reply>); 3] = [
+    (0, Some(Reply::Done)),
+    (4, Some(Reply::Done)),
+    (5, None),
+];
+
 fn check_shown(rt: &impl Abort, segment: &Segment) {
-    assert_eq!(rt; segment.kernel().tick(), 1);
+    assert_same(rt, "tick", &segment.kernel().tick(), &1);
     assert_eq!(rt; segment.steps(), &STEPS[3..]);
-    for (index, reply) in &[(0, Some(Reply::Done)), (4, Some(Reply::Done)), (5, None)] {
-        assert_eq!(rt; segment.reply(*index), *reply, "step {index}");
+    for (index, reply) in &REPLIES {
+        assert_at(rt, "step", *index, &segment.reply(*index), reply);
     }
-    for (count, core, task) in &[
-        (0, 0, Some(4)),
-        (0, 1, Some(3)),
-        (4, 0, Some(2)),
-        (5, 1, Some(4)),
-        (6, 0, None),
-        (0, 2, None),
-    ] {
-        assert_eq!(rt;
-            segment.running(*count, *core),
-            *task,
-            "core {core} after {count}"
-        );
+}
+
+/// After so many steps, on which core, which task runs.
+const RUNNING: [(u32, u32, Option<u32>); 6] = [
+    (0, 0, Some(4)),
+    (0, 1, Some(3)),
+    (4, 0, Some(2)),
+    (5, 1, Some(4)),
+    (6, 0, None),
+    (0, 2, None),
+];
+
+fn check_running(rt: &impl Abort, segment: &Segment) {
+    for (count, core, task) in &RUNNING {
+        let shown = (*core, segment.running(*count, *core));
+        assert_at(rt, "core after steps", *count, &shown, &(*core, *task));
     }
 }
 
@@ -153,8 +177,7 @@ fn check_tallies(
     header: &Header,
     segment: &Segment,
 ) -> Result<(), Fail> {
-    let text = segment.tallies().text(alloc, header)?;
-    assert_eq!(rt; text.as_str(), TALLIES);
+    assert_text(rt, &segment.tallies().text(alloc, header)?, TALLIES);
     Ok(())
 }
 
@@ -174,7 +197,7 @@ fn advanced(rt: &impl Abort, host: &HostRuntime, header: &Header) -> Result<Kern
     assert!(rt; are_checked(header, &STEPS[..3]));
     let (mut kernel, mut meter) = (started(rt, host.alloc(), header)?, Meter::new(host));
     advance(&mut kernel, &STEPS[..3], &mut meter);
-    assert_eq!(rt; meter.count(), 3);
+    assert_same(rt, "steps", &meter.count(), &3);
     Ok(kernel)
 }
 
@@ -182,29 +205,53 @@ fn check_after(rt: &impl Abort, host: &HostRuntime, segment: &Segment) -> Result
     let mut meter = Meter::new(host);
     assert!(rt; 3 <= segment.steps().len());
     let kernel = segment.kernel_after(host.alloc(), 3, &mut meter)?;
-    assert_eq!(rt; (kernel.tick(), meter.count()), (2, 3));
+    assert_same(
+        rt,
+        "tick and steps",
+        &(kernel.tick(), meter.count()),
+        &(2, 3),
+    );
     assert!(rt; !segment.begins_with(&kernel));
     Ok(())
 }
 
 #[test]
 fn segments_are_found_and_replaced(rt: HostRuntime) -> Result<(), Fail> {
-    let header = three_tasks(rt.alloc(), 2, true)?;
-    let mut segments = Segments::new(rt.alloc(), in_two(&rt, &rt, &header)?)?;
-    check_places(&rt, &segments);
-    let made = in_two(&rt, &rt, &header)?;
-    replace_all(rt.alloc(), &mut segments, made)?;
-    check_places(&rt, &segments);
+    check_replaced(&rt, &rt, &three_tasks(rt.alloc(), 2, true)?)
+}
+
+fn check_replaced(rt: &impl Abort, host: &HostRuntime, header: &Header) -> Result<(), Fail> {
+    let mut segments = Segments::new(host.alloc(), in_two(rt, host, header)?)?;
+    check_places(rt, &segments);
+    replace_all(host.alloc(), &mut segments, in_two(rt, host, header)?)?;
+    check_places(rt, &segments);
     Ok(())
 }
 
+/// Each place, the segment that it lies in, and where that begins.
+const PLACES: [(u32, usize, u32); 4] = [(0, 0, 0), (2, 0, 0), (3, 1, 3), (100, 1, 3)];
+
 fn check_places(rt: &impl Abort, segments: &Segments) {
-    assert_eq!(rt; (segments.len(), segments.as_slice().len()), (2, 2));
-    for (k, place) in &[(0, Some(0)), (1, Some(3)), (2, None)] {
-        assert_eq!(rt; segments.checkpoint(*k), *place, "segment {k}");
-    }
-    for (place, index, from) in &[(0, 0, 0), (2, 0, 0), (3, 1, 3), (100, 1, 3)] {
-        assert_eq!(rt; segments.locate(*place), (*index, *from), "place {place}");
+    let checkpoints = (
+        segments.checkpoint(0),
+        segments.checkpoint(1),
+        segments.checkpoint(2),
+    );
+    assert_same(
+        rt,
+        "segments",
+        &(segments.len(), segments.as_slice().len()),
+        &(2, 2),
+    );
+    assert_same(rt, "checkpoints", &checkpoints, &(Some(0), Some(3), None));
+    for (place, index, from) in &PLACES {
+        assert_at(
+            rt,
+            "place",
+            *place,
+            &segments.locate(*place),
+            &(*index, *from),
+        );
     }
 }
 

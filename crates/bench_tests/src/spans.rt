@@ -1,7 +1,7 @@
 //! Edited stores against stores that are opened on the sessions that they have then: random
 //! sessions, with edits at random.
 use crate::random::{Mix, Played, number, random_session};
-use crate::samples::Opened;
+use crate::samples::{Opened, assert_at, assert_edit, assert_tallies, tallies_text};
 use bench_types::{Edit, Step};
 use session_store::{Outcome, Store};
 use smp_kernel::Kernel;
@@ -43,9 +43,7 @@ fn check_against(
 }
 
 fn opened_anew(host: &HostRuntime, store: &Store, steps: &[Step]) -> Result<Opened, Fail> {
-    let header = store.header().copy(host.alloc())?;
-    let steps = Vec::from_slice(host.alloc(), steps)?;
-    Opened::of(host, header, steps, 1_000)
+    Opened::with(host, store.header().copy(host.alloc())?, steps, 1_000)
 }
 
 fn check_places(
@@ -63,8 +61,8 @@ fn check_places(
 }
 
 fn check_place(rt: &impl Abort, store: &Store, anew: &Store, place: u32) {
-    assert_eq!(rt; store.step(place), anew.step(place), "step {place}");
-    assert_eq!(rt; store.reply(place), anew.reply(place), "reply {place}");
+    assert_at(rt, "step", place, &store.step(place), &anew.step(place));
+    assert_at(rt, "reply", place, &store.reply(place), &anew.reply(place));
     assert!(rt; store.row(place) == anew.row(place), "place {place}");
 }
 
@@ -76,9 +74,12 @@ fn check_state(
     place: u32,
 ) -> Result<(), Fail> {
     let kernel = state_of(alloc, opened, place)?;
-    let other = state_of(alloc, anew, place)?;
-    assert!(rt; kernel.same(&other), "place {place}");
+    check_kernel(rt, &kernel, &state_of(alloc, anew, place)?, place);
     Ok(())
+}
+
+fn check_kernel(rt: &impl Abort, kernel: &Kernel, other: &Kernel, place: u32) {
+    assert!(rt; kernel.same(other), "place {place}");
 }
 
 fn state_of(alloc: Global, opened: &mut Opened, place: u32) -> Result<Kernel, Fail> {
@@ -89,10 +90,8 @@ fn state_of(alloc: Global, opened: &mut Opened, place: u32) -> Result<Kernel, Fa
 }
 
 fn check_tallies(rt: &impl Abort, alloc: Global, store: &Store, anew: &Store) -> Result<(), Fail> {
-    let text = store.tallies(alloc)?.text(alloc, store.header())?;
-    let other = anew.tallies(alloc)?.text(alloc, anew.header())?;
-    assert_eq!(rt; text.as_str(), other.as_str());
-    Ok(())
+    let text = tallies_text(alloc, store)?;
+    assert_tallies(rt, alloc, anew, &text)
 }
 
 #[test]
@@ -118,9 +117,7 @@ fn check_span(rt: &impl Abort, host: &HostRuntime, played: &Played, span: u32) -
 }
 
 fn opened_with(host: &HostRuntime, played: &Played, span: u32) -> Result<Opened, Fail> {
-    let header = played.header.copy(host.alloc())?;
-    let steps = Vec::from_slice(host.alloc(), &played.steps)?;
-    Opened::of(host, header, steps, span)
+    Opened::with(host, played.header.copy(host.alloc())?, &played.steps, span)
 }
 
 // The store is compared after every tenth edit.
@@ -180,9 +177,9 @@ fn make_edit(rt: &impl Abort, alloc: Global, opened: &mut Opened, edit: Edit) ->
         met,
         replayed,
     } = opened.store.apply(alloc, edit, &mut opened.meter)?;
-    assert_eq!(rt; from.saturating_add(replayed), met, "{edit:?}");
+    assert_edit(rt, edit, &from.saturating_add(replayed), &met);
     let counted = count.saturating_add(u64::from(replayed));
-    assert_eq!(rt; opened.meter.count(), counted, "{edit:?}");
+    assert_edit(rt, edit, &opened.meter.count(), &counted);
     Ok(())
 }
 

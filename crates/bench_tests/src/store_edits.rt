@@ -1,12 +1,12 @@
 //! The edits that a store makes and refuses, and its meter.
 use crate::samples::{
-    A_DELAYS, Opened, SWITCH_0, SWITCH_1, assert_replay, assert_row, assert_steps, between,
-    make_edit, make_edits, refuse_edit, three_tasks, ticks,
+    A_DELAYS, Opened, SWITCH_0, SWITCH_1, assert_edit, assert_replay, assert_row, assert_same,
+    assert_steps, between, make_edit, make_edits, refuse_edit, three_tasks, ticks,
 };
 use Reply::{Blocked, Done};
 use bench_types::{Call, Edit, EditFault, Fault, MAX_STEPS, Refusal, Reply, Step};
 use session_store::{Outcome, StoreFault};
-use std::alloc::{AllocError, Global};
+use std::alloc::Global;
 use std::process::Abort;
 use std::test::Fail;
 
@@ -26,13 +26,18 @@ pub(crate) fn replace(at: u32, step: Step) -> Edit {
     Edit::Replace { at, step }
 }
 
-pub(crate) fn change(task: u32, priority: u32) -> Edit {
-    Edit::ChangeTask {
-        task,
-        priority,
-        mask: 3,
-    }
+/// The task has the priority from the start, and may run on both cores.
+macro_rules! change {
+    ($task:expr, $priority:expr) => {
+        Edit::ChangeTask {
+            task: $task,
+            priority: $priority,
+            mask: 3,
+        }
+    };
 }
+
+pub(crate) use change;
 
 /// A session, its edits with where their replays begin and end, and the replies and the last tasks
 /// then.
@@ -47,97 +52,156 @@ struct Case<'a> {
 
 fn check_case(rt: &impl Abort, host: &HostRuntime, case: &Case<'_>) -> Result<(), Fail> {
     let mut opened = Opened::new(host, case.slicing, case.steps)?;
-    assert_eq!(rt; opened.meter.count(), case.steps.len() as u64);
+    assert_same(
+        rt,
+        "steps",
+        &opened.meter.count(),
+        &(case.steps.len() as u64),
+    );
     make_edits(rt, host.alloc(), &mut opened, case.edits);
     assert_replay(rt, &opened.store, case.replies, case.last);
     Ok(())
 }
 
+const NO_STEPS: Case<'static> = Case {
+    slicing: true,
+    steps: &[],
+    edits: &[],
+    replies: &[],
+    last: [2, 3],
+};
+
+const LAST_DELAYS: Case<'static> = Case {
+    steps: &[Step::Tick, SWITCH_1, A_DELAYS],
+    last: [2, 4],
+    ..NO_STEPS
+};
+
+const FIRST_DELAYS: Case<'static> = Case {
+    slicing: false,
+    steps: &[A_DELAYS, SWITCH_0, SWITCH_1],
+    ..NO_STEPS
+};
+
+/// A leaves its core for two ticks.
+const TURNS: Case<'static> = Case {
+    steps: &[
+        A_DELAYS,
+        SWITCH_0,
+        Step::Tick,
+        SWITCH_0,
+        SWITCH_1,
+        Step::Tick,
+        SWITCH_0,
+        SWITCH_1,
+    ],
+    ..NO_STEPS
+};
+
+const FIRST_DELAY: Edit = Edit::Insert {
+    at: 0,
+    step: A_DELAYS,
+};
+
+const SECOND_SWITCH: Edit = Edit::Insert {
+    at: 1,
+    step: SWITCH_0,
+};
+
+const DELAY: (Edit, u32, u32) = (FIRST_DELAY, 0, 4);
+
+const SWITCH: (Edit, u32, u32) = (SECOND_SWITCH, 0, 5);
+
+const REMOVE: (Edit, u32, u32) = (Edit::Remove { at: 1 }, 0, 2);
+
+const AGAIN: (Edit, u32, u32) = (
+    Edit::Replace {
+        at: 1,
+        step: SWITCH_0,
+    },
+    0,
+    2,
+);
+
+const YIELDS: (Edit, u32, u32) = (
+    Edit::Replace {
+        at: 0,
+        step: A_YIELDS,
+    },
+    0,
+    8,
+);
+
+const FIRST_TICK: (Edit, u32, u32) = (
+    Edit::Insert {
+        at: 0,
+        step: Step::Tick,
+    },
+    0,
+    1,
+);
+
+const DUE: Reply = Reply::Refused(Refusal::SwitchDue);
+
+const DISPLACED: Reply = Reply::Refused(Refusal::Displaced);
+
+const REPLAYED: [Case<'static>; 10] = [
+    Case {
+        replies: &[Done, Done, Blocked],
+        ..LAST_DELAYS
+    },
+    Case {
+        edits: &[DELAY],
+        replies: &[Blocked, Done, Done, DUE],
+        ..LAST_DELAYS
+    },
+    Case {
+        edits: &[DELAY, SWITCH],
+        replies: &[Blocked, Done, Done, Done, DISPLACED],
+        last: [4, 3],
+        ..LAST_DELAYS
+    },
+    Case {
+        edits: &[REMOVE],
+        replies: &[Blocked, NOT_DUE],
+        ..FIRST_DELAYS
+    },
+    Case {
+        edits: &[REMOVE, AGAIN],
+        replies: &[Blocked, Done],
+        last: [4, 3],
+        ..FIRST_DELAYS
+    },
+    Case {
+        replies: &[Blocked, Done, Done, Done, Done, Done, Done, Done],
+        last: [2, 4],
+        ..TURNS
+    },
+    Case {
+        edits: &[YIELDS],
+        replies: &[Done, Done, Done, NOT_DUE, Done, Done, NOT_DUE, Done],
+        ..TURNS
+    },
+    Case {
+        edits: &[(change!(3, 3), 0, 0)],
+        last: [3, 2],
+        ..NO_STEPS
+    },
+    Case {
+        edits: &[(change!(3, 1), 0, 0)],
+        ..NO_STEPS
+    },
+    Case {
+        slicing: false,
+        edits: &[FIRST_TICK],
+        replies: &[Done],
+        ..NO_STEPS
+    },
+];
+
 #[test]
 fn replays_edited_sessions(rt: HostRuntime) -> Result<(), Fail> {
-    let due = Reply::Refused(Refusal::SwitchDue);
-    let displaced = Reply::Refused(Refusal::Displaced);
-    let last = [Step::Tick, SWITCH_1, A_DELAYS];
-    let first = [A_DELAYS, SWITCH_0, SWITCH_1];
-    let tick = Step::Tick;
-    let turns = [
-        A_DELAYS, SWITCH_0, tick, SWITCH_0, SWITCH_1, tick, SWITCH_0, SWITCH_1,
-    ];
-    let (delay, switch) = ((insert(0, A_DELAYS), 0, 4), (insert(1, SWITCH_0), 0, 5));
-    let (remove, again) = ((Edit::Remove { at: 1 }, 0, 2), (replace(1, SWITCH_0), 0, 2));
-    let yields = (replace(0, A_YIELDS), 0, 8);
-    for case in &[
-        Case {
-            slicing: true,
-            steps: &last,
-            edits: &[],
-            replies: &[Done, Done, Blocked],
-            last: [2, 4],
-        },
-        Case {
-            slicing: true,
-            steps: &last,
-            edits: &[delay],
-            replies: &[Blocked, Done, Done, due],
-            last: [2, 4],
-        },
-        Case {
-            slicing: true,
-            steps: &last,
-            edits: &[delay, switch],
-            replies: &[Blocked, Done, Done, Done, displaced],
-            last: [4, 3],
-        },
-        Case {
-            slicing: false,
-            steps: &first,
-            edits: &[remove],
-            replies: &[Blocked, NOT_DUE],
-            last: [2, 3],
-        },
-        Case {
-            slicing: false,
-            steps: &first,
-            edits: &[remove, again],
-            replies: &[Blocked, Done],
-            last: [4, 3],
-        },
-        Case {
-            slicing: true,
-            steps: &turns,
-            edits: &[],
-            replies: &[Blocked, Done, Done, Done, Done, Done, Done, Done],
-            last: [2, 4],
-        },
-        Case {
-            slicing: true,
-            steps: &turns,
-            edits: &[yields],
-            replies: &[Done, Done, Done, NOT_DUE, Done, Done, NOT_DUE, Done],
-            last: [2, 3],
-        },
-        Case {
-            slicing: true,
-            steps: &[],
-            edits: &[(change(3, 3), 0, 0)],
-            replies: &[],
-            last: [3, 2],
-        },
-        Case {
-            slicing: true,
-            steps: &[],
-            edits: &[(change(3, 1), 0, 0)],
-            replies: &[],
-            last: [2, 3],
-        },
-        Case {
-            slicing: false,
-            steps: &[],
-            edits: &[(insert(0, tick), 0, 1)],
-            replies: &[Done],
-            last: [2, 3],
-        },
-    ] {
+    for case in &REPLAYED {
         check_case(&rt, &rt, case)?;
     }
     Ok(())
@@ -146,66 +210,50 @@ fn replays_edited_sessions(rt: HostRuntime) -> Result<(), Fail> {
 #[test]
 fn takes_edits_in_their_order(rt: HostRuntime) -> Result<(), Fail> {
     let mut opened = Opened::new(&rt, false, &[Step::Tick, SWITCH_1, A_DELAYS])?;
-    check_order(&rt, rt.alloc(), &mut opened)
+    check_order(&rt, rt.alloc(), &mut opened);
+    Ok(())
 }
 
-fn check_order(rt: &impl Abort, alloc: Global, opened: &mut Opened) -> Result<(), Fail> {
-    let edits = [
-        insert(0, A_DELAYS),
+/// Edits in their order, the second of which is not accepted, and what each is answered.
+const IN_ORDER: [(Edit, Result<Outcome, StoreFault>); 3] = [
+    (
+        FIRST_DELAY,
+        Ok(Outcome {
+            from: 0,
+            met: 4,
+            replayed: 4,
+        }),
+    ),
+    (
         Edit::Remove { at: 4 },
-        insert(1, SWITCH_0),
-    ];
-    let answers = [
-        Ok(between(0, 4)),
-        Err(EditFault::NoPlace),
-        Ok(between(0, 5)),
-    ];
-    check_answers(rt, alloc, opened, &edits, &answers)?;
-    assert_eq!(rt; opened.meter.count(), 12);
+        Err(StoreFault::Edit(EditFault::NoPlace)),
+    ),
+    (
+        SECOND_SWITCH,
+        Ok(Outcome {
+            from: 0,
+            met: 5,
+            replayed: 5,
+        }),
+    ),
+];
+
+fn check_order(rt: &impl Abort, alloc: Global, opened: &mut Opened) {
+    for (edit, answer) in &IN_ORDER {
+        let given = opened.store.apply(alloc, *edit, &mut opened.meter);
+        assert_edit(rt, *edit, &given, answer);
+    }
+    assert_same(rt, "steps", &opened.meter.count(), &12);
     assert_row(rt, &opened.store, 5, [4, 3]);
+    check_ordered(rt, alloc, opened);
+}
+
+fn check_ordered(rt: &impl Abort, alloc: Global, opened: &mut Opened) {
     let made = [A_DELAYS, SWITCH_0, Step::Tick, SWITCH_1, A_DELAYS];
     assert_steps(rt, &opened.store, &made);
     make_edit(rt, alloc, opened, &(Edit::Remove { at: 1 }, 0, 4));
     let left = [A_DELAYS, Step::Tick, SWITCH_1, A_DELAYS];
     assert_steps(rt, &opened.store, &left);
-    Ok(())
-}
-
-fn check_answers(
-    rt: &impl Abort,
-    alloc: Global,
-    opened: &mut Opened,
-    edits: &[Edit],
-    answers: &[Result<Outcome, EditFault>],
-) -> Result<(), Fail> {
-    let given = answers_to(alloc, opened, edits)?;
-    assert_eq!(rt; given.as_slice(), answers);
-    Ok(())
-}
-
-/// Makes the edits in their order; one that is not accepted is passed over.
-fn answers_to(
-    alloc: Global,
-    opened: &mut Opened,
-    edits: &[Edit],
-) -> Result<Vec<Result<Outcome, EditFault>>, AllocError> {
-    let mut answers = Vec::with_capacity(alloc, edits.len())?;
-    for edit in edits {
-        answers.push(answer_to(alloc, opened, *edit)?)?;
-    }
-    Ok(answers)
-}
-
-fn answer_to(
-    alloc: Global,
-    opened: &mut Opened,
-    edit: Edit,
-) -> Result<Result<Outcome, EditFault>, AllocError> {
-    match opened.store.apply(alloc, edit, &mut opened.meter) {
-        Ok(outcome) => Ok(Ok(outcome)),
-        Err(StoreFault::Edit(why)) => Ok(Err(why)),
-        Err(StoreFault::NoMemory) => Err(AllocError),
-    }
 }
 
 #[test]
@@ -215,18 +263,35 @@ fn refuses_edits_and_stays(rt: HostRuntime) -> Result<(), Fail> {
     Ok(())
 }
 
+/// The switch of a core that is not there.
+const BAD: Step = Step::Switch { core: 2 };
+
+const BAD_CORE: EditFault = EditFault::Bench(Fault::BadCore);
+
+const REFUSED: [(Edit, EditFault); 7] = [
+    (
+        Edit::Insert {
+            at: 3,
+            step: Step::Tick,
+        },
+        EditFault::NoPlace,
+    ),
+    (Edit::Remove { at: 2 }, EditFault::NoPlace),
+    (
+        Edit::Replace {
+            at: 2,
+            step: Step::Tick,
+        },
+        EditFault::NoPlace,
+    ),
+    (Edit::Insert { at: 3, step: BAD }, BAD_CORE),
+    (Edit::Replace { at: 0, step: BAD }, BAD_CORE),
+    (change!(1, 5), EditFault::Bench(Fault::BadTask)),
+    (change!(2, 5), EditFault::Bench(Fault::BadHeader)),
+];
+
 fn check_refusals(rt: &impl Abort, alloc: Global, opened: &mut Opened) {
-    let bad = Step::Switch { core: 2 };
-    let (bad_core, no_place) = (EditFault::Bench(Fault::BadCore), EditFault::NoPlace);
-    for (edit, why) in &[
-        (insert(3, Step::Tick), no_place),
-        (Edit::Remove { at: 2 }, no_place),
-        (replace(2, Step::Tick), no_place),
-        (insert(3, bad), bad_core),
-        (replace(0, bad), bad_core),
-        (change(1, 5), EditFault::Bench(Fault::BadTask)),
-        (change(2, 5), EditFault::Bench(Fault::BadHeader)),
-    ] {
+    for (edit, why) in &REFUSED {
         refuse_edit(rt, alloc, opened, *edit, *why);
         assert_replay(rt, &opened.store, &[Done, NOT_DUE], [2, 3]);
     }
@@ -253,13 +318,16 @@ fn keeps_the_most_steps_and_no_more(rt: HostRuntime) -> Result<(), Fail> {
     Ok(())
 }
 
+/// Places where no tick can be put in, and why.
+const FULL: [(u32, EditFault); 4] = [
+    (0, EditFault::TooLong),
+    (MAX_STEPS, EditFault::TooLong),
+    (MAX_STEPS + 1, EditFault::NoPlace),
+    (1_000_000, EditFault::NoPlace),
+];
+
 fn check_fullness(rt: &impl Abort, alloc: Global, opened: &mut Opened) {
-    for (at, why) in &[
-        (0, EditFault::TooLong),
-        (MAX_STEPS, EditFault::TooLong),
-        (MAX_STEPS + 1, EditFault::NoPlace),
-        (1_000_000, EditFault::NoPlace),
-    ] {
+    for (at, why) in &FULL {
         refuse_edit(rt, alloc, opened, insert(*at, Step::Tick), *why);
     }
     let (last, from) = (MAX_STEPS - 1, MAX_STEPS - MAX_STEPS % 64);
@@ -269,8 +337,8 @@ fn check_fullness(rt: &impl Abort, alloc: Global, opened: &mut Opened) {
         opened,
         &(replace(last, SWITCH_0), from, MAX_STEPS),
     );
-    assert_eq!(rt; opened.store.len(), MAX_STEPS);
-    assert_eq!(rt; opened.store.reply(last), Some(NOT_DUE));
+    assert_same(rt, "steps", &opened.store.len(), &MAX_STEPS);
+    assert_same(rt, "last reply", &opened.store.reply(last), &Some(NOT_DUE));
 }
 
 /// With `rt try --test --fail-alloc N` the Nth allocation fails, for some N one of the two calls.
@@ -298,8 +366,13 @@ fn insert_one(rt: &impl Abort, alloc: Global, opened: &mut Opened) {
         .store
         .apply(alloc, insert(0, SWITCH_1), &mut opened.meter);
     match made {
-        Ok(outcome) => assert_eq!(rt; outcome, between(0, before + 1)),
-        Err(fault) => assert_eq!(rt; fault, StoreFault::NoMemory),
+        Ok(outcome) => assert_same(rt, "outcome", &outcome, &between(0, before + 1)),
+        Err(fault) => assert_same(rt, "fault", &fault, &StoreFault::NoMemory),
     }
-    assert_eq!(rt; opened.store.len(), before + u32::from(made.is_ok()));
+    assert_same(
+        rt,
+        "steps",
+        &opened.store.len(),
+        &(before + u32::from(made.is_ok())),
+    );
 }

@@ -1,6 +1,7 @@
 //! What a store shows of the session that it was opened with, and what it refuses to open.
 use crate::samples::{
-    A_DELAYS, Opened, SWITCH_0, assert_replay, assert_row, assert_steps, three_tasks, ticks,
+    A_DELAYS, Opened, SWITCH_0, assert_at, assert_replay, assert_row, assert_same, assert_steps,
+    three_tasks, tick_at, ticks,
 };
 use bench_types::{Call, Fault, Header, Items, MAX_SPAN, MAX_STEPS, Reply, Step};
 use session_store::{OpenFault, OpenRefusal, Store};
@@ -24,7 +25,7 @@ const STEPS: [Step; 5] = [
 #[test]
 fn shows_the_session_and_its_replay(rt: HostRuntime) -> Result<(), Fail> {
     let opened = Opened::new(&rt, false, &STEPS)?;
-    assert_eq!(rt; opened.meter.count(), 5);
+    assert_same(&rt, "steps", &opened.meter.count(), &5);
     check_shown(&rt, &opened.store);
     Ok(())
 }
@@ -38,8 +39,9 @@ fn check_shown(rt: &impl Abort, store: &Store) {
     }
     assert_steps(rt, store, STEPS.as_slice());
     assert!(rt; store.row(6).is_none());
-    assert_eq!(rt; (store.checkpoint(0), store.checkpoint(1)), (Some(0), None));
-    assert_eq!(rt; store.header().tasks.as_slice().len(), 3);
+    let checkpoints = (store.checkpoint(0), store.checkpoint(1));
+    assert_same(rt, "checkpoints", &checkpoints, &(Some(0), None));
+    assert_same(rt, "tasks", &store.header().tasks.as_slice().len(), &3);
 }
 
 #[test]
@@ -56,15 +58,10 @@ fn check_places(rt: &impl Abort, alloc: Global, opened: &mut Opened) -> Result<(
         (4, None, 8),
     ] {
         let shown = tick_at(alloc, opened, *place)?;
-        assert_eq!(rt; shown, *tick, "place {place}");
-        assert_eq!(rt; opened.meter.count(), *count, "place {place}");
+        assert_at(rt, "tick at place", *place, &shown, tick);
+        assert_at(rt, "count at place", *place, &opened.meter.count(), count);
     }
     Ok(())
-}
-
-fn tick_at(alloc: Global, opened: &mut Opened, place: u32) -> Result<Option<u32>, Fail> {
-    let kernel = opened.store.state(alloc, place, &mut opened.meter)?;
-    Ok(kernel.map(|kernel| kernel.tick()))
 }
 
 #[test]
@@ -82,7 +79,7 @@ fn check_span(rt: &impl Abort, host: &HostRuntime, span: u32) -> Result<(), Fail
 
 /// What is to be opened: so many of three tasks, so many ticks, and the steps after them. And why
 /// it is refused, at which step.
-#[derive(Drop)]
+#[derive(Clone, Copy)]
 struct Case<'a> {
     tasks: usize,
     ticks: u32,
@@ -92,51 +89,84 @@ struct Case<'a> {
     at: Option<u32>,
 }
 
+/// Of three tasks, no ticks and no steps, with a span that is one.
+const EMPTY: Case<'static> = Case {
+    tasks: 3,
+    ticks: 0,
+    steps: &[],
+    span: 64,
+    why: OpenRefusal::BadSpan,
+    at: None,
+};
+
+/// One step more than a session may have.
+const TOO_MANY: Case<'static> = Case {
+    ticks: MAX_STEPS + 1,
+    why: OpenRefusal::TooLong,
+    ..EMPTY
+};
+
+const BAD_HEADER: OpenRefusal = OpenRefusal::Bench(Fault::BadHeader);
+
+/// Of a core that is not there.
+const BAD: Step = Step::Switch { core: 2 };
+
+const REFUSED: [Case<'static>; 8] = [
+    Case {
+        tasks: 0,
+        why: BAD_HEADER,
+        ..EMPTY
+    },
+    Case {
+        tasks: 0,
+        span: 0,
+        why: BAD_HEADER,
+        ..TOO_MANY
+    },
+    Case { span: 0, ..EMPTY },
+    Case {
+        span: MAX_SPAN + 1,
+        ..EMPTY
+    },
+    Case {
+        span: 0,
+        why: OpenRefusal::BadSpan,
+        ..TOO_MANY
+    },
+    TOO_MANY,
+    Case {
+        steps: &[BAD, BAD],
+        ..TOO_MANY
+    },
+    Case {
+        steps: &[Step::Tick, BAD, BAD],
+        why: OpenRefusal::Bench(Fault::BadCore),
+        at: Some(1),
+        ..EMPTY
+    },
+];
+
 #[test]
 fn refuses_what_is_no_session(rt: HostRuntime) -> Result<(), Fail> {
-    let bad = Step::Switch { core: 2 };
-    let (bad_steps, too_many) = ([Step::Tick, bad, bad], MAX_STEPS + 1);
-    let bad_header = OpenRefusal::Bench(Fault::BadHeader);
-    let (bad_span, too_long) = (OpenRefusal::BadSpan, OpenRefusal::TooLong);
-    let bad_core = OpenRefusal::Bench(Fault::BadCore);
     let mut meter = Meter::new(&rt);
-    for (tasks, ticks, steps, span, why, at) in &[
-        (0, 0, [].as_slice(), 64, bad_header, None),
-        (0, too_many, &[], 0, bad_header, None),
-        (3, 0, &[], 0, bad_span, None),
-        (3, 0, &[], MAX_SPAN + 1, bad_span, None),
-        (3, too_many, &[], 0, bad_span, None),
-        (3, too_many, &[], 64, too_long, None),
-        (3, too_many, &bad_steps[1..], 64, too_long, None),
-        (3, 0, &bad_steps, 64, bad_core, Some(1)),
-    ] {
-        let case = Case {
-            tasks: *tasks,
-            ticks: *ticks,
-            steps,
-            span: *span,
-            why: *why,
-            at: *at,
-        };
-        check_refusal(&rt, rt.alloc(), &case, &mut meter)?;
+    for case in &REFUSED {
+        let fault = refused(rt.alloc(), case, &mut meter)?;
+        check_fault(&rt, case, &fault);
     }
-    assert_eq!(rt; meter.count(), 0);
+    assert_same(&rt, "steps", &meter.count(), &0);
     Ok(())
 }
 
-fn check_refusal(
-    rt: &impl Abort,
-    alloc: Global,
-    case: &Case<'_>,
-    meter: &mut Meter,
-) -> Result<(), Fail> {
-    let fault = refused(alloc, case, meter)?;
-    assert_eq!(rt; fault.why, case.why);
-    assert_eq!(rt; fault.at, case.at);
-    assert_eq!(rt; fault.header.tasks.as_slice().len(), case.tasks);
-    let steps = case.ticks as usize + case.steps.len();
-    assert_eq!(rt; fault.steps.as_slice().len(), steps);
-    Ok(())
+fn check_fault(rt: &impl Abort, case: &Case<'_>, fault: &OpenFault) {
+    let tasks = fault.header.tasks.as_slice().len();
+    let (steps, given) = (
+        fault.steps.as_slice().len(),
+        case.ticks as usize + case.steps.len(),
+    );
+    assert_same(rt, "why", &fault.why, &case.why);
+    assert_same(rt, "bad step", &fault.at, &case.at);
+    assert_same(rt, "tasks", &tasks, &case.tasks);
+    assert_same(rt, "steps", &steps, &given);
 }
 
 fn refused(alloc: Global, case: &Case<'_>, meter: &mut Meter) -> Result<OpenFault, Fail> {

@@ -1,15 +1,21 @@
 //! What edits that are tried are answered, and that the store stays as it is.
 use crate::reports::{SHARED, YIELDED_TALLIES};
-use crate::samples::{A_DELAYS, Opened, SWITCH_0, SWITCH_1, assert_row, between};
-use crate::store_edits::{A_YIELDS, change, insert, replace};
+use crate::samples::{
+    A_DELAYS, Opened, SWITCH_0, SWITCH_1, assert_edit, assert_row, assert_same, assert_tallies,
+    assert_text, between, tallies_text,
+};
+use crate::store_edits::{A_YIELDS, insert, replace};
 use bench_types::{Edit, EditFault, Step};
-use session_store::{Store, StoreFault};
-use std::alloc::{AllocError, Global};
+use session_store::{Outcome, StoreFault};
+use std::alloc::Global;
 use std::process::Abort;
 use std::test::Fail;
 
-fn tallies_text(alloc: Global, store: &Store) -> Result<String, AllocError> {
-    store.tallies(alloc)?.text(alloc, store.header())
+/// What the trial of the edit tells, with the tallies as text.
+fn tried(alloc: Global, opened: &mut Opened, edit: Edit) -> Result<(Outcome, String), Fail> {
+    let (outcome, tallies) = opened.store.trial(alloc, edit, &mut opened.meter)?;
+    let text = tallies.text(alloc, opened.store.header())?;
+    Ok((outcome, text))
 }
 
 #[test]
@@ -23,13 +29,10 @@ fn a_trial_leaves_the_store(rt: HostRuntime) -> Result<(), Fail> {
 
 /// A yields in place of its delay: all is replayed, and counted.
 fn check_yield(rt: &impl Abort, alloc: Global, opened: &mut Opened) -> Result<(), Fail> {
-    let (outcome, tallies) = opened
-        .store
-        .trial(alloc, replace(0, A_YIELDS), &mut opened.meter)?;
-    assert_eq!(rt; outcome, between(0, 8));
-    assert_eq!(rt; opened.meter.count(), 16);
-    let text = tallies.text(alloc, opened.store.header())?;
-    assert_eq!(rt; text.as_str(), YIELDED_TALLIES);
+    let (outcome, text) = tried(alloc, opened, replace(0, A_YIELDS))?;
+    let made = (outcome, opened.meter.count());
+    assert_same(rt, "outcome and count", &made, &(between(0, 8), 16));
+    assert_text(rt, &text, YIELDED_TALLIES);
     Ok(())
 }
 
@@ -39,27 +42,48 @@ fn check_no_place(rt: &impl Abort, alloc: Global, opened: &mut Opened) {
     let trial = opened
         .store
         .trial(alloc, insert(9, Step::Tick), &mut opened.meter);
-    assert_eq!(rt; trial.err(), Some(StoreFault::Edit(EditFault::NoPlace)));
-    assert_eq!(rt; opened.meter.count(), count);
+    let no_place = StoreFault::Edit(EditFault::NoPlace);
+    assert_same(rt, "fault", &trial.err(), &Some(no_place));
+    assert_same(rt, "count", &opened.meter.count(), &count);
 }
 
 #[test]
 fn trials_tell_what_the_edits_do(rt: HostRuntime) -> Result<(), Fail> {
-    let edits = [
-        insert(3, SWITCH_1),
-        Edit::Remove { at: 3 },
-        insert(8, Step::Tick),
-        insert(0, A_DELAYS),
-        insert(1, SWITCH_0),
-        change(3, 3),
-        replace(2, A_YIELDS),
-    ];
-    for span in [1, 2, 3, 64] {
-        let mut opened = Opened::by_span(&rt, true, &SHARED, span)?;
-        check_trials(&rt, rt.alloc(), &mut opened, &edits)?;
+    for span in &[1, 2, 3, 64] {
+        let mut opened = Opened::by_span(&rt, true, &SHARED, *span)?;
+        check_trials(&rt, rt.alloc(), &mut opened, &EDITS)?;
     }
     Ok(())
 }
+
+const EDITS: [Edit; 7] = [
+    Edit::Insert {
+        at: 3,
+        step: SWITCH_1,
+    },
+    Edit::Remove { at: 3 },
+    Edit::Insert {
+        at: 8,
+        step: Step::Tick,
+    },
+    Edit::Insert {
+        at: 0,
+        step: A_DELAYS,
+    },
+    Edit::Insert {
+        at: 1,
+        step: SWITCH_0,
+    },
+    Edit::ChangeTask {
+        task: 3,
+        priority: 3,
+        mask: 3,
+    },
+    Edit::Replace {
+        at: 2,
+        step: A_YIELDS,
+    },
+];
 
 fn check_trials(
     rt: &impl Abort,
@@ -81,18 +105,32 @@ fn check_trial(
     edit: Edit,
 ) -> Result<(), Fail> {
     let before = tallies_text(alloc, &opened.store)?;
-    let (outcome, tallies) = opened.store.trial(alloc, edit, &mut opened.meter)?;
-    let told = tallies.text(alloc, opened.store.header())?;
-    assert_eq!(rt;
-        tallies_text(alloc, &opened.store)?.as_str(),
-        before.as_str()
-    );
+    check_left(rt, alloc, opened, edit, &before)
+}
+
+/// The trial leaves the tallies as they were before it.
+fn check_left(
+    rt: &impl Abort,
+    alloc: Global,
+    opened: &mut Opened,
+    edit: Edit,
+    before: &str,
+) -> Result<(), Fail> {
+    let (outcome, told) = tried(alloc, opened, edit)?;
+    assert_tallies(rt, alloc, &opened.store, before)?;
+    check_made(rt, alloc, opened, edit, outcome, &told)
+}
+
+/// The edit leads to what its trial told.
+fn check_made(
+    rt: &impl Abort,
+    alloc: Global,
+    opened: &mut Opened,
+    edit: Edit,
+    outcome: Outcome,
+    told: &str,
+) -> Result<(), Fail> {
     let answer = opened.store.apply(alloc, edit, &mut opened.meter)?;
-    assert_eq!(rt; outcome, answer, "{edit:?}");
-    assert_eq!(rt;
-        tallies_text(alloc, &opened.store)?.as_str(),
-        told.as_str(),
-        "{edit:?}"
-    );
-    Ok(())
+    assert_edit(rt, edit, &outcome, &answer);
+    assert_tallies(rt, alloc, &opened.store, told)
 }

@@ -1,7 +1,7 @@
 //! Edited stores against stores that are opened on the sessions that they have then: random
 //! sessions, with edits at random.
 use crate::random::{Mix, Played, number, random_session};
-use crate::samples::{Opened, assert_at, assert_edit, assert_tallies, tallies_text};
+use crate::samples::{Opened, assert_at, assert_edit, assert_same, assert_tallies, tallies_text};
 use bench_types::{Edit, Step};
 use session_store::{Outcome, Store};
 use smp_kernel::Kernel;
@@ -52,7 +52,7 @@ fn check_places(
     opened: &mut Opened,
     anew: &mut Opened,
 ) -> Result<(), Fail> {
-    assert_eq!(rt; opened.store.len(), anew.store.len());
+    assert_same(rt, "steps", &opened.store.len(), &anew.store.len());
     for place in 0..=opened.store.len() {
         check_place(rt, &opened.store, &anew.store, place);
         check_state(rt, alloc, opened, anew, place)?;

@@ -74,12 +74,20 @@ fn check_state(
     place: u32,
 ) -> Result<(), Fail> {
     let kernel = state_of(alloc, opened, place)?;
-    check_kernel(rt, &kernel, &state_of(alloc, anew, place)?, place);
-    Ok(())
+    check_kernel(rt, alloc, &kernel, anew, place)
 }
 
-fn check_kernel(rt: &impl Abort, kernel: &Kernel, other: &Kernel, place: u32) {
-    assert!(rt; kernel.same(other), "place {place}");
+// Apart from the one before, since each kernel is dear to drop at each way out.
+fn check_kernel(
+    rt: &impl Abort,
+    alloc: Global,
+    kernel: &Kernel,
+    anew: &mut Opened,
+    place: u32,
+) -> Result<(), Fail> {
+    let other = state_of(alloc, anew, place)?;
+    assert_at(rt, "state at place", place, &kernel.same(&other), &true);
+    Ok(())
 }
 
 fn state_of(alloc: Global, opened: &mut Opened, place: u32) -> Result<Kernel, Fail> {

@@ -7,7 +7,7 @@ ghost use Rattle.bench_model.specs.Session.{step_of};
 ghost use Rattle.bench_model.specs.Equal.{StandsFor};
 
 use crate::samples::{Started, assert_at, assert_same, three_tasks};
-use bench_types::{Call, NoteState, Refusal, Reply, Settings, Step, TaskLook};
+use bench_types::{Call, Header, NoteState, Refusal, Reply, Settings, Step, TaskLook};
 use smp_kernel::{Kernel, Meter, StartFault};
 use std::alloc::Global;
 use std::process::Abort;
@@ -49,9 +49,16 @@ fn check_start(rt: &impl Abort, kernel: &Kernel) {
 #[test]
 fn refuses_a_bad_header(rt: HostRuntime) -> Result<(), Fail> {
     let header = three_tasks(rt.alloc(), 1, true)?;
-    let refused = Kernel::start(rt.alloc(), &header);
-    assert!(rt; matches!(refused, Err(StartFault::BadHeader)));
+    let why = start_fault(rt.alloc(), &header);
+    assert_same(&rt, "fault", &why, &Some(StartFault::BadHeader));
     Ok(())
+}
+
+fn start_fault(alloc: Global, header: &Header) -> Option<StartFault> {
+    match Kernel::start(alloc, header) {
+        Ok(_) => None,
+        Err(why) => Some(why),
+    }
 }
 
 /// Two steps in a row: the kernel stands for the table of the second step after the first.

@@ -2,7 +2,9 @@
 //! 100,000 steps.
 
 use crate::replays::check_store;
-use crate::samples::{Opened, SWITCH_0, Started, assert_same, make_edit, tick_at, ticks};
+use crate::samples::{
+    Opened, SWITCH_0, Started, assert_same, assert_text, make_edit, tick_at, ticks,
+};
 use bench_samples::{LARGEST, crowd};
 use bench_types::{Edit, Header, MAX_CORES, MAX_MUTEXES, MAX_SPAN, MAX_STEPS, MAX_TASKS};
 use session_store::Store;
@@ -13,11 +15,12 @@ use std::test::Fail;
 
 fn check_header(rt: &impl Abort, copy: &Header, header: &Header) {
     let tasks = header.tasks.as_slice();
-    assert_eq!(rt; copy.config, header.config);
-    assert_eq!(rt; copy.tasks.as_slice().len(), tasks.len());
+    assert_same(rt, "config", &copy.config, &header.config);
+    assert_same(rt, "tasks", &copy.tasks.as_slice().len(), &tasks.len());
     for (copied, task) in copy.tasks.as_slice().iter().zip(tasks) {
-        assert_eq!(rt; copied.name.as_str(), task.name.as_str());
-        assert_eq!(rt; (copied.priority, copied.mask), (task.priority, task.mask));
+        assert_text(rt, copied.name.as_str(), task.name.as_str());
+        let (given, wanted) = ((copied.priority, copied.mask), (task.priority, task.mask));
+        assert_same(rt, "priority and mask", &given, &wanted);
     }
 }
 

@@ -3,7 +3,7 @@ ghost use Rattle.std.specs.Prelude.{◌≡◌, All, IsTrue, Ok};
 ghost use Rattle.bench_types.specs.Step.{settings_of, step_check};
 
 use crate::random::{Mix, Played, random_session};
-use crate::samples::{Opened, assert_at};
+use crate::samples::{Opened, assert_at, assert_same};
 use bench_types::{Edit, Header, Reply, Row, Step};
 use session_store::Store;
 use slow_replay::replay_slow;
@@ -35,14 +35,14 @@ fn by_the_definitions(
     header.check()?;
     assert!(rt; are_checked(header, steps));
     let outcomes = replay_slow(host, host.alloc(), header, steps)?;
-    assert_eq!(rt; outcomes.len(), steps.len());
+    assert_same(rt, "outcomes", &outcomes.len(), &steps.len());
     Ok(outcomes)
 }
 
 // The kernel's replies and current tasks are those of the definitions.
 fn check_kernel(rt: &impl Abort, host: &HostRuntime, played: &Played) -> Result<(), Fail> {
     let outcomes = by_the_definitions(rt, host, &played.header, &played.steps)?;
-    assert_eq!(rt; outcomes.len(), played.outcomes.len());
+    assert_same(rt, "outcomes", &outcomes.len(), &played.outcomes.len());
     for (made, outcome) in played.outcomes.iter().zip(&outcomes) {
         check_outcome(rt, made, outcome);
     }
@@ -53,29 +53,34 @@ fn check_outcome(rt: &impl Abort, made: &(Reply, Row), outcome: &(Reply, Row)) {
     assert_eq!(rt; made, outcome);
 }
 
+// Kernels are dear to drop, so one function does it for each mix.
+fn check_random(rt: &impl Abort, host: &HostRuntime, mix: Mix) -> Result<(), Fail> {
+    check_kernel(rt, host, &random_session(rt, host, 2000, mix)?)
+}
+
 #[test]
 fn as_the_definitions_replay_it(rt: HostRuntime) -> Result<(), Fail> {
-    check_kernel(&rt, &rt, &random_session(&rt, &rt, 2000, Mix::Nothing)?)
+    check_random(&rt, &rt, Mix::Nothing)
 }
 
 #[test]
 fn as_the_definitions_replay_sets(rt: HostRuntime) -> Result<(), Fail> {
-    check_kernel(&rt, &rt, &random_session(&rt, &rt, 2000, Mix::Sets)?)
+    check_random(&rt, &rt, Mix::Sets)
 }
 
 #[test]
 fn as_the_definitions_replay_notifications(rt: HostRuntime) -> Result<(), Fail> {
-    check_kernel(&rt, &rt, &random_session(&rt, &rt, 2000, Mix::Notes)?)
+    check_random(&rt, &rt, Mix::Notes)
 }
 
 #[test]
 fn as_the_definitions_replay_mutexes(rt: HostRuntime) -> Result<(), Fail> {
-    check_kernel(&rt, &rt, &random_session(&rt, &rt, 2000, Mix::Mutexes)?)
+    check_random(&rt, &rt, Mix::Mutexes)
 }
 
 #[test]
 fn as_the_definitions_replay_holds(rt: HostRuntime) -> Result<(), Fail> {
-    check_kernel(&rt, &rt, &random_session(&rt, &rt, 2000, Mix::Holds)?)
+    check_random(&rt, &rt, Mix::Holds)
 }
 
 // The steps of the store are these, and their replies and current tasks those of the definitions.

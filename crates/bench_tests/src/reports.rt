@@ -1,7 +1,7 @@
 //! The tallies of tasks: before any step, a copy of them, those of a kernel's steps, and those that
 //! a store keeps.
 ghost use Rattle.std.specs.Prelude.{◌≡◌, ◌<◌, suc, length, All, IfOk, Ok};
-ghost use Rattle.bench_types.specs.Step.{step_check};
+ghost use Rattle.bench_types.specs.Step.{settings_of, step_check};
 ghost use Rattle.bench_model.specs.Tallied.{shape, shape_of, AllCountsBelow};
 
 use crate::replays::are_checked;
@@ -372,29 +372,29 @@ fn tallied_in_parts(
     Ok(tallies)
 }
 
-fn in_parts(rt: &impl Abort, host: &HostRuntime, header: &Header) -> Result<Tallies, Fail> {
-    let (first, second) = SHARED.split_at(5);
-    assert!(rt; are_checked(header, first) && are_checked(header, second));
-    let mut kernel = Kernel::start(host.alloc(), header)?;
-    let mut meter = Meter::new(host);
-    Ok(tallied_in_parts(host.alloc(), &mut kernel, &mut meter, first, second)?)
-}
-
 #[test]
 fn tallies_of_two_parts(rt: HostRuntime) -> Result<(), Fail> {
     check_parts(&rt, &rt, &three_tasks(rt.alloc(), 2, true)?)
 }
 
+// A kernel is dear to drop, so it is made where one call follows and no other way out.
 fn check_parts(rt: &impl Abort, host: &HostRuntime, header: &Header) -> Result<(), Fail> {
-    let tallies = in_parts(rt, host, header)?;
-    assert_has_text(rt, host.alloc(), header, &tallies, SHARED_TALLIES)
+    check_parts_from(rt, host, header, &mut Kernel::start(host.alloc(), header)?)
 }
 
-fn by_copies(rt: &impl Abort, host: &HostRuntime, header: &Header) -> Result<Tallies, Fail> {
-    assert!(rt; are_checked(header, &SHARED));
-    let mut kernel = Kernel::start(host.alloc(), header)?;
+fn check_parts_from(
+    rt: &impl Abort,
+    host: &HostRuntime,
+    header: &Header,
+    kernel: &mut Kernel,
+) -> Result<(), Fail>
+    requires { kernel.old.settings ≡ settings_of header.now }
+{
+    let (first, second) = SHARED.split_at(5);
+    assert!(rt; are_checked(header, first) && are_checked(header, second));
     let mut meter = Meter::new(host);
-    Ok(tallied_by_copies(host.alloc(), &mut kernel, &mut meter, &SHARED)?)
+    let tallies = tallied_in_parts(host.alloc(), kernel, &mut meter, first, second)?;
+    assert_has_text(rt, host.alloc(), header, &tallies, SHARED_TALLIES)
 }
 
 #[test]
@@ -403,22 +403,20 @@ fn tallies_by_copies_of_the_kernel(rt: HostRuntime) -> Result<(), Fail> {
 }
 
 fn check_copies(rt: &impl Abort, host: &HostRuntime, header: &Header) -> Result<(), Fail> {
-    let tallies = by_copies(rt, host, header)?;
-    assert_has_text(rt, host.alloc(), header, &tallies, SHARED_TALLIES)
+    check_copies_from(rt, host, header, &mut Kernel::start(host.alloc(), header)?)
 }
 
-fn in_turn(
+fn check_copies_from(
     rt: &impl Abort,
     host: &HostRuntime,
     header: &Header,
-    steps: &[Step],
-) -> Result<Tallies, Fail>
-    requires { length steps.now < 1000 }
+    kernel: &mut Kernel,
+) -> Result<(), Fail>
+    requires { kernel.old.settings ≡ settings_of header.now }
 {
-    assert!(rt; are_checked(header, steps));
-    let mut kernel = Kernel::start(host.alloc(), header)?;
-    let mut meter = Meter::new(host);
-    Ok(tallied_in_turn(host.alloc(), &mut kernel, &mut meter, steps)?)
+    assert!(rt; are_checked(header, &SHARED));
+    let tallies = tallied_by_copies(host.alloc(), kernel, &mut Meter::new(host), &SHARED)?;
+    assert_has_text(rt, host.alloc(), header, &tallies, SHARED_TALLIES)
 }
 
 fn check_in_turn(
@@ -430,7 +428,23 @@ fn check_in_turn(
 ) -> Result<(), Fail>
     requires { length steps.now < 1000 }
 {
-    let tallies = in_turn(rt, host, header, steps)?;
+    let mut kernel = Kernel::start(host.alloc(), header)?;
+    check_in_turn_from(rt, host, header, &mut kernel, steps, wanted)
+}
+
+fn check_in_turn_from(
+    rt: &impl Abort,
+    host: &HostRuntime,
+    header: &Header,
+    kernel: &mut Kernel,
+    steps: &[Step],
+    wanted: &str,
+) -> Result<(), Fail>
+    requires few { length steps.now < 1000 }
+    requires fits { kernel.old.settings ≡ settings_of header.now }
+{
+    assert!(rt; are_checked(header, steps));
+    let tallies = tallied_in_turn(host.alloc(), kernel, &mut Meter::new(host), steps)?;
     assert_has_text(rt, host.alloc(), header, &tallies, wanted)
 }
 

@@ -227,6 +227,8 @@ pub fn assert_tallies(
 
 /// The tick count at the place, where there is one.
 pub fn tick_at(alloc: Global, opened: &mut Opened, place: u32) -> Result<Option<u32>, Fail> {
-    let kernel = opened.store.state(alloc, place, &mut opened.meter)?;
-    Ok(kernel.map(|kernel| kernel.tick()))
+    match opened.store.state(alloc, place, &mut opened.meter)? {
+        Some(kernel) => Ok(Some(kernel.tick())),
+        None => Ok(None),
+    }
 }

@@ -1,7 +1,7 @@
 //! Edited stores against stores that are opened on the sessions that they have then: random
 //! sessions, with edits at random.
 use crate::random::{Mix, Played, number, random_session};
-use crate::samples::{Opened, assert_at, assert_edit, assert_tallies, tallies_text};
+use crate::samples::{Opened, assert_at, assert_edit, assert_same, assert_tallies, tallies_text};
 use bench_types::{Edit, Step};
 use session_store::{Outcome, Store};
 use smp_kernel::Kernel;
@@ -52,7 +52,7 @@ fn check_places(
     opened: &mut Opened,
     anew: &mut Opened,
 ) -> Result<(), Fail> {
-    assert_eq!(rt; opened.store.len(), anew.store.len());
+    assert_same(rt, "steps", &opened.store.len(), &anew.store.len());
     for place in 0..=opened.store.len() {
         check_place(rt, &opened.store, &anew.store, place);
         check_state(rt, alloc, opened, anew, place)?;
@@ -74,12 +74,20 @@ fn check_state(
     place: u32,
 ) -> Result<(), Fail> {
     let kernel = state_of(alloc, opened, place)?;
-    check_kernel(rt, &kernel, &state_of(alloc, anew, place)?, place);
-    Ok(())
+    check_kernel(rt, alloc, &kernel, anew, place)
 }
 
-fn check_kernel(rt: &impl Abort, kernel: &Kernel, other: &Kernel, place: u32) {
-    assert!(rt; kernel.same(other), "place {place}");
+// Apart from the one before, since each kernel is dear to drop at each way out.
+fn check_kernel(
+    rt: &impl Abort,
+    alloc: Global,
+    kernel: &Kernel,
+    anew: &mut Opened,
+    place: u32,
+) -> Result<(), Fail> {
+    let other = state_of(alloc, anew, place)?;
+    assert_at(rt, "state at place", place, &kernel.same(&other), &true);
+    Ok(())
 }
 
 fn state_of(alloc: Global, opened: &mut Opened, place: u32) -> Result<Kernel, Fail> {

@@ -28,9 +28,3 @@ pub all_usable : (pair : PairView) (cores : ℕ) (seats : List (SeatView Recordi
 all_usable pair cores seats are =
     subst (All (IsUsable pair)) (sym are)
     (All-map (IsUsable pair) (new_seat pair) (numbers cores) (λ k d l. new_usable pair _))
-
-pub both_usable : (pair : PairView) (zero one : SeatView RecordingView) → IsUsable pair zero
-    → IsUsable pair one → All (IsUsable pair) (zero ∷ one ∷ [])
-both_usable pair zero one first second =
-    All-cons (IsUsable pair) zero (one ∷ []) first
-    (All-cons (IsUsable pair) one [] second (All-nil (IsUsable pair)))

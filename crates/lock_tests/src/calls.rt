@@ -1,9 +1,10 @@
 //! Pairs of tests, and calls of them that have to succeed.
-ghost use Rattle.std.specs.Prelude.{◌≡◌, ◌+◌, ◌<◌, ◌≤◌, All, IfOk};
+ghost use Rattle.std.specs.Prelude.{◌≡◌, ◌+◌, ◌<◌, ◌≤◌, vec_len, vec_capacity, All, IfOk};
 ghost use Rattle.lock_tests.specs.Use.{IsUsable};
 
 use crate::log::Log;
-use port_locks::{CloseFault, LockPair, Seat};
+use port_locks::{CloseFault, Kept, LockPair, Seat};
+use std::fmt::Debug;
 use std::process::Abort;
 use std::sync::Wait;
 use std::test::Fail;
@@ -95,6 +96,32 @@ pub fn free_task(rt: &impl Abort, pair: &LockPair<Log>, seat: &mut Seat<Log>, ti
     }
 }
 
+/// The last of the seats, which is taken out.
+pub fn taken(rt: &impl Abort, pair: &LockPair<Log>, seats: &mut Vec<Seat<Log>>) -> Seat<Log>
+    requires { All (IsUsable pair.now) seats.old.items }
+    ensures seat { IsUsable pair.now result }
+    ensures rest { All (IsUsable pair.now) seats.new.items }
+{
+    seats.pop().expect(rt, "a seat")
+}
+
+/// Puts a seat that was taken back, as the last.
+pub fn put_back(rt: &impl Abort, pair: &LockPair<Log>, seats: &mut Vec<Seat<Log>>, seat: Seat<Log>)
+    requires seat { IsUsable pair.now seat }
+    requires rest { All (IsUsable pair.now) seats.old.items }
+    ensures { All (IsUsable pair.now) seats.new.items }
+{
+    check_room(rt, seats);
+    seats.push_reserved(seat);
+}
+
+// Apart from `put_back`, which would have to drop its seat.
+fn check_room(rt: &impl Abort, seats: &Vec<Seat<Log>>)
+    ensures { vec_len seats.now < vec_capacity seats.now }
+{
+    assert!(rt; seats.len() < seats.capacity());
+}
+
 /// What is handed back where the pair is not closed, for that reason.
 pub fn refused(
     rt: &impl Abort,
@@ -109,18 +136,46 @@ pub fn refused(
     match pair.close(seats) {
         Ok(_) => panic!(rt; "the pair was closed"),
         Err(refused) => {
-            assert_eq!(rt; refused.why, why);
+            assert_same(rt, &refused.why, &why);
             (refused.pair, refused.seats.into_vec())
         }
     }
 }
 
-/// The value of the pair, which is closed.
-pub fn closed(rt: &impl Abort, pair: LockPair<Log>, seats: Vec<Seat<Log>>) -> Log
-    requires { All (IsUsable pair) seats.items }
+/// Closes the pair, whose log has so many entries then, a share of each thread.
+pub fn close(rt: &impl Abort, pair: LockPair<Log>, seats: Vec<Seat<Log>>, turns: u32, threads: u32)
+    requires own { All (IsUsable pair) seats.items }
+    requires some { 0 < threads }
 {
     match pair.close(seats) {
-        Ok(value) => value,
+        Ok(log) => check_entries(rt, &log, turns, threads),
         Err(refused) => panic!(rt; "refused with {}", refused.why),
     }
+}
+
+fn check_entries(rt: &impl Abort, log: &Log, turns: u32, threads: u32)
+    requires { 0 < threads }
+{
+    assert_same(rt, &log.entries(), &u64::from(turns));
+    assert_same(rt, &log.holder(), &None);
+    for thread in 0..threads {
+        check_share(rt, log, thread, share_of(turns, thread, threads));
+    }
+}
+
+fn check_share(rt: &impl Abort, log: &Log, thread: u32, share: u64) {
+    assert_eq!(rt; log.made_by(thread) as u64, share, "of {thread}");
+}
+
+/// How many of the turns the thread takes.
+pub fn share_of(turns: u32, thread: u32, threads: u32) -> u64
+    requires { 0 < threads }
+{
+    u64::from(turns / threads) + u64::from(thread < turns % threads)
+}
+
+/// What was made is what was wanted. Tests call this, since an assertion is dear to prove where it
+/// stands.
+pub fn assert_same<T: PartialEq + Debug>(rt: &impl Abort, made: &T, wanted: &T) {
+    assert_eq!(rt; made, wanted);
 }

@@ -2,9 +2,9 @@
 ghost use Rattle.std.specs.Prelude.{All, ◌<◌};
 ghost use Rattle.lock_tests.specs.Use.{IsUsable};
 
-use crate::calls::{closed, pair_of, record};
+use crate::calls::{close, pair_of, record, share_of};
 use crate::log::Log;
-use port_locks::{Kept, LockPair, Seat};
+use port_locks::{LockPair, Seat};
 use std::num::NonZeroUsize;
 use std::process::Abort;
 use std::sync::Wait;
@@ -14,13 +14,6 @@ use std::thread::{self, Threads};
 /// How many turns the threads take together.
 const TURNS: u32 = 100_000;
 
-/// How many of them the thread takes.
-fn turns(thread: u32, threads: u32) -> u32
-    requires { 0 < threads }
-{
-    TURNS / threads + u32::from(thread < TURNS % threads)
-}
-
 #[test]
 fn threads_record_in_turn(rt: HostRuntime) -> Result<(), Fail> {
     let processors = thread::available_parallelism(&rt).map_or(4, NonZeroUsize::get);
@@ -28,8 +21,7 @@ fn threads_record_in_turn(rt: HostRuntime) -> Result<(), Fail> {
     assert!(&rt; 1 <= threads && threads <= 8);
     let (pair, mut seats) = pair_of(&rt, threads, TURNS)?;
     take_turns(&rt, &pair, &mut seats, threads);
-    let log = closed(&rt, pair, seats);
-    check_entries(&rt, &log, threads);
+    close(&rt, pair, seats, TURNS, threads);
     Ok(())
 }
 
@@ -64,21 +56,8 @@ fn take_own_turns(
     requires usable { IsUsable pair.now seat.old }
     ensures { IsUsable pair.now seat.new }
 {
-    for _ in 0..turns(seat.number(), threads) {
+    for _ in 0..share_of(TURNS, seat.number(), threads) {
         record(rt, pair, seat);
     }
-    assert!(rt; u64::from(turns(seat.number(), threads)) <= seat.seen());
-}
-
-fn check_entries(rt: &impl Abort, log: &Log, threads: u32)
-    requires { 0 < threads }
-{
-    assert_eq!(rt; log.entries(), u64::from(TURNS));
-    for thread in 0..threads {
-        assert_eq!(rt;
-            log.made_by(thread),
-            turns(thread, threads) as usize,
-            "of {thread}"
-        );
-    }
+    assert!(rt; share_of(TURNS, seat.number(), threads) <= seat.seen());
 }

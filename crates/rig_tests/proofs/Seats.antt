@@ -1,6 +1,6 @@
 -- Seats of one rig.
-use Rattle.std.proofs.Common.{◌≡◌, ℕ, List, [], ◌∷◌, All, map, refl, sym, subst}
-use Rattle.std.proofs.lemmas.List.Elements.{All-map, All-nil, All-cons}
+use Rattle.std.proofs.Common.{◌≡◌, ℕ, List, All, map, refl, sym, subst}
+use Rattle.std.proofs.lemmas.List.Elements.{All-map}
 use Rattle.list_orders.specs.Search.{numbers}
 use Rattle.port_locks.specs.Seats.{PairView}
 use Rattle.core_rig.specs.Seats.{CoreView, IsSeatOf, new_seat}
@@ -9,8 +9,3 @@ pub all_its : (rig : PairView) (cores : ℕ) (seats : List CoreView) → seats �
 all_its rig cores seats are =
     subst (All (IsSeatOf rig)) (sym are)
     (All-map (IsSeatOf rig) (new_seat rig) (numbers cores) (λ k d l. (refl, refl)))
-
-pub both_its : (rig : PairView) (zero one : CoreView) → IsSeatOf rig zero → IsSeatOf rig one → All (IsSeatOf rig) (zero ∷ one ∷ [])
-both_its rig zero one first second =
-    All-cons (IsSeatOf rig) zero (one ∷ []) first
-    (All-cons (IsSeatOf rig) one [] second (All-nil (IsSeatOf rig)))

@@ -1,24 +1,72 @@
 //! Rigs whose seats one thread uses, one after the other.
-ghost use Rattle.std.specs.Prelude.{◌≡◌, All};
 ghost use Rattle.core_rig.specs.Seats.{IsSeatOf};
 
-use crate::rigs::{ISR, at, closed, joined, one_more, parted, refused, reply_of, rig_of, rig_over};
-use bench_samples::{PLAIN, header_of};
+use crate::checks::{
+    ISR, assert_call, assert_counts, assert_depth, assert_interrupt, assert_made, assert_reply,
+    assert_same, assert_switch, assert_tried, at, one_more,
+};
+use crate::faults::check_arguments;
+use crate::rigs::{closed, one_missing, one_task, refused, rig_of, turn};
+use crate::scenes::{Scene, play_alone, recorded, recorded_over};
+use bench_samples::PLAIN;
 use bench_types::{Action, Call, Note, Reply, Step};
-use core_rig::{CloseFault, CoreSeat, Rig, RigRefusal};
+use core_rig::{CloseFault, CoreSeat, Recorded, Rig, RigRefusal};
+use std::alloc::Global;
 use std::process::Abort;
 use std::sync::Wait;
 use std::test::Fail;
 
+/// What two cores do whose seats one thread has.
+#[derive(Clone, Copy)]
+pub enum Alone {
+    /// An interrupt is tried, and another one for which there is no room.
+    Tries,
+    /// A call takes the value that an interrupt set.
+    Value,
+    /// A hold keeps the last place for its close.
+    KeptPlace,
+    /// A hold is opened where there is one place.
+    OnePlace,
+    /// A hold is opened and stays open.
+    Open,
+    /// The hold that stayed open is closed.
+    Close,
+    /// A call of an idle task.
+    Idle,
+    /// Arguments that are at fault.
+    Arguments,
+}
+
+/// The two cores do that.
+pub fn act(
+    rt: &(impl Wait + Abort),
+    rig: &Rig,
+    zero: &mut CoreSeat,
+    one: &mut CoreSeat,
+    alone: Alone,
+)
+    requires zero { IsSeatOf rig.now zero.old }
+    requires one { IsSeatOf rig.now one.old }
+    ensures zero { IsSeatOf rig.now zero.new }
+    ensures one { IsSeatOf rig.now one.new }
+{
+    match alone {
+        Alone::Tries => check_tries(rt, rig, one),
+        Alone::Value => check_value(rt, rig, zero),
+        Alone::KeptPlace => check_kept(rt, rig, zero, one),
+        Alone::OnePlace => check_one_place(rt, rig, zero),
+        Alone::Open => check_open(rt, rig, zero),
+        Alone::Close => close_hold(rt, rig, zero),
+        Alone::Idle => assert_call(rt, rig, one, Call::Yield, Err(RigRefusal::IdleHere)),
+        Alone::Arguments => check_arguments(rt, rig, zero, one),
+    }
+}
+
 #[test]
 fn an_interrupt_is_tried_once(rt: HostRuntime) -> Result<(), Fail> {
-    let (rig, seats) = rig_of(&rt, 1)?;
-    let (zero, mut one) = parted(&rt, &rig, seats);
-    check_tries(&rt, &rig, &mut one);
-    let seats = joined(rt.alloc(), &rig, zero, one)?;
-    let recorded = closed(&rt, rig, seats);
-    assert_eq!(&rt; recorded.made.as_slice(), [0, 1].as_slice());
-    assert_eq!(&rt; reply_of(&recorded.entries, 0, 1), Some(ISR));
+    let recorded = recorded(&rt, &rt, 1, Scene::Alone(Alone::Tries))?;
+    assert_made(&rt, &recorded, &[0, 1]);
+    assert_reply(&rt, &recorded.entries, 0, 1, ISR);
     Ok(())
 }
 
@@ -26,25 +74,29 @@ fn check_tries(rt: &impl Abort, rig: &Rig, one: &mut CoreSeat)
     requires { IsSeatOf rig.now one.old }
     ensures { IsSeatOf rig.now one.new }
 {
-    assert_eq!(rt; (one.seen(), one.made(), one.depth()), (0, 0, 0));
-    let answer = one.try_interrupt(rig, one_more(2));
-    assert_eq!(rt; answer, at(0, ISR));
-    assert_eq!(rt; (one.seen(), one.made()), (1, 1));
-    let full = one.try_interrupt(rig, one_more(2));
-    assert_eq!(rt; full, Err(RigRefusal::Full));
-    assert_eq!(rt; (one.seen(), one.made()), (1, 1));
+    assert_counts(rt, one, 0, 0);
+    assert_depth(rt, one, 0);
+    assert_tried(rt, rig, one, one_more(2), at(0, ISR));
+    assert_counts(rt, one, 1, 1);
+    assert_tried(rt, rig, one, one_more(2), Err(RigRefusal::Full));
+    assert_counts(rt, one, 1, 1);
 }
 
 #[test]
 fn a_call_sees_what_an_interrupt_did(rt: HostRuntime) -> Result<(), Fail> {
-    let (rig, seats) = rig_of(&rt, 10)?;
-    let (mut zero, one) = parted(&rt, &rig, seats);
-    check_value(&rt, &rig, &mut zero);
-    let seats = joined(rt.alloc(), &rig, zero, one)?;
-    let recorded = closed(&rt, rig, seats);
-    let steps = recorded.steps(rt.alloc())?;
-    assert_eq!(&rt; steps.len(), 3);
-    assert_eq!(&rt; steps.get(2).copied(), Some(Step::Switch { core: 0 }));
+    let recorded = recorded(&rt, &rt, 10, Scene::Alone(Alone::Value))?;
+    check_steps(&rt, rt.alloc(), &recorded)
+}
+
+fn check_steps(rt: &impl Abort, alloc: Global, recorded: &Recorded) -> Result<(), Fail> {
+    let steps = recorded.steps(alloc)?;
+    assert_same(rt, "steps", &steps.len(), &3);
+    assert_same(
+        rt,
+        "step",
+        &steps.get(2).copied(),
+        &Some(Step::Switch { core: 0 }),
+    );
     Ok(())
 }
 
@@ -56,110 +108,97 @@ fn check_value(rt: &(impl Wait + Abort), rig: &Rig, zero: &mut CoreSeat)
         task: 2,
         action: Action::Set(7),
     };
-    let answer = zero.interrupt(rt, rig, seven);
-    assert_eq!(rt; answer, at(0, ISR));
-    let answer = zero.call(rt, rig, Call::ValueClear { task: 2, bits: 0 });
-    assert_eq!(rt; answer, at(1, Reply::Value(7)));
-    let answer = zero.switch(rt, rig);
-    assert_eq!(rt; answer.map(|answer| answer.place), Ok(2));
-    assert_eq!(rt; (zero.seen(), zero.made()), (3, 3));
+    let clear = Call::ValueClear { task: 2, bits: 0 };
+    assert_interrupt(rt, rig, zero, seven, at(0, ISR));
+    assert_call(rt, rig, zero, clear, at(1, Reply::Value(7)));
+    assert_switch(rt, rig, zero, Ok(2));
+    assert_counts(rt, zero, 3, 3);
 }
 
 #[test]
 fn a_hold_keeps_a_place(rt: HostRuntime) -> Result<(), Fail> {
-    let (rig, seats) = rig_of(&rt, 2)?;
-    let (mut zero, mut one) = parted(&rt, &rig, seats);
-    open_hold(&rt, &rig, &mut zero);
-    check_full(&rt, &rig, &mut zero, &mut one);
-    let close = zero.call(&rt, &rig, Call::HoldClose);
-    assert_eq!(&rt; close, at(1, Reply::Done));
-    assert_eq!(&rt; zero.depth(), 0);
-    let seats = joined(rt.alloc(), &rig, zero, one)?;
-    let recorded = closed(&rt, rig, seats);
-    assert_eq!(&rt; recorded.made.as_slice(), [2, 0].as_slice());
+    let recorded = recorded(&rt, &rt, 2, Scene::Alone(Alone::KeptPlace))?;
+    assert_made(&rt, &recorded, &[2, 0]);
     Ok(())
+}
+
+fn check_kept(rt: &(impl Wait + Abort), rig: &Rig, zero: &mut CoreSeat, one: &mut CoreSeat)
+    requires zero { IsSeatOf rig.now zero.old }
+    requires one { IsSeatOf rig.now one.old }
+    ensures zero { IsSeatOf rig.now zero.new }
+    ensures one { IsSeatOf rig.now one.new }
+{
+    open_hold(rt, rig, zero);
+    assert_call(rt, rig, zero, Call::Yield, Err(RigRefusal::Full));
+    assert_tried(rt, rig, one, one_more(2), Err(RigRefusal::Full));
+    assert_interrupt(rt, rig, one, one_more(2), Err(RigRefusal::Full));
+    assert_counts(rt, one, 1, 0);
+    close_hold(rt, rig, zero);
 }
 
 fn open_hold(rt: &(impl Wait + Abort), rig: &Rig, zero: &mut CoreSeat)
     requires { IsSeatOf rig.now zero.old }
     ensures { IsSeatOf rig.now zero.new }
 {
-    let open = zero.call(rt, rig, Call::HoldOpen);
-    assert_eq!(rt; open, at(0, Reply::Done));
-    assert_eq!(rt; zero.depth(), 1);
+    assert_call(rt, rig, zero, Call::HoldOpen, at(0, Reply::Done));
+    assert_depth(rt, zero, 1);
 }
 
-fn check_full(rt: &(impl Wait + Abort), rig: &Rig, zero: &mut CoreSeat, one: &mut CoreSeat)
-    requires zero { IsSeatOf rig.now zero.old }
-    requires one { IsSeatOf rig.now one.old }
-    ensures zero { IsSeatOf rig.now zero.new }
-    ensures one { IsSeatOf rig.now one.new }
+fn close_hold(rt: &(impl Wait + Abort), rig: &Rig, zero: &mut CoreSeat)
+    requires { IsSeatOf rig.now zero.old }
+    ensures { IsSeatOf rig.now zero.new }
 {
-    let answer = zero.call(rt, rig, Call::Yield);
-    assert_eq!(rt; answer, Err(RigRefusal::Full));
-    let answer = one.try_interrupt(rig, one_more(2));
-    assert_eq!(rt; answer, Err(RigRefusal::Full));
-    let answer = one.interrupt(rt, rig, one_more(2));
-    assert_eq!(rt; answer, Err(RigRefusal::Full));
-    assert_eq!(rt; (one.seen(), one.made()), (1, 0));
+    assert_call(rt, rig, zero, Call::HoldClose, at(1, Reply::Done));
+    assert_depth(rt, zero, 0);
 }
 
 #[test]
 fn a_hold_needs_two_places(rt: HostRuntime) -> Result<(), Fail> {
-    let (rig, seats) = rig_of(&rt, 1)?;
-    let (mut zero, _one) = parted(&rt, &rig, seats);
-    let open = zero.call(&rt, &rig, Call::HoldOpen);
-    assert_eq!(&rt; open, Err(RigRefusal::Full));
-    assert_eq!(&rt; (zero.depth(), zero.made()), (0, 0));
+    let recorded = recorded(&rt, &rt, 1, Scene::Alone(Alone::OnePlace))?;
+    assert_made(&rt, &recorded, &[0, 0]);
     Ok(())
+}
+
+fn check_one_place(rt: &(impl Wait + Abort), rig: &Rig, zero: &mut CoreSeat)
+    requires { IsSeatOf rig.now zero.old }
+    ensures { IsSeatOf rig.now zero.new }
+{
+    assert_call(rt, rig, zero, Call::HoldOpen, Err(RigRefusal::Full));
+    assert_depth(rt, zero, 0);
+    assert_same(rt, "made", &zero.made(), &0);
 }
 
 #[test]
 fn an_open_hold_keeps_a_rig_open(rt: HostRuntime) -> Result<(), Fail> {
-    let (rig, seats) = rig_of(&rt, 10)?;
-    let (mut zero, one) = parted(&rt, &rig, seats);
-    open_hold(&rt, &rig, &mut zero);
-    let holding = zero.switch(&rt, &rig);
-    assert_eq!(&rt; holding, Err(RigRefusal::Holding));
-    let seats = joined(rt.alloc(), &rig, zero, one)?;
-    let (rig, seats) = refused(&rt, rig, seats, CloseFault::HoldOpen);
-    let (rig, seats) = one_missing(&rt, rig, seats);
-    let (mut zero, one) = parted(&rt, &rig, seats);
-    let close = zero.call(&rt, &rig, Call::HoldClose);
-    assert_eq!(&rt; close, at(1, Reply::Done));
-    let seats = joined(rt.alloc(), &rig, one, zero)?;
-    let recorded = closed(&rt, rig, seats);
-    assert_eq!(&rt; recorded.made.as_slice(), [2, 0].as_slice());
-    assert_eq!(&rt; recorded.header.config, PLAIN);
+    let recorded = closed_late(&rt, &rt)?;
+    assert_made(&rt, &recorded, &[2, 0]);
+    assert_same(&rt, "config", &recorded.header.config, &PLAIN);
     Ok(())
 }
 
-/// The rig and its seats, which is not closed without the last of them.
-pub(crate) fn one_missing(
-    rt: &impl Abort,
-    rig: Rig,
-    mut seats: Vec<CoreSeat>,
-) -> (Rig, Vec<CoreSeat>)
-    requires { All (IsSeatOf rig) seats.items }
-    ensures rig { result.0 ≡ rig }
-    ensures seats { All (IsSeatOf rig) result.1.items }
+/// The rig is closed once its hold is, and all its seats are there, in another order.
+fn closed_late(rt: &(impl Wait + Abort), host: &HostRuntime) -> Result<Recorded, Fail> {
+    let (rig, mut seats) = rig_of(host, 10)?;
+    play_alone(rt, &rig, &mut seats, Alone::Open);
+    let (rig, seats) = refused(rt, rig, seats, CloseFault::HoldOpen);
+    let (rig, mut seats) = one_missing(rt, rig, seats);
+    play_alone(rt, &rig, &mut seats, Alone::Close);
+    turn(rt, &rig, &mut seats);
+    Ok(closed(rt, rig, seats))
+}
+
+fn check_open(rt: &(impl Wait + Abort), rig: &Rig, zero: &mut CoreSeat)
+    requires { IsSeatOf rig.now zero.old }
+    ensures { IsSeatOf rig.now zero.new }
 {
-    let last = seats.pop().expect(rt, "a seat");
-    let (rig, mut seats) = refused(rt, rig, seats, CloseFault::WrongSeats);
-    assert!(rt; seats.len() < seats.capacity());
-    seats.push_reserved(last);
-    (rig, seats)
+    open_hold(rt, rig, zero);
+    assert_switch(rt, rig, zero, Err(RigRefusal::Holding));
 }
 
 #[test]
 fn an_idle_task_makes_no_call(rt: HostRuntime) -> Result<(), Fail> {
-    let header = header_of(rt.alloc(), PLAIN, &[("A", 2, 3)])?;
-    let (rig, seats) = rig_over(&rt, &header, 10)?;
-    let (zero, mut one) = parted(&rt, &rig, seats);
-    let idle = one.call(&rt, &rig, Call::Yield);
-    assert_eq!(&rt; idle, Err(RigRefusal::IdleHere));
-    let seats = joined(rt.alloc(), &rig, zero, one)?;
-    let recorded = closed(&rt, rig, seats);
-    assert_eq!(&rt; recorded.entries.len(), 0);
+    let header = one_task(rt.alloc(), PLAIN, 2, 3)?;
+    let recorded = recorded_over(&rt, &rt, &header, 10, Scene::Alone(Alone::Idle))?;
+    assert_same(&rt, "entries", &recorded.entries.len(), &0);
     Ok(())
 }

@@ -1,10 +1,15 @@
 //! Which headers, limits and arguments are refused.
-ghost use Rattle.std.specs.Prelude.{◌≡◌};
 ghost use Rattle.core_rig.specs.Seats.{IsSeatOf};
 
-use crate::rigs::{at, one_more, parted, rig_of};
-use bench_samples::{PLAIN, header_of, three_tasks};
-use bench_types::{Call, Fault, Reply};
+use crate::alone::Alone;
+use crate::checks::{
+    assert_call, assert_counts, assert_interrupt, assert_made, assert_same, assert_tick,
+    assert_tried, at, one_more,
+};
+use crate::rigs::one_task;
+use crate::scenes::{Scene, recorded};
+use bench_samples::{PLAIN, three_tasks};
+use bench_types::{Call, Fault, Header, Reply};
 use core_rig::{CoreSeat, Rig, RigFault, RigRefusal};
 use std::process::Abort;
 use std::sync::Wait;
@@ -12,52 +17,71 @@ use std::test::Fail;
 
 #[test]
 fn headers_and_limits_are_tested(rt: HostRuntime) -> Result<(), Fail> {
-    let header = header_of(rt.alloc(), PLAIN, &[("A", 9, 3)])?;
-    let made = Rig::new(&rt, rt.alloc(), &header, 100_001);
-    assert_eq!(&rt; made.err(), Some(RigFault::BadHeader));
+    let header = one_task(rt.alloc(), PLAIN, 9, 3)?;
+    check_rig(&rt, &rt, &header, 100_001, Some(RigFault::BadHeader));
     let header = three_tasks(rt.alloc(), false)?;
-    let made = Rig::new(&rt, rt.alloc(), &header, 100_001);
-    assert_eq!(&rt; made.err(), Some(RigFault::BadLimit));
-    let made = Rig::new(&rt, rt.alloc(), &header, 100_000);
-    assert!(&rt; made.is_ok());
+    check_rig(&rt, &rt, &header, 100_001, Some(RigFault::BadLimit));
+    check_rig(&rt, &rt, &header, 100_000, None);
     Ok(())
+}
+
+/// The rig is refused for that reason, or made where there is none.
+fn check_rig(
+    rt: &impl Abort,
+    host: &HostRuntime,
+    header: &Header,
+    limit: u32,
+    why: Option<RigFault>,
+) {
+    let made = Rig::new(host, host.alloc(), header, limit);
+    assert_same(rt, "rig", &made.err(), &why);
 }
 
 #[test]
 fn arguments_are_tested(rt: HostRuntime) -> Result<(), Fail> {
-    let (rig, seats) = rig_of(&rt, 10)?;
-    let (mut zero, mut one) = parted(&rt, &rig, seats);
-    check_interrupts(&rt, &rig, &mut one);
-    check_calls(&rt, &rig, &mut zero);
-    let tick = one.tick(&rt, &rig);
-    assert_eq!(&rt; tick, Err(RigRefusal::Fault(Fault::BadCore)));
-    let tick = zero.tick(&rt, &rig);
-    assert_eq!(&rt; tick, at(0, Reply::Done));
-    assert_eq!(&rt; (zero.made(), one.made()), (1, 0));
+    let recorded = recorded(&rt, &rt, 10, Scene::Alone(Alone::Arguments))?;
+    assert_made(&rt, &recorded, &[1, 0]);
     Ok(())
+}
+
+pub fn check_arguments(rt: &(impl Wait + Abort), rig: &Rig, zero: &mut CoreSeat, one: &mut CoreSeat)
+    requires zero { IsSeatOf rig.now zero.old }
+    requires one { IsSeatOf rig.now one.old }
+    ensures zero { IsSeatOf rig.now zero.new }
+    ensures one { IsSeatOf rig.now one.new }
+{
+    check_interrupts(rt, rig, one);
+    check_calls(rt, rig, zero);
+    assert_tick(rt, rig, one, Err(RigRefusal::Fault(Fault::BadCore)));
+    assert_tick(rt, rig, zero, at(0, Reply::Done));
+    assert_same(rt, "made", &zero.made(), &1);
+    assert_same(rt, "made", &one.made(), &0);
 }
 
 fn check_interrupts(rt: &(impl Wait + Abort), rig: &Rig, one: &mut CoreSeat)
     requires { IsSeatOf rig.now one.old }
     ensures { IsSeatOf rig.now one.new }
 {
-    let bad_task = Err(RigRefusal::Fault(Fault::BadTask));
-    let answer = one.interrupt(rt, rig, one_more(1));
-    assert_eq!(rt; answer, bad_task);
-    let answer = one.try_interrupt(rig, one_more(5));
-    assert_eq!(rt; answer, bad_task);
-    assert_eq!(rt; (one.seen(), one.made()), (0, 0));
+    let bad_task = RigRefusal::Fault(Fault::BadTask);
+    assert_interrupt(rt, rig, one, one_more(1), Err(bad_task));
+    assert_tried(rt, rig, one, one_more(5), Err(bad_task));
+    assert_counts(rt, one, 0, 0);
 }
 
 fn check_calls(rt: &(impl Wait + Abort), rig: &Rig, zero: &mut CoreSeat)
     requires { IsSeatOf rig.now zero.old }
     ensures { IsSeatOf rig.now zero.new }
 {
-    let answer = zero.call(rt, rig, Call::StateClear(0));
-    assert_eq!(rt; answer, Err(RigRefusal::Fault(Fault::BadTask)));
-    let answer = zero.call(rt, rig, Call::MutexGive(0));
-    assert_eq!(rt; answer, Err(RigRefusal::Fault(Fault::BadMutex)));
-    let answer = zero.call(rt, rig, Call::AffinitySet { task: 2, mask: 4 });
-    assert_eq!(rt; answer, Err(RigRefusal::Fault(Fault::BadArgument)));
-    assert_eq!(rt; (zero.seen(), zero.made()), (0, 0));
+    refuse_call(rt, rig, zero, Call::StateClear(0), Fault::BadTask);
+    refuse_call(rt, rig, zero, Call::MutexGive(0), Fault::BadMutex);
+    let nowhere = Call::AffinitySet { task: 2, mask: 4 };
+    refuse_call(rt, rig, zero, nowhere, Fault::BadArgument);
+    assert_counts(rt, zero, 0, 0);
+}
+
+fn refuse_call(rt: &(impl Wait + Abort), rig: &Rig, zero: &mut CoreSeat, call: Call, why: Fault)
+    requires { IsSeatOf rig.now zero.old }
+    ensures { IsSeatOf rig.now zero.new }
+{
+    assert_call(rt, rig, zero, call, Err(RigRefusal::Fault(why)));
 }

@@ -1,9 +1,11 @@
 //! Recordings of many entries, which a store answers as they were answered.
-ghost use Rattle.std.specs.Prelude.{All, ◌<◌};
+ghost use Rattle.std.specs.Prelude.{All};
 ghost use Rattle.core_rig.specs.Seats.{IsSeatOf};
 
-use crate::rigs::{ISR, closed, one_more, rig_of, rig_over};
-use bench_samples::{LARGEST, header_of};
+use crate::checks::{ISR, assert_made, assert_same, one_more};
+use crate::rigs::one_task;
+use crate::scenes::{Scene, recorded, recorded_over};
+use bench_samples::LARGEST;
 use bench_types::{Entry, Reply};
 use core_rig::{CoreSeat, Recorded, Rig};
 use session_store::Store;
@@ -13,70 +15,112 @@ use std::sync::Wait;
 use std::test::Fail;
 use std::thread::{self, Threads};
 
-/// A store of what was recorded, and its entries.
-fn store_of(rt: &HostRuntime, recorded: Recorded) -> Result<(Store, Vec<Entry>), Fail> {
-    let steps = recorded.steps(rt.alloc())?;
-    let mut meter = Meter::new(rt);
-    let Recorded {
-        header,
-        entries,
-        ..
-    } = recorded;
-    let store = Store::open(rt.alloc(), header, steps, 64, &mut meter)?;
-    Ok((store, entries))
-}
+/// How many steps are between two checkpoints of a store.
+const SPAN: u32 = 64;
 
-fn check_replies(rt: &impl Abort, store: &Store, entries: &[Entry]) {
-    for (place, entry) in entries.iter().enumerate() {
-        let place = u32::try_from(place).expect(rt, "a place");
-        assert_eq!(rt; store.reply(place), Some(entry.reply));
-    }
+/// A state: its tick, and how often a task was notified.
+#[derive(Clone, Copy)]
+struct End {
+    tick: u32,
+    task: u32,
+    value: u32,
 }
 
 #[test]
 fn ticks_and_interrupts_come_from_two_threads(rt: HostRuntime) -> Result<(), Fail> {
-    let (rig, mut seats) = rig_of(&rt, 2_000)?;
-    act(&rt, &rig, &mut seats, 2, 1_000, 4);
-    let recorded = closed(&rt, rig, seats);
-    assert_eq!(&rt; recorded.made.as_slice(), [1_000, 1_000].as_slice());
-    assert_eq!(&rt; recorded.entries.len(), 2_000);
+    let scene = Scene::Many {
+        threads: 2,
+        times: 1_000,
+        task: 4,
+    };
+    let recorded = recorded(&rt, &rt, 2_000, scene)?;
+    assert_made(&rt, &recorded, &[1_000, 1_000]);
     check_interrupts(&rt, &recorded.entries);
-    let (store, entries) = store_of(&rt, recorded)?;
-    check_replies(&rt, &store, &entries);
-    let last = store.state(rt.alloc(), 2_000, &mut Meter::new(&rt))?;
-    check_last(&rt, last);
-    Ok(())
+    let end = End {
+        tick: 1_000,
+        task: 4,
+        value: 1_000,
+    };
+    check_session(&rt, &rt, &recorded, 2_000, end)
 }
 
 fn check_interrupts(rt: &impl Abort, entries: &[Entry]) {
     for entry in entries {
         let reply = if entry.core == 0 { Reply::Done } else { ISR };
-        assert_eq!(rt; entry.reply, reply);
+        assert_same(rt, "reply", &entry.reply, &reply);
     }
-}
-
-fn check_last(rt: &impl Abort, last: Option<Kernel>) {
-    let kernel = last.expect(rt, "the last place");
-    assert_eq!(rt; kernel.tick(), 1_000);
-    assert!(rt; 4 < kernel.settings().tasks);
-    assert_eq!(rt; kernel.look(4).value, 1_000);
 }
 
 #[test]
 fn eight_threads_record_100_000_entries(rt: HostRuntime) -> Result<(), Fail> {
-    let header = header_of(rt.alloc(), LARGEST, &[("A", 1, 255)])?;
-    let (rig, mut seats) = rig_over(&rt, &header, 100_000)?;
-    act(&rt, &rig, &mut seats, 8, 12_500, 8);
-    let recorded = closed(&rt, rig, seats);
-    assert_eq!(&rt; recorded.made.as_slice(), [12_500; 8].as_slice());
-    let (store, entries) = store_of(&rt, recorded)?;
-    assert_eq!(&rt; entries.len(), 100_000);
-    check_replies(&rt, &store, &entries);
+    let scene = Scene::Many {
+        threads: 8,
+        times: 12_500,
+        task: 8,
+    };
+    let header = one_task(rt.alloc(), LARGEST, 1, 255)?;
+    let recorded = recorded_over(&rt, &rt, &header, 100_000, scene)?;
+    assert_made(&rt, &recorded, &[12_500; 8]);
+    let end = End {
+        tick: 12_499,
+        task: 8,
+        value: 87_500,
+    };
+    check_session(&rt, &rt, &recorded, 100_000, end)
+}
+
+/// So many entries were recorded, a store of them answers as they were answered, and ends so.
+fn check_session(
+    rt: &impl Abort,
+    host: &HostRuntime,
+    recorded: &Recorded,
+    entries: u32,
+    end: End,
+) -> Result<(), Fail> {
+    assert_same(rt, "entries", &recorded.entries.len(), &(entries as usize));
+    let store = store_of(host, recorded)?;
+    check_replies(rt, &store, &recorded.entries);
+    check_end(rt, host, &store, entries, end)
+}
+
+/// A store of what was recorded.
+fn store_of(rt: &HostRuntime, recorded: &Recorded) -> Result<Store, Fail> {
+    let header = recorded.header.copy(rt.alloc())?;
+    let steps = recorded.steps(rt.alloc())?;
+    Ok(Store::open(rt.alloc(), header, steps, SPAN, &mut Meter::new(rt))?)
+}
+
+fn check_replies(rt: &impl Abort, store: &Store, entries: &[Entry]) {
+    for (place, entry) in entries.iter().enumerate() {
+        check_reply(rt, store, place, entry);
+    }
+}
+
+fn check_reply(rt: &impl Abort, store: &Store, place: usize, entry: &Entry) {
+    let place = u32::try_from(place).expect(rt, "a place");
+    assert_same(rt, "reply", &store.reply(place), &Some(entry.reply));
+}
+
+fn check_end(
+    rt: &impl Abort,
+    host: &HostRuntime,
+    store: &Store,
+    place: u32,
+    end: End,
+) -> Result<(), Fail> {
+    let last = store.state(host.alloc(), place, &mut Meter::new(host))?;
+    check_kernel(rt, &last.expect(rt, "the last place"), end);
     Ok(())
 }
 
+fn check_kernel(rt: &impl Abort, kernel: &Kernel, end: End) {
+    assert_same(rt, "tick", &kernel.tick(), &end.tick);
+    assert!(rt; end.task < kernel.settings().tasks);
+    assert_same(rt, "value", &kernel.look(end.task).value, &end.value);
+}
+
 /// Core 0 makes so many ticks, and each other core as many interrupts that notify the task.
-fn act<R: Threads + Wait + Abort + Sync>(
+pub fn share<R: Threads + Wait + Abort + Sync>(
     rt: &R,
     rig: &Rig,
     seats: &mut [CoreSeat],
@@ -84,10 +128,10 @@ fn act<R: Threads + Wait + Abort + Sync>(
     times: u32,
     task: u32,
 )
-    requires threads { 0 < threads }
-    requires seats { All (IsSeatOf rig.now) seats.old }
+    requires { All (IsSeatOf rig.now) seats.old }
     ensures { All (IsSeatOf rig.now) seats.new }
 {
+    assert!(rt; 0 < threads);
     thread::for_each_mut(
         rt,
         seats,
@@ -104,12 +148,19 @@ fn act_alone(rt: &(impl Wait + Abort), rig: &Rig, seat: &mut CoreSeat, times: u3
     ensures { IsSeatOf rig.now seat.new }
 {
     for _ in 0..times {
-        let answer = if seat.core() == 0 {
-            seat.tick(rt, rig)
-        } else {
-            seat.interrupt(rt, rig, one_more(task))
-        };
-        assert!(rt; answer.is_ok());
+        act_once(rt, rig, seat, task);
     }
-    assert_eq!(rt; seat.made(), u64::from(times));
+    assert_same(rt, "made", &seat.made(), &u64::from(times));
+}
+
+fn act_once(rt: &(impl Wait + Abort), rig: &Rig, seat: &mut CoreSeat, task: u32)
+    requires { IsSeatOf rig.now seat.old }
+    ensures { IsSeatOf rig.now seat.new }
+{
+    let answer = if seat.core() == 0 {
+        seat.tick(rt, rig)
+    } else {
+        seat.interrupt(rt, rig, one_more(task))
+    };
+    assert!(rt; answer.is_ok());
 }

@@ -1,31 +1,18 @@
-//! Rigs of tests, and calls of them.
-ghost use Rattle.std.specs.Prelude.{◌≡◌, All, IfOk};
+//! Rigs of tests, and the ends of them.
+ghost use Rattle.std.specs.Prelude.{◌≡◌, ◌<◌, vec_len, vec_capacity, All, IfOk};
 ghost use Rattle.core_rig.specs.Seats.{IsSeatOf};
 
-use bench_samples::three_tasks;
-use bench_types::{Action, Entry, Header, Note, Reply};
-use core_rig::{Answer, CloseFault, CoreSeat, Recorded, Rig, RigRefusal};
-use std::alloc::{AllocError, Global};
+use crate::checks::assert_same;
+use bench_samples::{header_of, three_tasks};
+use bench_types::{Config, Header};
+use core_rig::{CloseFault, CoreSeat, Recorded, Rig};
+use std::alloc::Global;
 use std::process::Abort;
 use std::test::Fail;
 
-/// What an interrupt is answered that notifies a task, and switches no core.
-pub const ISR: Reply = Reply::Isr {
-    pass: true,
-    pend: false,
-};
-
-/// A notification of the task, one more.
-pub fn one_more(task: u32) -> Note {
-    Note {
-        task,
-        action: Action::Increment,
-    }
-}
-
-/// What is answered at the place.
-pub fn at(place: u32, reply: Reply) -> Result<Answer, RigRefusal> {
-    Ok(Answer { place, reply })
+/// A header of one task, A. It is not checked.
+pub fn one_task(alloc: Global, config: Config, priority: u32, mask: u32) -> Result<Header, Fail> {
+    Ok(header_of(alloc, config, &[("A", priority, mask)])?)
 }
 
 /// A rig of A (of priority 2), B and C (of priority 1) on two cores, which are tasks 2, 3 and 4. A
@@ -43,33 +30,41 @@ pub fn rig_over(rt: &HostRuntime, header: &Header, limit: u32) -> Result<(Rig, V
     Ok(Rig::new(rt, rt.alloc(), header, limit)?)
 }
 
-/// The seats of a rig of two cores.
-pub fn parted(rt: &impl Abort, rig: &Rig, mut seats: Vec<CoreSeat>) -> (CoreSeat, CoreSeat)
-    requires { All (IsSeatOf rig.now) seats.items }
-    ensures zero { IsSeatOf rig.now result.0 }
-    ensures one { IsSeatOf rig.now result.1 }
+/// The last of the seats, which is taken out.
+pub fn taken(rt: &impl Abort, rig: &Rig, seats: &mut Vec<CoreSeat>) -> CoreSeat
+    requires { All (IsSeatOf rig.now) seats.old.items }
+    ensures seat { IsSeatOf rig.now result }
+    ensures rest { All (IsSeatOf rig.now) seats.new.items }
 {
-    assert_eq!(rt; seats.len(), 2);
-    let one = seats.pop().expect(rt, "the seat of core 1");
-    let zero = seats.pop().expect(rt, "the seat of core 0");
-    assert_eq!(rt; (zero.core(), one.core()), (0, 1));
-    (zero, one)
+    seats.pop().expect(rt, "a seat")
 }
 
-pub fn joined(
-    alloc: Global,
-    rig: &Rig,
-    zero: CoreSeat,
-    one: CoreSeat,
-) -> Result<Vec<CoreSeat>, AllocError>
-    requires zero { IsSeatOf rig.now zero }
-    requires one { IsSeatOf rig.now one }
-    ensures { IfOk result (λ seats. All (IsSeatOf rig.now) seats.items) }
+/// Puts a seat that was taken back, as the last.
+pub fn put_back(rt: &impl Abort, rig: &Rig, seats: &mut Vec<CoreSeat>, seat: CoreSeat)
+    requires seat { IsSeatOf rig.now seat }
+    requires rest { All (IsSeatOf rig.now) seats.old.items }
+    ensures { All (IsSeatOf rig.now) seats.new.items }
 {
-    let mut seats = Vec::new(alloc);
-    seats.push(zero)?;
-    seats.push(one)?;
-    Ok(seats)
+    check_room(rt, seats);
+    seats.push_reserved(seat);
+}
+
+// Apart from `put_back`, which would have to drop its seat.
+fn check_room(rt: &impl Abort, seats: &Vec<CoreSeat>)
+    ensures { vec_len seats.now < vec_capacity seats.now }
+{
+    assert!(rt; seats.len() < seats.capacity());
+}
+
+/// Two seats in the other order.
+pub fn turn(rt: &impl Abort, rig: &Rig, seats: &mut Vec<CoreSeat>)
+    requires { All (IsSeatOf rig.now) seats.old.items }
+    ensures { All (IsSeatOf rig.now) seats.new.items }
+{
+    let last = taken(rt, rig, seats);
+    let first = taken(rt, rig, seats);
+    put_back(rt, rig, seats, last);
+    put_back(rt, rig, seats, first);
 }
 
 /// What is handed back where the rig is not closed, for that reason.
@@ -86,10 +81,22 @@ pub fn refused(
     match rig.close(seats) {
         Ok(_) => panic!(rt; "the rig was closed"),
         Err(refused) => {
-            assert_eq!(rt; refused.why, why);
+            assert_same(rt, "refusal", &refused.why, &why);
             (refused.rig, refused.seats.into_vec())
         }
     }
+}
+
+/// The rig and its seats, which is not closed without the last of them.
+pub fn one_missing(rt: &impl Abort, rig: Rig, mut seats: Vec<CoreSeat>) -> (Rig, Vec<CoreSeat>)
+    requires { All (IsSeatOf rig) seats.items }
+    ensures rig { result.0 ≡ rig }
+    ensures seats { All (IsSeatOf rig) result.1.items }
+{
+    let last = taken(rt, &rig, &mut seats);
+    let (rig, mut seats) = refused(rt, rig, seats, CloseFault::WrongSeats);
+    put_back(rt, &rig, &mut seats, last);
+    (rig, seats)
 }
 
 /// What the cores of the rig did, which is closed.
@@ -100,12 +107,4 @@ pub fn closed(rt: &impl Abort, rig: Rig, seats: Vec<CoreSeat>) -> Recorded
         Ok(recorded) => recorded,
         Err(refused) => panic!(rt; "refused with {}", refused.why),
     }
-}
-
-/// The reply of the entry at the place, where there is one of that core.
-pub fn reply_of(entries: &[Entry], place: usize, core: u32) -> Option<Reply> {
-    entries
-        .get(place)
-        .filter(|entry| entry.core == core)
-        .map(|entry| entry.reply)
 }

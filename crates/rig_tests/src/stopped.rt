@@ -1,12 +1,11 @@
 //! A thread that stops in the middle of its calls, while another one makes interrupts.
-ghost use Rattle.std.specs.Prelude.{All, IfOk};
+ghost use Rattle.std.specs.Prelude.{All};
 ghost use Rattle.core_rig.specs.Seats.{IsSeatOf};
 
-use crate::alone::one_missing;
-use crate::rigs::{closed, joined, one_more, refused, rig_of};
+use crate::checks::{assert_depth, assert_made, assert_same, one_more};
+use crate::rigs::{closed, one_missing, put_back, refused, rig_of, taken, turn};
 use bench_types::{Call, Reply};
-use core_rig::{CloseFault, CoreSeat, Rig};
-use std::alloc::{AllocError, Global};
+use core_rig::{CloseFault, CoreSeat, Recorded, Rig};
 use std::process::Abort;
 use std::sync::Wait;
 use std::test::Fail;
@@ -46,61 +45,81 @@ fn check_stop<R: Threads + Wait + Abort + Sync>(
     depth: u32,
 ) -> Result<(), Fail> {
     assert!(rt; count <= CALLS.len());
-    let (rig, mut seats) = rig_of(host, 100)?;
-    act(rt, &rig, &mut seats, &CALLS[..count]);
-    let (zero, one) = both(rt, &rig, seats);
-    let seats = joined(host.alloc(), &rig, one, zero)?;
-    let (rig, seats) = one_missing(rt, rig, seats);
-    let (rig, seats) = freed(rt, host.alloc(), rig, seats, depth)?;
-    let recorded = closed(rt, rig, seats);
-    let made = [count as u64 + u64::from(depth), u64::from(INTERRUPTS)];
-    assert_eq!(rt; recorded.made.as_slice(), made.as_slice());
-    assert_eq!(rt; recorded.entries.len() as u64, made[0] + made[1]);
+    let recorded = recorded_until(rt, host, &CALLS[..count], depth)?;
+    let calls = count as u64 + u64::from(depth);
+    let interrupts = u64::from(INTERRUPTS);
+    assert_made(rt, &recorded, &[calls, interrupts]);
+    let entries = recorded.entries.len() as u64;
+    assert_same(rt, "entries", &entries, &(calls + interrupts));
     Ok(())
 }
 
-/// The two seats, in their order.
-fn both(rt: &impl Abort, rig: &Rig, mut seats: Vec<CoreSeat>) -> (CoreSeat, CoreSeat)
-    requires { All (IsSeatOf rig.now) seats.items }
-    ensures first { IsSeatOf rig.now result.0 }
-    ensures second { IsSeatOf rig.now result.1 }
-{
-    let second = seats.pop().expect(rt, "a second seat");
-    let first = seats.pop().expect(rt, "a first seat");
-    (first, second)
+/// What a rig recorded whose core 0 stopped after the calls, so deep in a hold.
+fn recorded_until<R: Threads + Wait + Abort + Sync>(
+    rt: &R,
+    host: &HostRuntime,
+    calls: &[Call],
+    depth: u32,
+) -> Result<Recorded, Fail> {
+    let (rig, mut seats) = rig_of(host, 100)?;
+    act(rt, &rig, &mut seats, calls);
+    turn(rt, &rig, &mut seats);
+    let (rig, seats) = one_missing(rt, rig, seats);
+    let (rig, seats) = freed(rt, rig, seats, depth);
+    Ok(closed(rt, rig, seats))
 }
 
 /// The rig and its seats, the last of which is core 0's, once its hold of that depth is closed.
 fn freed(
     rt: &(impl Wait + Abort),
-    alloc: Global,
     rig: Rig,
     seats: Vec<CoreSeat>,
     depth: u32,
-) -> Result<(Rig, Vec<CoreSeat>), AllocError>
+) -> (Rig, Vec<CoreSeat>)
     requires { All (IsSeatOf rig) seats.items }
-    ensures { IfOk result (λ made. All (IsSeatOf made.0) made.1.items) }
+    ensures { All (IsSeatOf result.0) result.1.items }
 {
     if depth == 0 {
-        return Ok((rig, seats));
+        return (rig, seats);
     }
-    let (rig, seats) = refused(rt, rig, seats, CloseFault::HoldOpen);
-    let (one, mut zero) = both(rt, &rig, seats);
-    assert_eq!(rt; (zero.core(), zero.depth()), (0, depth));
-    close_holds(rt, &rig, &mut zero, depth);
-    let seats = joined(alloc, &rig, one, zero)?;
-    Ok((rig, seats))
+    let (rig, mut seats) = refused(rt, rig, seats, CloseFault::HoldOpen);
+    close_last(rt, &rig, &mut seats, depth);
+    (rig, seats)
+}
+
+/// The last seat closes its hold of that depth.
+fn close_last(rt: &(impl Wait + Abort), rig: &Rig, seats: &mut Vec<CoreSeat>, depth: u32)
+    requires { All (IsSeatOf rig.now) seats.old.items }
+    ensures { All (IsSeatOf rig.now) seats.new.items }
+{
+    let mut zero = taken(rt, rig, seats);
+    close_holds(rt, rig, &mut zero, depth);
+    put_back(rt, rig, seats, zero);
 }
 
 fn close_holds(rt: &(impl Wait + Abort), rig: &Rig, zero: &mut CoreSeat, depth: u32)
     requires { IsSeatOf rig.now zero.old }
     ensures { IsSeatOf rig.now zero.new }
 {
+    assert_same(rt, "core", &zero.core(), &0);
+    assert_depth(rt, zero, depth);
     for _ in 0..depth {
-        let answer = zero.call(rt, rig, Call::HoldClose);
-        assert_eq!(rt; answer.map(|answer| answer.reply), Ok(Reply::Done));
+        close_hold(rt, rig, zero);
     }
-    assert_eq!(rt; zero.depth(), 0);
+    assert_depth(rt, zero, 0);
+}
+
+fn close_hold(rt: &(impl Wait + Abort), rig: &Rig, zero: &mut CoreSeat)
+    requires { IsSeatOf rig.now zero.old }
+    ensures { IsSeatOf rig.now zero.new }
+{
+    let answer = zero.call(rt, rig, Call::HoldClose);
+    assert_same(
+        rt,
+        "reply",
+        &answer.map(|answer| answer.reply),
+        &Ok(Reply::Done),
+    );
 }
 
 /// Core 0 makes the calls and then no more, and core 1 makes its interrupts, a thread each.
@@ -130,10 +149,17 @@ fn make_calls(rt: &(impl Wait + Abort), rig: &Rig, seat: &mut CoreSeat, calls: &
     ensures { IsSeatOf rig.now seat.new }
 {
     for call in calls {
-        let answer = seat.call(rt, rig, *call);
-        assert!(rt; answer.is_ok());
+        make_call(rt, rig, seat, *call);
     }
-    assert_eq!(rt; seat.made(), calls.len() as u64);
+    assert_same(rt, "made", &seat.made(), &(calls.len() as u64));
+}
+
+fn make_call(rt: &(impl Wait + Abort), rig: &Rig, seat: &mut CoreSeat, call: Call)
+    requires { IsSeatOf rig.now seat.old }
+    ensures { IsSeatOf rig.now seat.new }
+{
+    let answer = seat.call(rt, rig, call);
+    assert!(rt; answer.is_ok());
 }
 
 fn make_interrupts(rt: &(impl Wait + Abort), rig: &Rig, seat: &mut CoreSeat)

@@ -2,9 +2,12 @@
 ghost use Rattle.std.specs.Prelude.{All};
 ghost use Rattle.core_rig.specs.Seats.{IsSeatOf};
 
-use crate::rigs::{ISR, at, closed, one_more, reply_of, rig_of};
+use crate::checks::{
+    ISR, assert_call, assert_interrupt, assert_made, assert_reply, assert_same, at, one_more,
+};
+use crate::scenes::{Scene, recorded};
 use bench_types::{Call, Entry, Reply};
-use core_rig::{CoreSeat, Recorded, Rig, RigRefusal};
+use core_rig::{CoreSeat, Rig};
 use std::process::Abort;
 use std::sync::Wait;
 use std::sync::atomic::{AtomicBool, Ordering};
@@ -34,24 +37,30 @@ fn is_set_in_time(flag: &AtomicBool) -> bool {
 
 #[test]
 fn an_interrupt_comes_while_a_hold_is_open(rt: HostRuntime) -> Result<(), Fail> {
-    let (rig, mut seats) = rig_of(&rt, 10)?;
-    let flags = Flags {
-        open: AtomicBool::new(false),
-        interrupted: AtomicBool::new(false),
-    };
-    hold_and_interrupt(&rt, &rig, &mut seats, &flags);
-    let recorded = closed(&rt, rig, seats);
-    assert_eq!(&rt; recorded.made.as_slice(), [2, 2].as_slice());
+    let recorded = recorded(&rt, &rt, 10, Scene::Together)?;
+    assert_made(&rt, &recorded, &[2, 2]);
     check_entries(&rt, &recorded.entries);
     Ok(())
 }
 
 fn check_entries(rt: &impl Abort, entries: &[Entry]) {
-    assert_eq!(rt; entries.len(), 4);
-    assert_eq!(rt; reply_of(entries, 0, 0), Some(Reply::Done));
-    assert_eq!(rt; reply_of(entries, 1, 1), Some(ISR));
-    assert_eq!(rt; reply_of(entries, 2, 0), Some(Reply::Done));
-    assert_eq!(rt; reply_of(entries, 3, 1), Some(Reply::Done));
+    assert_same(rt, "entries", &entries.len(), &4);
+    assert_reply(rt, entries, 0, 0, Reply::Done);
+    assert_reply(rt, entries, 1, 1, ISR);
+    assert_reply(rt, entries, 2, 0, Reply::Done);
+    assert_reply(rt, entries, 3, 1, Reply::Done);
+}
+
+/// Core 1 is interrupted while core 0 holds the kernel, a thread each.
+pub fn interrupt_hold<R: Threads + Wait + Abort + Sync>(rt: &R, rig: &Rig, seats: &mut [CoreSeat])
+    requires { All (IsSeatOf rig.now) seats.old }
+    ensures { All (IsSeatOf rig.now) seats.new }
+{
+    let flags = Flags {
+        open: AtomicBool::new(false),
+        interrupted: AtomicBool::new(false),
+    };
+    hold_and_interrupt(rt, rig, seats, &flags);
 }
 
 fn hold_and_interrupt<R: Threads + Wait + Abort + Sync>(
@@ -84,13 +93,11 @@ fn hold(rt: &(impl Wait + Abort), rig: &Rig, seat: &mut CoreSeat, flags: &Flags)
     requires { IsSeatOf rig.now seat.old }
     ensures { IsSeatOf rig.now seat.new }
 {
-    let answer = seat.call(rt, rig, Call::HoldOpen);
-    assert_eq!(rt; answer, at(0, Reply::Done));
+    assert_call(rt, rig, seat, Call::HoldOpen, at(0, Reply::Done));
     flags.open.store(true, Ordering::SeqCst);
     let in_time = is_set_in_time(&flags.interrupted);
     assert!(rt; in_time, "the interrupt waited for the hold");
-    let answer = seat.call(rt, rig, Call::HoldClose);
-    assert_eq!(rt; answer, at(2, Reply::Done));
+    assert_call(rt, rig, seat, Call::HoldClose, at(2, Reply::Done));
 }
 
 fn interrupt(rt: &(impl Wait + Abort), rig: &Rig, seat: &mut CoreSeat, flags: &Flags)
@@ -99,9 +106,7 @@ fn interrupt(rt: &(impl Wait + Abort), rig: &Rig, seat: &mut CoreSeat, flags: &F
 {
     let in_time = is_set_in_time(&flags.open);
     assert!(rt; in_time, "no hold was opened");
-    let answer = seat.interrupt(rt, rig, one_more(2));
-    assert_eq!(rt; answer, at(1, ISR));
+    assert_interrupt(rt, rig, seat, one_more(2), at(1, ISR));
     flags.interrupted.store(true, Ordering::SeqCst);
-    let answer = seat.call(rt, rig, Call::Yield);
-    assert_eq!(rt; answer, at(3, Reply::Done));
+    assert_call(rt, rig, seat, Call::Yield, at(3, Reply::Done));
 }

@@ -1,11 +1,13 @@
 //! Trials of edits of worked sessions. A program that was written apart from this one computed the
 //! numbers, over a flat table.
+ghost use Rattle.session_store.specs.Sums.{AreSumsOf};
+
 use bench_reports::Tallies;
 use bench_samples::three_tasks;
-use bench_types::{Call, Edit, EditFault, Fault, Step};
-use session_store::{Outcome, Store, StoreFault};
+use bench_types::{Call, Edit, EditFault, Fault, Header, Step};
+use session_store::{Outcome, Store, StoreFault, Sums};
 use smp_kernel::Meter;
-use std::alloc::AllocError;
+use std::alloc::{AllocError, Global};
 use std::process::Abort;
 use std::test::Fail;
 use std::thread::Threads;
@@ -36,29 +38,39 @@ const AWAY: [Step; 8] = [
     A_DELAYS, SWITCH_0, TICK, SWITCH_0, SWITCH_1, TICK, SWITCH_0, SWITCH_1,
 ];
 
-/// What trials of some edits give.
-type Trials = Vec<Result<(Outcome, Tallies), StoreFault>>;
+/// What the trial of an edit gives.
+type Trial = Result<(Outcome, Tallies), StoreFault>;
+
+/// The outcome of a trial, or why it was refused.
+type Answer = Result<Outcome, StoreFault>;
 
 /// A store of the steps of A, B and C, with time slices, and a checkpoint every so many steps.
 fn opened(rt: &HostRuntime, steps: &[Step], span: u32) -> Result<Store, Fail> {
-    let header = three_tasks(rt.alloc(), true)?;
+    opened_under(rt, three_tasks(rt.alloc(), true)?, steps, span)
+}
+
+fn opened_under(
+    rt: &HostRuntime,
+    header: Header,
+    steps: &[Step],
+    span: u32,
+) -> Result<Store, Fail> {
     let steps = Vec::from_slice(rt.alloc(), steps)?;
+    opened_of(rt, header, steps, span)
+}
+
+fn opened_of(rt: &HostRuntime, header: Header, steps: Vec<Step>, span: u32) -> Result<Store, Fail> {
     Ok(Store::open(rt.alloc(), header, steps, span, &mut Meter::new(rt))?)
 }
 
-/// Of each trial its outcome, or why it was refused.
-fn answers(rt: &HostRuntime, trials: &Trials) -> Result<Vec<Result<Outcome, StoreFault>>, Fail> {
-    let mut all = Vec::new(rt.alloc());
-    for trial in trials {
-        all.push(match trial {
-            Ok((outcome, _)) => Ok(*outcome),
-            Err(why) => Err(*why),
-        })?;
+fn answer_of(trial: &Trial) -> Answer {
+    match trial {
+        Ok((outcome, _)) => Ok(*outcome),
+        Err(why) => Err(*why),
     }
-    Ok(all)
 }
 
-fn between(from: u32, met: u32) -> Result<Outcome, StoreFault> {
+fn between(from: u32, met: u32) -> Answer {
     Ok(Outcome {
         from,
         met,
@@ -66,8 +78,43 @@ fn between(from: u32, met: u32) -> Result<Outcome, StoreFault> {
     })
 }
 
-fn refused(why: EditFault) -> Result<Outcome, StoreFault> {
+fn refused(why: EditFault) -> Answer {
     Err(StoreFault::Edit(why))
+}
+
+/// The trial of the edit at this index is answered so. An `assert_eq!` is dear to prove where it
+/// stands, and a call of this is not.
+fn assert_answer(rt: &impl Abort, at: usize, trial: &Trial, wanted: Answer) {
+    assert_eq!(rt; answer_of(trial), wanted, "at {at}");
+}
+
+/// The trials are answered so, in this order, and there are no more.
+fn assert_answers(rt: &impl Abort, trials: &[Trial], wanted: &[Answer]) {
+    assert_eq!(rt; trials.len(), wanted.len());
+    for ((at, trial), wanted) in trials.iter().enumerate().zip(wanted) {
+        assert_answer(rt, at, trial, *wanted);
+    }
+}
+
+/// The edits of the session in which A is away are answered so, with a checkpoint every 64 steps.
+fn check_away<R: Threads + Abort + Sync>(
+    rt: &R,
+    host: &HostRuntime,
+    edits: &[Edit],
+    wanted: &[Answer],
+) -> Result<(), Fail> {
+    check_answers(rt, host, &opened(host, &AWAY, 64)?, edits, wanted)
+}
+
+fn check_answers<R: Threads + Abort + Sync>(
+    rt: &R,
+    host: &HostRuntime,
+    store: &Store,
+    edits: &[Edit],
+    wanted: &[Answer],
+) -> Result<(), Fail> {
+    assert_answers(rt, &try_all(rt, host, host.alloc(), store, edits)?, wanted);
+    Ok(())
 }
 
 /// The lines of the tasks after the first edit.
@@ -79,24 +126,48 @@ task B run 0 1 wait 1 inverted 0 in 1 displaced 0 timeouts 0 top 1
 task C run 0 1 wait 1 inverted 0 in 1 displaced 0 timeouts 0 top 1
 ";
 
+fn assert_text(rt: &impl Abort, text: &str, wanted: &str) {
+    assert_eq!(rt; text, wanted);
+}
+
+/// The first trial leads to these lines.
 fn check_lines(
     rt: &impl Abort,
     host: &HostRuntime,
     store: &Store,
-    trials: &Trials,
+    trials: &[Trial],
 ) -> Result<(), AllocError> {
     let Some(Ok((_, tallies))) = trials.first() else {
         panic!(rt; "no first trial");
     };
-    let lines = tallies.text(host.alloc(), store.header())?;
-    assert_eq!(rt; lines.as_str(), YIELDED);
+    assert_text(rt, &lines_of(host, store, tallies)?, YIELDED);
     Ok(())
+}
+
+fn lines_of(host: &HostRuntime, store: &Store, tallies: &Tallies) -> Result<String, AllocError> {
+    tallies.text(host.alloc(), store.header())
+}
+
+/// The session still has its 8 steps, and A and C run at its end.
+fn assert_away(rt: &impl Abort, store: &Store) {
+    assert_eq!(rt; store.len(), 8);
+    match store.row(8) {
+        Some(row) => assert_eq!(rt; row.as_slice(), [2, 4].as_slice()),
+        None => panic!(rt; "no place 8"),
+    }
 }
 
 /// A yields in place of its delay, and a tick is put where there is no place. Neither is kept.
 #[test]
 fn each_edit_is_tried_alone(rt: HostRuntime) -> Result<(), Fail> {
-    let store = opened(&rt, &AWAY, 64)?;
+    check_alone(&rt, &rt, &opened(&rt, &AWAY, 64)?)
+}
+
+fn check_alone<R: Threads + Abort + Sync>(
+    rt: &R,
+    host: &HostRuntime,
+    store: &Store,
+) -> Result<(), Fail> {
     let edits = [
         Edit::Replace {
             at: 0,
@@ -104,34 +175,31 @@ fn each_edit_is_tried_alone(rt: HostRuntime) -> Result<(), Fail> {
         },
         Edit::Insert { at: 9, step: TICK },
     ];
-    let trials = try_all(&rt, &rt, rt.alloc(), &store, &edits)?;
-    let given = answers(&rt, &trials)?;
-    assert_eq!(rt;
-        given.as_slice(),
-        [between(0, 8), refused(EditFault::NoPlace)].as_slice()
-    );
-    check_lines(&rt, &rt, &store, &trials)?;
-    assert_eq!(rt; store.len(), 8);
-    match store.row(8) {
-        Some(row) => assert_eq!(rt; row.as_slice(), [2, 4].as_slice()),
-        None => panic!(rt; "no place 8"),
-    }
+    let trials = try_all(rt, host, host.alloc(), store, &edits)?;
+    check_alone_trials(rt, host, store, &trials)?;
     Ok(())
+}
+
+fn check_alone_trials(
+    rt: &impl Abort,
+    host: &HostRuntime,
+    store: &Store,
+    trials: &[Trial],
+) -> Result<(), AllocError> {
+    assert_answers(rt, trials, &[between(0, 8), refused(EditFault::NoPlace)]);
+    assert_away(rt, store);
+    check_lines(rt, host, store, trials)
 }
 
 #[test]
 fn no_edits_are_tried(rt: HostRuntime) -> Result<(), Fail> {
-    let store = opened(&rt, &AWAY, 64)?;
-    let trials = try_all(&rt, &rt, rt.alloc(), &store, &[])?;
-    assert_eq!(rt; trials.len(), 0);
-    Ok(())
+    check_away(&rt, &rt, &[], &[])
 }
 
 /// An edit that is to be taken away again, one at a place that only an edit before it would make,
 /// and one of a core that is not there.
 #[test]
 fn no_edit_builds_upon_another(rt: HostRuntime) -> Result<(), Fail> {
-    let store = opened(&rt, &AWAY, 64)?;
     let no_core = Step::Switch { core: 2 };
     let edits = [
         Edit::Insert { at: 8, step: TICK },
@@ -143,8 +211,6 @@ fn no_edit_builds_upon_another(rt: HostRuntime) -> Result<(), Fail> {
         },
         Edit::Remove { at: 7 },
     ];
-    let trials = try_all(&rt, &rt, rt.alloc(), &store, &edits)?;
-    let given = answers(&rt, &trials)?;
     let fault = EditFault::Bench(Fault::BadCore);
     let wanted = [
         between(0, 9),
@@ -153,33 +219,50 @@ fn no_edit_builds_upon_another(rt: HostRuntime) -> Result<(), Fail> {
         refused(fault),
         between(0, 7),
     ];
-    assert_eq!(rt; given.as_slice(), wanted.as_slice());
-    Ok(())
+    check_away(&rt, &rt, &edits, &wanted)
 }
 
 /// A tick after each place of a session of 200 ticks, with a checkpoint every 4 steps: more edits
 /// than there are threads. Each outcome stands at the index of its edit.
-fn check_many<R: Threads + Abort + Sync>(rt: &R, host: &HostRuntime) -> Result<(), Fail> {
-    let steps = [TICK; 200];
-    let store = opened(host, &steps, 4)?;
-    let mut edits = Vec::new(host.alloc());
+#[test]
+fn many_edits_in_their_order(rt: HostRuntime) -> Result<(), Fail> {
+    check_many(&rt, &rt, &opened(&rt, &[TICK; 200], 4)?)
+}
+
+fn check_many<R: Threads + Abort + Sync>(
+    rt: &R,
+    host: &HostRuntime,
+    store: &Store,
+) -> Result<(), Fail> {
+    check_each(rt, host, store, &one_tick_more(host.alloc())?)
+}
+
+/// A tick at each of the places up to 200.
+fn one_tick_more(alloc: Global) -> Result<Vec<Edit>, AllocError> {
+    let mut edits = Vec::new(alloc);
     for at in 0..=200 {
         edits.push(Edit::Insert { at, step: TICK })?;
     }
-    let trials = try_all(rt, host, host.alloc(), &store, edits.as_slice())?;
-    let given = answers(host, &trials)?;
-    assert_eq!(rt; given.len(), 201);
-    for (at, answer) in given.iter().enumerate() {
-        // The last segment begins at 196, and an edit after the last step stands in it.
-        let from = (at as u32 / 4 * 4).min(196);
-        assert_eq!(rt; *answer, between(from, 201), "at {at}");
-    }
+    Ok(edits)
+}
+
+fn check_each<R: Threads + Abort + Sync>(
+    rt: &R,
+    host: &HostRuntime,
+    store: &Store,
+    edits: &[Edit],
+) -> Result<(), Fail> {
+    assert_each(rt, &try_all(rt, host, host.alloc(), store, edits)?);
     Ok(())
 }
 
-#[test]
-fn many_edits_in_their_order(rt: HostRuntime) -> Result<(), Fail> {
-    check_many(&rt, &rt)
+fn assert_each(rt: &impl Abort, trials: &[Trial]) {
+    assert_eq!(rt; trials.len(), 201);
+    for (at, trial) in trials.iter().enumerate() {
+        // The last segment begins at 196, and an edit after the last step stands in it.
+        let from = (at as u32 / 4 * 4).min(196);
+        assert_answer(rt, at, trial, between(from, 201));
+    }
 }
 
 /// Trials with sums of a session of 200 ticks in 50 segments, which is more than three times as
@@ -187,28 +270,76 @@ fn many_edits_in_their_order(rt: HostRuntime) -> Result<(), Fail> {
 /// session never goes on as it did; with a tick in place of one it does from the next checkpoint.
 #[test]
 fn sums_change_no_trial(rt: HostRuntime) -> Result<(), Fail> {
-    let store = opened(&rt, &[TICK; 200], 4)?;
-    let sums = store.sums(rt.alloc())?;
+    check_sums(&rt, &rt, &opened(&rt, &[TICK; 200], 4)?)
+}
+
+fn check_sums(rt: &impl Abort, host: &HostRuntime, store: &Store) -> Result<(), Fail> {
+    check_places(rt, host, store, &store.sums(host.alloc())?)
+}
+
+fn check_places(rt: &impl Abort, host: &HostRuntime, store: &Store, sums: &Sums) -> Result<(), Fail>
+    requires { AreSumsOf store.now sums.now }
+{
     for at in [0, 63, 64, 68, 123, 129, 199] {
-        for edit in [
-            Edit::Insert { at, step: TICK },
-            Edit::Replace { at, step: TICK },
-        ] {
-            let (outcome, tallies) = store.trial(rt.alloc(), edit, &mut Meter::new(&rt))?;
-            let (summed, totals) = store.trial_with(rt.alloc(), &sums, edit, &mut Meter::new(&rt))?;
-            assert_eq!(rt; summed, outcome, "at {at}");
-            let lines = tallies.text(rt.alloc(), store.header())?;
-            let sum_lines = totals.text(rt.alloc(), store.header())?;
-            assert_eq!(rt; sum_lines.as_str(), lines.as_str(), "at {at}");
-        }
+        check_told(rt, host, store, sums, Edit::Insert { at, step: TICK })?;
+        check_told(rt, host, store, sums, Edit::Replace { at, step: TICK })?;
     }
     Ok(())
+}
+
+/// A trial of the edit tells the same with the sums and without.
+fn check_told(
+    rt: &impl Abort,
+    host: &HostRuntime,
+    store: &Store,
+    sums: &Sums,
+    edit: Edit,
+) -> Result<(), Fail>
+    requires { AreSumsOf store.now sums.now }
+{
+    let told = told(host, store, edit)?;
+    assert_told(rt, edit, &told_with(host, store, sums, edit)?, &told);
+    Ok(())
+}
+
+/// What a trial tells: its outcome, and the lines of the tasks.
+type Told = (Outcome, String);
+
+fn told(host: &HostRuntime, store: &Store, edit: Edit) -> Result<Told, Fail> {
+    told_by(
+        host,
+        store,
+        store.trial(host.alloc(), edit, &mut Meter::new(host))?,
+    )
+}
+
+fn told_with(host: &HostRuntime, store: &Store, sums: &Sums, edit: Edit) -> Result<Told, Fail>
+    requires { AreSumsOf store.now sums.now }
+{
+    told_by(
+        host,
+        store,
+        store.trial_with(host.alloc(), sums, edit, &mut Meter::new(host))?,
+    )
+}
+
+fn told_by(host: &HostRuntime, store: &Store, trial: (Outcome, Tallies)) -> Result<Told, Fail> {
+    let (outcome, tallies) = trial;
+    Ok((outcome, lines_of(host, store, &tallies)?))
+}
+
+fn assert_told(rt: &impl Abort, edit: Edit, given: &Told, wanted: &Told) {
+    assert_eq!(rt; given, wanted, "{edit:?}");
 }
 
 /// Ends as one of these; which of them, `rt try --test --fail-alloc N` decides.
 #[test]
 fn memory_that_is_refused(rt: HostRuntime) -> Result<(), Fail> {
-    let store = opened(&rt, &AWAY, 2)?;
+    check_refused_memory(&rt, &rt, &opened(&rt, &AWAY, 2)?);
+    Ok(())
+}
+
+fn check_refused_memory<R: Threads + Abort + Sync>(rt: &R, host: &HostRuntime, store: &Store) {
     let edits = [
         Edit::Remove { at: 3 },
         Edit::Remove { at: 8 },
@@ -218,14 +349,17 @@ fn memory_that_is_refused(rt: HostRuntime) -> Result<(), Fail> {
             mask: 3,
         },
     ];
-    let wanted = [between(2, 5), refused(EditFault::NoPlace), between(0, 0)];
-    if let Ok(trials) = try_all(&rt, &rt, rt.alloc(), &store, &edits) {
-        let given = answers(&rt, &trials)?;
-        assert_eq!(rt; given.len(), 3);
-        for (answer, wanted) in given.iter().zip(wanted.iter()) {
-            assert!(rt; *answer == *wanted || *answer == Err(StoreFault::NoMemory));
-        }
+    if let Ok(trials) = try_all(rt, host, host.alloc(), store, &edits) {
+        assert_refusals(rt, &trials);
     }
     assert_eq!(rt; store.len(), 8);
-    Ok(())
+}
+
+fn assert_refusals(rt: &impl Abort, trials: &[Trial]) {
+    let wanted = [between(2, 5), refused(EditFault::NoPlace), between(0, 0)];
+    assert_eq!(rt; trials.len(), 3);
+    for (trial, wanted) in trials.iter().zip(wanted.iter()) {
+        let answer = answer_of(trial);
+        assert!(rt; answer == *wanted || answer == Err(StoreFault::NoMemory));
+    }
 }

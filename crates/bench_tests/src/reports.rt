@@ -5,12 +5,10 @@ ghost use Rattle.bench_types.specs.Step.{settings_of, step_check};
 ghost use Rattle.bench_model.specs.Tallied.{shape, shape_of, AllCountsBelow};
 
 use crate::replays::are_checked;
-use crate::samples::{
-    A_DELAYS, Opened, SWITCH_0, SWITCH_1, assert_same, assert_tallies, assert_text, three_tasks,
-};
+use crate::samples::{A_DELAYS, Opened, SWITCH_0, SWITCH_1, assert_same, assert_text, three_tasks};
 use bench_reports::Tallies;
 use bench_samples::low_and_high;
-use bench_types::{Call, Edit, Header, Step, Tally};
+use bench_types::{Call, Header, Step, Tally};
 use session_store::Store;
 use smp_kernel::{Kernel, Meter};
 use std::alloc::{AllocError, Global};
@@ -79,26 +77,6 @@ task B run 0 2 wait 0 inverted 0 in 0 displaced 0 timeouts 0 top 1
 task C run 2 0 wait 0 inverted 0 in 2 displaced 0 timeouts 0 top 1
 ";
 
-/// A is ready at the second tick, and tasks of lower priority run.
-const INVERTED: [Step; 4] = [
-    Step::Call {
-        core: 0,
-        task: 2,
-        call: Call::Delay(1),
-    },
-    SWITCH_0,
-    Step::Tick,
-    Step::Tick,
-];
-
-const INVERTED_TALLIES: &str = "\
-task IDLE0 run 0 0 wait 2 inverted 0 in 0 displaced 0 timeouts 0 top 0
-task IDLE1 run 0 0 wait 2 inverted 0 in 0 displaced 0 timeouts 0 top 0
-task A run 0 0 wait 1 inverted 1 in 0 displaced 0 timeouts 0 top 2
-task B run 0 2 wait 0 inverted 0 in 0 displaced 0 timeouts 0 top 1
-task C run 2 0 wait 0 inverted 0 in 1 displaced 0 timeouts 0 top 1
-";
-
 /// L takes a mutex that H then waits for, one tick long, and not long enough.
 const RUN_OUT: [Step; 5] = [
     Step::Call {
@@ -127,57 +105,6 @@ task L run 0 1 wait 0 inverted 0 in 0 displaced 0 timeouts 0 top 3
 task H run 1 0 wait 0 inverted 0 in 0 displaced 0 timeouts 1 top 3
 ";
 
-/// After A waits and leaves its core, which two edits put before these, its call is displaced.
-const THEN_DISPLACED: [Step; 3] = [Step::Tick, SWITCH_1, A_DELAYS];
-
-const DISPLACED_TALLIES: &str = "\
-task IDLE0 run 0 0 wait 1 inverted 0 in 0 displaced 0 timeouts 0 top 0
-task IDLE1 run 0 0 wait 1 inverted 0 in 0 displaced 0 timeouts 0 top 0
-task A run 0 0 wait 0 inverted 0 in 0 displaced 1 timeouts 0 top 2
-task B run 0 1 wait 0 inverted 0 in 0 displaced 0 timeouts 0 top 1
-task C run 1 0 wait 0 inverted 0 in 1 displaced 0 timeouts 0 top 1
-";
-
-fn check_session(
-    rt: &impl Abort,
-    host: &HostRuntime,
-    header: Header,
-    steps: &[Step],
-    wanted: &str,
-) -> Result<(), Fail> {
-    let opened = Opened::with(host, header, steps, 64)?;
-    assert_tallies(rt, host.alloc(), &opened.store, wanted)
-}
-
-#[test]
-fn tallies_of_a_session(rt: HostRuntime) -> Result<(), Fail> {
-    let alloc = rt.alloc();
-    check_session(
-        &rt,
-        &rt,
-        three_tasks(alloc, 2, true)?,
-        &SHARED,
-        SHARED_TALLIES,
-    )?;
-    check_session(
-        &rt,
-        &rt,
-        three_tasks(alloc, 2, false)?,
-        &INVERTED,
-        INVERTED_TALLIES,
-    )?;
-    check_session(&rt, &rt, low_and_high(alloc)?, &RUN_OUT, RUN_OUT_TALLIES)
-}
-
-/// After a switch that is refused has come and gone, and a tick has come at the end.
-const LONGER_TALLIES: &str = "\
-task IDLE0 run 0 0 wait 3 inverted 0 in 0 displaced 0 timeouts 0 top 0
-task IDLE1 run 0 0 wait 3 inverted 0 in 0 displaced 0 timeouts 0 top 0
-task A run 1 0 wait 0 inverted 0 in 1 displaced 0 timeouts 0 top 2
-task B run 0 2 wait 1 inverted 0 in 0 displaced 0 timeouts 0 top 1
-task C run 2 1 wait 0 inverted 0 in 2 displaced 0 timeouts 0 top 1
-";
-
 /// After A yields in place of its delay.
 pub(crate) const YIELDED_TALLIES: &str = "\
 task IDLE0 run 0 0 wait 2 inverted 0 in 0 displaced 0 timeouts 0 top 0
@@ -186,108 +113,6 @@ task A run 2 0 wait 0 inverted 0 in 0 displaced 0 timeouts 0 top 2
 task B run 0 1 wait 1 inverted 0 in 1 displaced 0 timeouts 0 top 1
 task C run 0 1 wait 1 inverted 0 in 1 displaced 0 timeouts 0 top 1
 ";
-
-const A_YIELDS: Step = Step::Call {
-    core: 0,
-    task: 2,
-    call: Call::Yield,
-};
-
-/// The steps of a session with a checkpoint every so many steps, its edits, and the tallies then.
-#[derive(Clone, Copy)]
-struct Edited<'a> {
-    span: u32,
-    steps: &'a [Step],
-    edits: &'a [Edit],
-    wanted: &'a str,
-}
-
-const DISPLACED: Edited<'static> = Edited {
-    span: 1,
-    steps: &THEN_DISPLACED,
-    edits: &[
-        Edit::Insert {
-            at: 0,
-            step: A_DELAYS,
-        },
-        Edit::Insert {
-            at: 1,
-            step: SWITCH_0,
-        },
-    ],
-    wanted: DISPLACED_TALLIES,
-};
-
-const EDITED: [Edited<'static>; 6] = [
-    DISPLACED,
-    Edited {
-        span: 2,
-        ..DISPLACED
-    },
-    Edited {
-        span: 64,
-        ..DISPLACED
-    },
-    Edited {
-        span: 3,
-        steps: &SHARED,
-        edits: &[
-            Edit::Insert {
-                at: 3,
-                step: SWITCH_1,
-            },
-            Edit::Remove { at: 3 },
-        ],
-        wanted: SHARED_TALLIES,
-    },
-    Edited {
-        span: 3,
-        steps: &SHARED,
-        edits: &[
-            Edit::Insert {
-                at: 3,
-                step: SWITCH_1,
-            },
-            Edit::Remove { at: 3 },
-            Edit::Insert {
-                at: 8,
-                step: Step::Tick,
-            },
-        ],
-        wanted: LONGER_TALLIES,
-    },
-    Edited {
-        span: 2,
-        steps: &SHARED,
-        edits: &[Edit::Replace {
-            at: 0,
-            step: A_YIELDS,
-        }],
-        wanted: YIELDED_TALLIES,
-    },
-];
-
-#[test]
-fn tallies_of_edited_sessions(rt: HostRuntime) -> Result<(), Fail> {
-    for case in &EDITED {
-        let mut opened = Opened::by_span(&rt, true, case.steps, case.span)?;
-        check_edits(&rt, rt.alloc(), &mut opened, case.edits, case.wanted)?;
-    }
-    Ok(())
-}
-
-fn check_edits(
-    rt: &impl Abort,
-    alloc: Global,
-    opened: &mut Opened,
-    edits: &[Edit],
-    wanted: &str,
-) -> Result<(), Fail> {
-    for edit in edits {
-        opened.store.apply(alloc, *edit, &mut opened.meter)?;
-    }
-    assert_tallies(rt, alloc, &opened.store, wanted)
-}
 
 // What the steps take, each made and counted at once.
 fn tallied(

@@ -1,9 +1,6 @@
 //! What edits that are tried are answered, and that the store stays as it is.
 use crate::reports::{SHARED, YIELDED_TALLIES};
-use crate::samples::{
-    A_DELAYS, Opened, SWITCH_0, SWITCH_1, assert_edit, assert_row, assert_same, assert_tallies,
-    assert_text, between, tallies_text,
-};
+use crate::samples::{Opened, assert_row, assert_same, assert_text, between};
 use crate::store_edits::{A_YIELDS, insert, replace};
 use bench_types::{Edit, EditFault, Step};
 use session_store::{Outcome, StoreFault};
@@ -45,92 +42,4 @@ fn check_no_place(rt: &impl Abort, alloc: Global, opened: &mut Opened) {
     let no_place = StoreFault::Edit(EditFault::NoPlace);
     assert_same(rt, "fault", &trial.err(), &Some(no_place));
     assert_same(rt, "count", &opened.meter.count(), &count);
-}
-
-#[test]
-fn trials_tell_what_the_edits_do(rt: HostRuntime) -> Result<(), Fail> {
-    for span in &[1, 2, 3, 64] {
-        let mut opened = Opened::by_span(&rt, true, &SHARED, *span)?;
-        check_trials(&rt, rt.alloc(), &mut opened, &EDITS)?;
-    }
-    Ok(())
-}
-
-const EDITS: [Edit; 7] = [
-    Edit::Insert {
-        at: 3,
-        step: SWITCH_1,
-    },
-    Edit::Remove { at: 3 },
-    Edit::Insert {
-        at: 8,
-        step: Step::Tick,
-    },
-    Edit::Insert {
-        at: 0,
-        step: A_DELAYS,
-    },
-    Edit::Insert {
-        at: 1,
-        step: SWITCH_0,
-    },
-    Edit::ChangeTask {
-        task: 3,
-        priority: 3,
-        mask: 3,
-    },
-    Edit::Replace {
-        at: 2,
-        step: A_YIELDS,
-    },
-];
-
-fn check_trials(
-    rt: &impl Abort,
-    alloc: Global,
-    opened: &mut Opened,
-    edits: &[Edit],
-) -> Result<(), Fail> {
-    for edit in edits {
-        check_trial(rt, alloc, opened, *edit)?;
-    }
-    Ok(())
-}
-
-/// The trial leaves the tallies as they are, and tells those that there are after the edit.
-fn check_trial(
-    rt: &impl Abort,
-    alloc: Global,
-    opened: &mut Opened,
-    edit: Edit,
-) -> Result<(), Fail> {
-    let before = tallies_text(alloc, &opened.store)?;
-    check_left(rt, alloc, opened, edit, &before)
-}
-
-/// The trial leaves the tallies as they were before it.
-fn check_left(
-    rt: &impl Abort,
-    alloc: Global,
-    opened: &mut Opened,
-    edit: Edit,
-    before: &str,
-) -> Result<(), Fail> {
-    let (outcome, told) = tried(alloc, opened, edit)?;
-    assert_tallies(rt, alloc, &opened.store, before)?;
-    check_made(rt, alloc, opened, edit, outcome, &told)
-}
-
-/// The edit leads to what its trial told.
-fn check_made(
-    rt: &impl Abort,
-    alloc: Global,
-    opened: &mut Opened,
-    edit: Edit,
-    outcome: Outcome,
-    told: &str,
-) -> Result<(), Fail> {
-    let answer = opened.store.apply(alloc, edit, &mut opened.meter)?;
-    assert_edit(rt, edit, &outcome, &answer);
-    assert_tallies(rt, alloc, &opened.store, told)
 }

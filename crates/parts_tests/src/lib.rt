@@ -1,4 +1,5 @@
-//! Tests of the kernel's parts: cores and ready lists, mutexes, notifications and delays.
+//! Tests of the kernel's parts: cores and ready lists, mutexes, notifications and delays; and of
+//! the linked lists by index under them.
 //!
 //! There is nothing else here.
 #![tactic(auto)]
@@ -7,6 +8,8 @@
 mod delays;
 #[cfg(test)]
 mod largest;
+#[cfg(test)]
+mod lists;
 #[cfg(test)]
 mod mutexes;
 #[cfg(test)]

@@ -131,10 +131,16 @@ struct Wanted<'a> {
     message: &'a str,
 }
 
+fn task_in(mode: Mode) -> Task {
+    match mode {
+        Mode::Replay { tally, .. } => Task::Replay(mode.span(), tally),
+        Mode::WhatIf { .. } => Task::Trials(mode.span()),
+    }
+}
+
 fn task_of(request: &Request) -> Task {
     match request {
-        Request::Run(Mode::Replay { span, tally }) => Task::Replay(*span, *tally),
-        Request::Run(Mode::WhatIf { span }) => Task::Trials(*span),
+        Request::Run(mode) => task_in(*mode),
         Request::Record => Task::Recording,
         _ => Task::Nothing,
     }

@@ -1,5 +1,5 @@
-//! Tests of the bench's commands over devices in memory, and what they share. There is nothing else
-//! here.
+//! Tests of the bench's commands over devices in memory, of edits that are tried side by side, and
+//! what they share. There is nothing else here.
 #![tactic(auto)]
 
 #[cfg(test)]
@@ -19,6 +19,6 @@ mod processes;
 #[cfg(test)]
 mod rigs;
 #[cfg(test)]
-mod tallies;
+mod side_by_side;
 #[cfg(test)]
 mod trials;

@@ -2,10 +2,8 @@
 use crate::devices::{Sink, Source};
 use bench_commands::{Counted, Ending, Gate, RunFault, Status, carry_out, record};
 use std::io::{Read, Write};
-use std::process::Abort;
 use std::sync::Wait;
 use std::sync::atomic::{AtomicU32, Ordering};
-use std::test::Fail;
 use std::thread::Threads;
 
 /// Only core 0 has a script: A is delayed, and what an idle task would call is passed over.
@@ -22,32 +20,6 @@ const SESSION: &str = "\
 /// Both cores have scripts, whose actions can be told apart.
 const BOTH: &str =
     r#"{"session":{"format":1,"cores":2,"priorities":5,"slicing":false,"tick":0,"mutexes":0,"tasks":[{"name":"A","priority":2,"mask":1},{"name":"B","priority":1,"mask":2}],"steps":[]},"limit":9,"scripts":[[{"do":"value_clear","to":"A","bits":10},{"do":"value_clear","to":"A","bits":11},{"do":"value_clear","to":"A","bits":12}],[{"do":"value_clear","to":"B","bits":20},{"do":"value_clear","to":"B","bits":21},{"do":"value_clear","to":"B","bits":22}]]}"#;
-
-/// Texts that are refused as rig documents, with what is written.
-const REFUSED: [(&str, &str); 7] = [
-    ("", "refused H1\n"),
-    ("{}", "refused H2 session\n"),
-    (
-        r#"{"session":{},"limit":1,"scripts":[]}"#,
-        "refused H2 session.format\n",
-    ),
-    (
-        r#"{"session":{"format":1,"cores":2,"priorities":5,"slicing":false,"tick":0,"mutexes":0,"tasks":[],"steps":[]},"limit":1,"scripts":[[]]}"#,
-        "refused H2 scripts\n",
-    ),
-    (
-        r#"{"session":{"format":1,"cores":2,"priorities":5,"slicing":false,"tick":0,"mutexes":0,"tasks":[],"steps":[]},"limit":1,"scripts":[[],[]]}"#,
-        "refused F1\n",
-    ),
-    (
-        r#"{"session":{"format":1,"cores":2,"priorities":5,"slicing":false,"tick":0,"mutexes":0,"tasks":[{"name":"A","priority":2,"mask":1}],"steps":[]},"limit":100001,"scripts":[[],[]]}"#,
-        "refused F5 limit\n",
-    ),
-    (
-        r#"{"session":{"format":1,"cores":2,"priorities":5,"slicing":false,"tick":0,"mutexes":0,"tasks":[{"name":"A","priority":2,"mask":1}],"steps":[]},"limit":1,"scripts":[[],[{"do":"tick"}]]}"#,
-        "refused F2 scripts[1][0]\n",
-    ),
-];
 
 /// A gate that counts who passes.
 #[derive(Drop)]
@@ -112,25 +84,6 @@ fn the_command_records(rt: HostRuntime) {
     let ending = carry_out(&rt, &rt, rt.alloc(), words, &mut reader, &mut writer);
     assert!(rt; matches!(ending, Ending::Ran(Status::Fine)));
     assert_eq!(rt; sink.taken(), SESSION.as_bytes());
-}
-
-fn check_refused<R: Threads + Wait + Abort + Sync, I: Read>(
-    rt: &R,
-    host: &HostRuntime,
-    reader: &mut I,
-    line: &str,
-) {
-    let mut sink = Sink::wide();
-    let ended = recorded(rt, host, reader, &mut sink);
-    assert_eq!(rt; ended, (Status::Refused, 0, 0, 0), "{line}");
-    assert_eq!(rt; sink.taken(), line.as_bytes());
-}
-
-#[test]
-fn refused_rigs(rt: HostRuntime) {
-    for (text, line) in &REFUSED {
-        check_refused(&rt, &rt, &mut text.as_bytes(), line);
-    }
 }
 
 #[test]

@@ -1,4 +1,5 @@
-//! Tests of rigs. There is nothing else here.
+//! Tests of the lock pair, of recordings, of rigs and of the scripts that their threads play. There
+//! is nothing else here.
 #![tactic(auto)]
 
 #[cfg(test)]
@@ -8,11 +9,17 @@ mod checks;
 #[cfg(test)]
 mod faults;
 #[cfg(test)]
+mod locks;
+#[cfg(test)]
 mod many;
+#[cfg(test)]
+mod recording;
 #[cfg(test)]
 mod rigs;
 #[cfg(test)]
 mod scenes;
+#[cfg(test)]
+mod scripts;
 #[cfg(test)]
 mod stopped;
 #[cfg(test)]

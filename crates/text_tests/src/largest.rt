@@ -2,7 +2,7 @@
 ghost use Rattle.std.specs.Prelude.{◌≡◌, IsTrue, Ok};
 ghost use Rattle.bench_types.specs.Header.{header_check};
 
-use crate::outcomes::with_steps;
+use crate::sessions::with_steps;
 use crate::writing::most_ticks;
 use bench_samples::{LARGEST, crowd};
 use bench_types::{Edit, Header, MAX_STEPS, MAX_TASKS, Step};

@@ -5,8 +5,6 @@
 #[cfg(test)]
 mod answers;
 #[cfg(test)]
-mod benches;
-#[cfg(test)]
 mod codes;
 #[cfg(test)]
 mod documents;
@@ -25,7 +23,7 @@ mod names;
 #[cfg(test)]
 mod notes;
 #[cfg(test)]
-mod outcomes;
+mod refused;
 #[cfg(test)]
 mod rigs;
 #[cfg(test)]

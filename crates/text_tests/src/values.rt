@@ -3,9 +3,7 @@ ghost use Rattle.std.specs.Prelude.{◌≡◌, Ok};
 ghost use Rattle.bench_types.specs.Header.{header_check};
 
 use crate::answers::check_task;
-use crate::benches::BENCH;
-use crate::outcomes::{Base, header_with, session_of};
-use crate::sessions::SESSION;
+use crate::sessions::{SESSION, header_with, session_of, with_steps};
 use crate::{holds, mutexes, notes, sets};
 use bench_types::{Call, Config, Edit, Header, Step};
 use session_text::{Bench, read_bench, read_edit};
@@ -15,7 +13,8 @@ use std::test::Fail;
 
 /// Steps that a session has, each with its members in two orders.
 pub struct Orders {
-    pub base: Base,
+    /// How many mutexes the session has.
+    pub mutexes: u32,
     /// On each line the texts of a step.
     pub rows: &'static str,
     pub steps: &'static [Step],
@@ -29,6 +28,10 @@ pub struct Edited {
     pub edit: Edit,
 }
 
+/// A bench document of the session, with an edit of each kind.
+const BENCH: &str =
+    "{\"session\":{\"format\":1,\"cores\":2,\"priorities\":5,\"slicing\":false,\"tick\":0,\"mutexes\":0,\"tasks\":[{\"name\":\"A\",\"priority\":2,\"mask\":3},{\"name\":\"B\",\"priority\":1,\"mask\":3}],\"steps\":[{\"do\":\"tick\"},{\"do\":\"switch\",\"core\":1},{\"do\":\"yield\",\"core\":0,\"by\":\"A\"},{\"do\":\"delay\",\"core\":0,\"by\":\"A\",\"ticks\":7},{\"do\":\"finish\",\"core\":1,\"by\":\"B\"}]},\"edits\":[{\"edit\":\"replace\",\"at\":0,\"step\":{\"do\":\"yield\",\"core\":0,\"by\":\"A\"}},{\"edit\":\"insert\",\"at\":5,\"step\":{\"do\":\"delay\",\"core\":1,\"by\":\"B\",\"ticks\":3}},{\"edit\":\"remove\",\"at\":2},{\"edit\":\"change\",\"task\":\"B\",\"priority\":3,\"mask\":1}]}";
+
 const CONFIG: Config = Config {
     cores: 2,
     priorities: 5,
@@ -40,7 +43,7 @@ const CONFIG: Config = Config {
 // Each task's name, priority and mask.
 const TASKS: &[(&str, u32, u32)] = &[("A", 2, 3), ("B", 1, 3)];
 
-// The steps of the session that the tables change.
+// The steps of the session.
 const SESSION_STEPS: &[Step] = &[
     Step::Tick,
     Step::Switch { core: 1 },
@@ -61,7 +64,7 @@ const SESSION_STEPS: &[Step] = &[
     },
 ];
 
-// The edits of the bench document that the tables change.
+// The edits of the bench document.
 const BENCH_EDITS: &[Edit] = &[
     Edit::Replace {
         at: 0,
@@ -118,30 +121,30 @@ pub fn check_steps(rt: &impl Abort, alloc: Global, text: &str, steps: &[Step]) -
 fn check_given(
     rt: &impl Abort,
     alloc: Global,
-    base: Base,
+    mutexes: u32,
     given: &str,
     step: Step,
 ) -> Result<(), Fail> {
-    let text = base.text(alloc, given)?;
+    let text = with_steps(alloc, mutexes, given)?;
     check_steps(rt, alloc, text.as_str(), &[step])
 }
 
 fn check_order(
     rt: &impl Abort,
     alloc: Global,
-    base: Base,
+    mutexes: u32,
     line: &str,
     step: Step,
 ) -> Result<(), Fail> {
     let (one, other) = line.split_once(" | ").ok_or("a row has two orders")?;
-    check_given(rt, alloc, base, one, step)?;
-    check_given(rt, alloc, base, other, step)
+    check_given(rt, alloc, mutexes, one, step)?;
+    check_given(rt, alloc, mutexes, other, step)
 }
 
 fn check_orders(rt: &impl Abort, alloc: Global, orders: &Orders) -> Result<(), Fail> {
     assert_eq!(rt; orders.rows.trim().lines().count(), orders.steps.len());
     for (line, step) in orders.rows.trim().lines().zip(orders.steps) {
-        check_order(rt, alloc, orders.base, line, *step)?;
+        check_order(rt, alloc, orders.mutexes, line, *step)?;
     }
     Ok(())
 }
@@ -200,7 +203,7 @@ fn header(rt: HostRuntime) -> Result<(), Fail> {
     Ok(())
 }
 
-/// The document is of the session that the tables change, with these edits.
+/// The document is of that session, with these edits.
 fn check_bench(rt: &impl Abort, bench: &Bench, edits: &[Edit]) {
     assert_eq!(rt; bench.edits.as_slice(), edits);
     assert_eq!(rt; bench.steps.as_slice(), SESSION_STEPS);

@@ -1,7 +1,7 @@
 //! Sessions that are written, and read back.
 ghost use Rattle.bench_types.specs.Session.{IsSession};
 
-use crate::outcomes::{session_of, with_steps};
+use crate::sessions::{session_of, with_steps};
 use crate::values::check_steps;
 use bench_types::{Header, MAX_STEPS, Step};
 use session_write::write_session;

@@ -1,4 +1,4 @@
-/// What a session stands in its file for.
+/// What a block stands in its file for.
 #[derive(Drop)]
 pub(crate) enum Shown {
     /// The replies and the running tasks.
@@ -7,6 +7,10 @@ pub(crate) enum Shown {
     States,
     /// Whether its end is the same as that of another session.
     Pair,
+    /// What comes of a run of the bench.
+    Run,
+    /// What comes of the runs over the texts of rows.
+    Rows,
 }
 
 impl Shown {
@@ -15,32 +19,35 @@ impl Shown {
             "#" => Some(Shown::Replies),
             "#!" => Some(Shown::States),
             "#=" => Some(Shown::Pair),
+            "#>" => Some(Shown::Run),
+            "#?" => Some(Shown::Rows),
             _ => None,
         }
     }
 }
 
-/// A worked session, or two of them, as they stand in a file.
+/// A worked session, or two of them, or runs of the bench, as they stand in a file.
 #[derive(Drop)]
 pub(crate) struct Block<'a> {
     pub(crate) title: &'a str,
     pub(crate) shown: Shown,
-    /// The session in its JSON form.
-    pub(crate) session: &'a str,
-    /// What its replay gives; of a pair the other session, and whether they end alike.
+    /// The session in its JSON form; of runs the words of the command.
+    pub(crate) given: &'a str,
+    /// What its replay gives; of a pair the other session, and whether they end alike; of a run its
+    /// input, and what comes of it; of rows what they change, and the rows.
     pub(crate) rest: &'a str,
 }
 
 impl<'a> Block<'a> {
-    /// A title line, a line of JSON and the rest. The beginning of the title says what is shown.
+    /// A title line, another line and the rest. The beginning of the title says what is shown.
     pub(crate) fn read(text: &'a str) -> Option<Block<'a>> {
         let (first, below) = text.split_once("\n")?;
-        let (session, rest) = below.split_once("\n")?;
+        let (given, rest) = below.split_once("\n")?;
         let (sign, title) = first.split_once(" ")?;
         Some(Block {
             title,
             shown: Shown::by(sign)?,
-            session,
+            given,
             rest,
         })
     }

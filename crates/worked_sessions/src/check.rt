@@ -1,38 +1,81 @@
-//! Whether sessions go as expected.
+//! Whether sessions and runs go as expected.
 use crate::block::{Block, Shown};
 use crate::replay::Played;
+use crate::rows::outcome_of_row;
+use crate::run::told_of_run;
 use std::alloc::AllocError;
 use std::io::{self, ErrorKind};
+use std::sync::Wait;
+use std::thread::Threads;
 
 const NO_SESSION: &str = "no session";
 
-/// Checks each session of a file's text, and says how many there are.
-pub(crate) fn check_text(rt: &HostRuntime, name: &str, text: &str) -> io::Result<()> {
-    print!(rt; "{name}: ")?;
+/// Checks each block of a file's text, and says how many there are.
+pub(crate) fn check_text<R: Threads + Wait + Sync>(
+    rt: &R,
+    host: &HostRuntime,
+    name: &str,
+    text: &str,
+) -> io::Result<()> {
+    print!(host; "{name}: ")?;
     for part in text.split("\n\n") {
-        check_part(rt, part)?;
+        check_part(rt, host, part)?;
     }
     let count = text.split("\n\n").count();
-    println!(rt; "{count} sessions as expected")
+    println!(host; "{count} blocks as expected")
 }
 
-fn check_part(rt: &HostRuntime, part: &str) -> io::Result<()> {
+fn check_part<R: Threads + Wait + Sync>(rt: &R, host: &HostRuntime, part: &str) -> io::Result<()> {
     match Block::read(part) {
-        Some(block) => check_block(rt, &block),
-        None => compare(rt, part, "a session", "none"),
+        Some(block) => check_block(rt, host, &block),
+        None => compare(host, part, "a block", "none"),
     }
 }
 
-fn check_block(rt: &HostRuntime, block: &Block<'_>) -> io::Result<()> {
+fn check_block<R: Threads + Wait + Sync>(
+    rt: &R,
+    host: &HostRuntime,
+    block: &Block<'_>,
+) -> io::Result<()> {
     match block.shown {
-        Shown::Replies => check_lines(rt, block, false),
-        Shown::States => check_lines(rt, block, true),
-        Shown::Pair => check_pair(rt, block),
+        Shown::Replies => check_lines(host, block, false),
+        Shown::States => check_lines(host, block, true),
+        Shown::Pair => check_pair(host, block),
+        Shown::Run => check_run(rt, host, block),
+        Shown::Rows => check_rows(rt, host, block),
     }
+}
+
+fn check_run<R: Threads + Wait + Sync>(
+    rt: &R,
+    host: &HostRuntime,
+    block: &Block<'_>,
+) -> io::Result<()> {
+    let (input, expected) = first_line(block.rest);
+    let found = told_of_run(rt, host, block.given, input)?;
+    compare(host, block.title, expected, found.as_str())
+}
+
+fn check_rows<R: Threads + Wait + Sync>(
+    rt: &R,
+    host: &HostRuntime,
+    block: &Block<'_>,
+) -> io::Result<()> {
+    let (base, rows) = first_line(block.rest);
+    for row in rows.lines() {
+        let (given, expected) = row.split_once(" | ").unwrap_or((row, ""));
+        let found = outcome_of_row(rt, host, block.given, base, given)?;
+        compare(host, row, expected, found.as_str())?;
+    }
+    Ok(())
+}
+
+fn first_line(text: &str) -> (&str, &str) {
+    text.split_once("\n").unwrap_or((text, ""))
 }
 
 fn check_lines(rt: &HostRuntime, block: &Block<'_>, with_state: bool) -> io::Result<()> {
-    let found = Played::of(rt, block.session, with_state)?;
+    let found = Played::of(rt, block.given, with_state)?;
     compare(rt, block.title, block.rest, lines_of(&found))
 }
 
@@ -44,8 +87,8 @@ fn lines_of(played: &Option<Played>) -> &str {
 }
 
 fn check_pair(rt: &HostRuntime, block: &Block<'_>) -> io::Result<()> {
-    let (session, expected) = block.rest.split_once("\n").unwrap_or(("", ""));
-    let found = told_of(rt, block.session, session)?;
+    let (session, expected) = first_line(block.rest);
+    let found = told_of(rt, block.given, session)?;
     compare(rt, block.title, expected, found)
 }
 

@@ -1,0 +1,5 @@
+//! The lock pair.
+mod calls;
+mod depths;
+mod log;
+mod turns;

@@ -1,0 +1,4 @@
+//! Recordings.
+mod room;
+mod samples;
+mod steps;

@@ -1,0 +1,51 @@
+//! Runs of the bench over texts.
+use bench_commands::{Counted, Ending, carry_out};
+use std::alloc::AllocError;
+use std::sync::Wait;
+use std::thread::Threads;
+
+/// What the bench writes with these words over this input. Where its exit status is not 0, a line
+/// with the status and what people are told stand below.
+pub(crate) fn told_of_run<R: Threads + Wait + Sync>(
+    rt: &R,
+    host: &HostRuntime,
+    words: &str,
+    input: &str,
+) -> Result<String, AllocError> {
+    let mut bytes = Vec::new(host.alloc());
+    let ending = ended(rt, host, words, input, &mut bytes)?;
+    let mut text = String::from_str(host.alloc(), text_of(bytes.as_slice()))?;
+    push_status(&mut text, &ending)?;
+    Ok(text)
+}
+
+fn ended<R: Threads + Wait + Sync>(
+    rt: &R,
+    host: &HostRuntime,
+    words: &str,
+    input: &str,
+    output: &mut Vec<u8>,
+) -> Result<Ending, AllocError> {
+    let words: Vec<&str> = words.split(' ').collect(host.alloc())?;
+    let mut reader = Counted::new(input.as_bytes());
+    let mut writer = Counted::new(output);
+    Ok(carry_out(
+        rt,
+        host,
+        host.alloc(),
+        Some(words.as_slice()),
+        &mut reader,
+        &mut writer,
+    ))
+}
+
+fn text_of(bytes: &[u8]) -> &str {
+    std::str::from_utf8(bytes).unwrap_or("no text\n")
+}
+
+fn push_status(text: &mut String, ending: &Ending) -> Result<(), AllocError> {
+    if ending.code() == 0 {
+        return Ok(());
+    }
+    write!(text, "status {}\n{}", ending.code(), ending.message())
+}

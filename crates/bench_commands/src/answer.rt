@@ -1,17 +1,20 @@
 ghost use Rattle.std.specs.Prelude.{◌≡◌, ◌++◌, [], IfOk, OnOk, codes, string_bytes, true, false, IsErr};
+ghost use Rattle.bench_types.specs.Limits.{max_span};
+ghost use Rattle.bench_types.specs.Name.{is_within};
 ghost use Rattle.session_store.specs.declared.fault.OpenRefusal.TheVariants.{TooLong};
 ghost use Rattle.session_text.specs.declared.fault.Why.TheVariants.{NoMemory};
 ghost use Rattle.session_text.specs.Bench.{IsCheckedBench, bench_text};
-ghost use Rattle.bench_commands.specs.Answer.{why_text, path_text, refusal_line, refused, bench_output, output, output_of, output_of_bench, store_text, Output};
+ghost use Rattle.bench_commands.specs.Answer.{why_text, path_text, refusal_line, refused, bench_output, output, output_of, output_of_bench, Output};
 ghost use Rattle.bench_commands.specs.Hint.{IsBenchHint, IsBenchTextHint, IsFaultHint, too_long_line, too_many_steps_line};
 ghost use Rattle.bench_commands.specs.Run.{has_span};
+ghost use Rattle.bench_commands.specs.declared.execution.Mode.TheVariants.{Replay, WhatIf};
 
 use crate::execution::Mode;
 use crate::hint::{bench_hint, fault_hint, too_long_hint};
 use crate::lines::push_spaced;
-use crate::output::edited_replay;
+use crate::output::{edited_replay, unedited_replay};
 use crate::trials::trial_lines;
-use bench_types::{Edit, EditFault, MAX_INPUT};
+use bench_types::{EditFault, MAX_INPUT};
 use session_store::{OpenRefusal, Store};
 use session_text::{Bench, TextFault, Why, read_bench};
 use smp_kernel::Meter;
@@ -61,45 +64,6 @@ pub fn refused_for(alloc: Global, fault: TextFault) -> Result<Answer, AllocError
     }
 }
 
-// What is written of a session that was opened, and of its edits.
-fn text_of_store<T: Threads + Sync>(
-    rt: &T,
-    host: &HostRuntime,
-    alloc: Global,
-    meter: &mut Meter,
-    store: &mut Store,
-    edits: &[Edit],
-    mode: Mode,
-) -> Result<String, AllocError>
-    ensures { IfOk result (λ text. string_bytes text ≡ store_text mode store.old edits.now) }
-{
-    match mode {
-        Mode::Replay { span: _, tally } => edited_replay(alloc, meter, store, edits, tally),
-        Mode::WhatIf { .. } => trial_lines(rt, host, alloc, store, edits),
-    }
-}
-
-// The same as an answer.
-fn answer_of_store<T: Threads + Sync>(
-    rt: &T,
-    host: &HostRuntime,
-    alloc: Global,
-    meter: &mut Meter,
-    store: &mut Store,
-    edits: &[Edit],
-    mode: Mode,
-) -> Result<Answer, AllocError>
-    ensures { IfOk result
-        (λ answer. answer
-        ≡ record { is_refused = false; text = store_text mode store.old edits.now }) }
-{
-    let text = text_of_store(rt, host, alloc, meter, store, edits, mode)?;
-    Ok(Answer {
-        is_refused: false,
-        text,
-    })
-}
-
 // The answer where no store was opened, which is one only for J2.
 fn not_opened(alloc: Global, why: OpenRefusal) -> Result<Answer, AllocError>
     ensures why { OnOk result (why ≡ TooLong) }
@@ -108,6 +72,116 @@ fn not_opened(alloc: Global, why: OpenRefusal) -> Result<Answer, AllocError>
     match why {
         OpenRefusal::TooLong => refused(alloc, EditFault::TooLong.code(), ""),
         _ => Err(AllocError),
+    }
+}
+
+// The output of a replay of a bench document that was read. No edits are made.
+fn answer_of_steps(
+    alloc: Global,
+    meter: &mut Meter,
+    bench: Bench,
+    span: u32,
+    tally: bool,
+) -> Result<Answer, AllocError>
+    requires checked { IsCheckedBench bench }
+    requires span { is_within 1 max_span span ≡ true }
+    requires none { bench.edits ≡ [] }
+    ensures { IfOk result
+        (λ answer. answer ≡ output_of_bench (bench_output (Replay span tally)) bench) }
+{
+    let Bench {
+        header,
+        steps,
+        edits: _,
+    } = bench;
+    match Store::open(alloc, header, steps.into_vec(), span, meter) {
+        Ok(store) => {
+            let text = unedited_replay(alloc, &store, tally)?;
+            Ok(Answer {
+                is_refused: false,
+                text,
+            })
+        }
+        Err(fault) => not_opened(alloc, fault.why),
+    }
+}
+
+// The output of a replay of a bench document that was read, after its edits.
+fn answer_of_edits(
+    alloc: Global,
+    meter: &mut Meter,
+    bench: Bench,
+    span: u32,
+    tally: bool,
+) -> Result<Answer, AllocError>
+    requires checked { IsCheckedBench bench }
+    requires span { is_within 1 max_span span ≡ true }
+    ensures { IfOk result
+        (λ answer. answer ≡ output_of_bench (bench_output (Replay span tally)) bench) }
+{
+    let Bench {
+        header,
+        steps,
+        edits,
+    } = bench;
+    match Store::open_untraced(alloc, header, steps.into_vec(), span, meter) {
+        Ok(store) => {
+            let text = edited_replay(alloc, meter, store, edits.as_slice(), tally)?;
+            Ok(Answer {
+                is_refused: false,
+                text,
+            })
+        }
+        Err(fault) => not_opened(alloc, fault.why),
+    }
+}
+
+// The output of a replay of a bench document that was read.
+fn answer_of_replay(
+    alloc: Global,
+    meter: &mut Meter,
+    bench: Bench,
+    span: u32,
+    tally: bool,
+) -> Result<Answer, AllocError>
+    requires checked { IsCheckedBench bench }
+    requires span { is_within 1 max_span span ≡ true }
+    ensures { IfOk result
+        (λ answer. answer ≡ output_of_bench (bench_output (Replay span tally)) bench) }
+{
+    if bench.edits.as_slice().is_empty() {
+        return answer_of_steps(alloc, meter, bench, span, tally);
+    }
+    answer_of_edits(alloc, meter, bench, span, tally)
+}
+
+// The output of trials of the edits of a bench document that was read.
+fn answer_of_trials<T: Threads + Sync>(
+    rt: &T,
+    host: &HostRuntime,
+    alloc: Global,
+    meter: &mut Meter,
+    bench: Bench,
+    span: u32,
+) -> Result<Answer, AllocError>
+    requires checked { IsCheckedBench bench }
+    requires span { is_within 1 max_span span ≡ true }
+    ensures { IfOk result (λ answer. answer ≡ output_of_bench (bench_output (WhatIf span)) bench) }
+{
+    let Bench {
+        header,
+        steps,
+        edits,
+    } = bench;
+    match Store::open(alloc, header, steps.into_vec(), span, meter) {
+        Ok(store) => {
+            let text = trial_lines(rt, host, alloc, &store, edits.as_slice())?;
+            Ok(Answer {
+                is_refused: false,
+                text,
+            })
+        }
+        Err(fault) => not_opened(alloc, fault.why),
     }
 }
 
@@ -124,23 +198,10 @@ fn answer_of_bench<T: Threads + Sync>(
     requires span { has_span mode ≡ true }
     ensures { IfOk result (λ answer. answer ≡ output_of_bench (bench_output mode) bench) }
 {
-    let Bench {
-        header,
-        steps,
-        edits,
-    } = bench;
     let mut meter = Meter::new(host);
-    match Store::open(alloc, header, steps.into_vec(), mode.span(), &mut meter) {
-        Ok(mut store) => answer_of_store(
-            rt,
-            host,
-            alloc,
-            &mut meter,
-            &mut store,
-            edits.as_slice(),
-            mode,
-        ),
-        Err(fault) => not_opened(alloc, fault.why),
+    match mode {
+        Mode::Replay { span, tally } => answer_of_replay(alloc, &mut meter, bench, span, tally),
+        Mode::WhatIf { span } => answer_of_trials(rt, host, alloc, &mut meter, bench, span),
     }
 }
 

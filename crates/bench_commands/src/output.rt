@@ -1,4 +1,4 @@
-ghost use Rattle.std.specs.Prelude.{◌≡◌, ◌++◌, ◌<◌, IfOk, OnOk, string_bytes};
+ghost use Rattle.std.specs.Prelude.{◌≡◌, ◌++◌, ◌<◌, [], IfOk, OnOk, string_bytes};
 ghost use Rattle.bench_types.specs.Limits.{max_steps};
 ghost use Rattle.bench_model.specs.Edits.{after_edits};
 ghost use Rattle.session_store.specs.Outcomes.{after_edit, answer, answers};
@@ -8,7 +8,7 @@ ghost use Rattle.bench_commands.specs.Lines.{edit_lines, AreLabels};
 use crate::labels::Labels;
 use crate::lines::{push_edit_line, push_start_line, push_step_line};
 use bench_types::{Edit, EditFault};
-use session_store::{Outcome, Store, StoreFault};
+use session_store::{Outcome, Store, StoreFault, Untraced};
 use smp_kernel::Meter;
 use std::alloc::{AllocError, Global};
 
@@ -82,7 +82,7 @@ fn push_tallies(
 fn answer_to_edit(
     alloc: Global,
     meter: &mut Meter,
-    store: &mut Store,
+    store: &mut Store<Untraced>,
     edit: Edit,
 ) -> Result<Result<Outcome, EditFault>, AllocError>
     ensures answer { IfOk result (λ given. given ≡ answer store.old edit) }
@@ -100,7 +100,7 @@ fn push_edits(
     alloc: Global,
     meter: &mut Meter,
     text: &mut String,
-    store: &mut Store,
+    store: &mut Store<Untraced>,
     edits: &[Edit],
 ) -> Result<(), AllocError>
     ensures lines { OnOk result
@@ -116,21 +116,70 @@ fn push_edits(
     Ok(())
 }
 
+// The store that edits leave, which keeps nothing of its replay until all are made. Adds a line for
+// each.
+fn edited_store(
+    alloc: Global,
+    meter: &mut Meter,
+    text: &mut String,
+    mut store: Store<Untraced>,
+    edits: &[Edit],
+) -> Result<Store, AllocError>
+    ensures lines { OnOk result
+        (string_bytes text.new
+        ≡ string_bytes text.old ++ edit_lines 0 (answers store edits.now)) }
+    ensures session { IfOk result
+        (λ edited. edited.session ≡ after_edits store.session edits.now) }
+{
+    push_edits(alloc, meter, text, &mut store, edits)?;
+    let edited = store.traced(alloc, meter)?;
+    Ok(edited)
+}
+
+// Adds the lines of a replay, and those of its tasks where they are asked for.
+fn push_whole(
+    alloc: Global,
+    text: &mut String,
+    store: &Store,
+    tally: bool,
+) -> Result<(), AllocError>
+    ensures { OnOk result
+        (string_bytes text.new
+        ≡ string_bytes text.old ++ replay_text store.now.session.header store.now.session.steps
+        ++ tally_text tally store.now.session.header store.now.session.steps) }
+{
+    push_replay(alloc, text, store)?;
+    push_tallies(alloc, text, store, tally)
+}
+
 /// Makes the edits, and gives a line for each, then those of a replay of the session that they
 /// leave, and with `tally` those of its tasks.
 pub(crate) fn edited_replay(
     alloc: Global,
     meter: &mut Meter,
-    store: &mut Store,
+    store: Store<Untraced>,
     edits: &[Edit],
     tally: bool,
 ) -> Result<String, AllocError>
     ensures { IfOk result
-        (λ text. string_bytes text ≡ edited_text tally store.old edits.now) }
+        (λ text. string_bytes text ≡ edited_text tally store edits.now) }
 {
     let mut text = String::new(alloc);
-    push_edits(alloc, meter, &mut text, store, edits)?;
-    push_replay(alloc, &mut text, store)?;
-    push_tallies(alloc, &mut text, store, tally)?;
+    let edited = edited_store(alloc, meter, &mut text, store, edits)?;
+    push_whole(alloc, &mut text, &edited, tally)?;
+    Ok(text)
+}
+
+/// Gives the lines of a replay, and with `tally` those of its tasks.
+pub(crate) fn unedited_replay(
+    alloc: Global,
+    store: &Store,
+    tally: bool,
+) -> Result<String, AllocError>
+    ensures { IfOk result
+        (λ text. string_bytes text ≡ edited_text tally store.now []) }
+{
+    let mut text = String::new(alloc);
+    push_whole(alloc, &mut text, store, tally)?;
     Ok(text)
 }

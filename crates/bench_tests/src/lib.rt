@@ -28,3 +28,5 @@ mod store_edits;
 mod store_openings;
 #[cfg(test)]
 mod trials;
+#[cfg(test)]
+mod untraced;

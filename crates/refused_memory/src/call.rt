@@ -12,6 +12,7 @@ pub(crate) enum Call {
     Copy,
     Open,
     Apply,
+    Traced,
     Trial,
     State,
     Tallies,
@@ -30,11 +31,12 @@ pub(crate) enum Call {
 }
 
 /// All of them.
-pub(crate) const ALL: [Call; 19] = [
+pub(crate) const ALL: [Call; 20] = [
     Call::Start,
     Call::Copy,
     Call::Open,
     Call::Apply,
+    Call::Traced,
     Call::Trial,
     Call::State,
     Call::Tallies,
@@ -60,6 +62,7 @@ impl Call {
             Call::Copy => "Kernel::copy",
             Call::Open => "Store::open",
             Call::Apply => "Store::apply",
+            Call::Traced => "Store::traced",
             Call::Trial => "Store::trial",
             Call::State => "Store::state",
             Call::Tallies => "Store::tallies",
@@ -102,6 +105,7 @@ impl Call {
             Call::Copy => kernels::copy(host),
             Call::Open => stores::open(host),
             Call::Apply => stores::apply(host),
+            Call::Traced => stores::traced(host),
             Call::Trial => trials::trial(host),
             Call::State => stores::state(host),
             Call::Tallies => stores::tallies(host),

@@ -2,7 +2,7 @@
 use crate::outcome::Outcome;
 use crate::worked::{STEPS, header, steps};
 use bench_types::{Call, Edit, Step};
-use session_store::{OpenFault, OpenRefusal, Outcome as Replayed, Store, StoreFault};
+use session_store::{OpenFault, OpenRefusal, Outcome as Replayed, Store, StoreFault, Untraced};
 use smp_kernel::Meter;
 use std::alloc::{AllocError, Global};
 
@@ -131,6 +131,46 @@ fn applied(
     let stays = is_same(alloc, &one.store, &twin.store)?;
     let again = one.store.apply(alloc, edit, &mut one.meter);
     Ok(Outcome::refused(is_right && stays && again == Ok(wanted)))
+}
+
+/// A store of the worked session that keeps nothing of its replay, with the meter of its steps.
+#[derive(Drop)]
+struct Begun {
+    store: Store<Untraced>,
+    meter: Meter,
+}
+
+fn begin_worked(rt: &HostRuntime) -> Option<Begun> {
+    let header = header(rt.alloc())?;
+    let steps = steps(rt.alloc())?;
+    let mut meter = Meter::new(rt);
+    let store = Store::open_untraced(rt.alloc(), header, steps, SPAN, &mut meter).ok()?;
+    Some(Begun { store, meter })
+}
+
+/// Where memory is refused the store is gone, so another one is opened.
+pub(crate) fn traced(rt: &HostRuntime) -> Option<Outcome> {
+    let Begun { store, mut meter } = begin_worked(rt)?;
+    Some(match store.traced(rt.alloc(), &mut meter) {
+        Ok(store) => Outcome::answered(is_whole(&store) && meter.count() == 12),
+        Err(AllocError) => Outcome::refused(meter.count() <= 12 && is_traced(rt)),
+    })
+}
+
+/// Whether another one is traced now.
+fn is_traced(rt: &HostRuntime) -> bool {
+    let Some(Begun { store, mut meter }) = begin_worked(rt) else {
+        return false;
+    };
+    match store.traced(rt.alloc(), &mut meter) {
+        Ok(store) => is_whole(&store),
+        Err(AllocError) => false,
+    }
+}
+
+/// Whether it has each reply and row, and no more.
+fn is_whole(store: &Store) -> bool {
+    store.len() == 6 && store.reply(5).is_some() && store.row_after(5).is_some()
 }
 
 /// Whether both show the same steps, replies, running tasks, checkpoints and tallies.

@@ -16,7 +16,7 @@ use Rattle.bench_model.specs.Session.{state_after}
 use Rattle.bench_model.specs.Table.{Table}
 use Rattle.bench_model.specs.Tally.{TaskTally}
 use Rattle.segment_laws.specs.Segments.{reply_after, running_after}
-use Rattle.session_segments.specs.Kept.{IsKept}
+use Rattle.session_segments.specs.Kept.{IsBegun, IsTold}
 use Rattle.session_segments.proofs.Replays.{runs, cores_stand}
 use Rattle.session_segments.proofs.Rows.{reply_told, row_sized, row_found, rows_length, row_within, row_told, first_told}
 
@@ -24,24 +24,24 @@ none_of : (within : Bool) (row : List ℕ) (core : ℕ) → length row ≤ core 
 none_of true row core past = sym (slice_get_past row core past)
 none_of false row core past = refl
 
-module _ (kernel : View) (steps : List Step) (replies : List Reply) (rows : List ℕ) (tallies : List TaskTally) (kept : IsKept kernel steps replies rows tallies) where
+module _ (kernel : View) (steps : List Step) (replies : List Reply) (rows : List ℕ) (tallies : List TaskTally) (begun : IsBegun kernel steps) (told : IsTold kernel steps replies rows tallies) where
   table_settings : (table : Table) → StandsFor kernel table → table.settings ≡ kernel.settings
   table_settings table stands = ap (λ (v : View). v.settings) stands.shows
 
   pub table_checked : (table : Table) → StandsFor kernel table → All (IsCheckedStep table.settings) steps
-  table_checked table stands = subst (λ settings. All (IsCheckedStep settings) steps) (sym (table_settings table stands)) kept.checked
+  table_checked table stands = subst (λ settings. All (IsCheckedStep settings) steps) (sym (table_settings table stands)) begun.checked
 
   table_cores : (table : Table) → StandsFor kernel table → table.settings.cores ≡ kernel.settings.cores
   table_cores table stands = ap (λ (s : Settings). s.cores) (table_settings table stands)
 
   pub kept_reply : (table : Table) (index : ℕ) → StandsFor kernel table → slice_get replies index ≡ reply_after table steps index
-  kept_reply table index stands = ap (λ (rs : List Reply). slice_get rs index) ((kept.outcomes table stands).replies_are) ∙ reply_told steps table index
+  kept_reply table index stands = ap (λ (rs : List Reply). slice_get rs index) ((told.outcomes table stands).replies_are) ∙ reply_told steps table index
 
   pub kept_length : length rows ≡ length steps * kernel.settings.cores
   kept_length =
-      let table = kept.stands.0 in
-      let stands = kept.stands.1 in
-      ap length ((kept.outcomes table stands).rows_are) ∙ rows_length steps table kernel.settings.cores stands.sound (table_checked table stands) (table_cores table stands)
+      let table = begun.stands.0 in
+      let stands = begun.stands.1 in
+      ap length ((told.outcomes table stands).rows_are) ∙ rows_length steps table kernel.settings.cores stands.sound (table_checked table stands) (table_cores table stands)
 
   pub kept_within : (count : ℕ) → 0 < count → count ≤ length steps → (count - 1) * kernel.settings.cores + kernel.settings.cores ≤ length rows
   kept_within count some within =
@@ -54,7 +54,7 @@ module _ (kernel : View) (steps : List Step) (replies : List Reply) (rows : List
       let cores = kernel.settings.cores in
       let early : count - 1 < length steps = omega (arith, some, within) in
       let next : suc (count - 1) ≡ count = omega (arith, some) in
-      let found = ap (λ (rs : List ℕ). take cores (drop ((count - 1) * cores) rs)) ((kept.outcomes table stands).rows_are)
+      let found = ap (λ (rs : List ℕ). take cores (drop ((count - 1) * cores) rs)) ((told.outcomes table stands).rows_are)
       ∙ row_found steps table cores (count - 1) stands.sound (table_checked table stands) (table_cores table stands) early in
       ap (λ row. Some row) found ∙ row_told table steps (count - 1) early ∙ ap (running_after table steps) next
 

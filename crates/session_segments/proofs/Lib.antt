@@ -4,3 +4,4 @@ mod Places
 mod Replays
 mod Rows
 pub mod Tallied
+mod Traces

@@ -23,13 +23,16 @@ pub record IsReplayedFrom (table : Table) (settings : Settings) (steps : List St
   pub rows_are : rows ≡ flat_map (λ outcome. outcome.1) (trace table steps)
   pub tallies_are : tallies ≡ part_tallies settings table steps
 
--- a kernel, steps that it can make, and what they led to
-pub record IsKept (kernel : View) (steps : List Step) (replies : List Reply) (rows : List ℕ)
-    (tallies : List TaskTally) : Type 0 where
+-- a kernel, and steps that it can make
+pub record IsBegun (kernel : View) (steps : List Step) : Type 0 where
   pub stands : StandsForSome kernel
   pub few_cores : kernel.settings.cores ≤ max_cores
   pub checked : All (IsCheckedStep kernel.settings) steps
   pub few_steps : length steps ≤ max_steps
+
+-- what steps on a kernel led to
+pub record IsTold (kernel : View) (steps : List Step) (replies : List Reply) (rows : List ℕ)
+    (tallies : List TaskTally) : Type 0 where
   pub sizes : shape tallies ≡ shape_of kernel.settings
   pub outcomes :
       (table : Table) → StandsFor kernel table

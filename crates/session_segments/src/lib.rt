@@ -5,7 +5,9 @@
 mod replay;
 mod segment;
 mod segments;
+mod tracing;
 
 pub use replay::{advance, tally_steps};
 pub use segment::Segment;
 pub use segments::Segments;
+pub use tracing::{Traced, Tracing, Untraced};

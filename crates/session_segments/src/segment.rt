@@ -9,40 +9,36 @@ ghost use Rattle.bench_model.specs.Tallied.{part_tallies, shape, shape_of};
 ghost use Rattle.segment_laws.specs.Segments.{reply_after, running_after};
 ghost use Rattle.smp_kernel.specs.Kernel.{StandsForSome};
 ghost use Rattle.session_segments.specs.Counting.{meter_after, CountsUpTo};
-ghost use Rattle.session_segments.specs.Kept.{IsReplayedFrom};
 
-use crate::replay::{advance, outcomes_of};
+use crate::replay::advance;
+use crate::tracing::{Traced, Tracing, Untraced};
 use bench_reports::Tallies;
 use bench_types::{Reply, Step};
 use smp_kernel::{Kernel, Meter};
 use std::alloc::{AllocError, Global};
 use std::marker::Model;
 
-/// The steps from one checkpoint to the next or to the end, with the kernel at the first and what
-/// the steps led to.
+/// The steps from one checkpoint to the next or to the end, with the kernel at the first and, if it
+/// is [`Traced`], what the steps led to.
 #[derive(Debug, Drop)]
-pub struct Segment {
+pub struct Segment<K: Tracing = Traced> {
     kernel: Kernel,
     steps: Vec<Step>,
-    /// Each step's reply.
-    replies: Vec<Reply>,
-    /// The tasks that run after each step, core 0 first, one row after another.
-    rows: Vec<u32>,
-    /// How the tasks fared in these steps.
-    tallies: Tallies,
+    /// What is kept of what the steps led to.
+    kept: K,
 }
 
-impl Model for Segment {
+impl<K: Tracing> Model for Segment<K> {
     ghost use Rattle.segment_laws.specs.Segments.{SegmentView};
 
     ghost Value = { SegmentView };
 
-    ghost use Rattle.session_segments.specs.Kept.{IsKept};
+    ghost use Rattle.session_segments.specs.Kept.{IsBegun};
 
     ghost view = { λ segment. record { kernel = segment.kernel; steps = segment.steps.items } };
 
-    ghost invariant = { λ segment. IsKept segment.kernel segment.steps.items segment.replies.items
-        segment.rows.items segment.tallies };
+    ghost invariant = { λ segment. IsBegun segment.kernel segment.steps.items
+        × K.fits segment.kernel segment.steps.items segment.kept };
 }
 
 fn reply_at(replies: &[Reply], index: u32) -> Option<Reply>
@@ -51,55 +47,14 @@ fn reply_at(replies: &[Reply], index: u32) -> Option<Reply>
     replies.get(index as usize).copied()
 }
 
-/// What steps led to.
-#[derive(Debug, Drop)]
-struct Outcomes {
-    replies: Vec<Reply>,
-    rows: Vec<u32>,
-    tallies: Tallies,
-}
-
-impl Outcomes {
-    // Replays the steps on the kernel.
-    fn of(
-        alloc: Global,
-        kernel: &mut Kernel,
-        steps: &[Step],
-        meter: &mut Meter,
-    ) -> Result<Outcomes, AllocError>
-        requires stands { StandsForSome kernel.old }
-        requires few { kernel.old.settings.cores ≤ max_cores }
-        requires steps { All (IsCheckedStep kernel.old.settings) steps.now }
-        requires few_steps { length steps.now ≤ max_steps }
-        ensures outcomes { IfOk result
-            (λ made. (table : Table) → StandsFor kernel.old table
-            → IsReplayedFrom table kernel.old.settings steps.now made.replies.items made.rows.items
-            made.tallies) }
-        ensures sizes { IfOk result (λ made. shape made.tallies ≡ shape_of kernel.old.settings) }
-        ensures state { OnOk result ((table : Table) → StandsFor kernel.old table
-            → StandsFor kernel.new (state_after table steps.now)) }
-        ensures settings { kernel.new.settings ≡ kernel.old.settings }
-        ensures meter { OnOk result (meter.new ≡ meter_after (length steps.now) meter.old) }
-        ensures some { OnErr result (CountsUpTo (length steps.now) meter.old meter.new) }
-    {
-        let mut tallies = Tallies::begin(alloc, kernel)?;
-        let (replies, rows) = outcomes_of(alloc, kernel, &mut tallies, steps, meter)?;
-        Ok(Outcomes {
-            replies,
-            rows,
-            tallies,
-        })
-    }
-}
-
-impl Segment {
+impl<K: Tracing> Segment<K> {
     /// Replays the steps on the kernel, and keeps them with a copy of the kernel as it was before.
     pub fn replay(
         alloc: Global,
         kernel: &mut Kernel,
         steps: &[Step],
         meter: &mut Meter,
-    ) -> Result<Segment, AllocError>
+    ) -> Result<Segment<K>, AllocError>
         requires stands { StandsForSome kernel.old }
         requires few { kernel.old.settings.cores ≤ max_cores }
         requires steps { All (IsCheckedStep kernel.old.settings) steps.now }
@@ -115,17 +70,11 @@ impl Segment {
         let mut own = Vec::with_capacity(alloc, steps.len())?;
         own.extend_from_slice(steps)?;
         let first = kernel.copy(alloc)?;
-        let Outcomes {
-            replies,
-            rows,
-            tallies,
-        } = Outcomes::of(alloc, kernel, steps, meter)?;
+        let kept = K::of(alloc, kernel, steps, meter)?;
         Ok(Segment {
             kernel: first,
             steps: own,
-            replies,
-            rows,
-            tallies,
+            kept,
         })
     }
 
@@ -147,12 +96,43 @@ impl Segment {
         self.steps.as_slice()
     }
 
+    /// A kernel as this segment's is after so many of its steps, which the meter counts.
+    pub fn kernel_after(
+        &self,
+        alloc: Global,
+        count: u32,
+        meter: &mut Meter,
+    ) -> Result<Kernel, AllocError>
+        requires { count ≤ length self.now.steps }
+        ensures stands { IfOk result
+            (λ kernel. (table : Table) → StandsFor self.now.kernel table
+            → StandsFor kernel (state_after table (take count self.now.steps))) }
+        ensures settings { IfOk result
+            (λ kernel. kernel.settings ≡ self.now.kernel.settings) }
+        ensures meter { OnOk result (meter.new ≡ meter_after count meter.old) }
+        ensures uncounted { OnErr result (meter.new ≡ meter.old) }
+    {
+        let mut kernel = self.kernel.copy(alloc)?;
+        advance(&mut kernel, &self.steps[..count as usize], meter);
+        Ok(kernel)
+    }
+
+    /// Whether the kernel before the first step is equal to this one.
+    pub fn begins_with(&self, kernel: &Kernel) -> bool
+        ensures { (a b : Table) → StandsFor self.now.kernel a → StandsFor kernel.now b
+            → ((result ≡ true) ↔ Same a b) }
+    {
+        self.kernel.same(kernel)
+    }
+}
+
+impl Segment {
     /// The reply of the step at the index; `None` past the last.
     pub fn reply(&self, index: u32) -> Option<Reply>
         ensures { (table : Table) → StandsFor self.now.kernel table
             → result ≡ reply_after table self.now.steps index }
     {
-        reply_at(self.replies.as_slice(), index)
+        reply_at(self.kept.replies.as_slice(), index)
     }
 
     /// The current task of the core after so many steps; `None` past the last, and where there is
@@ -200,36 +180,7 @@ impl Segment {
     {
         let cores = self.kernel.settings().cores as usize;
         let from = (count as usize - 1) * cores;
-        &self.rows[from..from + cores]
-    }
-
-    /// A kernel as this segment's is after so many of its steps, which the meter counts.
-    pub fn kernel_after(
-        &self,
-        alloc: Global,
-        count: u32,
-        meter: &mut Meter,
-    ) -> Result<Kernel, AllocError>
-        requires { count ≤ length self.now.steps }
-        ensures stands { IfOk result
-            (λ kernel. (table : Table) → StandsFor self.now.kernel table
-            → StandsFor kernel (state_after table (take count self.now.steps))) }
-        ensures settings { IfOk result
-            (λ kernel. kernel.settings ≡ self.now.kernel.settings) }
-        ensures meter { OnOk result (meter.new ≡ meter_after count meter.old) }
-        ensures uncounted { OnErr result (meter.new ≡ meter.old) }
-    {
-        let mut kernel = self.kernel.copy(alloc)?;
-        advance(&mut kernel, &self.steps[..count as usize], meter);
-        Ok(kernel)
-    }
-
-    /// Whether the kernel before the first step is equal to this one.
-    pub fn begins_with(&self, kernel: &Kernel) -> bool
-        ensures { (a b : Table) → StandsFor self.now.kernel a → StandsFor kernel.now b
-            → ((result ≡ true) ↔ Same a b) }
-    {
-        self.kernel.same(kernel)
+        &self.kept.rows[from..from + cores]
     }
 
     /// How the tasks fared in these steps.
@@ -238,6 +189,29 @@ impl Segment {
             → result.now ≡ part_tallies self.now.kernel.settings table self.now.steps }
         ensures sizes { shape result.now ≡ shape_of self.now.kernel.settings }
     {
-        &self.tallies
+        &self.kept.tallies
+    }
+}
+
+impl Segment<Untraced> {
+    /// The same segment with what its steps lead to. They are made once more, on a copy of its
+    /// kernel, which the meter counts.
+    pub fn traced(self, alloc: Global, meter: &mut Meter) -> Result<Segment, AllocError>
+        ensures segment { IfOk result (λ segment. segment ≡ self) }
+        ensures meter { OnOk result (meter.new ≡ meter_after (length self.steps) meter.old) }
+        ensures some { OnErr result (CountsUpTo (length self.steps) meter.old meter.new) }
+    {
+        let Segment {
+            kernel,
+            steps,
+            kept: _,
+        } = self;
+        let mut next = kernel.copy(alloc)?;
+        let kept = Traced::of(alloc, &mut next, steps.as_slice(), meter)?;
+        Ok(Segment {
+            kernel,
+            steps,
+            kept,
+        })
     }
 }

@@ -1,19 +1,22 @@
 ghost use Rattle.std.specs.Prelude.{◌≡◌, ◌++◌, ◌<◌, ◌≤◌, ◌+◌, ◌-◌, ◌^◌, Ok, Some, IfOk, OnOk, OnErr, length, take, drop, map, slice_get, slice_index_or};
 ghost use Rattle.segment_laws.specs.Segments.{all_steps, lengths, starts, IsIndexOf};
+ghost use Rattle.session_segments.specs.Counting.{meter_after, CountsUpTo};
 
 use crate::segment::Segment;
+use crate::tracing::{Traced, Tracing, Untraced};
+use smp_kernel::Meter;
 use std::alloc::{AllocError, Global};
 use std::marker::Model;
 
 /// Segments one after another, with the place where each begins. There is always a first one, which
 /// begins at the start.
 #[derive(Debug, Drop)]
-pub struct Segments {
+pub struct Segments<K: Tracing = Traced> {
     places: Vec<u32>,
-    segments: Vec<Segment>,
+    segments: Vec<Segment<K>>,
 }
 
-impl Model for Segments {
+impl<K: Tracing> Model for Segments<K> {
     ghost use Rattle.std.specs.Prelude.{List};
     ghost use Rattle.segment_laws.specs.Segments.{SegmentView};
 
@@ -28,7 +31,11 @@ impl Model for Segments {
 
 // Adds the places where the segments begin, the first of them at the place, and returns that after
 // the last.
-fn push_places(places: &mut Vec<u32>, place: u32, segments: &[Segment]) -> Result<u32, AllocError>
+fn push_places<K: Tracing>(
+    places: &mut Vec<u32>,
+    place: u32,
+    segments: &[Segment<K>],
+) -> Result<u32, AllocError>
     requires few { place + length (all_steps segments.now) < 2 ^ 32 }
     ensures places { OnOk result
         (places.new.items ≡ places.old.items ++ starts place (lengths segments.now)) }
@@ -43,12 +50,12 @@ fn push_places(places: &mut Vec<u32>, place: u32, segments: &[Segment]) -> Resul
 }
 
 // The places of the segments, where the made ones stand for those between the two indices.
-fn places_with(
+fn places_with<K: Tracing>(
     alloc: Global,
-    segments: &[Segment],
+    segments: &[Segment<K>],
     from: usize,
     to: usize,
-    made: &[Segment],
+    made: &[Segment<K>],
 ) -> Result<Vec<u32>, AllocError>
     requires order { from ≤ to }
     requires within { to ≤ length segments.now }
@@ -65,9 +72,9 @@ fn places_with(
     Ok(places)
 }
 
-impl Segments {
+impl<K: Tracing> Segments<K> {
     /// The segments, the first of which begins at the start.
-    pub fn new(alloc: Global, segments: Vec<Segment>) -> Result<Segments, AllocError>
+    pub fn new(alloc: Global, segments: Vec<Segment<K>>) -> Result<Segments<K>, AllocError>
         requires some { 0 < length segments.items }
         requires few { length (all_steps segments.items) < 2 ^ 32 }
         ensures { IfOk result (λ made. made ≡ segments.items) }
@@ -86,7 +93,7 @@ impl Segments {
     }
 
     /// The segments.
-    pub fn as_slice(&self) -> &[Segment]
+    pub fn as_slice(&self) -> &[Segment<K>]
         ensures segments { result.now ≡ self.now }
         ensures few { length (all_steps self.now) < 2 ^ 32 }
         ensures some { 0 < length self.now }
@@ -117,7 +124,7 @@ impl Segments {
         alloc: Global,
         from: usize,
         to: usize,
-        made: Vec<Segment>,
+        made: Vec<Segment<K>>,
     ) -> Result<(), AllocError>
         requires order { from ≤ to }
         requires within { to ≤ length self.old }
@@ -132,6 +139,40 @@ impl Segments {
         self.segments.splice(from..to, made)?;
         self.places = places;
         Ok(())
+    }
+}
+
+// The segments, each with what its steps lead to.
+fn all_traced(
+    alloc: Global,
+    segments: Vec<Segment<Untraced>>,
+    meter: &mut Meter,
+) -> Result<Vec<Segment>, AllocError>
+    ensures segments { IfOk result (λ traced. traced.items ≡ segments.items) }
+    ensures meter { OnOk result
+        (meter.new ≡ meter_after (length (all_steps segments.items)) meter.old) }
+    ensures some { OnErr result
+        (CountsUpTo (length (all_steps segments.items)) meter.old meter.new) }
+{
+    let mut made = Vec::with_capacity(alloc, segments.len())?;
+    for segment in segments {
+        let one = segment.traced(alloc, meter)?;
+        made.push(one)?;
+    }
+    Ok(made)
+}
+
+impl Segments<Untraced> {
+    /// The same segments with what their steps lead to, which are made once more. The meter counts
+    /// them.
+    pub fn traced(self, alloc: Global, meter: &mut Meter) -> Result<Segments, AllocError>
+        ensures segments { IfOk result (λ traced. traced ≡ self) }
+        ensures meter { OnOk result (meter.new ≡ meter_after (length (all_steps self)) meter.old) }
+        ensures some { OnErr result (CountsUpTo (length (all_steps self)) meter.old meter.new) }
+    {
+        let Segments { places, segments } = self;
+        let segments = all_traced(alloc, segments, meter)?;
+        Ok(Segments { places, segments })
     }
 }
 

@@ -1,6 +1,5 @@
 -- Spans of steps that are replayed one after another, a segment each.
 use Rattle.std.proofs.Common.{◌≡◌, ℕ, suc, ◌+◌, ◌-◌, ◌*◌, ◌<◌, ◌≤◌, List, [], ◌∷◌, ◌++◌, length, take, drop, replicate, sym, ap, ap₂, subst, ◌∙◌, arith, length-drop, suc-mul}
-use Rattle.std.specs.Prelude.{Result, Ok, Err, OnErr}
 use Rattle.std.proofs.lemmas.List.{append-nil, map-append, length-take-le, replicate-append-replicate}
 use Rattle.std.proofs.Math.Nat.{mul-le-mul_right}
 use Rattle.std.proofs.Math.Seq.{take-add}
@@ -11,20 +10,7 @@ use Rattle.bench_model.specs.Session.{state_after}
 use Rattle.bench_model.specs.Table.{Table}
 use Rattle.segment_laws.specs.Segments.{SegmentView, all_steps, lengths, Follow}
 use Rattle.segment_laws.proofs.Following.{all_more, follow_append, state_append}
-use Rattle.session_segments.specs.Counting.{meter_after, CountsUpTo}
-use Rattle.session_segments.proofs.Counts.{counted_twice}
 use Rattle.session_store.specs.Replays.{AreSpans}
-
--- ---- counts
-
--- a refusal after some more steps, of which there are so many at most
-pub counts_on : {T E : Type 0} (result : Result T E) (first more most old middle new : ℕ) → first + more ≤ most → middle ≡ meter_after first old → CountsUpTo more middle new → OnErr result (CountsUpTo most old new)
-counts_on (Ok value) first more most old middle new within begun counted = tt
-counts_on (Err why) first more most old middle new within begun counted =
-    let few : counted.0 ≤ more = counted.1 in
-    (first + counted.0, omega (arith, few, within), counted.2 ∙ ap (meter_after counted.0) begun ∙ counted_twice first counted.0 old)
-
--- ---- steps
 
 -- the part from a place on that has so many steps
 pub part_from : (from span : ℕ) (steps : List Step) → take (from + span - from) (drop from steps) ≡ take span (drop from steps)

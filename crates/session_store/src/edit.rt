@@ -13,17 +13,17 @@ use crate::edited::edited_header;
 use crate::parting::{Parting, parted};
 use crate::replay::go_on;
 use bench_types::{Edit, Header};
-use session_segments::{Segment, Segments};
+use session_segments::{Segment, Segments, Tracing};
 use smp_kernel::Meter;
 use std::alloc::{AllocError, Global};
 
 /// What an edit makes of a session in segments.
 #[derive(Debug, Drop)]
-pub(crate) struct EditReplay {
+pub(crate) struct EditReplay<K: Tracing> {
     /// The header of the edited session.
     pub header: Header,
     /// The segments that were replayed.
-    pub made: Vec<Segment>,
+    pub made: Vec<Segment<K>>,
     /// How many segments before them stay.
     pub before: usize,
     /// The index of the first segment that stays after them.
@@ -32,7 +32,7 @@ pub(crate) struct EditReplay {
 }
 
 /// How many steps the segments have.
-pub(crate) fn count_steps(segments: &[Segment]) -> u32
+pub(crate) fn count_steps<K: Tracing>(segments: &[Segment<K>]) -> u32
     requires { length (all_steps segments.now) < 2 ^ 32 }
     ensures { result ≡ length (all_steps segments.now) }
 {
@@ -44,7 +44,7 @@ pub(crate) fn count_steps(segments: &[Segment]) -> u32
 }
 
 /// The segments from the index on.
-pub(crate) fn later(segments: &Segments, after: usize) -> &[Segment]
+pub(crate) fn later<K: Tracing>(segments: &Segments<K>, after: usize) -> &[Segment<K>]
     requires { after ≤ length segments.now }
     ensures rest { result.now ≡ drop after segments.now }
     ensures fits { length segments.now < 2 ^ 64 }
@@ -53,15 +53,15 @@ pub(crate) fn later(segments: &Segments, after: usize) -> &[Segment]
 }
 
 // Replays the edited session under its header from the begin of the edited segment on.
-fn remade(
+fn remade<K: Tracing>(
     alloc: Global,
     header: &Header,
     span: u32,
-    segments: &Segments,
+    segments: &Segments<K>,
     next: Header,
     edit: &Edit,
     meter: &mut Meter,
-) -> Result<EditReplay, AllocError>
+) -> Result<EditReplay<K>, AllocError>
     requires kept { IsKept header.now span segments.now }
     requires words { IsEditOfWords edit.now }
     requires accepted { accepted (session_of header.now segments.now) edit.now ≡ Ok tt }
@@ -103,14 +103,14 @@ fn remade(
 }
 
 /// Replays what an accepted edit changes, beside the segments that are kept.
-pub(crate) fn replay_edit(
+pub(crate) fn replay_edit<K: Tracing>(
     alloc: Global,
     header: &Header,
     span: u32,
-    segments: &Segments,
+    segments: &Segments<K>,
     edit: &Edit,
     meter: &mut Meter,
-) -> Result<EditReplay, AllocError>
+) -> Result<EditReplay<K>, AllocError>
     requires kept { IsKept header.now span segments.now }
     requires words { IsEditOfWords edit.now }
     requires accepted { accepted (session_of header.now segments.now) edit.now ≡ Ok tt }

@@ -17,5 +17,6 @@ mod trial;
 
 pub use fault::{OpenFault, OpenRefusal, StoreFault};
 pub use outcome::Outcome;
+pub use session_segments::{Traced, Tracing, Untraced};
 pub use store::Store;
 pub use sums::Sums;

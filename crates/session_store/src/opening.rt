@@ -14,15 +14,15 @@ ghost use Rattle.session_store.specs.Replays.{AreSpans};
 
 use crate::replay::{push_segment, started};
 use bench_types::{Header, Step};
-use session_segments::{Segment, Segments};
+use session_segments::{Segment, Segments, Tracing};
 use smp_kernel::{Kernel, Meter};
 use std::alloc::{AllocError, Global};
 
 // Replays the first so many spans of the steps, each into a segment.
-fn push_spans(
+fn push_spans<K: Tracing>(
     alloc: Global,
     kernel: &mut Kernel,
-    segments: &mut Vec<Segment>,
+    segments: &mut Vec<Segment<K>>,
     span: usize,
     full: usize,
     steps: &[Step],
@@ -51,13 +51,13 @@ fn push_spans(
 }
 
 /// The session from its start on, in segments of a span each; the last one has what is left.
-pub(crate) fn opened(
+pub(crate) fn opened<K: Tracing>(
     alloc: Global,
     header: &Header,
     steps: &[Step],
     span: u32,
     meter: &mut Meter,
-) -> Result<Segments, AllocError>
+) -> Result<Segments<K>, AllocError>
     requires session { IsSession (record { header = header.now; steps = steps.now }) }
     requires few_steps { length steps.now ≤ max_steps }
     requires span { is_within 1 max_span span ≡ true }

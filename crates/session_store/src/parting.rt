@@ -12,7 +12,7 @@ ghost use Rattle.session_store.specs.Replays.{IsParting, IsStepEdit, IsTaskEdit}
 use crate::edited::edited_part;
 use crate::replay::started;
 use bench_types::{Edit, Header, Step};
-use session_segments::Segments;
+use session_segments::{Segments, Tracing};
 use smp_kernel::Kernel;
 use std::alloc::{AllocError, Global};
 
@@ -31,10 +31,10 @@ pub(crate) struct Parting {
 }
 
 // A changed task is replayed from the start, and all segments are after it.
-fn parted_at_start(
+fn parted_at_start<K: Tracing>(
     alloc: Global,
     header: &Header,
-    segments: &Segments,
+    segments: &Segments<K>,
     next: &Header,
     edit: &Edit,
 ) -> Result<Parting, AllocError>
@@ -59,10 +59,10 @@ fn parted_at_start(
 }
 
 // An edited step is replayed from the begin of its segment.
-fn parted_at_step(
+fn parted_at_step<K: Tracing>(
     alloc: Global,
     header: &Header,
-    segments: &Segments,
+    segments: &Segments<K>,
     edit: &Edit,
     place: u32,
 ) -> Result<Parting, AllocError>
@@ -90,10 +90,10 @@ fn parted_at_step(
 }
 
 /// What an accepted edit leaves of its segment, under the edited session's header `next`.
-pub(crate) fn parted(
+pub(crate) fn parted<K: Tracing>(
     alloc: Global,
     header: &Header,
-    segments: &Segments,
+    segments: &Segments<K>,
     next: &Header,
     edit: &Edit,
 ) -> Result<Parting, AllocError>

@@ -13,7 +13,7 @@ ghost use Rattle.session_segments.specs.Counting.{meter_after, CountsUpTo};
 ghost use Rattle.session_store.specs.Replays.{AreMade, GivesUp, HasLater, HasSettings};
 
 use bench_types::{Header, Step};
-use session_segments::Segment;
+use session_segments::{Segment, Tracing};
 use smp_kernel::{Kernel, Meter};
 use std::alloc::{AllocError, Global};
 
@@ -30,10 +30,10 @@ pub(crate) fn started(alloc: Global, header: &Header) -> Result<Kernel, AllocErr
 }
 
 /// Replays the steps on the kernel into one segment more.
-pub(crate) fn push_segment(
+pub(crate) fn push_segment<K: Tracing>(
     alloc: Global,
     kernel: &mut Kernel,
-    segments: &mut Vec<Segment>,
+    segments: &mut Vec<Segment<K>>,
     steps: &[Step],
     meter: &mut Meter,
 ) -> Result<(), AllocError>
@@ -56,10 +56,10 @@ pub(crate) fn push_segment(
 }
 
 // Replays two spans of steps or more into two segments, of which the first has a span.
-fn push_two(
+fn push_two<K: Tracing>(
     alloc: Global,
     kernel: &mut Kernel,
-    segments: &mut Vec<Segment>,
+    segments: &mut Vec<Segment<K>>,
     span: usize,
     steps: &[Step],
     meter: &mut Meter,
@@ -84,10 +84,10 @@ fn push_two(
 
 // Replays edited steps, two spans or more of them into two segments. Where there are none, they
 // are a segment only as the last one.
-fn push_cut(
+fn push_cut<K: Tracing>(
     alloc: Global,
     kernel: &mut Kernel,
-    segments: &mut Vec<Segment>,
+    segments: &mut Vec<Segment<K>>,
     span: u32,
     is_last: bool,
     steps: &[Step],
@@ -119,11 +119,11 @@ fn push_cut(
 
 // Replays the segments after the steps, up to the first that begins with a kernel that is equal to
 // the one that the replay has come to, and returns how many it replayed.
-fn push_later(
+fn push_later<K: Tracing>(
     alloc: Global,
     kernel: &mut Kernel,
-    segments: &mut Vec<Segment>,
-    after: &[Segment],
+    segments: &mut Vec<Segment<K>>,
+    after: &[Segment<K>],
     meter: &mut Meter,
 ) -> Result<usize, AllocError>
     requires stands { StandsForSome kernel.old }
@@ -150,14 +150,14 @@ fn push_later(
 /// Replays the steps of an edited segment, which are cut where they are too many, and the segments
 /// after it as long as the edited session differs. Returns the segments that this made, and how
 /// many of those after it were replayed.
-pub(crate) fn go_on(
+pub(crate) fn go_on<K: Tracing>(
     alloc: Global,
     kernel: &mut Kernel,
     span: u32,
     steps: &[Step],
-    after: &[Segment],
+    after: &[Segment<K>],
     meter: &mut Meter,
-) -> Result<(Vec<Segment>, usize), AllocError>
+) -> Result<(Vec<Segment<K>>, usize), AllocError>
     requires stands { StandsForSome kernel.old }
     requires few { kernel.old.settings.cores ≤ max_cores }
     requires steps { All (IsCheckedStep kernel.old.settings) steps.now }

@@ -31,22 +31,25 @@ use crate::trial::retrace;
 use crate::{OpenFault, OpenRefusal, Outcome, StoreFault};
 use bench_reports::Tallies;
 use bench_types::{Edit, Header, Items, MAX_STEPS, Reply, Row, Step};
-use session_segments::{Segment, Segments};
+use session_segments::{Segment, Segments, Traced, Tracing, Untraced};
 use smp_kernel::{Kernel, Meter};
 use std::alloc::{AllocError, Global};
 use std::marker::Model;
 
 /// A session that was replayed, in segments that begin at its checkpoints: with its replies, the
 /// tasks that run at each place, and how each task fared.
+///
+/// A `Store<Untraced>` keeps none of these, so that an edit of it costs hardly more than the steps
+/// of the kernel. [`Store::traced`] makes them for all steps at once, after many edits.
 #[derive(Debug, Drop)]
-pub struct Store {
+pub struct Store<K: Tracing = Traced> {
     header: Header,
     /// About how many steps are to lie between two checkpoints.
     span: u32,
-    segments: Segments,
+    segments: Segments<K>,
 }
 
-impl Model for Store {
+impl<K: Tracing> Model for Store<K> {
     ghost use Rattle.bench_model.specs.Meeting.{CheckpointedSession};
 
     ghost Value = { CheckpointedSession };
@@ -79,54 +82,51 @@ fn row_in(segment: &Segment, count: u32, cores: u32) -> Option<Row>
     Some(row)
 }
 
-impl Store {
-    /// Replays the session from its start and keeps it, with a checkpoint every `span` steps.
-    ///
-    /// A refusal gives the session back: F1, else J3, else J2, else the first fault of a step, with
-    /// the step's index.
-    pub fn open(
-        alloc: Global,
-        header: Header,
-        steps: Vec<Step>,
-        span: u32,
-        meter: &mut Meter,
-    ) -> Result<Store, OpenFault>
-        ensures opened { IfOk result
-            (λ store. store
-            ≡ first_kept span (record { header = header; steps = steps.items })) }
-        ensures accepted { OnOk result (open_check header steps.items span ≡ Ok tt) }
-        ensures refused { (refusal : Refusal) → open_check header steps.items span ≡ Err refusal
-            → result ≡ Err (handed_back header steps.items refusal) }
-        ensures no_memory { open_check header steps.items span ≡ Ok tt
-            → IfErr result (λ fault. fault ≡ no_memory header steps.items) }
-        ensures meter { OnOk result (meter.new ≡ meter_after (length steps.items) meter.old) }
-        ensures uncounted { (refusal : Refusal) → open_check header steps.items span ≡ Err refusal
-            → meter.new ≡ meter.old }
-        ensures some { OnErr result (CountsUpTo (length steps.items) meter.old meter.new) }
-    {
-        if let Err(Refused { why, at }) = check_opening(&header, steps.as_slice(), span) {
-            return Err(OpenFault {
-                header,
-                steps: Items::new(steps),
-                at,
-                why,
-            });
-        }
-        match opened(alloc, &header, steps.as_slice(), span, meter) {
-            Ok(segments) => Ok(Store {
-                header,
-                span,
-                segments,
-            }),
-            Err(_) => Err(OpenFault {
-                header,
-                steps: Items::new(steps),
-                at: None,
-                why: OpenRefusal::NoMemory,
-            }),
-        }
+// The session, replayed from its start; a refusal gives it back.
+fn opened_store<K: Tracing>(
+    alloc: Global,
+    header: Header,
+    steps: Vec<Step>,
+    span: u32,
+    meter: &mut Meter,
+) -> Result<Store<K>, OpenFault>
+    ensures opened { IfOk result
+        (λ store. store
+        ≡ first_kept span (record { header = header; steps = steps.items })) }
+    ensures accepted { OnOk result (open_check header steps.items span ≡ Ok tt) }
+    ensures refused { (refusal : Refusal) → open_check header steps.items span ≡ Err refusal
+        → result ≡ Err (handed_back header steps.items refusal) }
+    ensures no_memory { open_check header steps.items span ≡ Ok tt
+        → IfErr result (λ fault. fault ≡ no_memory header steps.items) }
+    ensures meter { OnOk result (meter.new ≡ meter_after (length steps.items) meter.old) }
+    ensures uncounted { (refusal : Refusal) → open_check header steps.items span ≡ Err refusal
+        → meter.new ≡ meter.old }
+    ensures some { OnErr result (CountsUpTo (length steps.items) meter.old meter.new) }
+{
+    if let Err(Refused { why, at }) = check_opening(&header, steps.as_slice(), span) {
+        return Err(OpenFault {
+            header,
+            steps: Items::new(steps),
+            at,
+            why,
+        });
     }
+    match opened(alloc, &header, steps.as_slice(), span, meter) {
+        Ok(segments) => Ok(Store {
+            header,
+            span,
+            segments,
+        }),
+        Err(_) => Err(OpenFault {
+            header,
+            steps: Items::new(steps),
+            at: None,
+            why: OpenRefusal::NoMemory,
+        }),
+    }
+}
 
+impl<K: Tracing> Store<K> {
     /// Makes an edit: the session is replayed from the last checkpoint before the edit, up to the
     /// first after it from which the edited session goes on as it did.
     ///
@@ -160,6 +160,100 @@ impl Store {
         self.segments.replace(alloc, before, after, made)?;
         self.header = header;
         Ok(outcome)
+    }
+
+    /// The number of steps, which is the last place.
+    pub fn len(&self) -> u32
+        ensures steps { result ≡ length self.now.session.steps }
+        ensures few { result ≤ max_steps }
+    {
+        let (index, from) = self.segments.locate(MAX_STEPS);
+        from + self.segments.as_slice()[index].steps().len() as u32
+    }
+
+    /// The settings and tasks of the session as it stands after all edits.
+    pub fn header(&self) -> &Header
+        ensures header { result.now ≡ self.now.session.header }
+        ensures session { IsSession self.now.session }
+    {
+        &self.header
+    }
+
+    /// The step at index `i` of the session as it stands after all edits, the first at 0; `None`
+    /// past the last.
+    pub fn step(&self, i: u32) -> Option<Step>
+        ensures { result ≡ slice_get self.now.session.steps i }
+    {
+        let (index, from) = self.segments.locate(i);
+        step_at(self.segments.as_slice()[index].steps(), i - from)
+    }
+
+    /// The place of checkpoint `k`, counted from 0; `None` past the last. The first is the start.
+    pub fn checkpoint(&self, k: u32) -> Option<u32>
+        ensures place { result ≡ slice_get self.now.checkpoints k }
+        ensures checkpoints { AreCheckpoints self.now.span (last_place self.now.session)
+            self.now.checkpoints }
+    {
+        self.segments.checkpoint(k)
+    }
+
+    /// A kernel that stands for the state at the place, `None` past the last. It is replayed from
+    /// the checkpoint before, which the meter counts.
+    pub fn state(
+        &self,
+        alloc: Global,
+        place: u32,
+        meter: &mut Meter,
+    ) -> Result<Option<Kernel>, AllocError>
+        ensures stands { IfOk result
+            (λ found. IfSome found
+            (λ kernel. StandsFor kernel
+            (state_at self.now.session.header self.now.session.steps place))) }
+        ensures settings { IfOk result
+            (λ found. IfSome found
+            (λ kernel. kernel.settings ≡ settings_of self.now.session.header)) }
+        ensures within { place ≤ length self.now.session.steps
+            → IfOk result (λ found. IsSome found) }
+        ensures past { length self.now.session.steps < place → result ≡ Ok None }
+        ensures meter { OnOk result (meter.new ≡ meter_after (distance self.now place) meter.old) }
+        ensures unmade { OnErr result (meter.new ≡ meter.old) }
+    {
+        if place > self.len() {
+            return Ok(None);
+        }
+        let (index, from) = self.segments.locate(place);
+        let segment = &self.segments.as_slice()[index];
+        let kernel = segment.kernel_after(alloc, place - from, meter)?;
+        Ok(Some(kernel))
+    }
+}
+
+impl Store {
+    /// Replays the session from its start and keeps it, with a checkpoint every `span` steps.
+    ///
+    /// A refusal gives the session back: F1, else J3, else J2, else the first fault of a step, with
+    /// the step's index.
+    pub fn open(
+        alloc: Global,
+        header: Header,
+        steps: Vec<Step>,
+        span: u32,
+        meter: &mut Meter,
+    ) -> Result<Store, OpenFault>
+        ensures opened { IfOk result
+            (λ store. store
+            ≡ first_kept span (record { header = header; steps = steps.items })) }
+        ensures accepted { OnOk result (open_check header steps.items span ≡ Ok tt) }
+        ensures refused { (refusal : Refusal) → open_check header steps.items span ≡ Err refusal
+            → result ≡ Err (handed_back header steps.items refusal) }
+        ensures no_memory { open_check header steps.items span ≡ Ok tt
+            → IfErr result (λ fault. fault ≡ no_memory header steps.items) }
+        ensures meter { OnOk result (meter.new ≡ meter_after (length steps.items) meter.old) }
+        ensures uncounted { (refusal : Refusal) → open_check header steps.items span ≡ Err refusal
+            → meter.new ≡ meter.old }
+        ensures some { OnErr result (CountsUpTo (length steps.items) meter.old meter.new) }
+    {
+        opened_store(alloc, header, steps, span, meter)
     }
 
     /// What [`Store::apply`] would answer, and how each task would fare then. The store stays as it
@@ -254,32 +348,6 @@ impl Store {
         Ok((outcome, total))
     }
 
-    /// The number of steps, which is the last place.
-    pub fn len(&self) -> u32
-        ensures steps { result ≡ length self.now.session.steps }
-        ensures few { result ≤ max_steps }
-    {
-        let (index, from) = self.segments.locate(MAX_STEPS);
-        from + self.segments.as_slice()[index].steps().len() as u32
-    }
-
-    /// The settings and tasks of the session as it stands after all edits.
-    pub fn header(&self) -> &Header
-        ensures header { result.now ≡ self.now.session.header }
-        ensures session { IsSession self.now.session }
-    {
-        &self.header
-    }
-
-    /// The step at index `i` of the session as it stands after all edits, the first at 0; `None`
-    /// past the last.
-    pub fn step(&self, i: u32) -> Option<Step>
-        ensures { result ≡ slice_get self.now.session.steps i }
-    {
-        let (index, from) = self.segments.locate(i);
-        step_at(self.segments.as_slice()[index].steps(), i - from)
-    }
-
     /// The reply of the step at index `i`; `None` past the last.
     pub fn reply(&self, i: u32) -> Option<Reply>
         ensures { result ≡ reply_at self.now.session.header self.now.session.steps i }
@@ -322,45 +390,6 @@ impl Store {
         self.segments.as_slice()[index].row_after(i - from)
     }
 
-    /// The place of checkpoint `k`, counted from 0; `None` past the last. The first is the start.
-    pub fn checkpoint(&self, k: u32) -> Option<u32>
-        ensures place { result ≡ slice_get self.now.checkpoints k }
-        ensures checkpoints { AreCheckpoints self.now.span (last_place self.now.session)
-            self.now.checkpoints }
-    {
-        self.segments.checkpoint(k)
-    }
-
-    /// A kernel that stands for the state at the place, `None` past the last. It is replayed from
-    /// the checkpoint before, which the meter counts.
-    pub fn state(
-        &self,
-        alloc: Global,
-        place: u32,
-        meter: &mut Meter,
-    ) -> Result<Option<Kernel>, AllocError>
-        ensures stands { IfOk result
-            (λ found. IfSome found
-            (λ kernel. StandsFor kernel
-            (state_at self.now.session.header self.now.session.steps place))) }
-        ensures settings { IfOk result
-            (λ found. IfSome found
-            (λ kernel. kernel.settings ≡ settings_of self.now.session.header)) }
-        ensures within { place ≤ length self.now.session.steps
-            → IfOk result (λ found. IsSome found) }
-        ensures past { length self.now.session.steps < place → result ≡ Ok None }
-        ensures meter { OnOk result (meter.new ≡ meter_after (distance self.now place) meter.old) }
-        ensures unmade { OnErr result (meter.new ≡ meter.old) }
-    {
-        if place > self.len() {
-            return Ok(None);
-        }
-        let (index, from) = self.segments.locate(place);
-        let segment = &self.segments.as_slice()[index];
-        let kernel = segment.kernel_after(alloc, place - from, meter)?;
-        Ok(Some(kernel))
-    }
-
     /// How each task fared in the session as it stands after all edits.
     pub fn tallies(&self, alloc: Global) -> Result<Tallies, AllocError>
         ensures { IfOk result
@@ -370,5 +399,56 @@ impl Store {
         let mut total = Tallies::begin(alloc, segments[0].kernel())?;
         add_segments(&mut total, segments);
         Ok(total)
+    }
+}
+
+impl Store<Untraced> {
+    /// Replays the session from its start, with a checkpoint every `span` steps, and keeps nothing
+    /// else of it.
+    ///
+    /// The refusals are those of [`Store::open`].
+    pub fn open_untraced(
+        alloc: Global,
+        header: Header,
+        steps: Vec<Step>,
+        span: u32,
+        meter: &mut Meter,
+    ) -> Result<Store<Untraced>, OpenFault>
+        ensures opened { IfOk result
+            (λ store. store
+            ≡ first_kept span (record { header = header; steps = steps.items })) }
+        ensures accepted { OnOk result (open_check header steps.items span ≡ Ok tt) }
+        ensures refused { (refusal : Refusal) → open_check header steps.items span ≡ Err refusal
+            → result ≡ Err (handed_back header steps.items refusal) }
+        ensures no_memory { open_check header steps.items span ≡ Ok tt
+            → IfErr result (λ fault. fault ≡ no_memory header steps.items) }
+        ensures meter { OnOk result (meter.new ≡ meter_after (length steps.items) meter.old) }
+        ensures uncounted { (refusal : Refusal) → open_check header steps.items span ≡ Err refusal
+            → meter.new ≡ meter.old }
+        ensures some { OnErr result (CountsUpTo (length steps.items) meter.old meter.new) }
+    {
+        opened_store(alloc, header, steps, span, meter)
+    }
+
+    /// The same store with its replies, the tasks that run at each place, and how each task fared.
+    /// All steps are made once more, which the meter counts.
+    pub fn traced(self, alloc: Global, meter: &mut Meter) -> Result<Store, AllocError>
+        ensures store { IfOk result (λ store. store ≡ self) }
+        ensures meter { OnOk result
+            (meter.new ≡ meter_after (length self.session.steps) meter.old) }
+        ensures some { OnErr result
+            (CountsUpTo (length self.session.steps) meter.old meter.new) }
+    {
+        let Store {
+            header,
+            span,
+            segments,
+        } = self;
+        let segments = segments.traced(alloc, meter)?;
+        Ok(Store {
+            header,
+            span,
+            segments,
+        })
     }
 }

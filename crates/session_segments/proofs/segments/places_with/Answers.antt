@@ -4,7 +4,7 @@ use Rattle.session_segments.proofs.Places.{placed_parts, rest_taken}
 use Rattle.session_segments.proofs.segments.places_with.Goals as goal
 
 pub returns : goal.returns
-returns c =
+returns g c =
     let segments = c.args.segments.now in
     let rest = take (length segments - c.args.to) (drop c.args.to segments) in
     placed_parts (take c.args.from segments) c.args.made.now rest c.new-places.result.items c.push_places.new.places.items c.push_places-2.new.places.items c.push_places-3.new.places.items c.in_ok-begin.begin c.in_ok-end.end c.new-places.ensures.items

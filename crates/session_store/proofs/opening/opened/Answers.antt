@@ -2,18 +2,17 @@ use Rattle.std.proofs.Common.{◌≡◌, ◌-◌, ◌*◌, ◌/◌, ap, arith, d
 use Rattle.bench_model.specs.Session.{state_after}
 use Rattle.bench_model.specs.Start.{start}
 use Rattle.bench_model.specs.Meeting.{first_kept}
-use Rattle.session_segments.proofs.Counts.{counts_some}
+use Rattle.session_segments.proofs.Counts.{counts_on, counts_some}
 use Rattle.session_store.proofs.Opened.{part_after, some_span, opened_count, opened_meter, opened_steps, opened_segments, on_ok, if_segments}
-use Rattle.session_store.proofs.Spans.{counts_on}
 use Rattle.session_store.proofs.opening.opened.Goals as goal
 
 pub push_segment-requires-clause-stands : goal.push_segment-requires-clause-stands
-push_segment-requires-clause-stands c =
+push_segment-requires-clause-stands g c =
     let start_table = start c.args.header.now in
     (state_after start_table (take (c.saturating_sub.result / c.args.span * c.args.span) c.args.steps.now), c.in_ok-push_spans.ensures.state start_table c.in_ok-kernel.ensures.stands)
 
 pub returns-in_err-push_segment-clause-some : goal.returns-in_err-push_segment-clause-some
-returns-in_err-push_segment-clause-some c =
+returns-in_err-push_segment-clause-some g c =
     let steps = c.args.steps.now in
     let span = c.args.span in
     let full = c.saturating_sub.result / span in
@@ -23,7 +22,7 @@ returns-in_err-push_segment-clause-some c =
     counts_on c.from_residual-in_err-push_segment.result (full * span) (length part) (length steps) c.args.meter.now c.push_spans.new.meter c.push_segment.new.meter (omega (arith, whole)) c.in_ok-push_spans.ensures.meter c.in_err-push_segment.ensures.some
 
 pub new-requires-clause-few : goal.new-requires-clause-few
-new-requires-clause-few c =
+new-requires-clause-few g c =
     let steps = c.args.steps.now in
     let span = c.args.span in
     let full = c.saturating_sub.result / span in
@@ -35,7 +34,7 @@ new-requires-clause-few c =
     omega (arith, ap length all, c.requires.few_steps)
 
 pub returns-clause-segments : goal.returns-clause-segments
-returns-clause-segments c =
+returns-clause-segments g c =
     let steps = c.args.steps.now in
     let span = c.args.span in
     let full = c.saturating_sub.result / span in
@@ -47,7 +46,7 @@ returns-clause-segments c =
     if_segments c.new.result (first_kept span (record { header = c.args.header.now; steps = steps })) c.push_segment.new.segments.items are c.new.ensures
 
 pub returns-clause-meter : goal.returns-clause-meter
-returns-clause-meter c =
+returns-clause-meter g c =
     let steps = c.args.steps.now in
     let span = c.args.span in
     let full = c.saturating_sub.result / span in
@@ -56,7 +55,7 @@ returns-clause-meter c =
     on_ok c.new.result (opened_meter steps span full part (some_span span c.requires.span) cut (part_after (full * span) steps) c.args.meter.now c.push_spans.new.meter c.push_segment.new.meter c.in_ok-push_spans.ensures.meter c.in_ok-push_segment.ensures.meter)
 
 pub returns-clause-some : goal.returns-clause-some
-returns-clause-some c =
+returns-clause-some g c =
     let steps = c.args.steps.now in
     let span = c.args.span in
     let full = c.saturating_sub.result / span in

@@ -2,12 +2,12 @@ use Rattle.std.proofs.Common.{◌≡◌, ◌+◌, ◌-◌, ◌*◌, ap, arith, d
 use Rattle.bench_model.specs.Equal.{StandsFor}
 use Rattle.bench_model.specs.Session.{state_after}
 use Rattle.session_segments.specs.Counting.{meter_after}
-use Rattle.session_segments.proofs.Counts.{counted_twice}
-use Rattle.session_store.proofs.Spans.{counts_on, part_from, part_length, span_more, span_within, spans_more, state_more}
+use Rattle.session_segments.proofs.Counts.{counted_twice, counts_on}
+use Rattle.session_store.proofs.Spans.{part_from, part_length, span_more, span_within, spans_more, state_more}
 use Rattle.session_store.proofs.opening.push_spans.Goals as goal
 
 pub returns-in_err-push_segment-clause-some : goal.returns-in_err-push_segment-clause-some
-returns-in_err-push_segment-clause-some c =
+returns-in_err-push_segment-clause-some g c =
     let segment = c.loop-segment.segment in
     let span = c.args.span in
     let steps = c.args.steps.now in
@@ -18,7 +18,7 @@ returns-in_err-push_segment-clause-some c =
     counts_on c.from_residual.result (segment * span) (length part) (c.args.full * span) c.args.meter.now c.loop-segment.meter c.push_segment.new.meter (omega (arith, so, few, span_more segment span)) c.loop-segment.invariant.meter c.in_err-push_segment.ensures.some
 
 pub loop-segment-preserved : goal.loop-segment-preserved
-loop-segment-preserved c =
+loop-segment-preserved g c =
     let segment = c.loop-segment.segment in
     let span = c.args.span in
     let steps = c.args.steps.now in
@@ -34,6 +34,6 @@ loop-segment-preserved c =
     }
 
 pub returns-clause-state : goal.returns-clause-state
-returns-clause-state c = λ table stands.
+returns-clause-state g c = λ table stands.
     let last : c.loop-segment.segment ≡ c.args.full = omega arith in
     subst (λ n. StandsFor c.loop-segment.kernel (state_after table (take (n * c.args.span) c.args.steps.now))) last (c.loop-segment.invariant.state table stands)

@@ -8,7 +8,7 @@ use Rattle.session_store.proofs.Partings.{edit_among, index_there, part_found, p
 use Rattle.session_store.proofs.parting.parted_at_step.Goals as goal
 
 pub edited_part-requires-clause-place : goal.edited_part-requires-clause-place
-edited_part-requires-clause-place c =
+edited_part-requires-clause-place g c =
     let header = c.args.header.now in
     let segments = c.args.segments.now in
     let edit = c.args.edit.now in
@@ -21,7 +21,7 @@ edited_part-requires-clause-place c =
     (edit_among header segments edit index from part c.requires.follow c.requires.accepted is found)
 
 pub returns-clause-parting : goal.returns-clause-parting
-returns-clause-parting c =
+returns-clause-parting g c =
     let header = c.args.header.now in
     let segments = c.args.segments.now in
     let edit = c.args.edit.now in
@@ -35,7 +35,7 @@ returns-clause-parting c =
     (c.in_ok-edited_part.ensures ∙ ap (edited_part edit from) c.steps.ensures.steps)
 
 pub returns-clause-from : goal.returns-clause-from
-returns-clause-from c =
+returns-clause-from g c =
     let header = c.args.header.now in
     let segments = c.args.segments.now in
     let edit = c.args.edit.now in

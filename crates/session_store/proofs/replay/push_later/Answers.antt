@@ -11,7 +11,7 @@ use Rattle.session_store.proofs.GoingOn.{checked_alike, later_goes, later_meets,
 use Rattle.session_store.proofs.replay.push_later.Goals as goal
 
 pub returns-then-begins_with-clause-later : goal.returns-then-begins_with-clause-later
-returns-then-begins_with-clause-later c =
+returns-then-begins_with-clause-later g c =
     let after = c.args.after.now in
     let count = c.loop-count.count in
     let segment = c.index-after-count.result in
@@ -19,13 +19,13 @@ returns-then-begins_with-clause-later c =
     (λ a b one other. (c.begins_with.ensures a b one other).0 c.if-begins_with.true) (c.loop-count.invariant.later table stands)
 
 pub push_segment-requires-clause-steps : goal.push_segment-requires-clause-steps
-push_segment-requires-clause-steps c =
+push_segment-requires-clause-steps g c =
     let segment = c.index-after-count.result in
     let same = ap (λ (s : SegmentView). s.kernel.settings) c.index-after-count.is ∙ c.requires.settings c.loop-count.count segment c.loop-count-test.true in
     checked_alike segment.kernel.settings c.loop-count.kernel.settings c.args.kernel.now.settings segment.steps c.steps.result.now same c.loop-count.invariant.settings c.steps.ensures.steps c.steps.ensures.checked
 
 pub returns-in_err-push_segment-clause-some : goal.returns-in_err-push_segment-clause-some
-returns-in_err-push_segment-clause-some c =
+returns-in_err-push_segment-clause-some g c =
     let after = c.args.after.now in
     let count = c.loop-count.count in
     let segment = c.index-after-count.result in
@@ -36,7 +36,7 @@ returns-in_err-push_segment-clause-some c =
     (c.loop-count.invariant.later table stands) c.loop-count.invariant.meter some)
 
 pub loop-count-preserved : goal.loop-count-preserved
-loop-count-preserved c =
+loop-count-preserved g c =
     let after = c.args.after.now in
     let count = c.loop-count.count in
     let segment = c.index-after-count.result in

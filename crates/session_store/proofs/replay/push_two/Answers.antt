@@ -6,14 +6,14 @@ use Rattle.session_store.proofs.Cuts.{state_of_slices, length_of_slices, some_la
 use Rattle.session_store.proofs.replay.push_two.Goals as goal
 
 pub returns-clause-state : goal.returns-clause-state
-returns-clause-state c =
+returns-clause-state g c =
     let steps = c.args.steps.now in
     on_ok_weaker c.push_segment-2.result
     (λ moves table stands. subst (StandsFor c.push_segment-2.new.kernel) (state_of_slices table c.args.span steps) (moves (state_after table (take c.args.span steps)) (c.in_ok-push_segment.ensures.state table stands)))
     c.push_segment-2.ensures.state
 
 pub returns-clause-some : goal.returns-clause-some
-returns-clause-some c =
+returns-clause-some g c =
     let steps = c.args.steps.now in
     let span = c.args.span in
     let all = length_of_slices span steps in

@@ -6,7 +6,7 @@ use Rattle.session_store.proofs.StoreReads.{lent_at, step_read}
 use Rattle.session_store.proofs.store.Store.step.Goals as goal
 
 pub returns : goal.returns
-returns c =
+returns g c =
     let inside = c.self.inside in
     let index = c.locate-index.result.0 in
     let from = c.locate-index.result.1 in

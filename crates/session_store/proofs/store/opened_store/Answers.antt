@@ -4,10 +4,10 @@ use Rattle.bench_model.specs.Meeting.{first_kept}
 use Rattle.segment_laws.specs.Segments.{AreSegments}
 use Rattle.session_store.specs.Opening.{open_check}
 use Rattle.session_store.proofs.Openings.{opens, opened_kept}
-use Rattle.session_store.proofs.store.Store.open.Goals as goal
+use Rattle.session_store.proofs.store.opened_store.Goals as goal
 
 pub invariant_of-result : goal.invariant_of-result
-invariant_of-result c =
+invariant_of-result g c =
     let header = c.args.header in
     let span = c.args.span in
     let passes : open_check header c.as_slice.result.now span ≡ Ok tt = sym c.check_opening.ensures.value ∙ c.in_default.is in

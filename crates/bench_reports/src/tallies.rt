@@ -55,6 +55,18 @@ impl Tallies {
         Ok(Tallies { tasks })
     }
 
+    /// These become those before any step of the kernel, which has as many tasks. No memory is
+    /// taken.
+    pub fn begin_again(&mut self, kernel: &Kernel)
+        requires { length self.old ≡ kernel.now.settings.tasks }
+        ensures tallies { self.new ≡ first_tallies kernel.now.settings kernel.now.control }
+        ensures shape { shape self.new ≡ shape_of kernel.now.settings }
+        ensures room { AllCountsBelow 1 self.new }
+        ensures tops { HasTops kernel.now.control self.new }
+    {
+        begin_all(&mut self.tasks, kernel);
+    }
+
     /// Counts a step, which the kernel `before` answered with this reply, and after which it is
     /// `after`.
     pub fn step(&mut self, before: &Kernel, step: &Step, reply: Reply, after: &Kernel)
@@ -313,6 +325,18 @@ fn raise_top_of(tasks: &mut [TaskCounts], raised: Option<u32>, kernel: &Kernel)
 {
     if let Some(task) = raised {
         tasks[task as usize].raise_top(kernel, task);
+    }
+}
+
+// Each tally becomes that before any step of the kernel.
+fn begin_all(tasks: &mut [TaskCounts], kernel: &Kernel)
+    requires { length tasks.old ≡ kernel.now.settings.tasks }
+    ensures begun { tasks.new ≡ first_tallies kernel.now.settings kernel.now.control }
+    ensures tasks { length tasks.new ≡ length tasks.old }
+{
+    let settings = kernel.settings();
+    for task in 0..settings.tasks {
+        tasks[task as usize] = TaskCounts::zeros(settings.cores, kernel.in_use(task));
     }
 }
 

@@ -58,6 +58,17 @@ impl Lists {
         })
     }
 
+    /// This becomes equal to the other, which has as many items and lists. No memory is taken.
+    pub fn copy_from(&mut self, other: &Self)
+        requires items { self.old.items ≡ other.now.items }
+        requires lists { length self.old.lists ≡ length other.now.lists }
+        ensures { self.new ≡ other.now }
+    {
+        self.links.copy_from_slice(&other.links);
+        self.homes.copy_from_slice(&other.homes);
+        self.lens.copy_from_slice(&other.lens);
+    }
+
     /// The item goes to the end of the list, with key 0.
     pub fn push_last(&mut self, list: u32, item: u32)
         requires list { list < length self.old.lists }

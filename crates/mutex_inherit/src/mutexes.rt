@@ -70,6 +70,17 @@ impl Mutexes {
         })
     }
 
+    /// This becomes equal to the other, which has as many tasks and mutexes. No memory is taken.
+    pub fn copy_from(&mut self, other: &Self)
+        requires tasks { self.old.tasks ≡ other.now.tasks }
+        requires mutexes { length self.old.holders ≡ length other.now.holders }
+        ensures { self.new ≡ other.now }
+    {
+        self.priorities = other.priorities;
+        self.holders.copy_from_slice(&other.holders);
+        self.lists.copy_from(&other.lists);
+    }
+
     /// Whether all that can be seen of the two is equal.
     pub fn same(&self, other: &Self) -> bool
         ensures { IsTrue result ↔ (self.now ≡ other.now) }

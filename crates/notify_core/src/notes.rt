@@ -41,6 +41,14 @@ impl Notes {
         })
     }
 
+    /// This becomes equal to the other, which has as many tasks. No memory is taken.
+    pub fn copy_from(&mut self, other: &Self)
+        requires { length self.old ≡ length other.now }
+        ensures { self.new ≡ other.now }
+    {
+        self.tasks.copy_from_slice(&other.tasks);
+    }
+
     /// Whether values and states of all tasks are equal.
     pub fn same(&self, other: &Self) -> bool
         ensures { IsTrue result ↔ (self.now ≡ other.now) }

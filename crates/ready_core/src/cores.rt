@@ -84,6 +84,22 @@ impl Cores {
         })
     }
 
+    /// This becomes equal to the other, which has as many priorities, cores and tasks. No memory is
+    /// taken.
+    pub fn copy_from(&mut self, other: &Self)
+        requires priorities { self.old.priorities ≡ other.now.priorities }
+        requires cores { length self.old.control.cores ≡ length other.now.control.cores }
+        requires tasks { length self.old.control.tasks ≡ length other.now.control.tasks }
+        ensures { self.new ≡ other.now }
+    {
+        self.slicing = other.slicing;
+        self.cores.copy_from_slice(&other.cores);
+        self.tasks.copy_from_slice(&other.tasks);
+        self.lists.copy_from(&other.lists);
+        self.listed = other.listed;
+        self.seats.copy_from_slice(&other.seats);
+    }
+
     /// Whether all that can be seen of the two is equal.
     pub fn same(&self, other: &Self) -> bool
         ensures { IsTrue result ↔ (self.now ≡ other.now) }

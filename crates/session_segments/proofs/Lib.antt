@@ -1,3 +1,4 @@
+pub mod Again
 pub mod Counts
 mod KeptRows
 mod Places

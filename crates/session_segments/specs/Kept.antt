@@ -1,5 +1,5 @@
 -- What the fields of a segment keep, and those of several.
-use Rattle.std.specs.Prelude.{◌≡◌, ℕ, ◌<◌, ◌≤◌, ◌^◌, List, length, map, All}
+use Rattle.std.specs.Prelude.{◌≡◌, ℕ, ◌*◌, ◌<◌, ◌≤◌, ◌^◌, List, length, map, All}
 use Rattle.std.specs.List.{flat_map}
 use Rattle.bench_types.specs.declared.kernel_data.Settings.{Settings}
 use Rattle.bench_types.specs.declared.reply.Reply.{Reply}
@@ -37,6 +37,11 @@ pub record IsTold (kernel : View) (steps : List Step) (replies : List Reply) (ro
   pub outcomes :
       (table : Table) → StandsFor kernel table
       → IsReplayedFrom table kernel.settings steps replies rows tallies
+
+-- there is room for the replies and the rows of as many steps
+pub record HasRoom (kernel : View) (steps : List Step) (replies rows : ℕ) : Type 0 where
+  pub of_replies : length steps ≤ replies
+  pub of_rows : length steps * kernel.settings.cores ≤ rows
 
 -- the places where the segments begin; there is a first one
 pub record ArePlaced (places : List ℕ) (segments : List SegmentView) : Type 0 where

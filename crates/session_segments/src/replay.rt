@@ -1,7 +1,7 @@
-ghost use Rattle.std.specs.Prelude.{◌≡◌, ℕ, ◌++◌, ◌<◌, ◌≤◌, ◌+◌, ◌-◌, ◌^◌, min, All, Ok, IfOk, OnOk, OnErr, length, map};
+ghost use Rattle.std.specs.Prelude.{◌≡◌, ℕ, [], ◌++◌, ◌<◌, ◌≤◌, ◌+◌, ◌-◌, ◌*◌, ◌^◌, All, Ok, length, map};
 ghost use Rattle.std.specs.List.{flat_map};
 ghost use Rattle.std.specs.Vec.{vec_capacity, vec_len};
-ghost use Rattle.bench_types.specs.Limits.{max_cores, max_steps};
+ghost use Rattle.bench_types.specs.Limits.{max_steps};
 ghost use Rattle.bench_types.specs.Step.{step_check, IsCheckedStep};
 ghost use Rattle.bench_model.specs.Control.{running};
 ghost use Rattle.bench_model.specs.Equal.{StandsFor};
@@ -10,12 +10,11 @@ ghost use Rattle.bench_model.specs.Table.{Table};
 ghost use Rattle.bench_model.specs.Tallied.{first_tallies, part_tallies, shape, shape_of, tallied_after, AllCountsBelow};
 ghost use Rattle.smp_kernel.specs.Kernel.{StandsForSome};
 ghost use Rattle.bench_reports.specs.Tops.{HasTops};
-ghost use Rattle.session_segments.specs.Counting.{meter_after, CountsUpTo};
+ghost use Rattle.session_segments.specs.Counting.{meter_after};
 
 use bench_reports::Tallies;
 use bench_types::{Reply, Step};
 use smp_kernel::{Kernel, Meter};
-use std::alloc::{AllocError, Global};
 
 /// Makes the steps on the kernel, and keeps no reply.
 pub fn advance(kernel: &mut Kernel, steps: &[Step], meter: &mut Meter)
@@ -67,43 +66,43 @@ fn push_row(rows: &mut Vec<u32>, kernel: &Kernel, cores: u32)
     }
 }
 
-/// The replies that the kernel gives to the steps, and the tasks that run after each, one row
-/// after another. The tallies count the steps.
-pub(crate) fn outcomes_of(
-    alloc: Global,
+/// Adds the replies that the kernel gives to the steps, and the tasks that run after each, one row
+/// after another. There is room for them. The tallies count the steps.
+pub(crate) fn push_outcomes(
     kernel: &mut Kernel,
     tallies: &mut Tallies,
+    replies: &mut Vec<Reply>,
+    rows: &mut Vec<u32>,
     steps: &[Step],
     meter: &mut Meter,
-) -> Result<(Vec<Reply>, Vec<u32>), AllocError>
+)
     requires stands { StandsForSome kernel.old }
-    requires few { kernel.old.settings.cores ≤ max_cores }
     requires steps { All (IsCheckedStep kernel.old.settings) steps.now }
     requires few_steps { length steps.now ≤ max_steps }
     requires begun { tallies.old ≡ first_tallies kernel.old.settings kernel.old.control }
     requires sizes { shape tallies.old ≡ shape_of kernel.old.settings }
     requires tops { HasTops kernel.old.control tallies.old }
-    ensures replies { IfOk result
-        (λ outcomes. (table : Table) → StandsFor kernel.old table
-        → outcomes.0.items ≡ map (λ outcome. outcome.0) (trace table steps.now)) }
-    ensures rows { IfOk result
-        (λ outcomes. (table : Table) → StandsFor kernel.old table
-        → outcomes.1.items ≡ flat_map (λ outcome. outcome.1) (trace table steps.now)) }
-    ensures tallies { OnOk result ((table : Table) → StandsFor kernel.old table
-        → tallies.new ≡ part_tallies kernel.old.settings table steps.now) }
-    ensures sizes { OnOk result (shape tallies.new ≡ shape_of kernel.old.settings) }
-    ensures state { OnOk result ((table : Table) → StandsFor kernel.old table
-        → StandsFor kernel.new (state_after table steps.now)) }
+    requires no_replies { replies.old.items ≡ [] }
+    requires reply_room { length steps.now ≤ vec_capacity replies.old }
+    requires no_rows { rows.old.items ≡ [] }
+    requires row_room { length steps.now * kernel.old.settings.cores ≤ vec_capacity rows.old }
+    ensures replies { (table : Table) → StandsFor kernel.old table
+        → replies.new.items ≡ map (λ outcome. outcome.0) (trace table steps.now) }
+    ensures reply_room { vec_capacity replies.new ≡ vec_capacity replies.old }
+    ensures rows { (table : Table) → StandsFor kernel.old table
+        → rows.new.items ≡ flat_map (λ outcome. outcome.1) (trace table steps.now) }
+    ensures row_room { vec_capacity rows.new ≡ vec_capacity rows.old }
+    ensures tallies { (table : Table) → StandsFor kernel.old table
+        → tallies.new ≡ part_tallies kernel.old.settings table steps.now }
+    ensures sizes { shape tallies.new ≡ shape_of kernel.old.settings }
+    ensures state { (table : Table) → StandsFor kernel.old table
+        → StandsFor kernel.new (state_after table steps.now) }
     ensures settings { kernel.new.settings ≡ kernel.old.settings }
-    ensures meter { OnOk result (meter.new ≡ meter_after (length steps.now) meter.old) }
-    ensures some { OnErr result (CountsUpTo (length steps.now) meter.old meter.new) }
+    ensures meter { meter.new ≡ meter_after (length steps.now) meter.old }
 {
     let cores = kernel.settings().cores;
-    let mut replies = Vec::with_capacity(alloc, steps.len())?;
-    let mut rows = Vec::with_capacity(alloc, steps.len() * cores as usize)?;
     for step in steps {
         replies.push_reserved(tallies.make_next(kernel, meter, step));
-        push_row(&mut rows, kernel, cores);
+        push_row(rows, kernel, cores);
     }
-    Ok((replies, rows))
 }

@@ -78,6 +78,21 @@ impl<K: Tracing> Segment<K> {
         })
     }
 
+    /// Makes the steps on the kernel instead of the one before the first of them, in place of what
+    /// they led to from that one. No memory is taken.
+    pub fn replay_again(&mut self, kernel: &mut Kernel, meter: &mut Meter)
+        requires stands { StandsForSome kernel.old }
+        requires settings { kernel.old.settings ≡ self.old.kernel.settings }
+        ensures segment { self.new ≡ record self.old { kernel = kernel.old } }
+        ensures state { (table : Table) → StandsFor kernel.old table
+            → StandsFor kernel.new (state_after table self.old.steps) }
+        ensures settings { kernel.new.settings ≡ kernel.old.settings }
+        ensures meter { meter.new ≡ meter_after (length self.old.steps) meter.old }
+    {
+        self.kernel.copy_from(kernel);
+        self.kept.again(kernel, &self.steps, meter);
+    }
+
     /// The kernel before the first step.
     pub fn kernel(&self) -> &Kernel
         ensures kernel { result.now ≡ self.now.kernel }

@@ -1,10 +1,14 @@
-ghost use Rattle.std.specs.Prelude.{◌≡◌, ◌++◌, ◌<◌, ◌≤◌, ◌+◌, ◌-◌, ◌^◌, Ok, Some, IfOk, OnOk, OnErr, length, take, drop, map, slice_get, slice_index_or};
+ghost use Rattle.std.specs.Prelude.{◌≡◌, ◌++◌, ◌<◌, ◌≤◌, ◌+◌, ◌-◌, ◌^◌, All, Ok, Some, IfOk, OnOk, OnErr, length, take, drop, map, slice_get, slice_index_or};
+ghost use Rattle.bench_model.specs.Equal.{StandsFor};
+ghost use Rattle.bench_model.specs.Table.{Table};
 ghost use Rattle.segment_laws.specs.Segments.{all_steps, lengths, starts, IsIndexOf};
+ghost use Rattle.smp_kernel.specs.Kernel.{StandsForSome};
+ghost use Rattle.session_segments.specs.Again.{AreReplayedFrom, HasSettings};
 ghost use Rattle.session_segments.specs.Counting.{meter_after, CountsUpTo};
 
 use crate::segment::Segment;
 use crate::tracing::{Traced, Tracing, Untraced};
-use smp_kernel::Meter;
+use smp_kernel::{Kernel, Meter};
 use std::alloc::{AllocError, Global};
 use std::marker::Model;
 
@@ -140,6 +144,47 @@ impl<K: Tracing> Segments<K> {
         self.places = places;
         Ok(())
     }
+
+    /// Replays the segments from the index on, each in place of what it was, up to the first that
+    /// begins with a kernel that is equal to the one that the replay has come to. Returns the index
+    /// of that one, or that after the last. No memory is taken.
+    pub fn replay_from(&mut self, first: usize, kernel: &mut Kernel, meter: &mut Meter) -> usize
+        requires stands { StandsForSome kernel.old }
+        requires within { first ≤ length self.old }
+        requires settings { All (HasSettings kernel.old.settings) (drop first self.old) }
+        ensures replayed { (table : Table) → StandsFor kernel.old table
+            → AreReplayedFrom table first self.old self.new result }
+        ensures meter { meter.new
+            ≡ meter_after (length (all_steps (take (result - first) (drop first self.old))))
+            meter.old }
+    {
+        replay_each(kernel, &mut self.segments, first, meter)
+    }
+}
+
+// Replays the segments from the index on.
+fn replay_each<K: Tracing>(
+    kernel: &mut Kernel,
+    segments: &mut [Segment<K>],
+    first: usize,
+    meter: &mut Meter,
+) -> usize
+    requires stands { StandsForSome kernel.old }
+    requires within { first ≤ length segments.old }
+    requires settings { All (HasSettings kernel.old.settings) (drop first segments.old) }
+    ensures replayed { (table : Table) → StandsFor kernel.old table
+        → AreReplayedFrom table first segments.old segments.new result }
+    ensures meter { meter.new
+        ≡ meter_after (length (all_steps (take (result - first) (drop first segments.old))))
+        meter.old }
+{
+    for index in first..segments.len() {
+        if segments[index].begins_with(kernel) {
+            return index;
+        }
+        segments[index].replay_again(kernel, meter);
+    }
+    segments.len()
 }
 
 // The segments, each with what its steps lead to.

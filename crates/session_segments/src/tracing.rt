@@ -1,4 +1,5 @@
 ghost use Rattle.std.specs.Prelude.{◌≡◌, ◌≤◌, All, IfOk, List, OnOk, OnErr, length, ⊤};
+ghost use Rattle.std.specs.Vec.{vec_capacity};
 ghost use Rattle.bench_types.specs.Limits.{max_cores, max_steps};
 ghost use Rattle.bench_types.specs.Step.{IsCheckedStep};
 ghost use Rattle.bench_types.specs.declared.step.Step.{Step};
@@ -8,9 +9,9 @@ ghost use Rattle.bench_model.specs.Session.{state_after};
 ghost use Rattle.bench_model.specs.Table.{Table};
 ghost use Rattle.smp_kernel.specs.Kernel.{StandsForSome};
 ghost use Rattle.session_segments.specs.Counting.{meter_after, CountsUpTo};
-ghost use Rattle.session_segments.specs.Kept.{IsTold};
+ghost use Rattle.session_segments.specs.Kept.{HasRoom, IsTold};
 
-use crate::replay::{advance, outcomes_of};
+use crate::replay::{advance, push_outcomes};
 use bench_reports::Tallies;
 use bench_types::{Reply, Step};
 use smp_kernel::{Kernel, Meter};
@@ -38,6 +39,21 @@ pub trait Tracing: Debug + Drop {
         ensures settings { kernel.new.settings ≡ kernel.old.settings }
         ensures meter { OnOk result (meter.new ≡ meter_after (length steps.now) meter.old) }
         ensures some { OnErr result (CountsUpTo (length steps.now) meter.old meter.new) };
+
+    /// Makes the steps on the kernel, and keeps what is to be kept of them in place of what they
+    /// led to from another kernel. No memory is taken.
+    fn again(&mut self, kernel: &mut Kernel, steps: &[Step], meter: &mut Meter)
+        requires kept { (other : View) × (other.settings ≡ kernel.old.settings)
+            × fits other steps.now self.old }
+        requires stands { StandsForSome kernel.old }
+        requires few { kernel.old.settings.cores ≤ max_cores }
+        requires steps { All (IsCheckedStep kernel.old.settings) steps.now }
+        requires few_steps { length steps.now ≤ max_steps }
+        ensures kept { fits kernel.old steps.now self.new }
+        ensures state { (table : Table) → StandsFor kernel.old table
+            → StandsFor kernel.new (state_after table steps.now) }
+        ensures settings { kernel.new.settings ≡ kernel.old.settings }
+        ensures meter { meter.new ≡ meter_after (length steps.now) meter.old };
 }
 
 /// The replies of steps, the tasks that run after each, and how the tasks fared in them.
@@ -53,7 +69,8 @@ pub struct Traced {
 
 impl Tracing for Traced {
     ghost fits = { λ kernel steps traced. IsTold kernel steps traced.replies.items
-        traced.rows.items traced.tallies };
+        traced.rows.items traced.tallies
+        × HasRoom kernel steps (vec_capacity traced.replies) (vec_capacity traced.rows) };
 
     fn of(
         alloc: Global,
@@ -62,12 +79,29 @@ impl Tracing for Traced {
         meter: &mut Meter,
     ) -> Result<Traced, AllocError> {
         let mut tallies = Tallies::begin(alloc, kernel)?;
-        let (replies, rows) = outcomes_of(alloc, kernel, &mut tallies, steps, meter)?;
+        let mut replies = Vec::with_capacity(alloc, steps.len())?;
+        let cores = kernel.settings().cores as usize;
+        let mut rows = Vec::with_capacity(alloc, steps.len() * cores)?;
+        push_outcomes(kernel, &mut tallies, &mut replies, &mut rows, steps, meter);
         Ok(Traced {
             replies,
             rows,
             tallies,
         })
+    }
+
+    fn again(&mut self, kernel: &mut Kernel, steps: &[Step], meter: &mut Meter) {
+        self.tallies.begin_again(kernel);
+        self.replies.clear();
+        self.rows.clear();
+        push_outcomes(
+            kernel,
+            &mut self.tallies,
+            &mut self.replies,
+            &mut self.rows,
+            steps,
+            meter,
+        );
     }
 }
 
@@ -86,5 +120,9 @@ impl Tracing for Untraced {
     ) -> Result<Untraced, AllocError> {
         advance(kernel, steps, meter);
         Ok(Untraced)
+    }
+
+    fn again(&mut self, kernel: &mut Kernel, steps: &[Step], meter: &mut Meter) {
+        advance(kernel, steps, meter);
     }
 }

@@ -1,8 +1,9 @@
 -- The replay of an edit: what its parts need, and what it makes.
-use Rattle.std.proofs.Common.{◌≡◌, ℕ, ◌+◌, ◌≤◌, List, ◌++◌, length, take, drop, Ok, refl, sym, ap, ap₂, subst, ◌∙◌, arith}
-use Rattle.std.specs.Prelude.{All}
+use Rattle.std.proofs.Common.{◌≡◌, ℕ, ◌+◌, ◌-◌, ◌^◌, ◌<◌, ◌≤◌, Bool, List, ◌++◌, length, take, drop, Ok, refl, sym, ap, ap₂, subst, ◌∙◌, arith}
+use Rattle.std.specs.Prelude.{All, ◌==◌}
 use Rattle.std.proofs.lemmas.Bool.Decides.{nat_tests}
-use Rattle.std.proofs.lemmas.List.{append_assoc, length-append, length-drop, drop-drop}
+use Rattle.std.proofs.Math.Seq.{drop-append-add}
+use Rattle.std.proofs.lemmas.List.{append_assoc, drop_at, take_at, length-append, length-drop, length-map, length-take-le, drop-drop}
 use Rattle.std.proofs.lemmas.List.Elements.{All-drop}
 use Rattle.bench_types.specs.declared.edit.Edit.{Edit}
 use Rattle.bench_types.specs.declared.header.Header.{Header}
@@ -23,22 +24,25 @@ use Rattle.bench_model.specs.Start.{start}
 use Rattle.bench_model.specs.Table.{Table}
 use Rattle.bench_model.specs.Tallied.{part_tallies, shape, shape_of}
 use Rattle.bench_model.specs.Tally.{TaskTally, tallies}
-use Rattle.segment_laws.specs.EditedSegments.{AreReplayed}
+use Rattle.segment_laws.specs.EditedSegments.{cut, has_none, AreReplayed}
 use Rattle.segment_laws.specs.SegmentLaws.{IsEdited}
-use Rattle.segment_laws.specs.Segments.{SegmentView, all_steps, AreSegments}
+use Rattle.segment_laws.specs.Segments.{SegmentView, steps_of, all_steps, AreSegments}
 use Rattle.segment_laws.proofs.EditedSegments.{edited_segments_stand, unequal_are_replayed}
 use Rattle.segment_laws.proofs.EditedPlaces.{begins_there}
 use Rattle.segment_laws.proofs.EditedSteps.{made_steps, parted_steps}
-use Rattle.segment_laws.proofs.Following.{All_front, all_parted}
+use Rattle.segment_laws.proofs.Following.{All_front, all_more, all_parted}
 use Rattle.segment_laws.proofs.Reading.{state_front, start_settings, front_settings, back_checked}
 use Rattle.segment_laws.proofs.Shifts.{shifts}
+use Rattle.session_segments.specs.Again.{AreReplayedFrom, HasSettings, IsReplayOf}
 use Rattle.session_segments.specs.Counting.{meter_after, CountsUpTo}
+use Rattle.session_segments.proofs.Counts.{counted_twice}
 use Rattle.smp_kernel.specs.Kernel.{StandsForSome}
 use Rattle.session_store.specs.Kept.{kept_of, session_of, IsKept}
 use Rattle.session_store.specs.Outcomes.{outcome_of}
-use Rattle.session_store.specs.Replays.{HasSettings, GivesUp, IsParting, IsEditReplay}
+use Rattle.session_store.specs.Replays.{AreMade, AreRemade, IsParting, IsEditReplay}
 use Rattle.session_store.specs.Trials.{tallies_after, AreTalliedAfter, IsMeeting}
 use Rattle.session_store.proofs.EditTold.{kept_parts}
+use Rattle.session_store.proofs.GoingOn.{cut_some, goes_on, made_are_steps, none_left}
 use Rattle.session_store.proofs.Parted.{follow_settings}
 use Rattle.session_store.proofs.Retraces.{made_from, meeting_replayed}
 use Rattle.session_store.proofs.StoreTallies.{replay_of}
@@ -125,17 +129,18 @@ module _ (header : Header) (span : ℕ) (segments : List SegmentView) (edit : Ed
     front_rest : (count : ℕ) → length (all_steps rest) ≡ length (all_steps (take count rest)) + length (all_steps (drop count rest))
     front_rest count = ap length (all_parted count rest) ∙ length-append (all_steps (take count rest)) (all_steps (drop count rest))
 
-    -- a replay that was given up counted no more steps than there were to be replayed
-    pub gives_up : (given : List Step) (later : List SegmentView) (old new : ℕ) → given ≡ steps → later ≡ rest → ((table : Table) → StandsFor kernel table → GivesUp table given later old new)
-        → CountsUpTo (replayed (kept_of header span segments) edit) old new
-    gives_up given later old new same there told =
-        let up = subst (λ segments. GivesUp begin steps segments old new) there (subst (λ steps. GivesUp begin steps later old new) same (told begin parting.stands)) in
-        let within = unequal_are_replayed (kept_of header span segments) edit segments front steps rest up.count accepts some_span kept.checkpoints are parting.parted up.unequal in
-        (up.counted.0, omega (arith, up.counted.1, within, front_is), up.counted.2)
+    -- no more steps are edited than are replayed
+    part_within : length steps ≤ replayed (kept_of header span segments) edit
+    part_within =
+        let within = unequal_are_replayed (kept_of header span segments) edit segments front steps rest 0 accepts some_span kept.checkpoints are parting.parted (λ i segment old below. absurd (omega arith)) in
+        omega (arith, within, front_is)
 
-    -- by what was lent of the steps and of the segments after them
-    pub lent_runs : (given : List Step) (later made : List SegmentView) (count : ℕ) → given ≡ steps → later ≡ rest → ((table : Table) → StandsFor kernel table → AreReplayed span table given later made count) → AreReplayed span begin steps rest made count
-    lent_runs given later made count same there told = subst (λ segments. AreReplayed span begin steps segments made count) there (subst (λ steps. AreReplayed span begin steps later made count) same (told begin parting.stands))
+    -- where the edited steps were replayed, all or some
+    pub gives_up : (given : List Step) (old new : ℕ) → given ≡ steps → CountsUpTo (length given) old new → CountsUpTo (replayed (kept_of header span segments) edit) old new
+    gives_up given old new same some = (some.0, omega (arith, some.1, part_within, ap length same), some.2)
+
+    pub gave_up : (given : List Step) (old new : ℕ) → given ≡ steps → new ≡ meter_after (length given) old → CountsUpTo (replayed (kept_of header span segments) edit) old new
+    gave_up given old new same counts = (length given, omega (arith, part_within, ap length same), counts)
 
     module _ (made : List SegmentView) (count : ℕ) (runs : AreReplayed span begin steps rest made count) where
       pub made_length : length (all_steps made) ≡ length steps + length (all_steps (take count rest))
@@ -175,6 +180,122 @@ module _ (header : Header) (span : ℕ) (segments : List SegmentView) (edit : Ed
           let last : from + more ≡ met (kept_of header span segments) edit = omega (arith, begins, are_made, met_is) in
           let all = are_made ∙ replayed_is in
           cc (first, last, all)
+
+    -- whether segments come after the edited one
+    pub is_last_is : (count : ℕ) → count ≡ length segments → (count - after == 0) ≡ has_none rest
+    is_last_is count are_all =
+        let left : count - after ≡ length rest = omega (arith, are_all, length-drop after segments) in
+        ap (λ n. n == 0) left ∙ none_left rest
+
+    -- the edited steps in new segments
+    module _ (given : List Step) (same : given ≡ steps) (is_last : Bool) (last : is_last ≡ has_none rest) (cut_made : List SegmentView) (told : (table : Table) → StandsFor kernel table → AreMade table (cut span is_last given) cut_made) where
+      cut_is : AreMade begin (cut span (has_none rest) steps) cut_made
+      cut_is = subst (λ steps. AreMade begin (cut span (has_none rest) steps) cut_made) same (subst (λ b. AreMade begin (cut span b given) cut_made) last (told begin parting.stands))
+
+      cut_steps : all_steps cut_made ≡ steps
+      cut_steps = made_are_steps span begin steps rest cut_made cut_is
+
+      abbrev pub placed : List SegmentView
+      placed = front ++ cut_made ++ rest
+
+      cut_length : length cut_made ≡ length (cut span (has_none rest) steps)
+      cut_length = sym (length-map cut_made steps_of) ∙ ap length cut_is.parts_are
+
+      placed_length : length placed ≡ length front + (length cut_made + length rest)
+      placed_length = omega (arith, length-append (front ++ cut_made) rest, length-append front cut_made)
+
+      pub placed_some : 0 < length placed
+      placed_some = omega (arith, placed_length, cut_length, cut_some span rest steps)
+
+      pub placed_few : length (all_steps placed) < 2 ^ 32
+      placed_few =
+          let all = ap length (all_more (front ++ cut_made) rest ∙ ap (λ xs. xs ++ all_steps rest) (all_more front cut_made ∙ ap (λ xs. all_steps front ++ xs) cut_steps)) in
+          omega (arith, all, length-append (all_steps front ++ steps) (all_steps rest), length-append (all_steps front) steps, lengths_whole, next_few)
+
+      -- and those after them in place
+      module _ (parts : List SegmentView) (parts_are : parts ≡ placed) (start : ℕ) (starts_at : start ≡ length parts - (length segments - after)) where
+        start_is : start ≡ length (front ++ cut_made)
+        start_is = omega (arith, starts_at, ap length parts_are, placed_length, length-append front cut_made, length-drop after segments, parting.within)
+
+        pub start_within : start ≤ length parts
+        start_within = omega (arith, starts_at)
+
+        pub rest_is : drop start parts ≡ rest
+        rest_is = ap₂ (λ n xs. drop n xs) start_is parts_are ∙ drop_at (front ++ cut_made) rest (length (front ++ cut_made)) refl
+
+        front_are : take start parts ≡ front ++ cut_made
+        front_are = ap₂ (λ n xs. take n xs) start_is parts_are ∙ take_at (front ++ cut_made) rest (length (front ++ cut_made)) refl
+
+        pub later_settings : (now : View) → now.settings ≡ kernel.settings → All (HasSettings now.settings) (drop start parts)
+        later_settings now settings = subst (λ s. All (HasSettings s) (drop start parts)) (sym settings) (subst (All (HasSettings kernel.settings)) (sym rest_is) rest_settings)
+
+        module _ (moved : View) (moves : (table : Table) → StandsFor kernel table → StandsFor moved (state_after table given)) (new : List SegmentView) (end : ℕ) (again : (table : Table) → StandsFor moved table → AreReplayedFrom table start parts new end) where
+          replay : AreReplayedFrom (state_after begin steps) start parts new end
+          replay = again (state_after begin steps) (subst (λ steps. StandsFor moved (state_after begin steps)) same (moves begin parting.stands))
+
+          abbrev count : ℕ
+          count = end - start
+
+          abbrev remade : List SegmentView
+          remade = cut_made ++ replay.made
+
+          remade_runs : AreReplayed span begin steps rest remade count
+          remade_runs = goes_on begin steps rest span cut_made replay.made count cut_is (subst (λ xs. IsReplayOf (state_after begin steps) xs replay.made count) rest_is replay.replay)
+
+          end_is : end ≡ length (front ++ cut_made) + count
+          end_is = omega (arith, start_is, replay.order)
+
+          back_is : drop end parts ≡ drop (after + count) segments
+          back_is =
+              ap₂ (λ n xs. drop n xs) end_is parts_are ∙ drop-append-add (front ++ cut_made) rest count ∙ drop-drop count after segments
+
+          whole_new : new ≡ front ++ remade ++ drop (after + count) segments
+          whole_new =
+              replay.replaced ∙ ap₂ (λ xs ys. xs ++ replay.made ++ ys) front_are back_is
+              ∙ ap (λ xs. xs ++ drop (after + count) segments) (append_assoc front cut_made replay.made)
+
+          pub are_remade : AreRemade (kept_of header span segments) edit segments new
+          are_remade = record {
+            made = remade;
+            before = before;
+            after = after + count;
+            whole = whole_new;
+            replay = edit_replay remade count remade_runs;
+          }
+
+          later_length : length replay.made ≡ count
+          later_length =
+              let within : count ≤ length (drop start parts) = replay.replay.within in
+              sym (length-map replay.made steps_of) ∙ ap length replay.replay.parts_are ∙ length-map (take count (drop start parts)) steps_of ∙ length-take-le count (drop start parts) within
+
+          front_size : length front ≡ before
+          front_size = length-take-le before segments (omega (arith, parting.order, parting.within))
+
+          -- the segments that were replayed, as a slice
+          slice_is : take (end - before) (drop before new) ≡ remade
+          slice_is =
+              let from : before ≡ length front = sym front_size in
+              let size : end - before ≡ length remade = omega (arith, end_is, front_size, length-append front cut_made, length-append cut_made replay.made, later_length) in
+              ap (λ xs. take (end - before) (drop before xs)) (whole_new ∙ append_assoc front remade (drop (after + count) segments))
+              ∙ ap (take (end - before)) (ap (λ n. drop n (front ++ (remade ++ drop (after + count) segments))) from ∙ drop_at front (remade ++ drop (after + count) segments) (length front) refl)
+              ∙ ap (λ n. take n (remade ++ drop (after + count) segments)) size ∙ take_at remade (drop (after + count) segments) (length remade) refl
+
+          pub slice_within : (before ≤ end) × (end ≤ length new)
+          slice_within = (
+            omega (arith, end_is, front_size, length-append front cut_made),
+            omega (arith, end_is, front_size, length-append front cut_made, later_length, ap length whole_new, length-append (front ++ remade) (drop (after + count) segments), length-append front remade, length-append cut_made replay.made),
+          )
+
+          pub slice_few : length (all_steps front) + length (all_steps (take (end - before) (drop before new))) ≤ max_steps
+          slice_few = omega (arith, made_few remade count remade_runs, ap (λ (xs : List SegmentView). length (all_steps xs)) slice_is)
+
+          pub remade_counted : (old middle last : ℕ) → middle ≡ meter_after (length given) old → last ≡ meter_after (length (all_steps (take (end - start) (drop start parts)))) middle → last ≡ meter_after (replayed (kept_of header span segments) edit) old
+          remade_counted old middle last first second =
+              counted remade count remade_runs given (drop start parts) old last same rest_is
+              (second ∙ ap (meter_after (length (all_steps (take count (drop start parts))))) first ∙ counted_twice (length given) (length (all_steps (take count (drop start parts)))) old)
+
+          pub remade_outcome : (from more : ℕ) → from ≡ length (all_steps front) → more ≡ length (all_steps (take (end - before) (drop before new))) → record { from = from; met = from + more; replayed = more } ≡ outcome_of (kept_of header span segments) edit
+          remade_outcome from more begins are_made = outcome_is remade count remade_runs from more begins (are_made ∙ ap (λ (xs : List SegmentView). length (all_steps xs)) slice_is)
 
     -- only the tallies of the replay are kept, by what was lent of the steps and of the segments
     module _ (given : List Step) (later : List SegmentView) (count : ℕ) (same : given ≡ steps) (there : later ≡ rest) (told : (table : Table) → StandsFor kernel table → IsMeeting table given later count) where

@@ -11,7 +11,7 @@ use Rattle.bench_model.specs.Table.{Table}
 use Rattle.meeting_laws.proofs.Runs.{settings_along}
 use Rattle.segment_laws.specs.Segments.{SegmentView, all_steps, Follow}
 use Rattle.segment_laws.proofs.Following.{All_front, All_back}
-use Rattle.session_store.specs.Replays.{HasSettings}
+use Rattle.session_segments.specs.Again.{HasSettings}
 
 -- what stands for a table has its settings
 pub stood_settings : (view : View) (table : Table) → StandsFor view table → view.settings ≡ table.settings

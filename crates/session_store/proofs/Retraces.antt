@@ -20,7 +20,8 @@ use Rattle.segment_laws.proofs.EditedSteps.{cut_joined}
 use Rattle.segment_laws.proofs.Following.{All_back, All_front, all_split, state_append}
 use Rattle.session_segments.proofs.Tallied.{first_stands}
 use Rattle.session_store.specs.Trials.{IsMeeting}
-use Rattle.session_store.proofs.GoingOn.{joined, more_length, more_steps, own_steps, state_later, unequal_later, unequal_more, BeginsAlike, BeginsOtherwise}
+use Rattle.session_segments.proofs.Again.{joined, more_length, more_steps, own_steps, unequal_more, BeginsAlike, BeginsOtherwise}
+use Rattle.session_store.proofs.GoingOn.{state_later, unequal_later}
 
 -- ---- one segment after another
 

@@ -1,8 +1,7 @@
 -- What replays of segments lead to.
-use Rattle.std.specs.Prelude.{◌≡◌, ℕ, ◌+◌, ◌*◌, ◌<◌, ◌≤◌, ⊤, List, [], ◌++◌, length, map, take, drop, replicate}
+use Rattle.std.specs.Prelude.{◌≡◌, ℕ, ◌+◌, ◌*◌, ◌<◌, ◌≤◌, ⊤, List, ◌++◌, length, map, take, drop, replicate}
 use Rattle.bench_types.specs.declared.edit.Edit.{Edit}
 use Rattle.bench_types.specs.declared.edit.Edit.TheVariants.{Insert, Remove, Replace, ChangeTask}
-use Rattle.bench_types.specs.declared.kernel_data.Settings.{Settings}
 use Rattle.bench_types.specs.declared.step.Step.{Step}
 use Rattle.bench_types.specs.Session.{Session}
 use Rattle.bench_types.specs.Step.{settings_of}
@@ -12,13 +11,9 @@ use Rattle.bench_model.specs.Lists.{View}
 use Rattle.bench_model.specs.Meeting.{CheckpointedSession}
 use Rattle.bench_model.specs.Session.{state_at}
 use Rattle.bench_model.specs.Table.{Table}
-use Rattle.segment_laws.specs.EditedSegments.{AreParted, AreUnequal, IsEqualAt}
+use Rattle.segment_laws.specs.EditedSegments.{AreParted}
 use Rattle.segment_laws.specs.Segments.{SegmentView, steps_of, all_steps, lengths, Follow}
 use Rattle.segment_laws.specs.SegmentLaws.{IsEdited}
-use Rattle.session_segments.specs.Counting.{CountsUpTo}
-
-abbrev pub HasSettings : Settings → SegmentView → Type 0
-HasSettings settings segment = segment.kernel.settings ≡ settings
 
 -- segments of these steps, each from the state that the one before it left
 pub record AreMade (table : Table) (parts : List (List Step))
@@ -32,26 +27,6 @@ pub record AreSpans (table : Table) (span full : ℕ) (steps : List Step)
   pub steps_are : all_steps made ≡ take (full * span) steps
   pub lengths_are : lengths made ≡ replicate full span
   pub follow : Follow table made
-
--- So many of the segments, replayed from a table on, are added to those that were there: up to the
--- first that begins with an equal kernel, or to the last.
-pub record HasLater (table : Table) (after old new : List SegmentView) (count : ℕ) : Type 0 where
-  pub made : List SegmentView
-  pub added : new ≡ old ++ made
-  pub within : count ≤ length after
-  pub parts_are : map steps_of made ≡ map steps_of (take count after)
-  pub follow : Follow table made
-  pub unequal : AreUnequal table [] after count
-  pub equal : IsEqualAt table [] after count
-
--- A replay that was given up had not come to an end: some more steps were counted, at most those of
--- so many segments, none of which begins with the kernel that it came to.
-pub record GivesUp (table : Table) (steps : List Step) (after : List SegmentView)
-    (old new : ℕ) : Type 0 where
-  pub count : ℕ
-  pub within : count ≤ length after
-  pub unequal : AreUnequal table steps after count
-  pub counted : CountsUpTo (length steps + length (all_steps (take count after))) old new
 
 -- the edit is of a step of a part with this place and length
 abbrev pub IsEditAmong : Edit → ℕ → ℕ → Type 0
@@ -92,3 +67,12 @@ pub record IsEditReplay (kept : CheckpointedSession) (edit : Edit)
   pub order : before ≤ after
   pub within : after ≤ length segments
   pub edited : IsEdited kept edit (take before segments) made (drop after segments)
+
+-- the segments of an edited session: those that stay, and the ones that were replayed
+pub record AreRemade (kept : CheckpointedSession) (edit : Edit) (old new : List SegmentView)
+    : Type 0 where
+  pub made : List SegmentView
+  pub before : ℕ
+  pub after : ℕ
+  pub whole : new ≡ take before old ++ made ++ drop after old
+  pub replay : IsEditReplay kept edit old made before after

@@ -1,4 +1,4 @@
-ghost use Rattle.std.specs.Prelude.{◌≡◌, ◌<◌, ◌≤◌, ◌+◌, ◌^◌, Ok, IfOk, OnOk, OnErr, length, drop};
+ghost use Rattle.std.specs.Prelude.{◌≡◌, ◌<◌, ◌≤◌, ◌^◌, Ok, IfOk, OnOk, OnErr, length, drop};
 ghost use Rattle.bench_types.specs.Edit.{IsEditOfWords};
 ghost use Rattle.bench_model.specs.Edits.{accepted, edited};
 ghost use Rattle.bench_model.specs.Meeting.{replayed};
@@ -6,30 +6,15 @@ ghost use Rattle.segment_laws.specs.Segments.{all_steps};
 ghost use Rattle.session_segments.specs.Counting.{meter_after, CountsUpTo};
 ghost use Rattle.session_store.specs.Kept.{kept_of, session_of, IsKept};
 ghost use Rattle.session_store.specs.Outcomes.{outcome_of};
-ghost use Rattle.session_store.specs.Replays.{IsEditReplay};
+ghost use Rattle.session_store.specs.Replays.{AreRemade};
 
 use crate::Outcome;
-use crate::edited::edited_header;
 use crate::parting::{Parting, parted};
-use crate::replay::go_on;
+use crate::replay::push_cut;
 use bench_types::{Edit, Header};
 use session_segments::{Segment, Segments, Tracing};
 use smp_kernel::Meter;
 use std::alloc::{AllocError, Global};
-
-/// What an edit makes of a session in segments.
-#[derive(Debug, Drop)]
-pub(crate) struct EditReplay<K: Tracing> {
-    /// The header of the edited session.
-    pub header: Header,
-    /// The segments that were replayed.
-    pub made: Vec<Segment<K>>,
-    /// How many segments before them stay.
-    pub before: usize,
-    /// The index of the first segment that stays after them.
-    pub after: usize,
-    pub outcome: Outcome,
-}
 
 /// How many steps the segments have.
 pub(crate) fn count_steps<K: Tracing>(segments: &[Segment<K>]) -> u32
@@ -52,31 +37,31 @@ pub(crate) fn later<K: Tracing>(segments: &Segments<K>, after: usize) -> &[Segme
     &segments.as_slice()[after..]
 }
 
-// Replays the edited session under its header from the begin of the edited segment on.
-fn remade<K: Tracing>(
+/// Replays what an accepted edit changes, under the edited session's header `next`: the edited
+/// segment into new ones, and those after it in place. All memory is taken before anything changes.
+pub(crate) fn remake<K: Tracing>(
     alloc: Global,
     header: &Header,
     span: u32,
-    segments: &Segments<K>,
-    next: Header,
+    segments: &mut Segments<K>,
+    next: &Header,
     edit: &Edit,
     meter: &mut Meter,
-) -> Result<EditReplay<K>, AllocError>
-    requires kept { IsKept header.now span segments.now }
+) -> Result<Outcome, AllocError>
+    requires kept { IsKept header.now span segments.old }
     requires words { IsEditOfWords edit.now }
-    requires accepted { accepted (session_of header.now segments.now) edit.now ≡ Ok tt }
-    requires next { next ≡ (edited edit.now (session_of header.now segments.now)).header }
-    ensures replay { IfOk result
-        (λ replay. IsEditReplay (kept_of header.now span segments.now) edit.now segments.now
-        replay.made.items replay.before replay.after) }
-    ensures header { IfOk result (λ replay. replay.header ≡ next) }
+    requires accepted { accepted (session_of header.now segments.old) edit.now ≡ Ok tt }
+    requires next { next.now ≡ (edited edit.now (session_of header.now segments.old)).header }
+    ensures replay { OnOk result
+        (AreRemade (kept_of header.now span segments.old) edit.now segments.old segments.new) }
     ensures outcome { IfOk result
-        (λ replay. replay.outcome ≡ outcome_of (kept_of header.now span segments.now) edit.now) }
+        (λ outcome. outcome ≡ outcome_of (kept_of header.now span segments.old) edit.now) }
+    ensures unchanged { OnErr result (segments.new ≡ segments.old) }
     ensures meter { OnOk result
         (meter.new
-        ≡ meter_after (replayed (kept_of header.now span segments.now) edit.now) meter.old) }
+        ≡ meter_after (replayed (kept_of header.now span segments.old) edit.now) meter.old) }
     ensures some { OnErr result
-        (CountsUpTo (replayed (kept_of header.now span segments.now) edit.now) meter.old
+        (CountsUpTo (replayed (kept_of header.now span segments.old) edit.now) meter.old
         meter.new) }
 {
     let Parting {
@@ -85,50 +70,17 @@ fn remade<K: Tracing>(
         from,
         before,
         after,
-    } = parted(alloc, header, segments, &next, edit)?;
-    let rest = later(segments, after);
-    let (made, count) = go_on(alloc, &mut kernel, span, steps.as_slice(), rest, meter)?;
-    let replayed = count_steps(made.as_slice());
-    Ok(EditReplay {
-        header: next,
-        made,
-        before,
-        after: after + count,
-        outcome: Outcome {
-            from,
-            met: from + replayed,
-            replayed,
-        },
+    } = parted(alloc, header, segments, next, edit)?;
+    let steps = steps.as_slice();
+    let rest = segments.len() - after;
+    let mut made = Vec::new(alloc);
+    push_cut(alloc, &mut kernel, &mut made, span, rest == 0, steps, meter)?;
+    segments.replace(alloc, before, after, made)?;
+    let end = segments.replay_from(segments.len() - rest, &mut kernel, meter);
+    let replayed = count_steps(&segments.as_slice()[before..end]);
+    Ok(Outcome {
+        from,
+        met: from + replayed,
+        replayed,
     })
-}
-
-/// Replays what an accepted edit changes, beside the segments that are kept.
-pub(crate) fn replay_edit<K: Tracing>(
-    alloc: Global,
-    header: &Header,
-    span: u32,
-    segments: &Segments<K>,
-    edit: &Edit,
-    meter: &mut Meter,
-) -> Result<EditReplay<K>, AllocError>
-    requires kept { IsKept header.now span segments.now }
-    requires words { IsEditOfWords edit.now }
-    requires accepted { accepted (session_of header.now segments.now) edit.now ≡ Ok tt }
-    ensures replay { IfOk result
-        (λ replay. IsEditReplay (kept_of header.now span segments.now) edit.now segments.now
-        replay.made.items replay.before replay.after) }
-    ensures header { IfOk result
-        (λ replay. replay.header
-        ≡ (edited edit.now (session_of header.now segments.now)).header) }
-    ensures outcome { IfOk result
-        (λ replay. replay.outcome ≡ outcome_of (kept_of header.now span segments.now) edit.now) }
-    ensures meter { OnOk result
-        (meter.new
-        ≡ meter_after (replayed (kept_of header.now span segments.now) edit.now) meter.old) }
-    ensures some { OnErr result
-        (CountsUpTo (replayed (kept_of header.now span segments.now) edit.now) meter.old
-        meter.new) }
-{
-    let next = edited_header(alloc, header, edit)?;
-    remade(alloc, header, span, segments, next, edit, meter)
 }

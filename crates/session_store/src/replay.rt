@@ -6,11 +6,10 @@ ghost use Rattle.bench_model.specs.Equal.{StandsFor};
 ghost use Rattle.bench_model.specs.Session.{state_after};
 ghost use Rattle.bench_model.specs.Start.{start};
 ghost use Rattle.bench_model.specs.Table.{Table};
-ghost use Rattle.segment_laws.specs.EditedSegments.{cut, AreReplayed};
-ghost use Rattle.segment_laws.specs.Segments.{all_steps};
+ghost use Rattle.segment_laws.specs.EditedSegments.{cut};
 ghost use Rattle.smp_kernel.specs.Kernel.{StandsForSome};
 ghost use Rattle.session_segments.specs.Counting.{meter_after, CountsUpTo};
-ghost use Rattle.session_store.specs.Replays.{AreMade, GivesUp, HasLater, HasSettings};
+ghost use Rattle.session_store.specs.Replays.{AreMade};
 
 use bench_types::{Header, Step};
 use session_segments::{Segment, Tracing};
@@ -82,9 +81,9 @@ fn push_two<K: Tracing>(
     push_segment(alloc, kernel, segments, &steps[span..], meter)
 }
 
-// Replays edited steps, two spans or more of them into two segments. Where there are none, they
-// are a segment only as the last one.
-fn push_cut<K: Tracing>(
+/// Replays edited steps, two spans or more of them into two segments. Where there are none, they
+/// are a segment only as the last one.
+pub(crate) fn push_cut<K: Tracing>(
     alloc: Global,
     kernel: &mut Kernel,
     segments: &mut Vec<Segment<K>>,
@@ -115,75 +114,4 @@ fn push_cut<K: Tracing>(
         return Ok(());
     }
     push_segment(alloc, kernel, segments, steps, meter)
-}
-
-// Replays the segments after the steps, up to the first that begins with a kernel that is equal to
-// the one that the replay has come to, and returns how many it replayed.
-fn push_later<K: Tracing>(
-    alloc: Global,
-    kernel: &mut Kernel,
-    segments: &mut Vec<Segment<K>>,
-    after: &[Segment<K>],
-    meter: &mut Meter,
-) -> Result<usize, AllocError>
-    requires stands { StandsForSome kernel.old }
-    requires few { kernel.old.settings.cores ≤ max_cores }
-    requires settings { All (HasSettings kernel.old.settings) after.now }
-    ensures later { IfOk result
-        (λ count. (table : Table) → StandsFor kernel.old table
-        → HasLater table after.now segments.old.items segments.new.items count) }
-    ensures meter { IfOk result
-        (λ count. meter.new
-        ≡ meter_after (length (all_steps (take count after.now))) meter.old) }
-    ensures some { OnErr result ((table : Table) → StandsFor kernel.old table
-        → GivesUp table [] after.now meter.old meter.new) }
-{
-    for (count, segment) in after.iter().enumerate() {
-        if segment.begins_with(kernel) {
-            return Ok(count);
-        }
-        push_segment(alloc, kernel, segments, segment.steps(), meter)?;
-    }
-    Ok(after.len())
-}
-
-/// Replays the steps of an edited segment, which are cut where they are too many, and the segments
-/// after it as long as the edited session differs. Returns the segments that this made, and how
-/// many of those after it were replayed.
-pub(crate) fn go_on<K: Tracing>(
-    alloc: Global,
-    kernel: &mut Kernel,
-    span: u32,
-    steps: &[Step],
-    after: &[Segment<K>],
-    meter: &mut Meter,
-) -> Result<(Vec<Segment<K>>, usize), AllocError>
-    requires stands { StandsForSome kernel.old }
-    requires few { kernel.old.settings.cores ≤ max_cores }
-    requires steps { All (IsCheckedStep kernel.old.settings) steps.now }
-    requires few_steps { length steps.now ≤ max_steps }
-    requires span { span ≤ max_span }
-    requires settings { All (HasSettings kernel.old.settings) after.now }
-    ensures replayed { IfOk result
-        (λ replayed. (table : Table) → StandsFor kernel.old table
-        → AreReplayed span table steps.now after.now replayed.0.items replayed.1) }
-    ensures meter { IfOk result
-        (λ replayed. meter.new
-        ≡ meter_after
-        (length steps.now + length (all_steps (take replayed.1 after.now))) meter.old) }
-    ensures some { OnErr result ((table : Table) → StandsFor kernel.old table
-        → GivesUp table steps.now after.now meter.old meter.new) }
-{
-    let mut segments = Vec::new(alloc);
-    push_cut(
-        alloc,
-        kernel,
-        &mut segments,
-        span,
-        after.is_empty(),
-        steps,
-        meter,
-    )?;
-    let count = push_later(alloc, kernel, &mut segments, after, meter)?;
-    Ok((segments, count))
 }

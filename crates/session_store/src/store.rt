@@ -20,7 +20,7 @@ ghost use Rattle.session_store.specs.Sums.{AreSumsOf};
 ghost use Rattle.session_store.specs.Trials.{tallies_after, IsTried};
 
 use crate::checks::{check_edit, check_opening};
-use crate::edit::{EditReplay, count_steps, later, replay_edit};
+use crate::edit::{count_steps, later, remake};
 use crate::edited::edited_header;
 use crate::fault::Refused;
 use crate::opening::opened;
@@ -150,15 +150,17 @@ impl<K: Tracing> Store<K> {
             (CountsUpTo (replayed self.old edit) meter.old meter.new) }
     {
         check_edit(&self.header, self.len(), &edit)?;
-        let EditReplay {
-            header,
-            made,
-            before,
-            after,
-            outcome,
-        } = replay_edit(alloc, &self.header, self.span, &self.segments, &edit, meter)?;
-        self.segments.replace(alloc, before, after, made)?;
-        self.header = header;
+        let next = edited_header(alloc, &self.header, &edit)?;
+        let outcome = remake(
+            alloc,
+            &self.header,
+            self.span,
+            &mut self.segments,
+            &next,
+            &edit,
+            meter,
+        )?;
+        self.header = next;
         Ok(outcome)
     }
 

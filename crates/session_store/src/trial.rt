@@ -6,8 +6,8 @@ ghost use Rattle.bench_model.specs.Table.{Table};
 ghost use Rattle.bench_model.specs.Tallied.{part_tallies, shape, shape_of, tallied_after, AllCountsBelow};
 ghost use Rattle.bench_reports.specs.Tops.{HasTops};
 ghost use Rattle.segment_laws.specs.Segments.{all_steps};
+ghost use Rattle.session_segments.specs.Again.{HasSettings};
 ghost use Rattle.session_segments.specs.Counting.{meter_after};
-ghost use Rattle.session_store.specs.Replays.{HasSettings};
 ghost use Rattle.session_store.specs.Trials.{IsMeeting};
 
 use bench_reports::Tallies;

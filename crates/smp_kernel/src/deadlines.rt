@@ -53,6 +53,15 @@ impl Deadlines {
         })
     }
 
+    /// These become equal to the others, which are of as many tasks. No memory is taken.
+    pub fn copy_from(&mut self, other: &Self)
+        requires { length self.old ≡ length other.now }
+        ensures { self.new ≡ other.now }
+    {
+        self.passed = other.passed;
+        self.ends.copy_from_slice(&other.ends);
+    }
+
     /// Whether the deadlines of all tasks are equal.
     pub fn same(&self, other: &Self) -> bool
         ensures { IsTrue result ↔ (self.now ≡ other.now) }

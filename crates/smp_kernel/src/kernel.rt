@@ -85,6 +85,15 @@ impl Kernel {
         Ok(Kernel { scheduler })
     }
 
+    /// This kernel becomes equal to the other, which has the same settings: it stands for the same
+    /// tables. No memory is taken.
+    pub fn copy_from(&mut self, other: &Kernel)
+        requires { self.old.settings ≡ other.now.settings }
+        ensures { self.new ≡ other.now }
+    {
+        self.scheduler.copy_from(&other.scheduler);
+    }
+
     /// Whether the two kernels are equal, and so reply alike to every step from now on.
     ///
     /// Compared are the settings (cores, priorities, slicing, mutexes, tasks), the tick count as 32

@@ -60,6 +60,16 @@ impl Delays {
         })
     }
 
+    /// This becomes equal to the other, which has as many tasks. No memory is taken.
+    pub fn copy_from(&mut self, other: &Self)
+        requires { self.old.tasks ≡ other.now.tasks }
+        ensures { self.new ≡ other.now }
+    {
+        self.tick = other.tick;
+        self.turn = other.turn;
+        self.lists.copy_from(&other.lists);
+    }
+
     /// Whether all that can be seen of the two is equal.
     pub fn same(&self, other: &Self) -> bool
         ensures { IsTrue result ↔ (self.now ≡ other.now) }

@@ -23,6 +23,20 @@ impl Scheduler {
         })
     }
 
+    /// This becomes equal to the other, which has the same settings. No memory is taken.
+    pub fn copy_from(&mut self, other: &Self)
+        requires { self.old.settings ≡ other.now.settings }
+        ensures { self.new ≡ other.now }
+    {
+        self.cores.copy_from(&other.cores);
+        self.calls.copy_from_slice(&other.calls);
+        self.notes.copy_from(&other.notes);
+        self.mutexes.copy_from(&other.mutexes);
+        self.delays.copy_from(&other.delays);
+        self.deadlines.copy_from(&other.deadlines);
+        self.hold = other.hold;
+    }
+
     /// Whether all that can be seen of the two is equal.
     pub fn same(&self, other: &Self) -> bool
         ensures { IsTrue result ↔ (self.now ≡ other.now) }

@@ -9,7 +9,8 @@ use Rattle.bench_reports.proofs.Rooms.{wider_room}
 use Rattle.segment_laws.specs.Segments.{SegmentView, all_steps}
 use Rattle.session_segments.specs.Counting.{meter_after}
 use Rattle.session_store.specs.Trials.{IsMeeting}
-use Rattle.session_store.proofs.GoingOn.{checked_alike, later_counted}
+use Rattle.session_segments.proofs.Again.{later_counted}
+use Rattle.session_store.proofs.GoingOn.{checked_alike}
 use Rattle.session_store.proofs.Retraces.{meets_at, meets_none, own_steps_fit, past_one, tallied_one, room_one}
 use Rattle.session_store.proofs.trial.tally_segments.Goals as goal
 

@@ -13,7 +13,7 @@ returns-then-cores-core c =
     let inside = c.self.inside in
     let past : inside.kernel.settings.cores ≤ c.args.core = omega (arith, c.if-cores-core.true, ap (λ (s : Settings). s.cores) c.settings-cores.ensures.settings) in
     subst (λ (v : SegmentView). (table : Table) → StandsFor v.kernel table → None ≡ option_and_then (λ (row : List ℕ). slice_get row c.args.core) (running_after table v.steps c.args.count)) c.self.view_is
-    (λ table stands. core_past inside.kernel inside.steps.items inside.kept.replies.items inside.kept.rows.items inside.kept.tallies c.self.invariant.0 c.self.invariant.1 table c.args.count c.args.core stands past)
+    (λ table stands. core_past inside.kernel inside.steps.items inside.kept.replies.items inside.kept.rows.items inside.kept.tallies c.self.invariant.0 c.self.invariant.1.0 table c.args.count c.args.core stands past)
 
 pub returns-then-count-len : goal.returns-then-count-len
 returns-then-count-len c =
@@ -28,7 +28,7 @@ returns-then-count-eq0 c =
     let none : c.args.count ≡ 0 = omega (arith, c.if-count-eq0.true) in
     let early : c.args.core < inside.kernel.settings.cores = omega (arith, c.if-cores-core.false, ap (λ (s : Settings). s.cores) c.settings-cores.ensures.settings) in
     subst (λ (v : SegmentView). (table : Table) → StandsFor v.kernel table → Some c.running.result ≡ option_and_then (λ (row : List ℕ). slice_get row c.args.core) (running_after table v.steps c.args.count)) c.self.view_is
-    (λ table stands. first_task inside.kernel inside.steps.items inside.kept.replies.items inside.kept.rows.items inside.kept.tallies c.self.invariant.0 c.self.invariant.1 table c.args.core c.running.result stands early c.running.ensures.seen
+    (λ table stands. first_task inside.kernel inside.steps.items inside.kept.replies.items inside.kept.rows.items inside.kept.tallies c.self.invariant.0 c.self.invariant.1.0 table c.args.core c.running.result stands early c.running.ensures.seen
     ∙ ap (λ n. option_and_then (λ (row : List ℕ). slice_get row c.args.core) (running_after table inside.steps.items n)) (sym none))
 
 pub returns : goal.returns

@@ -10,7 +10,7 @@ use Rattle.session_store.specs.Kept.{kept_of, session_of}
 use Rattle.session_store.specs.Outcomes.{outcome_of}
 use Rattle.session_store.specs.Trials.{tallies_after}
 use Rattle.session_store.proofs.EditTold.{counts_err}
-use Rattle.session_store.specs.Replays.{HasSettings}
+use Rattle.session_segments.specs.Again.{HasSettings}
 use Rattle.session_store.proofs.EditReplays.{all_few, part_checked, rest_settings, counted, outcome_is, traced, traced_few, traced_length, traced_runs, traced_tallies, traced_total}
 use Rattle.session_store.specs.Sums.{AreSumsOf}
 use Rattle.session_store.proofs.StoreSums.{has_sums, some_then}

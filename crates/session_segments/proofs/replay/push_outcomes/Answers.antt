@@ -7,7 +7,7 @@ use Rattle.session_segments.proofs.Counts.{counted_more}
 use Rattle.session_segments.proofs.Replays.{replayed_goes}
 use Rattle.session_segments.proofs.Rows.{row_within}
 use Rattle.session_segments.proofs.Tallied.{tallied_goes, tallied_room}
-use Rattle.session_segments.proofs.replay.outcomes_of.Goals as goal
+use Rattle.session_segments.proofs.replay.push_outcomes.Goals as goal
 
 pub make_next-requires-clause-room : goal.make_next-requires-clause-room
 make_next-requires-clause-room c =
@@ -25,7 +25,7 @@ push_row-requires-clause-room c =
     let place = c.loop-step.step-index in
     let cores = c.args.kernel.now.settings.cores in
     let early : place < length c.args.steps.now = omega arith in
-    omega (arith, row_within cores place (length c.args.steps.now) early, c.loop-step.invariant.shown, c.loop-step.invariant.row_room, ap (λ (s : Settings). s.cores) c.settings-cores.ensures.settings)
+    omega (arith, row_within cores place (length c.args.steps.now) early, c.loop-step.invariant.shown, c.loop-step.invariant.row_room, c.requires.row_room, ap (λ (s : Settings). s.cores) c.settings-cores.ensures.settings)
 
 pub loop-step-preserved : goal.loop-step-preserved
 loop-step-preserved c =

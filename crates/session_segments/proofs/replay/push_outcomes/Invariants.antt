@@ -1,4 +1,4 @@
-use Rattle.std.proofs.Common.{◌≡◌, ◌*◌, ◌≤◌, length}
+use Rattle.std.proofs.Common.{◌≡◌, ◌*◌}
 use Rattle.std.specs.Vec.{vec_capacity, vec_len}
 use Rattle.bench_model.specs.Table.{Table}
 use Rattle.bench_model.specs.Equal.{StandsFor}
@@ -6,7 +6,7 @@ use Rattle.bench_reports.specs.Tops.{HasTops}
 use Rattle.session_segments.specs.Counting.{meter_after}
 use Rattle.session_segments.proofs.Replays.{IsReplayed}
 use Rattle.session_segments.proofs.Tallied.{IsTallied}
-use Rattle.session_segments.proofs.replay.outcomes_of.Given as goal
+use Rattle.session_segments.proofs.replay.push_outcomes.Given as goal
 
 abbrev pub invariant-loop-step : goal.invariant-loop-step
 invariant-loop-step l = record {
@@ -15,8 +15,8 @@ invariant-loop-step l = record {
   settings : l.kernel.settings ≡ l.fn.kernel.settings;
   tops : HasTops l.kernel.control l.tallies;
   replied : vec_len l.replies ≡ l.step-index;
-  reply_room : length l.steps ≤ vec_capacity l.replies;
+  reply_room : vec_capacity l.replies ≡ vec_capacity l.fn.replies;
   shown : vec_len l.rows ≡ l.step-index * l.fn.kernel.settings.cores;
-  row_room : length l.steps * l.fn.kernel.settings.cores ≤ vec_capacity l.rows;
+  row_room : vec_capacity l.rows ≡ vec_capacity l.fn.rows;
   meter : l.meter ≡ meter_after l.step-index l.fn.meter;
 }

@@ -59,6 +59,17 @@ fn delays(rt: HostRuntime) -> Result<(), Fail> {
     Ok(())
 }
 
+#[test]
+fn delays_become_others(rt: HostRuntime) -> Result<(), Fail> {
+    let mut delays = Delays::new(rt.alloc(), 4_294_967_295, 2)?;
+    delays.delay(0, 1);
+    let mut others = Delays::new(rt.alloc(), 0, 2)?;
+    assert!(&rt; !others.same(&delays));
+    others.copy_from(&delays);
+    assert!(&rt; others.same(&delays));
+    Ok(())
+}
+
 // The keys of two tasks, in whichever list they stand.
 fn keys(delays: &Delays) -> (Option<u64>, Option<u64>)
     requires { delays.now.tasks ≡ 2 }

@@ -22,6 +22,17 @@ fn copies_keep_what_leaves(rt: HostRuntime) -> Result<(), Fail> {
 }
 
 #[test]
+fn lists_become_others(rt: HostRuntime) -> Result<(), Fail> {
+    let mut lists = Lists::new(rt.alloc(), 4, 2)?;
+    let mut others = Lists::new(rt.alloc(), 4, 2)?;
+    lists.push_last(0, 3);
+    others.copy_from(&lists);
+    assert_eq!(&rt; others.first(0), Some(3));
+    assert!(&rt; others.has_same_entries(0, &lists, 0));
+    Ok(())
+}
+
+#[test]
 #[tactic(auto, unfolding(list_orders::specs::Search::placed, list_orders::specs::Search::ranked))]
 fn equal_keys_stand_in_their_order(rt: HostRuntime) -> Result<(), Fail> {
     let mut lists = Lists::new(rt.alloc(), 4, 2)?;

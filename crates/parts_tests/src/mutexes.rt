@@ -125,8 +125,20 @@ fn check_holder(
     requires mutexes { length mutexes.old.holders ≡ 2 }
 {
     check_wait(rt, cores, mutexes);
+    check_copied(rt, alloc, mutexes)?;
     let copy = mutexes.copy(alloc)?;
     check_give(rt, cores, mutexes, &copy);
+    Ok(())
+}
+
+fn check_copied(rt: &impl Abort, alloc: Global, mutexes: &Mutexes) -> Result<(), Fail>
+    requires tasks { mutexes.now.tasks ≡ 4 }
+    requires mutexes { length mutexes.now.holders ≡ 2 }
+{
+    let mut others = Mutexes::new(alloc, 4, 5, 2)?;
+    assert!(rt; !others.same(mutexes));
+    others.copy_from(mutexes);
+    assert!(rt; others.same(mutexes));
     Ok(())
 }
 

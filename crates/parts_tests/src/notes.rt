@@ -54,11 +54,13 @@ fn check_wait(rt: &impl Abort, notes: &mut Notes, task: u32)
 fn notes(rt: HostRuntime) -> Result<(), Fail> {
     let mut notes = Notes::new(rt.alloc(), 2)?;
     take(&rt, &mut notes, 1, false);
-    let copy = notes.copy(rt.alloc())?;
+    let mut copy = notes.copy(rt.alloc())?;
     assert!(&rt; copy.same(&notes));
     check_wait(&rt, &mut notes, 1);
     assert_eq!(&rt; notes.value(1), 4);
     assert!(&rt; !copy.same(&notes));
+    copy.copy_from(&notes);
+    assert!(&rt; copy.same(&notes));
     Ok(())
 }
 

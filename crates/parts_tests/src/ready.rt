@@ -1,4 +1,5 @@
 //! Cores and ready lists.
+ghost use Rattle.std.specs.Prelude.{◌≡◌};
 
 use crate::started::{select, started};
 use Move::{
@@ -390,6 +391,24 @@ fn same_lists_in_another_turn(rt: HostRuntime) -> Result<(), Fail> {
     let mut other = one.copy(rt.alloc())?;
     check_turns(&rt, &mut one, &mut other);
     Ok(())
+}
+
+#[test]
+fn cores_become_others(rt: HostRuntime) -> Result<(), Fail> {
+    let one = started(&rt, rt.alloc(), false, &[(2, 3), (1, 3), (1, 3)])?;
+    let mut other = one.copy(rt.alloc())?;
+    check_copied(&rt, &one, &mut other);
+    Ok(())
+}
+
+fn check_copied(rt: &impl Abort, one: &Cores, other: &mut Cores)
+    requires { other.old ≡ one.now }
+{
+    assert!(rt; other.has_task(4));
+    other.set_preempt(4, false);
+    assert!(rt; !one.same(other));
+    other.copy_from(one);
+    assert!(rt; one.same(other));
 }
 
 fn check_turns(rt: &impl Abort, one: &mut Cores, other: &mut Cores) {

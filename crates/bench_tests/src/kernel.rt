@@ -130,6 +130,7 @@ fn check_copy(rt: &impl Abort, alloc: Global, started: &mut Started) -> Result<(
     make(rt, started, call(Call::HoldOpen), Reply::Done);
     let copy = started.kernel.copy(alloc)?;
     check_ways(rt, started, &copy);
+    check_return(rt, &mut started.kernel, &copy);
     Ok(())
 }
 
@@ -140,6 +141,14 @@ fn check_ways(rt: &impl Abort, started: &mut Started, copy: &Kernel) {
     assert_same(rt, "hold", &copy.hold(), &Some((0, 2)));
     assert_same(rt, "tick", &copy.tick(), &0);
     assert!(rt; !copy.same(&started.kernel) && !started.kernel.same(copy));
+}
+
+fn check_return(rt: &impl Abort, kernel: &mut Kernel, copy: &Kernel)
+    ensures { kernel.new.settings ≡ kernel.old.settings }
+{
+    assert!(rt; kernel.settings() == copy.settings());
+    kernel.copy_from(copy);
+    assert!(rt; copy.same(kernel));
 }
 
 #[test]

@@ -244,6 +244,30 @@ fn check_copies_from(
     assert_has_text(rt, host.alloc(), header, &tallies, SHARED_TALLIES)
 }
 
+#[test]
+fn tallies_begin_again(rt: HostRuntime) -> Result<(), Fail> {
+    check_again(&rt, &rt, &three_tasks(rt.alloc(), 2, true)?)
+}
+
+fn check_again(rt: &impl Abort, host: &HostRuntime, header: &Header) -> Result<(), Fail> {
+    check_again_from(rt, host, header, &mut Kernel::start(host.alloc(), header)?)
+}
+
+fn check_again_from(
+    rt: &impl Abort,
+    host: &HostRuntime,
+    header: &Header,
+    kernel: &mut Kernel,
+) -> Result<(), Fail>
+    requires { kernel.old.settings ≡ settings_of header.now }
+{
+    assert!(rt; are_checked(header, &SHARED));
+    let mut tallies = tallied(host.alloc(), kernel, &mut Meter::new(host), &SHARED)?;
+    assert!(rt; tallies.len() == kernel.settings().tasks as usize);
+    tallies.begin_again(kernel);
+    assert_has_text(rt, host.alloc(), header, &tallies, BEGUN)
+}
+
 fn check_in_turn(
     rt: &impl Abort,
     host: &HostRuntime,

@@ -5,11 +5,12 @@ ghost use Rattle.bench_types.specs.Limits.{max_cores, max_steps};
 ghost use Rattle.bench_types.specs.Step.{settings_of, IsCheckedStep};
 ghost use Rattle.segment_laws.specs.Segments.{all_steps};
 ghost use Rattle.smp_kernel.specs.Kernel.{StandsForSome};
+ghost use Rattle.session_segments.specs.Again.{HasSettings};
 
 use crate::samples::{
     A_DELAYS, SWITCH_0, SWITCH_1, assert_at, assert_same, assert_text, three_tasks,
 };
-use bench_types::{Header, MAX_CORES, Reply, Step};
+use bench_types::{Header, MAX_CORES, Reply, Settings, Step};
 use session_segments::{Segment, Segments, advance};
 use smp_kernel::{Kernel, Meter};
 use std::alloc::{AllocError, Global};
@@ -216,6 +217,104 @@ fn check_after(rt: &impl Abort, host: &HostRuntime, segment: &Segment) -> Result
 }
 
 #[test]
+fn a_segment_is_replayed_again(rt: HostRuntime) -> Result<(), Fail> {
+    check_again(&rt, &rt, &three_tasks(rt.alloc(), 2, true)?)
+}
+
+fn check_again(rt: &impl Abort, host: &HostRuntime, header: &Header) -> Result<(), Fail> {
+    let (kernel, steps) = (&mut started(rt, host.alloc(), header)?, &STEPS[..3]);
+    assert!(rt; are_checked(header, steps));
+    check_twice(rt, host.alloc(), kernel, steps, &mut Meter::new(host))
+}
+
+/// The segment begins where the steps came to once, and ends where they come to twice.
+fn check_twice(
+    rt: &impl Abort,
+    alloc: Global,
+    kernel: &mut Kernel,
+    steps: &[Step],
+    meter: &mut Meter,
+) -> Result<(), Fail>
+    requires stands { StandsForSome kernel.old }
+    requires few { kernel.old.settings.cores ≤ max_cores }
+    requires steps { All (IsCheckedStep kernel.old.settings) steps.now }
+    requires few_steps { length steps.now ≤ max_steps }
+{
+    let mut segment: Segment = Segment::replay(alloc, kernel, steps, meter)?;
+    assert!(rt; segment.kernel().settings() == kernel.settings());
+    segment.replay_again(kernel, meter);
+    let ticks = (segment.kernel().tick(), kernel.tick());
+    assert_same(rt, "ticks", &ticks, &(1, 2));
+    assert_same(rt, "steps", &meter.count(), &6);
+    assert!(rt; segment.steps() == steps);
+    Ok(())
+}
+
+fn has_settings(segment: &Segment, settings: Settings) -> bool
+    ensures { IsTrue result → HasSettings settings segment.now }
+{
+    segment.kernel().settings() == settings
+}
+
+fn have_settings(segments: &[Segment], settings: Settings) -> bool
+    ensures { IsTrue result → All (HasSettings settings) segments.now }
+{
+    segments
+        .iter()
+        .all(|segment| has_settings(segment, settings))
+}
+
+#[test]
+fn segments_are_replayed_in_place(rt: HostRuntime) -> Result<(), Fail> {
+    check_in_place(&rt, &rt, &three_tasks(rt.alloc(), 2, true)?)
+}
+
+fn check_in_place(rt: &impl Abort, host: &HostRuntime, header: &Header) -> Result<(), Fail> {
+    let segments = &mut Segments::new(host.alloc(), in_two(rt, host, header)?)?;
+    check_met(rt, host, header, segments)?;
+    check_later(rt, host, header, segments)
+}
+
+/// From the start there is nothing to replay.
+fn check_met(
+    rt: &impl Abort,
+    host: &HostRuntime,
+    header: &Header,
+    segments: &mut Segments,
+) -> Result<(), Fail> {
+    let kernel = &mut started(rt, host.alloc(), header)?;
+    check_replay(rt, segments, kernel, &mut Meter::new(host), (0, 0));
+    Ok(())
+}
+
+/// From one tick later all is replayed.
+fn check_later(
+    rt: &impl Abort,
+    host: &HostRuntime,
+    header: &Header,
+    segments: &mut Segments,
+) -> Result<(), Fail> {
+    let kernel = &mut advanced(rt, host, header)?;
+    check_replay(rt, segments, kernel, &mut Meter::new(host), (2, 8));
+    let ticks = (segments.as_slice()[0].kernel().tick(), kernel.tick());
+    assert_same(rt, "ticks", &ticks, &(1, 3));
+    Ok(())
+}
+
+/// Replays all segments: up to which, and how many steps.
+fn check_replay(
+    rt: &impl Abort,
+    segments: &mut Segments,
+    kernel: &mut Kernel,
+    meter: &mut Meter,
+    wanted: (usize, u64),
+) {
+    assert!(rt; have_settings(segments.as_slice(), kernel.settings()));
+    let end = segments.replay_from(0, kernel, meter);
+    assert_same(rt, "segment and steps", &(end, meter.count()), &wanted);
+}
+
+#[test]
 fn segments_are_found_and_replaced(rt: HostRuntime) -> Result<(), Fail> {
     check_replaced(&rt, &rt, &three_tasks(rt.alloc(), 2, true)?)
 }
@@ -223,7 +322,7 @@ fn segments_are_found_and_replaced(rt: HostRuntime) -> Result<(), Fail> {
 fn check_replaced(rt: &impl Abort, host: &HostRuntime, header: &Header) -> Result<(), Fail> {
     let mut segments = Segments::new(host.alloc(), in_two(rt, host, header)?)?;
     check_places(rt, &segments);
-    replace_all(host.alloc(), &mut segments, in_two(rt, host, header)?)?;
+    replace_all(&mut segments, in_two(rt, host, header)?)?;
     check_places(rt, &segments);
     Ok(())
 }
@@ -255,11 +354,11 @@ fn check_places(rt: &impl Abort, segments: &Segments) {
     }
 }
 
-fn replace_all(alloc: Global, segments: &mut Segments, made: Vec<Segment>) -> Result<(), AllocError>
+fn replace_all(segments: &mut Segments, made: Vec<Segment>) -> Result<(), AllocError>
     requires two { length made.items ≡ 2 }
     requires short { length (all_steps made.items) ≤ 8 }
     ensures { OnOk result (segments.new ≡ made.items) }
 {
     let count = segments.len();
-    segments.replace(alloc, 0, count, made)
+    segments.replace(0, count, made)
 }

@@ -3,7 +3,7 @@ use Rattle.std.proofs.Common.{◌≡◌, ◌⊎◌, inl, inr, ⊎_elim, ℕ, zer
 use Rattle.std.specs.Prelude.{All, Some, fold, option_map, slice_get, if◌then◌else◌}
 use Rattle.std.proofs.lemmas.Bool.Decides.{nat_tests}
 use Rattle.std.proofs.lemmas.List.{append-nil, append_assoc, take_at, drop_at, take-append-le, length-append}
-use Rattle.std.proofs.lemmas.Option.{same_Some}
+use Rattle.std.proofs.lemmas.Option.{same_Some, slice_get_within}
 use Rattle.bench_types.specs.declared.edit.Edit.{Edit}
 use Rattle.bench_types.specs.declared.header.Header.{Header}
 use Rattle.bench_types.specs.declared.kernel_data.Settings.{Settings}
@@ -33,6 +33,7 @@ use Rattle.segment_laws.specs.EditedSegments.{IsPartedAt}
 use Rattle.segment_laws.specs.SegmentLaws.{IsReadAt, IsFoundPart}
 use Rattle.segment_laws.specs.Segments.{SegmentView, steps_of, all_steps, lengths, starts, Follow, AreSegments, IsIndexOf, reply_after, running_after}
 use Rattle.segment_laws.proofs.Following.{split_at, take_with, take_found, All_front, All_back, all_more, all_split, state_append, follow_back}
+use Rattle.segment_laws.proofs.Starts.{starts_at}
 
 -- ---- lists
 
@@ -140,19 +141,10 @@ module _ (kept : CheckpointedSession) (segments : List SegmentView) (index : ℕ
 
 -- ---- where a segment begins and ends
 
-starts_at : (segments : List SegmentView) (base index : ℕ) (segment : SegmentView) → slice_get segments index ≡ Some segment → slice_get (starts base (lengths segments)) index ≡ Some (base + length (all_steps (take index segments)))
-starts_at [] base index segment found = absurd (cc found)
-starts_at (first ∷ segments) base zero segment found =
-    let same : base ≡ base + 0 = omega arith in
-    ap Some same
-starts_at (first ∷ segments) base (suc index) segment found =
-    let same : base + length first.steps + length (all_steps (take index segments)) ≡ base + length (first.steps ++ all_steps (take index segments)) = omega (arith, length-append first.steps (all_steps (take index segments))) in
-    starts_at segments (base + length first.steps) index segment found ∙ ap Some same
-
 -- the segment from the last checkpoint before a place
 module _ (kept : CheckpointedSession) (segments : List SegmentView) (place index from : ℕ) (segment : SegmentView) (are : AreSegments kept segments) (is : IsIndexOf kept.checkpoints place index from) (found : slice_get segments index ≡ Some segment) where
   starts_kept : (i : ℕ) (one : SegmentView) → slice_get segments i ≡ Some one → slice_get kept.checkpoints i ≡ Some (0 + length (all_steps (take i segments)))
-  starts_kept i one there = ap (λ places. slice_get places i) (sym are.places) ∙ starts_at segments 0 i one there
+  starts_kept i one there = ap (λ places. slice_get places i) (sym are.places) ∙ starts_at segments 0 i (slice_get_within segments i one there)
 
   pub begins_at : length (all_steps (take index segments)) ≡ from
   begins_at =

@@ -106,6 +106,16 @@ more_steps (first ∷ segments) (suc i) zero few = absurd (omega (arith, few))
 more_steps (first ∷ segments) (suc i) (suc j) few =
     omega (arith, length-append first.steps (all_steps (take i segments)), length-append first.steps (all_steps (take j segments)), more_steps segments i j (omega (arith, few)))
 
+-- where the segment at an index begins
+pub starts_at : (segments : List SegmentView) (base index : ℕ) → index < length segments → slice_get (starts base (lengths segments)) index ≡ Some (base + length (all_steps (take index segments)))
+starts_at [] base index early = absurd (omega (arith, early))
+starts_at (first ∷ segments) base zero early =
+    let same : base ≡ base + 0 = omega arith in
+    ap Some same
+starts_at (first ∷ segments) base (suc index) early =
+    let same : base + length first.steps + length (all_steps (take index segments)) ≡ base + length (first.steps ++ all_steps (take index segments)) = omega (arith, length-append first.steps (all_steps (take index segments))) in
+    starts_at segments (base + length first.steps) index (omega (arith, early)) ∙ ap Some same
+
 -- ---- places that ascend
 
 abbrev pub ArePositive : List ℕ → Type 0

@@ -1,4 +1,5 @@
 ghost use Rattle.std.specs.Prelude.{◌≡◌, ◌++◌, ◌<◌, ◌≤◌, ◌+◌, ◌-◌, ◌^◌, All, Ok, Some, IfOk, OnOk, OnErr, length, take, drop, map, slice_get, slice_index_or};
+ghost use Rattle.std.specs.Vec.{vec_capacity};
 ghost use Rattle.bench_model.specs.Equal.{StandsFor};
 ghost use Rattle.bench_model.specs.Table.{Table};
 ghost use Rattle.segment_laws.specs.Segments.{all_steps, lengths, starts, IsIndexOf};
@@ -33,47 +34,50 @@ impl<K: Tracing> Model for Segments<K> {
     ghost invariant = { λ segments. ArePlaced segments.places.items segments.segments.items };
 }
 
-// Adds the places where the segments begin, the first of them at the place, and returns that after
-// the last.
-fn push_places<K: Tracing>(
-    places: &mut Vec<u32>,
-    place: u32,
-    segments: &[Segment<K>],
-) -> Result<u32, AllocError>
-    requires few { place + length (all_steps segments.now) < 2 ^ 32 }
-    ensures places { OnOk result
-        (places.new.items ≡ places.old.items ++ starts place (lengths segments.now)) }
-    ensures end { IfOk result (λ end. end ≡ place + length (all_steps segments.now)) }
+// The place after the last segment that has one.
+fn end_of<K: Tracing>(places: &[u32], segments: &[Segment<K>]) -> u32
+    requires places { places.now ≡ starts 0 (lengths (take (length places.now) segments.now)) }
+    requires within { length places.now ≤ length segments.now }
+    requires few { length (all_steps segments.now) < 2 ^ 32 }
+    ensures { result ≡ length (all_steps (take (length places.now) segments.now)) }
 {
-    let mut next = place;
-    for segment in segments {
-        places.push(next)?;
-        next += segment.steps().len() as u32;
+    match places.last() {
+        Some(&last) => last + segments[places.len() - 1].steps().len() as u32,
+        None => 0,
     }
-    Ok(next)
 }
 
-// The places of the segments, where the made ones stand for those between the two indices.
-fn places_with<K: Tracing>(
-    alloc: Global,
-    segments: &[Segment<K>],
+// Makes the places of the segments from the index on anew. There is room for them.
+fn place_from<K: Tracing>(places: &mut Vec<u32>, from: usize, segments: &[Segment<K>])
+    requires placed { take from places.old.items ≡ starts 0 (lengths (take from segments.now)) }
+    requires within { from ≤ length segments.now }
+    requires room { length segments.now ≤ vec_capacity places.old }
+    requires few { length (all_steps segments.now) < 2 ^ 32 }
+    ensures { places.new.items ≡ starts 0 (lengths segments.now) }
+{
+    places.truncate(from);
+    let mut next = end_of(places.as_slice(), segments);
+    for segment in &segments[from..] {
+        places.push_reserved(next);
+        next += segment.steps().len() as u32;
+    }
+}
+
+// The made segments take the place of those from the first index up to the second.
+fn exchange<K: Tracing>(
+    segments: &mut Vec<Segment<K>>,
     from: usize,
     to: usize,
-    made: &[Segment<K>],
-) -> Result<Vec<u32>, AllocError>
+    made: Vec<Segment<K>>,
+) -> Result<(), AllocError>
     requires order { from ≤ to }
-    requires within { to ≤ length segments.now }
-    requires few { length
-        (all_steps (take from segments.now ++ made.now ++ drop to segments.now)) < 2 ^ 32 }
-    ensures { IfOk result
-        (λ places. places.items
-        ≡ starts 0 (lengths (take from segments.now ++ made.now ++ drop to segments.now))) }
+    requires within { to ≤ length segments.old.items }
+    ensures exchanged { OnOk result (segments.new.items
+        ≡ take from segments.old.items ++ made.items ++ drop to segments.old.items) }
+    ensures unchanged { OnErr result (segments.new.items ≡ segments.old.items) }
 {
-    let mut places = Vec::new(alloc);
-    let begin = push_places(&mut places, 0, &segments[..from])?;
-    let end = push_places(&mut places, begin, made)?;
-    push_places(&mut places, end, &segments[to..])?;
-    Ok(places)
+    segments.splice(from..to, made)?;
+    Ok(())
 }
 
 impl<K: Tracing> Segments<K> {
@@ -84,7 +88,7 @@ impl<K: Tracing> Segments<K> {
         ensures { IfOk result (λ made. made ≡ segments.items) }
     {
         let mut places = Vec::with_capacity(alloc, segments.len())?;
-        push_places(&mut places, 0, segments.as_slice())?;
+        place_from(&mut places, 0, segments.as_slice());
         Ok(Segments { places, segments })
     }
 
@@ -125,7 +129,6 @@ impl<K: Tracing> Segments<K> {
     /// The made segments take the place of those from the first index up to the second.
     pub fn replace(
         &mut self,
-        alloc: Global,
         from: usize,
         to: usize,
         made: Vec<Segment<K>>,
@@ -139,9 +142,9 @@ impl<K: Tracing> Segments<K> {
             (self.new ≡ take from self.old ++ made.items ++ drop to self.old) }
         ensures unchanged { OnErr result (self.new ≡ self.old) }
     {
-        let places = places_with(alloc, self.segments.as_slice(), from, to, made.as_slice())?;
-        self.segments.splice(from..to, made)?;
-        self.places = places;
+        self.places.reserve(made.len())?;
+        exchange(&mut self.segments, from, to, made)?;
+        place_from(&mut self.places, from, self.segments.as_slice());
         Ok(())
     }
 

@@ -20,6 +20,7 @@ use Rattle.meeting_laws.proofs.Runs.{run_alike}
 use Rattle.segment_laws.specs.Segments.{SegmentView, all_steps, lengths, starts}
 use Rattle.segment_laws.proofs.Following.{All_front, all_more, all_parted, kernel_at, split_at, take_with}
 use Rattle.segment_laws.proofs.Reading.{start_settings}
+use Rattle.segment_laws.proofs.Starts.{starts_at}
 use Rattle.session_store.specs.Kept.{kept_of, session_of}
 use Rattle.session_store.specs.Sums.{block, tallies_from, AreSums, AreSumsBefore, AreSumsOf, CheckpointSums, HasSums, HasSumsInFront}
 use Rattle.session_store.specs.Trials.{AreTallied, AreTalliedAfter, AreTalliedBefore, IsReplay}
@@ -81,15 +82,6 @@ start_got (segment ∷ segments) first zero place found = omega (arith, same_Som
 start_got (segment ∷ segments) first (suc i) place found =
     omega (arith, start_got segments (first + length segment.steps) i place found, length-append segment.steps (all_steps (take i segments)))
 
-got_start : (segments : List SegmentView) (first i : ℕ) → i < length segments → slice_get (starts first (lengths segments)) i ≡ Some (first + length (all_steps (take i segments)))
-got_start [] first i low = absurd (omega (arith, low))
-got_start (segment ∷ segments) first zero low =
-    let same : first ≡ first + 0 = omega arith in
-    ap (λ n. Some n) same
-got_start (segment ∷ segments) first (suc i) low =
-    let same : first + length segment.steps + length (all_steps (take i segments)) ≡ first + length (segment.steps ++ all_steps (take i segments)) = omega (arith, length-append segment.steps (all_steps (take i segments))) in
-    got_start segments (first + length segment.steps) i (omega (arith, low)) ∙ ap (λ n. Some n) same
-
 starts_many : (first : ℕ) (ns : List ℕ) → length (starts first ns) ≡ length ns
 starts_many first [] = refl
 starts_many first (n ∷ ns) = ap suc (starts_many (first + n) ns)
@@ -135,7 +127,7 @@ module _ (header : Header) (span : ℕ) (segments : List SegmentView) (sums : Ch
 
   -- a checkpoint, by its segment
   place_known : (k : ℕ) → k < length segments → (place : ℕ) × (slice_get (starts 0 (lengths segments)) k ≡ Some place) × (place ≡ length (all_steps (take k segments)))
-  place_known k low = (0 + length (all_steps (take k segments)), got_start segments 0 k low, omega arith)
+  place_known k low = (0 + length (all_steps (take k segments)), starts_at segments 0 k low, omega arith)
 
   pub sums_known : AreSumsOf (kept_of header span segments) sums → AreSums header segments sums
   sums_known are = record {

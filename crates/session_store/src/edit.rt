@@ -75,7 +75,7 @@ pub(crate) fn remake<K: Tracing>(
     let rest = segments.len() - after;
     let mut made = Vec::new(alloc);
     push_cut(alloc, &mut kernel, &mut made, span, rest == 0, steps, meter)?;
-    segments.replace(alloc, before, after, made)?;
+    segments.replace(before, after, made)?;
     let end = segments.replay_from(segments.len() - rest, &mut kernel, meter);
     let replayed = count_steps(&segments.as_slice()[before..end]);
     Ok(Outcome {

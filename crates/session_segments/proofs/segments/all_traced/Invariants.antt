@@ -1,6 +1,3 @@
-use Rattle.std.proofs.Common.{◌≡◌, ◌++◌, length}
-use Rattle.segment_laws.specs.Segments.{all_steps}
-use Rattle.session_segments.specs.Counting.{meter_after}
 use Rattle.session_segments.proofs.Traces.{AreTraced}
 use Rattle.session_segments.proofs.segments.all_traced.Given as goal
 

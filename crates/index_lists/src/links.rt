@@ -12,11 +12,11 @@ pub(crate) struct Link {
     pub next: u32,
 }
 
-/// The list that an item stands in, and its key there.
+/// The list that an item stands in, and its key there (V11 list.h, `xItemValue`).
 #[derive(Clone, Copy, Debug)]
 pub(crate) struct Home {
     pub list: u32,
-    pub key: u64,
+    pub key: u32,
 }
 
 /// So many nodes, each alone in its ring.

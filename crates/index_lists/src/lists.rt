@@ -64,6 +64,10 @@ impl Lists {
         requires lists { length self.old.lists ≡ length other.now.lists }
         ensures { self.new ≡ other.now }
     {
+        // Where there is no list, no item has a neighbour or a home.
+        if self.lens.is_empty() {
+            return;
+        }
         self.links.copy_from_slice(&other.links);
         self.homes.copy_from_slice(&other.homes);
         self.lens.copy_from_slice(&other.lens);
@@ -83,7 +87,7 @@ impl Lists {
 
     /// The item goes after those of a key as low or lower. The list has to be in the order of its
     /// keys, the lowest first.
-    pub fn insert_sorted(&mut self, list: u32, item: u32, key: u64)
+    pub fn insert_sorted(&mut self, list: u32, item: u32, key: u32)
         requires list { list < length self.old.lists }
         requires item { item < self.old.items }
         requires free { list_of item self.old ≡ None }
@@ -156,7 +160,7 @@ impl Lists {
     }
 
     /// The key of the item in its list; none where it is in none.
-    pub fn key_of(&self, item: u32) -> Option<u64>
+    pub fn key_of(&self, item: u32) -> Option<u32>
         requires { item < self.now.items }
         ensures { result ≡ key_of item self.now }
     {
@@ -229,7 +233,7 @@ impl Lists {
     }
 
     // The node before which an item with the key goes.
-    fn place_of(&self, list: u32, key: u64) -> u32
+    fn place_of(&self, list: u32, key: u32) -> u32
         requires { list < length self.now.lists }
         ensures { result
             ≡ first_or (self.now.items + list)

@@ -287,7 +287,7 @@ impl Mutexes {
               self.old.waiters;
         } }
     {
-        let below = (self.priorities - priority) as u64;
+        let below = self.priorities - priority;
         self.lists.insert_sorted(mutex, task, below);
     }
 
@@ -300,7 +300,7 @@ impl Mutexes {
     {
         let task = self.lists.first(mutex)?;
         let below = self.lists.key_of(task)?;
-        let priority = self.priorities - below as u32;
+        let priority = self.priorities - below;
         let wait = MutexWait { mutex, priority };
         Some(Waiter { task, wait })
     }

@@ -71,7 +71,7 @@ fn delays_become_others(rt: HostRuntime) -> Result<(), Fail> {
 }
 
 // The keys of two tasks, in whichever list they stand.
-fn keys(delays: &Delays) -> (Option<u64>, Option<u64>)
+fn keys(delays: &Delays) -> (Option<u32>, Option<u32>)
     requires { delays.now.tasks ≡ 2 }
 {
     let lists = delays.lists();

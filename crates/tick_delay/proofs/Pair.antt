@@ -5,7 +5,6 @@ use Rattle.std.proofs.lemmas.List.{get_or-map, length-map}
 use Rattle.std.proofs.lemmas.List.Elements.{All-nil}
 use Rattle.std.proofs.lemmas.Bool.{eqb-true}
 use Rattle.std.proofs.lemmas.Bool.Decides.{nat_tests}
-use Rattle.std.proofs.lemmas.Option.{same_Some}
 use Rattle.bench_types.specs.declared.kernel_data.Delayed.{Delayed}
 use Rattle.list_orders.proofs.Filters.{list_any-append}
 use Rattle.list_orders.specs.Search.{placed, ranked}
@@ -15,7 +14,7 @@ use Rattle.bench_model.specs.Looks.{left_in}
 use Rattle.bench_model.specs.Until.{ticks_to}
 use Rattle.tick_delay.specs.Parts.{is_waiting, delayed_for, from_list, advanced}
 use Rattle.tick_delay.specs.Shape.{delayed_at, seen_delays, IsTwoTurns, IsDelayShape}
-use Rattle.tick_delay.proofs.Turns.{all_low, came_this, came_next, seen_this, seen_next, turns_without, seen_without, turns_on, turns_wrap, seen_aged, seen_wrap, same_turns}
+use Rattle.tick_delay.proofs.Turns.{came_this, came_next, seen_this, seen_next, turns_without, seen_without, turns_on, turns_wrap, seen_aged, seen_wrap, same_turns}
 
 abbrev passes : ℕ → Listed → Bool
 passes task entry = eqb entry.item task
@@ -188,14 +187,6 @@ has_seen : (tick task : ℕ) (xs : List Listed) → is_waiting task (map (delaye
 has_seen tick task [] = refl
 has_seen tick task (x ∷ xs) = ap (λ b. eqb x.item task || b) (has_seen tick task xs)
 
-low_found : (task key : ℕ) (xs : List Listed) → AllByRecursion (λ (e : Listed). e.key < 2 ^ 32) xs → option_map (λ (e : Listed). e.key) (find (passes task) xs) ≡ Some key → key < 2 ^ 32
-low_found task key [] low none = absurd (cc (none))
-low_found task key (x ∷ xs) low found = at (eqb x.item task) found (low_found task key xs low.1)
-  where
-    at : (b : Bool) → option_map (λ (e : Listed). e.key) (cond b (Some x) (find (passes task) xs)) ≡ Some key → (option_map (λ (e : Listed). e.key) (find (passes task) xs) ≡ Some key → key < 2 ^ 32) → key < 2 ^ 32
-    at true here rest = subst (λ n. n < 2 ^ 32) (same_Some x.key key here) low.0
-    at false later rest = rest later
-
 module _ (tasks tick turn : ℕ) (lists : ListsView) (shape : IsDelayShape tasks tick turn lists) where
   -- the ticks left of a task are those to its key
   pub left_by_key : (task : ℕ) → left_in task (map (delayed_at tick) (from_list turn lists)) ≡ option_map (ticks_to tick) (key_of task lists)
@@ -206,10 +197,6 @@ module _ (tasks tick turn : ℕ) (lists : ListsView) (shape : IsDelayShape tasks
   in_no_list task free =
       let away : (has_item task (list_at lists turn) || has_item task (list_at lists (1 - turn))) ≡ false = sym (list_any-append (passes task) (list_at lists turn) (list_at lists (1 - turn))) ∙ sym (has_seen tick task (from_list turn lists)) ∙ free in
       none_place task turn lists.lists lists.items shape.both shape.turn_low (grind (arith, away)) (grind (arith, away))
-
-  -- a key is a tick count
-  pub key_low : (task key : ℕ) → key_of task lists ≡ Some key → key < 2 ^ 32
-  key_low task key is = low_found task key (from_list turn lists) (all_low tasks tick (list_at lists turn) (list_at lists (1 - turn)) shape.tick_low shape.turns) (ap (option_map (λ (e : Listed). e.key)) (sym (key_found task turn lists.lists shape.both shape.turn_low shape.turns.waiting_tasks.once)) ∙ is)
 
 -- ---- what is seen after a call
 pub seen_pair : (tasks tick turn : ℕ) (lists : ListsView) (xs : List Listed) → from_list turn lists ≡ xs → seen_delays tasks tick turn lists ≡ record { tasks = tasks; tick = tick; delayed = map (delayed_at tick) xs }

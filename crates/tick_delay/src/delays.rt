@@ -115,7 +115,7 @@ impl Delays {
         ensures { result ≡ left_in task self.now.delayed }
     {
         match self.lists.key_of(task) {
-            Some(wake) => Some((wake as u32).wrapping_sub(self.tick)),
+            Some(wake) => Some(wake.wrapping_sub(self.tick)),
             None => None,
         }
     }
@@ -133,7 +133,7 @@ impl Delays {
         } else {
             self.turn
         };
-        self.lists.insert_sorted(list, task, wake as u64);
+        self.lists.insert_sorted(list, task, wake);
     }
     /// The task waits until its wake, which is `inc` ticks after the last one, where that lies
     /// ahead of the tick count. Returns whether it does, and the wake, a tick count. Where it

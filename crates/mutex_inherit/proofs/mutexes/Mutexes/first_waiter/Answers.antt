@@ -11,9 +11,6 @@ returns-in_err-task-clause-first c = rw c.from_residual.ensures (first_none _ _ 
 pub returns-in_err-below-clause-first : goal.returns-in_err-below-clause-first
 returns-in_err-below-clause-first c = absurd (has_key _ _ _ c.self.inside.lists _ c.self.view_is c.self.invariant.waiting c.args.mutex c.in_ok-task.task (sym c.in_ok-task.ensures.first) (sym c.key_of.ensures ∙ c.in_err-below.was))
 
-pub overflow_cast-priority : goal.overflow_cast-priority
-overflow_cast-priority c = omega (arith, c.ranges, key_low _ _ _ c.self.inside.lists _ c.self.view_is c.self.invariant.waiting c.args.mutex c.in_ok-task.task (sym c.in_ok-task.ensures.first) c.in_ok-below.below (sym c.in_ok-below.ensures))
-
 pub overflow_sub-priority : goal.overflow_sub-priority
 overflow_sub-priority c = omega (arith, key_low _ _ _ c.self.inside.lists _ c.self.view_is c.self.invariant.waiting c.args.mutex c.in_ok-task.task (sym c.in_ok-task.ensures.first) c.in_ok-below.below (sym c.in_ok-below.ensures))
 

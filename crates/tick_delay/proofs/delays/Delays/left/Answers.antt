@@ -2,11 +2,8 @@ use Rattle.std.proofs.Common.{◌≡◌, ℕ, ◌+◌, ◌-◌, ◌%◌, option_
 use Rattle.bench_model.specs.Looks.{left_in}
 use Rattle.bench_model.specs.Until.{ticks_to}
 use Rattle.tick_delay.specs.Parts.{DelayView}
-use Rattle.tick_delay.proofs.Pair.{left_by_key, key_low}
+use Rattle.tick_delay.proofs.Pair.{left_by_key}
 use Rattle.tick_delay.proofs.delays.Delays.left.Goals as goal
-
-pub overflow_cast-result : goal.overflow_cast-result
-overflow_cast-result c = omega (arith, key_low _ _ _ _ c.self.invariant c.args.task c.in-Some.wake (sym c.key_of.ensures ∙ c.in-Some.is))
 
 pub returns-in-Some : goal.returns-in-Some
 returns-in-Some c =

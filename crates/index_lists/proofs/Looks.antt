@@ -1,5 +1,5 @@
 -- What is read off the fields: the list of an item, who is first, who is next.
-use Rattle.std.proofs.Common.{◌≡◌, ℕ, zero, suc, ◌+◌, ◌-◌, ◌<◌, ◌≤◌, ◌^◌, Bool, true, false, cond, not, eqb, ltb, List, [], ◌∷◌, ◌++◌, length, map, replicate, set, get_or, take, drop, Option, Some, None, option_map, unwrap_or, refl, sym, ap, subst, ◌∙◌, zero-add, arith}
+use Rattle.std.proofs.Common.{◌≡◌, ℕ, zero, suc, ◌+◌, ◌-◌, ◌<◌, ◌≤◌, ◌^◌, Bool, true, false, cond, not, eqb, ltb, List, [], ◌∷◌, ◌++◌, length, map, replicate, set, get_or, take, drop, Option, Some, None, is_some, option_map, unwrap_or, refl, sym, ap, subst, ◌∙◌, zero-add, arith}
 use Rattle.std.specs.List.{find, position_or_len, after_first, insert, AllByRecursion}
 use Rattle.std.proofs.lemmas.Bool.Decides.{nat_tests}
 use Rattle.std.proofs.lemmas.List.{take-append-drop, get_or_past, get_or_read, get_or-map, length-map, ext_get_or}
@@ -134,6 +134,14 @@ module _ (items : ℕ) (named named_back : List ℕ) (homes : List (Option Home)
       ap (λ n. cond (ltb n items) (Some n) None) (stands_after items named named_back homes lens lists stand l item key xs ys low cut.3)
       ∙ item_or_none l ys below
       ∙ ap first_of (sym (ap (after_first (λ (e : Listed). eqb e.item item)) (found_at item l (held_place item home is) ∙ cut.3) ∙ after-parts item key xs ys apart))
+
+  -- of an item that is in a list
+  pub next_found : (item : ℕ) → is_some (list_of item view) ≡ true → cond (ltb (get_or named item 0) items) (Some (get_or named item 0)) None ≡ next_of item view
+  next_found item listed = at (home_at homes item) refl
+    where
+      at : (h : Option Home) → home_at homes item ≡ h → cond (ltb (get_or named item 0) items) (Some (get_or named item 0)) None ≡ next_of item view
+      at (Some home) is = next_at item home is
+      at None is = absurd (cc (ap is_some (list_of_none item is), listed))
 
   pub next_none : (item : ℕ) → home_at homes item ≡ None → next_of item view ≡ None
   next_none item is = ap (λ row. first_of (after_first (λ (e : Listed). eqb e.item item) row)) (found_at item (length lists) (no_place item is) ∙ get_or_past lists (length lists) [] (omega arith))

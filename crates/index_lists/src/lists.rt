@@ -1,4 +1,4 @@
-ghost use Rattle.std.specs.Prelude.{◌≡◌, ◌↔◌, ℕ, ◌+◌, ◌<◌, ◌≤◌, ◌^◌, ◌∷◌, ◌++◌, [], Some, None, nat_lt, if◌then◌else◌, length, map, drop, slice_index, IsTrue, IfOk, IfSome, nat_le};
+ghost use Rattle.std.specs.Prelude.{◌≡◌, ◌↔◌, ℕ, ◌+◌, ◌<◌, ◌≤◌, ◌^◌, ◌∷◌, ◌++◌, [], Some, None, is_some, true, nat_lt, if◌then◌else◌, length, map, drop, slice_index, IsTrue, IfOk, IfSome, nat_le};
 ghost use Rattle.std.specs.List.{prefix_len, insert};
 ghost use Rattle.list_orders.specs.Search.{placed, ranked};
 ghost use Rattle.index_lists.specs.Listed.{empty_lists, list_at, with_list, list_of, key_of, without_item, items_of, first_of, next_of, lowest_first};
@@ -138,6 +138,21 @@ impl Lists {
             Some(_) => self.item_at(self.links[item as usize].next),
             None => None,
         }
+    }
+
+    /// The item that stands right after this one, which is in a list; none where it is the last of
+    /// it.
+    pub fn next_listed(&self, item: u32) -> Option<u32>
+        requires item { item < self.now.items }
+        requires listed { is_some (list_of item self.now) ≡ true }
+        ensures next { result ≡ next_of item self.now }
+        ensures place { (list k : ℕ) → list < length self.now.lists
+            → k < length (list_at self.now list)
+            → slice_index (items_of (list_at self.now list)) k ≡ item
+            → result ≡ first_of (drop (k + 1) (list_at self.now list)) }
+        ensures item { IfSome result (λ item. item < self.now.items) }
+    {
+        self.item_at(self.links[item as usize].next)
     }
 
     /// How many items the list has.

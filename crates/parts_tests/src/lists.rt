@@ -1,5 +1,8 @@
 //! Items that come to lists and leave them.
+ghost use Rattle.std.specs.Prelude.{◌<◌};
+
 use index_lists::Lists;
+use std::process::Abort;
 use std::test::Fail;
 
 #[test]
@@ -42,7 +45,16 @@ fn equal_keys_stand_in_their_order(rt: HostRuntime) -> Result<(), Fail> {
     assert_eq!(&rt; lists.next(0), Some(2));
     assert_eq!(&rt; lists.next(2), None);
     assert_eq!(&rt; lists.first(0), None);
+    check_next(&rt, &lists, 0, Some(2));
+    check_next(&rt, &lists, 2, None);
     Ok(())
+}
+
+fn check_next(rt: &impl Abort, lists: &Lists, item: u32, next: Option<u32>)
+    requires { item < lists.now.items }
+{
+    assert!(rt; lists.list_of(item).is_some());
+    assert_eq!(rt; lists.next_listed(item), next);
 }
 
 #[test]

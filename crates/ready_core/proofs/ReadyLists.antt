@@ -82,6 +82,14 @@ row_apart lists t p (suc n) low absent =
       | inr away ↦ row_apart lists t p n (omega (arith, low, away)) (grind (arith, both, absent))
     ]
 
+-- a task of a row is in a list
+pub row_listed : (view : ListsView) (t p n : ℕ) → length view.lists ≡ n → p < n → has t (tasks_of view.lists p) ≡ true → is_some (list_of t view) ≡ true
+row_listed view t p n sized low here = at (has t (ready_below view.lists n)) refl
+  where
+    at : (b : Bool) → has t (ready_below view.lists n) ≡ b → is_some (list_of t view) ≡ true
+    at true ready = sym (ready_listed view t n sized) ∙ ready
+    at false absent = absurd (cc (row_apart view.lists t p n low absent, here))
+
 -- the tasks of listings are below the bound
 pub tasks_low : (bound : ℕ) (lists : List (List Listed)) (n : ℕ) → ((p : ℕ) → p < n → IsListing bound (tasks_of lists p)) → AllByRecursion (λ t. t < bound) (ready_below lists n)
 tasks_low bound lists zero listings = tt

@@ -631,7 +631,7 @@ impl Cores {
             if self.is_selectable(core, task) {
                 return Some(task);
             }
-            task = self.lists.next(task)?;
+            task = self.lists.next_listed(task)?;
         }
         None
     }

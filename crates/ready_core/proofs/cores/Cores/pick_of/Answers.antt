@@ -1,11 +1,14 @@
-use Rattle.std.proofs.Common.{◌≡◌, ℕ, zero, suc, ◌+◌, ◌<◌, Bool, false, cond, List, [], ◌∷◌, length, drop, get_or, Some, None, refl, ap, sym, ◌∙◌, arith}
+use Rattle.std.proofs.Common.{◌≡◌, ℕ, zero, suc, ◌+◌, ◌<◌, Bool, true, false, eqb, cond, List, [], ◌∷◌, length, drop, get_or, Some, None, refl, ap, sym, ◌∙◌, arith}
 use Rattle.std.specs.List.{find}
 use Rattle.std.proofs.lemmas.List.{drop_all, length-map}
+use Rattle.std.proofs.lemmas.List.Folds.{list_any_at}
+use Rattle.std.proofs.lemmas.Bool.Decides.{nat_tests}
+use Rattle.list_orders.specs.Search.{has}
 use Rattle.bench_model.specs.Control.{may_select}
 use Rattle.bench_model.specs.Cores.{CoresView}
 use Rattle.index_lists.specs.Listed.{Listed, items_of}
 use Rattle.ready_core.specs.Fields.{control_from, tasks_of, ready_list}
-use Rattle.ready_core.proofs.ReadyLists.{row_at, ready_of}
+use Rattle.ready_core.proofs.ReadyLists.{row_at, ready_of, row_listed}
 use Rattle.ready_core.proofs.Picks.{head_of, head_first}
 use Rattle.ready_core.proofs.cores.Cores.pick_of.Goals as goal
 
@@ -54,6 +57,21 @@ loop-place-init c =
       first = refl;
       in_range = omega (arith, c.in_ok-task.ensures.item, c.self.invariant.items, ap (λ (v : CoresView). length v.control.tasks) view);
     }
+
+pub next_listed-requires-clause-listed : goal.next_listed-requires-clause-listed
+next_listed-requires-clause-listed c =
+    let view = c.self.view_is in
+    let control = control_from c.self.inside.cores.items c.self.inside.tasks.items in
+    let lists = c.self.inside.lists.lists in
+    let p = c.args.priority in
+    let i = c.loop-place._place in
+    let task = c.loop-place.task in
+    let low : p < c.self.inside.priorities = omega (arith, c.requires.priority, ap (λ (v : CoresView). v.priorities) view) in
+    let shown : ready_list p c.args.self.now ≡ tasks_of lists p = ap (ready_list p) (sym view) ∙ ready_of control lists p c.self.inside.priorities c.self.invariant.at_home low in
+    let here = head_drop (ready_list p c.args.self.now) i task (sym c.loop-place.invariant.next) in
+    let same : eqb (get_or (ready_list p c.args.self.now) i 0) task ≡ true = grind (arith, nat_tests, here.1) in
+    let among : has task (tasks_of lists p) ≡ true = ap (λ (xs : List ℕ). has task xs) (sym shown) ∙ list_any_at (λ (m : ℕ). eqb m task) (ready_list p c.args.self.now) i 0 here.0 same in
+    row_listed c.self.inside.lists task p c.self.inside.priorities c.self.invariant.each low among
 
 pub returns-in_err-task-2-clause-first : goal.returns-in_err-task-2-clause-first
 returns-in_err-task-2-clause-first c =

@@ -4,3 +4,4 @@ mod Looks
 mod Moves
 pub mod Paths
 pub mod Places
+mod Turns

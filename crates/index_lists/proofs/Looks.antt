@@ -71,7 +71,7 @@ All-middle P (z ∷ xs) x ys all = All-middle P xs x ys all.1
 
 module _ (items : ℕ) (named named_back : List ℕ) (homes : List (Option Home)) (lens : List ℕ) (lists : List (List Listed)) (stand : StandFor items named named_back homes lens lists) where
   -- the list that holds an item, by its home
-  holder_at : (item : ℕ) (home : Home) → home_at homes item ≡ Some home → (k : ℕ) → k < length lists → has_item item (row_at lists k) ≡ eqb home.list k
+  pub holder_at : (item : ℕ) (home : Home) → home_at homes item ≡ Some home → (k : ℕ) → k < length lists → has_item item (row_at lists k) ≡ eqb home.list k
   holder_at item home is k low = stand.at_home item k low ∙ ap (λ h. is_home h k) is
 
   held_nowhere : (item : ℕ) → home_at homes item ≡ None → (k : ℕ) → k < length lists → has_item item (row_at lists k) ≡ false

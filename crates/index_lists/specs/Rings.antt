@@ -1,5 +1,5 @@
 -- Nodes that name their neighbours.
-use Rattle.std.specs.Prelude.{◌≡◌, ℕ, List, [], ◌∷◌, map, reverse, slice_index}
+use Rattle.std.specs.Prelude.{◌≡◌, ℕ, List, [], ◌∷◌, map, reverse, slice_index, slice_set}
 use Rattle.index_lists.specs.declared.links.Link.{Link}
 
 -- the node that each names as the one after it
@@ -9,6 +9,15 @@ nexts links = map (λ link. link.next) links
 -- the node that each names as the one before it
 abbrev pub prevs : List Link → List ℕ
 prevs links = map (λ link. link.prev) links
+
+-- the neighbours of a node name each other instead of it
+abbrev pub nexts_without : ℕ → List Link → List ℕ
+nexts_without node links =
+    slice_set (nexts links) (slice_index (prevs links) node) (slice_index (nexts links) node)
+
+abbrev pub prevs_without : ℕ → List Link → List ℕ
+prevs_without node links =
+    slice_set (prevs links) (slice_index (nexts links) node) (slice_index (prevs links) node)
 
 -- from one node on each names the following, and the last of them names the end
 abbrev pub IsPath : List ℕ → ℕ → List ℕ → ℕ → Type 0

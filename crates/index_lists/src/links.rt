@@ -1,7 +1,7 @@
 //! The nodes of rings: who stands before and after whom.
 ghost use Rattle.std.specs.Prelude.{◌≡◌, ◌<◌, length, replicate, None, slice_set, slice_index, IfOk};
 ghost use Rattle.list_orders.specs.Search.{numbers};
-ghost use Rattle.index_lists.specs.Rings.{nexts, prevs};
+ghost use Rattle.index_lists.specs.Rings.{nexts, prevs, nexts_without, prevs_without};
 
 use std::alloc::{AllocError, Global};
 
@@ -71,16 +71,33 @@ pub(crate) fn unlink(links: &mut [Link], node: u32)
     requires node { node < length links.old }
     requires next { slice_index (nexts links.old) node < length links.old }
     requires prev { slice_index (prevs links.old) node < length links.old }
-    ensures nexts { nexts links.new
-        ≡ slice_set (nexts links.old) (slice_index (prevs links.old) node)
-        (slice_index (nexts links.old) node) }
-    ensures prevs { prevs links.new
-        ≡ slice_set (prevs links.old) (slice_index (nexts links.old) node)
-        (slice_index (prevs links.old) node) }
+    ensures nexts { nexts links.new ≡ nexts_without node links.old }
+    ensures prevs { prevs links.new ≡ prevs_without node links.old }
     ensures nodes { length links.new ≡ length links.old }
 {
     let Link { prev, next } = links[node as usize];
     join(links, prev, next);
+}
+
+/// The first node leaves its neighbours, and comes to stand right before the second.
+pub(crate) fn move_before(links: &mut [Link], node: u32, next: u32)
+    requires node { node < length links.old }
+    requires next { next < length links.old }
+    requires after { slice_index (nexts links.old) node < length links.old }
+    requires before { slice_index (prevs links.old) node < length links.old }
+    requires prev { slice_index (prevs_without node links.old) next < length links.old }
+    ensures nexts { nexts links.new
+        ≡ slice_set
+        (slice_set (nexts_without node links.old) (slice_index (prevs_without node links.old) next)
+        node) node next }
+    ensures prevs { prevs links.new
+        ≡ slice_set
+        (slice_set (prevs_without node links.old) node
+        (slice_index (prevs_without node links.old) next)) next node }
+    ensures nodes { length links.new ≡ length links.old }
+{
+    unlink(links, node);
+    link_before(links, node, next);
 }
 
 // The second node stands right after the first.

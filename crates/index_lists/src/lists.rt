@@ -4,7 +4,7 @@ ghost use Rattle.list_orders.specs.Search.{placed, ranked};
 ghost use Rattle.index_lists.specs.Listed.{empty_lists, list_at, with_list, list_of, key_of, without_item, items_of, first_of, next_of, lowest_first};
 ghost use Rattle.index_lists.specs.Rings.{first_or};
 
-use crate::links::{Home, Link, link_before, lone_nodes, no_homes, no_lens, unlink};
+use crate::links::{Home, Link, link_before, lone_nodes, move_before, no_homes, no_lens, unlink};
 use std::alloc::{AllocError, Global};
 use std::marker::Model;
 
@@ -83,6 +83,21 @@ impl Lists {
             self.old }
     {
         self.insert(Home { list, key: 0 }, item, self.end_of(list));
+    }
+
+    /// The item, which is in the list, goes to the end of it, with key 0.
+    pub fn move_last(&mut self, list: u32, item: u32)
+        requires list { list < length self.old.lists }
+        requires item { item < self.old.items }
+        requires listed { list_of item self.old ≡ Some list }
+        ensures { self.new
+            ≡ with_list list
+            (without_item item (list_at self.old list) ++ record { item = item; key = 0 } ∷ [])
+            (record self.old { lists = map (without_item item) self.old.lists }) }
+    {
+        let end = self.end_of(list);
+        move_before(&mut self.links, item, end);
+        self.homes[item as usize] = Some(Home { list, key: 0 });
     }
 
     /// The item goes after those of a key as low or lower. The list has to be in the order of its

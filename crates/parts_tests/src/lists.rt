@@ -25,6 +25,19 @@ fn copies_keep_what_leaves(rt: HostRuntime) -> Result<(), Fail> {
 }
 
 #[test]
+fn item_goes_to_the_end(rt: HostRuntime) -> Result<(), Fail> {
+    let mut lists = Lists::new(rt.alloc(), 4, 2)?;
+    lists.push_last(0, 3);
+    lists.push_last(0, 1);
+    lists.move_last(0, 3);
+    assert_eq!(&rt; lists.first(0), Some(1));
+    assert_eq!(&rt; lists.next(1), Some(3));
+    assert_eq!(&rt; lists.next(3), None);
+    assert_eq!(&rt; lists.len(0), 2);
+    Ok(())
+}
+
+#[test]
 fn lists_become_others(rt: HostRuntime) -> Result<(), Fail> {
     let mut lists = Lists::new(rt.alloc(), 4, 2)?;
     let mut others = Lists::new(rt.alloc(), 4, 2)?;

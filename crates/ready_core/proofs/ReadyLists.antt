@@ -1,15 +1,16 @@
 -- What ready lists show as tasks come and go.
-use Rattle.std.proofs.Common.{◌≡◌, ◌≢◌, ℕ, zero, suc, ◌+◌, ◌<◌, ◌≤◌, Bool, true, false, not, eqb, ◌||◌, List, [], ◌∷◌, ◌++◌, length, map, take, get_or, refl, sym, ap, ◌∙◌, arith, append_assoc, inl, inr}
+use Rattle.std.proofs.Common.{◌≡◌, ◌≢◌, ℕ, zero, suc, ◌+◌, ◌<◌, ◌≤◌, Bool, true, false, not, eqb, ◌||◌, List, [], ◌∷◌, ◌++◌, length, map, take, get_or, Option, Some, None, refl, sym, ap, ◌∙◌, arith, append_assoc, inl, inr}
 use Rattle.std.specs.Prelude.{slice_set, is_some}
 use Rattle.std.specs.List.{filter, list_any, AllByRecursion}
 use Rattle.std.proofs.Math.ListN.{get_or-map}
-use Rattle.std.proofs.lemmas.Bool.{cases_eq}
+use Rattle.std.proofs.lemmas.Bool.{cases_eq, eqb-true}
 use Rattle.std.proofs.lemmas.Bool.Decides.{nat_tests}
-use Rattle.std.proofs.lemmas.List.{get_or-set_same, get_or-set_other, map-append, append-nil, take_more, take_all}
+use Rattle.std.proofs.lemmas.List.{length-map, get_or-set_same, get_or-set_other, map-append, append-nil, take_more, take_all}
+use Rattle.std.proofs.lemmas.List.Quantifiers.{position-Some}
 use Rattle.std.proofs.lemmas.List.Elements.{filter-append, recursion_from_All}
 use Rattle.list_orders.specs.Listings.{IsListing}
 use Rattle.list_orders.specs.Search.{placed, without, has}
-use Rattle.list_orders.proofs.Filters.{filter_all, filter_none, filter-map, list_any-append, list_any-map, has-filter, All-append, All-weaker}
+use Rattle.list_orders.proofs.Filters.{filter_all, filter_none, filter-map, list_any-append, list_any-map, has-filter, All-append, All-filter, All-weaker}
 use Rattle.index_lists.specs.Listed.{Listed, ListsView, items_of, has_item, without_item, list_of}
 use Rattle.index_lists.proofs.Frees.{some_list}
 use Rattle.bench_model.specs.Control.{Control, task_at}
@@ -178,3 +179,37 @@ module _ (control : Control) where
             ∙ ap (λ xs. row ++ xs) (placed_last lists r t n later (omega (arith, sized)) (omega (arith, low, away)) is)
             ∙ sym (placed_later t row rest (All-weaker (λ y. has_priority control n y ≡ true) (λ y. rank t ≤ rank y) (λ y h. grind (arith, nat_tests, h, is, low)) row here))
       ]
+
+  -- the list that a ready task is in is that of its priority
+  pub listed_in : (view : ListsView) (t n : ℕ) → length view.lists ≡ n → AreAtHome view.lists n → has t (ready_below view.lists n) ≡ true → list_of t view ≡ Some (rank t)
+  listed_in view t n sized home ready = at (list_of t view) refl
+    where
+      in_row : (xs : List ℕ) (p : ℕ) → AllByRecursion (λ task. has_priority control p task ≡ true) xs → has t xs ≡ true → rank t ≡ p
+      in_row [] p all there = absurd (cc (there))
+      in_row (x ∷ xs) p all there = elim (cases_eq x t) [
+        | inl same ↦ ap rank (sym same) ∙ eqb-true (rank x) p all.0
+        | inr other ↦ in_row xs p all.1 (grind (arith, nat_tests, there, other))
+      ]
+
+      at : (o : Option ℕ) → list_of t view ≡ o → o ≡ Some (rank t)
+      at None is = absurd (cc (ap is_some is, sym (ready_listed view t n sized), ready))
+      at (Some p) is =
+          let found = position-Some (has_item t) view.lists p [] is in
+          ap Some (sym (in_row (tasks_of view.lists p) p (home p (omega (arith, sized, found.0))) (list_any-map (λ m. eqb m t) (λ (e : Listed). e.item) (row_at view.lists p) ∙ found.1)))
+
+  -- a task that goes to the end of the list of its priority is placed among the other ready tasks
+  pub placed_turned : (lists : List (List Listed)) (r t n : ℕ) → AreAtHome lists n → n ≤ length lists → r < n → rank t ≡ r → ready_below (slice_set (map (without_item t) lists) r (without_item t (row_at lists r) ++ record { item = t; key = 0 } ∷ [])) n ≡ placed (outranks control) t (without t (ready_below lists n))
+  placed_turned lists r t n home sized low is =
+      let left = map (without_item t) lists in
+      let kept : AreAtHome left n = λ p below. rw (without_row lists t p) (All-filter (λ task. has_priority control p task ≡ true) (λ m. not (eqb m t)) (tasks_of lists p) (home p below)) in
+      ap (λ (row : List Listed). ready_below (slice_set left r (row ++ record { item = t; key = 0 } ∷ [])) n) (sym (get_or-map (without_item t) lists r []))
+      ∙ placed_last left r t n kept (omega (arith, sized, length-map lists (without_item t))) low is
+      ∙ ap (placed (outranks control) t) (ready_without lists t n)
+
+-- a list without a task that it doesn't have
+pub without_absent : (t : ℕ) (xs : List ℕ) → has t xs ≡ false → without t xs ≡ xs
+without_absent t [] absent = refl
+without_absent t (x ∷ xs) absent =
+    let other : eqb x t ≡ false = grind (arith, absent) in
+    let rest : without t xs ≡ xs = without_absent t xs (grind (arith, absent)) in
+    grind (arith, other, rest)

@@ -3,6 +3,7 @@ use Rattle.std.proofs.Common.{◌≡◌, ◌≢◌, ℕ, ◌*◌, ◌<◌, ◌%�
 use Rattle.std.specs.Prelude.{slice_set, nat_lt}
 use Rattle.std.specs.Int.{bit_not}
 use Rattle.std.specs.List.{All, AllByRecursion}
+use Rattle.std.proofs.Math.ListN.{get_or-map}
 use Rattle.std.proofs.lemmas.Bool.{cases_eq, cases_lt, eqb-true}
 use Rattle.std.proofs.lemmas.Bool.Decides.{nat_tests}
 use Rattle.std.proofs.lemmas.List.{length-map, length-set, get_or_past, get_or-set_same, get_or-set_other}
@@ -13,7 +14,7 @@ use Rattle.bench_types.specs.declared.kernel_data.TaskControl.{TaskControl}
 use Rattle.list_orders.specs.Listings.{IsListing}
 use Rattle.list_orders.specs.Search.{without, has}
 use Rattle.list_orders.proofs.Filters.{All-filter, All-append, All-weaker, filter_all}
-use Rattle.list_orders.proofs.Listings.{listing_without, listing_push}
+use Rattle.list_orders.proofs.Listings.{listing_without, listing_push, has-without}
 use Rattle.list_orders.proofs.Stamped.{length_filter}
 use Rattle.index_lists.specs.Listed.{Listed, ListsView, list_at, with_list, without_item, items_of}
 use Rattle.bench_model.specs.Control.{Control, task_at, current}
@@ -22,13 +23,31 @@ use Rattle.order_laws.proofs.ControlBlocks.{block_other, in_use_kept}
 use Rattle.ready_core.specs.Fields.{control_from, tasks_of, ready_below, has_priority, has_seat, is_set}
 use Rattle.ready_core.specs.Shape.{IsShape}
 use Rattle.ready_core.proofs.Seats.{bit_cleared}
-use Rattle.ready_core.proofs.ReadyLists.{pushed_same, pushed_other, without_row, row_apart}
+use Rattle.ready_core.proofs.ReadyLists.{pushed_same, pushed_other, without_row, row_apart, ready_without}
 
 abbrev no_task : TaskControl
 no_task = record { base = 0; in_use = 0; mask = 0; preempt = false }
 
 abbrev no_look : CoreLook
 no_look = record { current = 0; pend = false; asked = false }
+
+-- only the bits of priorities count
+same_bits : (priorities : ℕ) (cores : List CoreLook) (tasks : List TaskControl) (view : ListsView) (listed : ℕ) (seats : List ℕ) → IsShape priorities cores tasks view listed seats → (bits : ℕ) → ((p : ℕ) → p < 32 → is_set bits p ≡ is_set listed p) → IsShape priorities cores tasks view bits seats
+same_bits priorities cores tasks view listed seats shape bits same = record {
+  few_cores = shape.few_cores;
+  few_tasks = shape.few_tasks;
+  few_priorities = shape.few_priorities;
+  running = shape.running;
+  in_use = shape.in_use;
+  base = shape.base;
+  items = shape.items;
+  each = shape.each;
+  at_home = shape.at_home;
+  listings = shape.listings;
+  bits = λ p under. same p under ∙ shape.bits p under;
+  seated = shape.seated;
+  at_core = shape.at_core;
+}
 
 module _ (priorities : ℕ) (cores : List CoreLook) (tasks : List TaskControl) (view : ListsView) (listed : ℕ) (seats : List ℕ) (shape : IsShape priorities cores tasks view listed seats) where
   abbrev control : Control
@@ -249,3 +268,48 @@ module _ (priorities : ℕ) (cores : List CoreLook) (tasks : List TaskControl) (
       seated = length-set risen task _ ∙ length-set seats left_by _ ∙ shape.seated;
       at_core = taken_at is_left is;
     }
+
+module _ (priorities : ℕ) (cores : List CoreLook) (tasks : List TaskControl) (view : ListsView) (listed : ℕ) (seats : List ℕ) (shape : IsShape priorities cores tasks view listed seats)
+    (t r : ℕ) (is : r ≡ rank priorities cores tasks view listed seats shape t) (low : r < priorities) where
+  abbrev gone_lists : List (List Listed)
+  gone_lists = map (without_item t) view.lists
+
+  abbrev cleared_bits : ℕ
+  cleared_bits = bit_and listed (bit_not w32 (1 * 2 ^ r % 4294967296))
+
+  bit_low : r < 32
+  bit_low = omega (arith, low, shape.few_priorities)
+
+  -- a ready task goes to the end of its list, which is not empty before and after
+  pub shape_turned : t < length tasks → has t (tasks_of view.lists r) ≡ true → IsShape priorities cores tasks (with_list r (without_item t (list_at view r) ++ record { item = t; key = 0 } ∷ []) (record view { lists = gone_lists })) listed seats
+  shape_turned below there = elim (cases_eq (length (tasks_of gone_lists r)) 0) [
+    | inl none ↦ back cleared_bits (shape_emptied priorities cores tasks view listed seats shape t r is low none) (λ p under away. ap (λ b. eqb b 1) (bit_at_clear_other w32 listed r bit_low p under away))
+    | inr some ↦ back listed (shape_left priorities cores tasks view listed seats shape t r is low some) (λ p under away. refl)
+  ]
+    where
+      gone : ListsView
+      gone = record view { lists = gone_lists }
+
+      absent : has t (ready_below gone_lists priorities) ≡ false
+      absent = ap (has t) (ready_without view.lists t priorities) ∙ has-without t (ready_below view.lists priorities)
+
+      row_is : list_at gone r ≡ without_item t (list_at view r)
+      row_is = get_or-map (without_item t) view.lists r []
+
+      some_there : (xs : List ℕ) → has t xs ≡ true → ltb 0 (length xs) ≡ true
+      some_there [] has_it = absurd (cc (has_it))
+      some_there (x ∷ xs) has_it = grind (arith, nat_tests)
+
+      its_bit : is_set listed r ≡ true
+      its_bit = shape.bits r bit_low ∙ some_there (tasks_of view.lists r) there
+
+      back : (bits : ℕ) → IsShape priorities cores tasks gone bits seats → ((p : ℕ) → p < 32 → p ≢ r → is_set bits p ≡ is_set listed p) → IsShape priorities cores tasks (with_list r (without_item t (list_at view r) ++ record { item = t; key = 0 } ∷ []) gone) listed seats
+      back bits parted others =
+          subst (λ (row : List Listed). IsShape priorities cores tasks (with_list r (row ++ record { item = t; key = 0 } ∷ []) gone) listed seats) row_is
+          (same_bits priorities cores tasks (with_list r (list_at gone r ++ record { item = t; key = 0 } ∷ []) gone) (bit_or bits (1 * 2 ^ r % 4294967296)) seats (shape_push priorities cores tasks gone bits seats parted t r is low below absent) listed one)
+        where
+          one : (p : ℕ) → p < 32 → is_set listed p ≡ is_set (bit_or bits (1 * 2 ^ r % 4294967296)) p
+          one p under = elim (cases_eq p r) [
+            | inl same ↦ rw same (its_bit ∙ sym (ap (λ b. eqb b 1) (bit_at_set_same w32 bits r bit_low)))
+            | inr away ↦ sym (others p under away) ∙ sym (ap (λ b. eqb b 1) (bit_at_set_other w32 bits r bit_low p away))
+          ]

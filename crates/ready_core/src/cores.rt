@@ -289,7 +289,7 @@ impl Cores {
         requires { task < length self.old.control.tasks }
         ensures { self.new ≡ cores_rule (wake list_queues acting task) self.old }
     {
-        self.move_last(task);
+        self.put_last(task);
         self.seek(acting, task, self.mask(task));
     }
 
@@ -655,15 +655,30 @@ impl Cores {
         None
     }
 
-    // The task goes to the end of the ready list of its priority in use.
+    // A ready task goes to the end of the ready list of its priority in use.
     fn move_last(&mut self, task: u32)
+        requires task { task < length self.old.control.tasks }
+        requires ready { has task self.old.ready ≡ true }
+        ensures { self.new ≡ record self.old {
+          ready = placed (outranks self.old.control) task (without task self.old.ready);
+        } }
+    {
+        let priority = self.in_use(task);
+        self.lists.move_last(priority, task);
+    }
+
+    // The task, ready or not, goes to the end of the ready list of its priority in use.
+    fn put_last(&mut self, task: u32)
         requires { task < length self.old.control.tasks }
         ensures { self.new ≡ record self.old {
           ready = placed (outranks self.old.control) task (without task self.old.ready);
         } }
     {
-        self.unready(task);
-        self.push(task);
+        if self.ready(task) {
+            self.move_last(task);
+        } else {
+            self.push(task);
+        }
     }
 
     fn run(&mut self, core: u32, task: u32)
@@ -723,27 +738,31 @@ impl Cores {
             (length
             (ready_in list_queues (task_at self.now.control task).in_use (bare_view self.now)))) }
     {
-        self.ready(task) && self.lists.len(self.in_use(task)) > 1
+        self.ready(task) & (self.lists.len(self.in_use(task)) > 1)
     }
 
-    // Whether the core's task has to share its time with another of its priority.
+    // Whether the core's task has to share its time with another of its priority. Each question is
+    // asked, since no processor foresees the answers: a jump costs more.
     fn shares_its_time(&self, core: u32) -> bool
         requires { core < length self.now.control.cores }
         ensures { result ≡ shares_its_time list_queues (bare_view self.now) core }
     {
         let look = self.flags(core);
         let runs = self.running(core);
-        !look.pend && !look.asked && self.preempt(runs) && self.has_company(runs)
+        let is_due = look.pend | look.asked;
+        !is_due & self.preempt(runs) & self.has_company(runs)
     }
 
+    // The core is asked where its task has to share its time, without a jump.
     fn end_slice(&mut self, core: u32)
         requires { core < length self.old.control.cores }
         ensures { self.new
             ≡ (if shares_its_time list_queues (bare_view self.old) core
             then record self.old { control = ask 0 core self.old.control } else self.old) }
     {
-        if self.shares_its_time(core) {
-            self.ask(0, core);
-        }
+        let shares = self.shares_its_time(core);
+        let look = &mut self.cores[core as usize];
+        look.pend |= shares & (core == 0);
+        look.asked |= shares & (core != 0);
     }
 }

@@ -7,8 +7,8 @@ use Rattle.bench_types.specs.declared.reply.Reply.TheVariants.{Refused}
 use Rattle.bench_types.specs.declared.reply.Refusal.{Refusal}
 use Rattle.bench_types.specs.declared.reply.Refusal.TheVariants.{NotHolder}
 use Rattle.bench_types.specs.declared.step.Call.TheVariants.{MutexGive}
+use Rattle.bench_types.specs.declared.step.Call.{Call}
 use Rattle.bench_types.specs.declared.step.Step.{Step}
-use Rattle.bench_types.specs.declared.step.Step.TheVariants.{Tick, Switch, Interrupt}
 use Rattle.bench_types.specs.declared.step.Step.TheVariants as steps
 use Rattle.bench_types.specs.Step.{step_check, core_check, task_check, call_check, ◌>>◌}
 use Rattle.bench_types.specs.Limits.{max_depth}
@@ -21,7 +21,7 @@ use Rattle.bench_model.specs.Steps.{performed, after}
 use Rattle.bench_model.specs.Lists.{View, list_queues}
 use Rattle.bench_types.proofs.Passes.{both_pass, checked_core, checked_task}
 use Rattle.step_laws.proofs.Holds.{its_hold, accepted}
-use Rattle.smp_kernel.specs.Kernel.{IsSettled, CallFits}
+use Rattle.smp_kernel.specs.Kernel.{IsSettled, FindsItsTask}
 
 -- a task that may give a mutex holds it itself, if a task does
 pub own_mutex : (holders : List (Option ℕ)) (task mutex : ℕ) → give_refusal holders task (MutexGive mutex) ≡ None → ForSome (holder_at holders mutex) (λ holder. holder ≡ task)
@@ -48,10 +48,8 @@ depth_most view settled = at view.hold refl
     at None free = omega arith
     at (Some hold) is = (settled.held hold is).depth
 
-pub finds_its_place : (step : Step) (view : View) → IsSettled view → step_check view.settings step ≡ Ok tt → refusal list_queues step view ≡ None → CallFits view step
-finds_its_place Tick view settled passes none = settled.none_due
-finds_its_place (Switch core) view settled passes none = checked_core view.settings core passes
-finds_its_place (steps.Call core task call) view settled passes none =
+pub finds_its_task : (core task : ℕ) (call : Call) (view : View) → IsSettled view → step_check view.settings (steps.Call core task call) ≡ Ok tt → refusal list_queues (steps.Call core task call) view ≡ None → FindsItsTask view core task call
+finds_its_task core task call view settled passes none =
     let both = both_pass (core_check view.settings core >> task_check view.settings task) (call_check view.settings call) passes in
     let in_range = both_pass (core_check view.settings core) (task_check view.settings task) both.0 in
     let low = checked_core view.settings core in_range.0 in
@@ -65,9 +63,6 @@ finds_its_place (steps.Call core task call) view settled passes none =
       depth = depth_most view settled;
       mutexes = settled.mutexes;
     }
-finds_its_place (Interrupt core note) view settled passes none =
-    let both = both_pass (core_check view.settings core) (task_check view.settings note.task) passes in
-    (checked_core view.settings core both.0, (checked_task view.settings note.task both.1).1)
 
 pub after_refused : (step : Step) (view : View) (why : Refusal) → refusal list_queues step view ≡ Some why → (Refused why, view) ≡ after list_queues step view
 unfolding after

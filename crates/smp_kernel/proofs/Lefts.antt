@@ -1,10 +1,9 @@
 -- What is left to deadlines as ticks pass.
-use Rattle.std.proofs.Common.{◌≡◌, ◌<◌, ◌≤◌, ◌+◌, ◌-◌, ℕ, zero, suc, List, [], ◌∷◌, map, replicate, length, get_or, Option, None, Some, refl, sym, ap, ◌∙◌, arith}
-use Rattle.std.specs.List.{All}
+use Rattle.std.proofs.Common.{◌≡◌, ◌<◌, ◌≤◌, ◌+◌, ◌-◌, ℕ, zero, suc, Bool, List, [], ◌∷◌, map, replicate, length, get_or, Option, None, Some, refl, sym, ap, ◌∙◌, arith}
 use Rattle.std.specs.Option.{ForSome}
 use Rattle.std.proofs.lemmas.List.{get_or-map, length-map}
 use Rattle.std.proofs.lemmas.Option.{same_Some}
-use Rattle.smp_kernel.specs.Deadlines.{one_less, left_after, lefts, AreNear}
+use Rattle.smp_kernel.specs.Deadlines.{one_less, left_after, lefts, AreNear, AreNone}
 
 pub map_replicate : {A B : Type 0} (f : A → B) (n : ℕ) (a : A) → map f (replicate n a) ≡ replicate n (f a)
 map_replicate f zero a = refl
@@ -29,3 +28,8 @@ near_anew passed ends near k d low end is =
     at : (old : Option ℕ) → ForSome old (λ end. end ≤ passed + 4294967295) → ForSome (left_after passed old) (λ end. end ≤ 1 + 4294967295)
     at None near end is = absurd (cc is)
     at (Some old) near end is = let bound = near old refl in let same = same_Some (old - passed) end is in omega (arith, bound, same)
+
+-- where there is no deadline, none is left as the count begins anew
+pub none_anew : (passed : ℕ) (ends : List (Option ℕ)) (some : Bool) → AreNone some ends → AreNone some (lefts passed ends)
+none_anew passed ends some none off =
+    ap (lefts passed) (none off) ∙ map_replicate (left_after passed) (length ends) None ∙ ap (λ n. replicate n None) (sym (length-map ends (left_after passed)))

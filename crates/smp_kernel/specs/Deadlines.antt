@@ -1,5 +1,5 @@
 -- The deadlines of unfinished waits for mutexes.
-use Rattle.std.specs.Prelude.{◌≤◌, ℕ, ◌+◌, ◌-◌, List, All, Option, map, option_map}
+use Rattle.std.specs.Prelude.{◌≡◌, ◌≤◌, ℕ, ◌+◌, ◌-◌, Bool, false, List, All, Option, None, length, map, option_map, replicate}
 use Rattle.std.specs.Option.{ForSome}
 
 -- one tick less is left to a deadline, and none to one that is reached
@@ -17,3 +17,7 @@ lefts passed ends = map (left_after passed) ends
 -- no deadline is further ahead than the ticks of a wait can be
 abbrev pub AreNear : ℕ → List (Option ℕ) → Type 0
 AreNear passed ends = All (λ end. ForSome end (λ end. end ≤ passed + 4294967295)) ends
+
+-- where no task may have a deadline, none has
+abbrev pub AreNone : Bool → List (Option ℕ) → Type 0
+AreNone some ends = some ≡ false → ends ≡ replicate (length ends) None

@@ -8,8 +8,6 @@ use Rattle.bench_types.specs.declared.kernel_data.Settings.{Settings}
 use Rattle.bench_types.specs.declared.kernel_data.Waiter.{Waiter}
 use Rattle.bench_types.specs.declared.note.Notification.{Notification}
 use Rattle.bench_types.specs.declared.step.Call.{Call}
-use Rattle.bench_types.specs.declared.step.Step.{Step}
-use Rattle.bench_types.specs.declared.step.Step.TheVariants as step
 use Rattle.bench_types.specs.declared.step.Unfinished.{Unfinished}
 use Rattle.bench_types.specs.declared.step.Unfinished.TheVariants.{Take}
 use Rattle.bench_types.specs.Step.{call_check}
@@ -133,15 +131,6 @@ pub record FindsItsTask (view : View) (core task : ℕ) (call : Call) : Type 0 w
   pub own : give_refusal view.holders task call ≡ None
   pub depth : depth_of view.hold ≤ max_depth
   pub mutexes : HasTheirMutexes view
-
--- what a step finds that is not refused: no task that is due, its core, for a call its task, and
--- for an interrupt the task that it notifies
-abbrev pub CallFits : View → Step → Type 0
-CallFits view step.Tick = due_tasks view.orders.delayed ≡ []
-CallFits view (step.Switch core) = core < view.settings.cores
-CallFits view (step.Call core task call) = FindsItsTask view core task call
-CallFits view (step.Interrupt core note) =
-    (core < view.settings.cores) × (note.task < view.settings.tasks)
 
 -- there is a sound table that a kernel of which this can be seen stands for
 abbrev pub StandsForSome : View → Type 0

@@ -1,6 +1,6 @@
-ghost use Rattle.std.specs.Prelude.{◌≡◌, ◌↔◌, ◌<◌, ◌≤◌, ◌+◌, length, map, replicate, None, slice_index_or, slice_set, IsTrue, IfOk};
+ghost use Rattle.std.specs.Prelude.{◌≡◌, ◌↔◌, ◌<◌, ◌≤◌, ◌+◌, Bool, length, map, replicate, None, slice_index_or, slice_set, IsTrue, IfOk};
 ghost use Rattle.std.specs.Option.{ForSome};
-ghost use Rattle.smp_kernel.specs.Deadlines.{one_less, left_after, lefts, AreNear};
+ghost use Rattle.smp_kernel.specs.Deadlines.{one_less, left_after, lefts, AreNear, AreNone};
 
 use std::alloc::{AllocError, Global};
 use std::marker::Model;
@@ -13,20 +13,23 @@ use std::marker::Model;
 pub struct Deadlines {
     /// The ticks that have passed since the count began.
     passed: u64,
+    /// Whether a task may have a deadline. Where none may, a copy leaves the ends out.
+    some: bool,
     /// Per task what that count is at its deadline.
     ends: Vec<Option<u64>>,
 }
 
 impl Model for Deadlines {
     ghost use Rattle.std.specs.Prelude.{◌≤◌, ℕ, List, Option};
-    ghost use Rattle.smp_kernel.specs.Deadlines.{AreNear, lefts};
+    ghost use Rattle.smp_kernel.specs.Deadlines.{AreNear, AreNone, lefts};
 
     ghost Value = { List (Option ℕ) };
 
     ghost view = { λ deadlines. lefts deadlines.passed deadlines.ends.items };
 
     ghost invariant = { λ deadlines. (deadlines.passed ≤ 18446744069414584320)
-        × AreNear deadlines.passed deadlines.ends.items };
+        × AreNear deadlines.passed deadlines.ends.items
+        × AreNone deadlines.some deadlines.ends.items };
 }
 
 /// The count begins anew once it is this, so that every deadline fits.
@@ -39,6 +42,7 @@ impl Deadlines {
     {
         Ok(Deadlines {
             passed: 0,
+            some: false,
             ends: vec![in alloc; None; tasks as usize]?,
         })
     }
@@ -49,6 +53,7 @@ impl Deadlines {
     {
         Ok(Deadlines {
             passed: self.passed,
+            some: self.some,
             ends: Vec::from_slice(alloc, &self.ends)?,
         })
     }
@@ -59,7 +64,10 @@ impl Deadlines {
         ensures { self.new ≡ other.now }
     {
         self.passed = other.passed;
-        self.ends.copy_from_slice(&other.ends);
+        if self.some || other.some {
+            self.some = other.some;
+            self.ends.copy_from_slice(&other.ends);
+        }
     }
 
     /// Whether the deadlines of all tasks are equal.
@@ -85,6 +93,7 @@ impl Deadlines {
         requires { task < length self.old }
         ensures { self.new ≡ slice_set self.old task left }
     {
+        self.some |= left.is_some();
         self.ends[task as usize] = end_after(left, self.passed);
     }
 
@@ -113,6 +122,7 @@ fn next_count(passed: u64, ends: &mut [Option<u64>]) -> u64
     requires near { AreNear passed ends.old }
     ensures lefts { lefts result ends.new ≡ map one_less (lefts passed ends.old) }
     ensures near { AreNear result ends.new }
+    ensures none { (some : Bool) → AreNone some ends.old → AreNone some ends.new }
     ensures most { result ≤ 18446744069414584320 }
 {
     if passed < MOST_PASSED {

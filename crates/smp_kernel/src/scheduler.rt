@@ -4,6 +4,8 @@ ghost use Rattle.bench_types.specs.Header.{header_check};
 ghost use Rattle.bench_types.specs.Step.{call_check, step_check, IsStepOfWords};
 ghost use Rattle.bench_types.specs.Limits.{max_cores, max_depth};
 ghost use Rattle.bench_types.specs.declared.step.Call.TheVariants.{Delay};
+ghost use Rattle.bench_types.specs.declared.step.Step.TheVariants.{Tick, Switch, Interrupt};
+ghost use Rattle.bench_types.specs.declared.step.Step.TheVariants as steps;
 ghost use Rattle.bench_types.specs.declared.step.Unfinished.TheVariants.{Made};
 ghost use Rattle.list_orders.specs.Search.{placed, has};
 ghost use Rattle.bench_model.specs.Control.{core_at, current, is_allowed, task_at};
@@ -17,7 +19,7 @@ ghost use Rattle.bench_model.specs.Lists.{list_queues, is_ready, wakes_first, ad
 ghost use Rattle.bench_model.specs.Looks.{look_in};
 ghost use Rattle.bench_model.specs.Tally.{is_current};
 ghost use Rattle.tick_delay.specs.Parts.{is_waiting};
-ghost use Rattle.smp_kernel.specs.Kernel.{HasTheirMutexes, IsSettled, CallFits};
+ghost use Rattle.smp_kernel.specs.Kernel.{HasTheirMutexes, IsSettled};
 
 mod equal;
 mod holds;
@@ -28,7 +30,9 @@ mod refusals;
 mod sets;
 
 use crate::deadlines::Deadlines;
-use bench_types::{Call, CoreLook, Header, Hold, Reply, Settings, Step, TaskLook, Unfinished};
+use bench_types::{
+    Call, CoreLook, Header, Hold, Note, Reply, Settings, Step, TaskLook, Unfinished,
+};
 use mutex_inherit::Mutexes;
 use notify_core::Notes;
 use ready_core::Cores;
@@ -218,31 +222,65 @@ impl Scheduler {
         ensures made { (result, self.new) ≡ after list_queues step.now self.old }
         ensures words { IsStepOfWords step.now }
     {
-        match self.refusal(*step) {
-            Some(why) => Reply::Refused(why),
-            None => self.perform(step),
+        match *step {
+            Step::Tick => self.make_tick(),
+            Step::Switch { core } => self.make_switch(core),
+            Step::Call { core, task, call } => self.make_call(core, task, call),
+            Step::Interrupt { core, note } => self.make_interrupt(core, note),
         }
     }
 
-    // What a step that is not refused answers and does.
+    // A tick is never refused.
     #[inline(always)]
-    #[tactic(auto, unfolding(bench_model::specs::Steps::performed))]
-    fn perform(&mut self, step: &Step) -> Reply
-        requires { CallFits self.old step.now }
-        ensures { (result, self.new) ≡ performed list_queues step.now self.old }
+    #[tactic(auto, unfolding(bench_model::specs::Steps::after, bench_model::specs::Steps::performed, bench_model::specs::Refusals::refusal))]
+    fn make_tick(&mut self) -> Reply
+        requires { IsSettled self.old }
+        ensures made { (result, self.new) ≡ after list_queues Tick self.old }
+        ensures words { IsStepOfWords Tick }
     {
-        match step {
-            Step::Tick => {
-                self.tick();
+        self.tick();
+        Reply::Done
+    }
+
+    // The core is asked to switch, which a core that holds the kernel keeps out.
+    #[inline(always)]
+    fn make_switch(&mut self, core: u32) -> Reply
+        requires { core < self.old.settings.cores }
+        ensures made { (result, self.new) ≡ after list_queues (Switch core) self.old }
+        ensures words { IsStepOfWords (Switch core) }
+    {
+        match self.switch_refusal(core) {
+            Some(why) => Reply::Refused(why),
+            None => {
+                self.switch(core);
                 Reply::Done
             }
-            Step::Switch { core } => {
-                self.switch(*core);
-                Reply::Done
-            }
-            Step::Call { core, task, call } => self.call(*core, *task, call),
-            Step::Interrupt { core, note } => self.interrupt(*core, *note),
         }
+    }
+
+    // The task makes the call on the core.
+    #[inline(always)]
+    fn make_call(&mut self, core: u32, task: u32, call: Call) -> Reply
+        requires checked { step_check self.old.settings (steps.Call core task call) ≡ Ok tt }
+        requires settled { IsSettled self.old }
+        ensures made { (result, self.new) ≡ after list_queues (steps.Call core task call) self.old }
+        ensures words { IsStepOfWords (steps.Call core task call) }
+    {
+        match self.call_refusal(core, task, call) {
+            Some(why) => Reply::Refused(why),
+            None => self.call(core, task, call),
+        }
+    }
+
+    // An interrupt is never refused.
+    #[inline(always)]
+    #[tactic(auto, unfolding(bench_model::specs::Steps::after, bench_model::specs::Steps::performed, bench_model::specs::Refusals::refusal))]
+    fn make_interrupt(&mut self, core: u32, note: Note) -> Reply
+        requires { step_check self.old.settings (Interrupt core note) ≡ Ok tt }
+        ensures made { (result, self.new) ≡ after list_queues (Interrupt core note) self.old }
+        ensures words { IsStepOfWords (Interrupt core note) }
+    {
+        self.interrupt(core, note)
     }
 
     // One tick more. Each task that has waited long enough then is woken, and then time slices end.
@@ -295,17 +333,17 @@ impl Scheduler {
     // What a call that is not refused answers and does.
     #[inline(always)]
     #[tactic(auto, unfolding(bench_model::specs::Steps::called))]
-    fn call(&mut self, core: u32, task: u32, call: &Call) -> Reply
+    fn call(&mut self, core: u32, task: u32, call: Call) -> Reply
         requires core { core < self.old.settings.cores }
         requires task { task < self.old.settings.tasks }
         requires ready { has task self.old.orders.ready ≡ true }
-        requires checked { call_check self.old.settings call.now ≡ Ok tt }
-        requires own { give_refusal self.old.holders task call.now ≡ None }
+        requires checked { call_check self.old.settings call ≡ Ok tt }
+        requires own { give_refusal self.old.holders task call ≡ None }
         requires depth { depth_of self.old.hold ≤ max_depth }
         requires mutexes { HasTheirMutexes self.old }
-        ensures { (result, self.new) ≡ called list_queues core task call.now self.old }
+        ensures { (result, self.new) ≡ called list_queues core task call self.old }
     {
-        match *call {
+        match call {
             Call::Yield => self.ask_itself(core),
             Call::PrioritySet { task, priority } => self.set_priority(core, task, priority),
             Call::AffinitySet { task, mask } => self.set_affinity(core, task, mask),
@@ -317,9 +355,9 @@ impl Scheduler {
             Call::DelayUntil { prev, inc } => return self.delay_until(core, task, prev, inc),
             Call::Notify(note) => return Reply::Flag(self.notify(core, note)),
             Call::NotifyWait { entry, ticks, .. } => return self.wait(
-                core, task, *call, entry, ticks,
+                core, task, call, entry, ticks,
             ),
-            Call::NotifyTake { ticks, .. } => return self.take(core, task, *call, ticks),
+            Call::NotifyTake { ticks, .. } => return self.take(core, task, call, ticks),
             Call::MutexTake { mutex, ticks } => return self.take_mutex(core, task, mutex, ticks),
             Call::MutexGive(mutex) => return self.give_mutex(core, task, mutex),
             Call::StateClear(task) => return self.clear_state(task),

@@ -1,7 +1,8 @@
 //! Why a step is refused.
 ghost use Rattle.std.specs.Prelude.{◌≡◌, ◌<◌, Ok};
-ghost use Rattle.bench_types.specs.Step.{call_check, step_check, IsStepOfWords};
+ghost use Rattle.bench_types.specs.Step.{call_check, step_check};
 ghost use Rattle.bench_types.specs.declared.step.Step.TheVariants.{Switch};
+ghost use Rattle.bench_types.specs.declared.step.Step.TheVariants as steps;
 ghost use Rattle.bench_model.specs.Control.{is_due};
 ghost use Rattle.bench_model.specs.Lists.{list_queues};
 ghost use Rattle.bench_model.specs.Refusals.{call_refusal, give_refusal, would_block, hold_refusal, own_refusal, refusal};
@@ -9,28 +10,26 @@ ghost use Rattle.bench_model.specs.Refusals.{call_refusal, give_refusal, would_b
 use super::Scheduler;
 use bench_model::notes::is_received;
 use bench_model::until::{is_ahead, next_wake};
-use bench_types::{Call, MAX_DEPTH, Refusal, Step, Unfinished};
+use bench_types::{Call, MAX_DEPTH, Refusal, Unfinished};
 
 impl Scheduler {
-    // The first reason that applies. A core that holds the kernel keeps out switches and the calls
-    // of others.
+    // A core that holds the kernel keeps out the calls of others.
     #[inline(always)]
     #[tactic(auto, unfolding(bench_model::specs::Refusals::refusal))]
-    pub(super) fn refusal(&self, step: Step) -> Option<Refusal>
-        requires { step_check self.now.settings step ≡ Ok tt }
-        ensures reason { result ≡ refusal list_queues step self.now }
-        ensures words { IsStepOfWords step }
+    pub(super) fn call_refusal(&self, core: u32, task: u32, call: Call) -> Option<Refusal>
+        requires { step_check self.now.settings (steps.Call core task call) ≡ Ok tt }
+        ensures { result ≡ refusal list_queues (steps.Call core task call) self.now }
     {
-        match step {
-            Step::Tick | Step::Interrupt { .. } => None,
-            Step::Switch { core } => self.switch_refusal(core),
-            Step::Call { core, .. } if self.is_held_elsewhere(core) => Some(Refusal::Held),
-            Step::Call { core, task, call } => self.own_refusal(core, task, call),
+        if self.is_held_elsewhere(core) {
+            Some(Refusal::Held)
+        } else {
+            self.own_refusal(core, task, call)
         }
     }
 
+    // A core that holds the kernel keeps out switches, and one that nobody asked doesn't switch.
     #[tactic(auto, unfolding(bench_model::specs::Refusals::refusal))]
-    fn switch_refusal(&self, core: u32) -> Option<Refusal>
+    pub(super) fn switch_refusal(&self, core: u32) -> Option<Refusal>
         requires { core < self.now.settings.cores }
         ensures { result ≡ refusal list_queues (Switch core) self.now }
     {

@@ -1,4 +1,4 @@
-use Rattle.std.proofs.Common.{◌≡◌, ◌∙◌, sym, ap}
+use Rattle.std.proofs.Common.{◌∙◌, sym, ap}
 use Rattle.smp_kernel.specs.Deadlines.{lefts}
 use Rattle.smp_kernel.proofs.deadlines.Deadlines.same.Goals as goal
 

@@ -5,7 +5,7 @@ ghost use Rattle.bench_types.specs.Limits.{max_cores};
 ghost use Rattle.std.specs.List.{range_with_len};
 ghost use Rattle.list_orders.specs.Search.{placed, without, has};
 ghost use Rattle.index_lists.specs.Listed.{list_at, items_of};
-ghost use Rattle.bench_model.specs.Control.{core_at, task_at, current, in_mask, is_allowed, is_idle, is_elsewhere, may_select, ask, run_on, runs_on, ask_its_core};
+ghost use Rattle.bench_model.specs.Control.{core_at, task_at, current, in_mask, is_allowed, is_idle, is_elsewhere, may_select, ask, asked_by, run_on, runs_on, ask_its_core};
 ghost use Rattle.bench_model.specs.State.{after_select};
 ghost use Rattle.bench_model.specs.Lists.{list_queues, outranks};
 ghost use Rattle.bench_model.specs.Start.{first_lists, unstarted};
@@ -761,8 +761,17 @@ impl Cores {
             then record self.old { control = ask 0 core self.old.control } else self.old) }
     {
         let shares = self.shares_its_time(core);
-        let look = &mut self.cores[core as usize];
-        look.pend |= shares & (core == 0);
-        look.asked |= shares & (core != 0);
+        ask_where(shares, core, &mut self.cores[core as usize]);
+    }
+}
+
+// The core is asked by core 0 where that is so, without a jump.
+fn ask_where(is_so: bool, core: u32, look: &mut CoreLook)
+    ensures { look.new ≡ (if is_so then asked_by 0 core look.old else look.old) }
+{
+    if core == 0 {
+        look.pend |= is_so;
+    } else {
+        look.asked |= is_so;
     }
 }

@@ -742,7 +742,7 @@ impl Cores {
     }
 
     // Whether the core's task has to share its time with another of its priority. Each question is
-    // asked, since no processor foresees the answers: a jump costs more.
+    // asked, with no branch on an answer.
     fn shares_its_time(&self, core: u32) -> bool
         requires { core < length self.now.control.cores }
         ensures { result ≡ shares_its_time list_queues (bare_view self.now) core }

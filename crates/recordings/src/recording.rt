@@ -1,15 +1,17 @@
-ghost use Rattle.std.specs.Prelude.{◌≡◌, ◌<◌, ◌≤◌, ◌+◌, ◌↔◌, length, option_map, is_some, false, Ok, Err, IsErr, IfOk, OnOk, OnErr};
+ghost use Rattle.std.specs.Prelude.{◌≡◌, ◌<◌, ◌≤◌, ◌+◌, ◌↔◌, length, option_map, is_some, false, [], Ok, Err, IsErr, IfOk, OnOk, OnErr};
+ghost use Rattle.std.specs.Vec.{vec_capacity};
 ghost use Rattle.bench_types.specs.Act.{act_check};
 ghost use Rattle.bench_types.specs.Header.{header_check};
 ghost use Rattle.bench_types.specs.Step.{settings_of, step_check, call_check, task_check};
 ghost use Rattle.bench_model.specs.History.{core_of as made_on, is_kept_out, places_of, IsByCurrent, IsGrowthBy, IsLegal, IsNext};
 ghost use Rattle.bench_model.specs.Holds.{depth_of, depth_by, is_held_by, is_held_elsewhere};
 ghost use Rattle.history_laws.specs.SoundHistories.{IsSoundHistory};
+ghost use Rattle.recordings.specs.Kept.{IsRecording};
 ghost use Rattle.recordings.specs.RecordingView.{empty_recording, entry_of, table_of, hold_of, task_on, room_of, with_step, answer_to, answer_in_room, call_on, answer_to_call, act_on, answer_to_act, after_act};
 
 use bench_types::{Act, Call, Entry, Header, Note, Reply, Settings, Step};
 use smp_kernel::{Kernel, Meter, StartFault};
-use std::alloc::Global;
+use std::alloc::{AllocError, Global};
 use std::marker::Model;
 use thiserror::Error;
 
@@ -70,6 +72,39 @@ impl Model for Recording {
         (vec_capacity recording.parts.value.entries) recording.parts.value.kernel };
 }
 
+// A copy of the header, and room for so many entries.
+fn with_room(alloc: Global, header: &Header, limit: u32) -> Result<(Header, Vec<Entry>), AllocError>
+    ensures header { IfOk result (λ made. made.0 ≡ header.now) }
+    ensures empty { IfOk result (λ made. made.1.items ≡ []) }
+    ensures room { IfOk result (λ made. limit ≤ vec_capacity made.1) }
+{
+    let header = header.copy(alloc)?;
+    let entries = Vec::with_capacity(alloc, limit as usize)?;
+    Ok((header, entries))
+}
+
+impl Parts {
+    // The parts of a recording of no entries. A kernel is dear to drop, so one call follows.
+    fn start(alloc: Global, meter: Meter, header: &Header, limit: u32) -> Result<Parts, StartFault>
+        ensures bad_header { (result ≡ Err StartFault.BadHeader) ↔ IsErr (header_check header.now) }
+        ensures header { IfOk result (λ parts. parts.header ≡ header.now) }
+        ensures empty { IfOk result (λ parts. parts.entries.items ≡ []) }
+        ensures kept { IfOk result (λ parts. IsRecording parts.header parts.entries.items limit
+            (vec_capacity parts.entries) parts.kernel) }
+    {
+        let kernel = Kernel::start(alloc, header)?;
+        match with_room(alloc, header, limit) {
+            Ok((header, entries)) => Ok(Parts {
+                header,
+                kernel,
+                meter,
+                entries,
+            }),
+            Err(_) => Err(StartFault::NoMemory),
+        }
+    }
+}
+
 #[inline(always)]
 fn core_of(step: &Step) -> u32
     ensures { result ≡ made_on step.now }
@@ -94,15 +129,7 @@ impl Recording {
         ensures bad_header { (result ≡ Err StartFault.BadHeader) ↔ IsErr (header_check header.now) }
         ensures empty { IfOk result (λ recording. recording ≡ empty_recording header.now limit) }
     {
-        let kernel = Kernel::start(alloc, header)?;
-        let header = header.copy(alloc)?;
-        let entries = Vec::with_capacity(alloc, limit as usize)?;
-        let parts = Parts {
-            header,
-            kernel,
-            meter,
-            entries,
-        };
+        let parts = Parts::start(alloc, meter, header, limit)?;
         match Box::new(alloc, parts) {
             Ok(parts) => Ok(Recording { parts, limit }),
             Err(_) => Err(StartFault::NoMemory),

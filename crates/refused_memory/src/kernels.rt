@@ -36,11 +36,20 @@ fn starts(alloc: Global, header: &Header) -> bool {
 
 pub(crate) fn copy(rt: &HostRuntime) -> Option<Outcome> {
     let kernel = started(rt.alloc())?;
-    let twin = started(rt.alloc())?;
-    Some(match kernel.copy(rt.alloc()) {
+    copy_beside_twin(rt.alloc(), &kernel)
+}
+
+// A kernel is dear to drop, so each of the two is made where one call follows.
+fn copy_beside_twin(alloc: Global, kernel: &Kernel) -> Option<Outcome> {
+    let twin = started(alloc)?;
+    Some(copied(alloc, kernel, &twin))
+}
+
+fn copied(alloc: Global, kernel: &Kernel, twin: &Kernel) -> Outcome {
+    match kernel.copy(alloc) {
         Ok(copy) => Outcome::answered(kernel.same(&copy)),
-        Err(_) => Outcome::refused(kernel.same(&twin) && copies(rt.alloc(), &kernel)),
-    })
+        Err(_) => Outcome::refused(kernel.same(twin) && copies(alloc, kernel)),
+    }
 }
 
 fn copies(alloc: Global, kernel: &Kernel) -> bool {

@@ -60,12 +60,25 @@ pub(crate) struct Opened {
     pub(crate) meter: Meter,
 }
 
-pub(crate) fn open_worked(rt: &HostRuntime) -> Option<Opened> {
+fn open_worked(rt: &HostRuntime) -> Option<Opened> {
     let header = header(rt.alloc())?;
     let steps = steps(rt.alloc())?;
     let mut meter = Meter::new(rt);
     let store = Store::open(rt.alloc(), header, steps, SPAN, &mut meter).ok()?;
     Some(Opened { store, meter })
+}
+
+/// Two stores of the worked session.
+#[derive(Drop)]
+pub(crate) struct Twins {
+    pub(crate) one: Opened,
+    pub(crate) two: Opened,
+}
+
+pub(crate) fn open_twins(rt: &HostRuntime) -> Option<Twins> {
+    let one = open_worked(rt)?;
+    let two = open_worked(rt)?;
+    Some(Twins { one, two })
 }
 
 pub(crate) fn open(rt: &HostRuntime) -> Option<Outcome> {
@@ -101,15 +114,18 @@ fn opens(rt: &HostRuntime, fault: OpenFault) -> bool {
     }
 }
 
+pub(crate) fn apply(rt: &HostRuntime) -> Option<Outcome> {
+    let mut twins = open_twins(rt)?;
+    apply_all(rt.alloc(), &mut twins.one, &mut twins.two)
+}
+
 /// The edits are made in their order, and each also in a second store, which shows what the first
 /// one was before the next edit.
-pub(crate) fn apply(rt: &HostRuntime) -> Option<Outcome> {
-    let mut one = open_worked(rt)?;
-    let mut twin = open_worked(rt)?;
+fn apply_all(alloc: Global, one: &mut Opened, twin: &mut Opened) -> Option<Outcome> {
     let mut outcome = Outcome::Answered;
     for edit in &edits() {
-        outcome = outcome.then(applied(rt.alloc(), &mut one, &twin, edit).ok()?);
-        twin.store.apply(rt.alloc(), edit.0, &mut twin.meter).ok()?;
+        outcome = outcome.then(applied(alloc, one, twin, edit).ok()?);
+        twin.store.apply(alloc, edit.0, &mut twin.meter).ok()?;
     }
     Some(outcome)
 }

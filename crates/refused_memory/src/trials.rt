@@ -1,6 +1,6 @@
 //! Trials of edits, which leave a store as it was.
 use crate::outcome::Outcome;
-use crate::stores::{Opened, edits, is_same, open_worked};
+use crate::stores::{Opened, edits, is_same, open_twins};
 use bench_reports::Tallies;
 use bench_types::Edit;
 use session_store::{Outcome as Replayed, Store, StoreFault};
@@ -18,20 +18,23 @@ task C run 0 0 wait 4 inverted 0 in 0 displaced 0 timeouts 0 top 1
 ";
 
 pub(crate) fn trial(rt: &HostRuntime) -> Option<Outcome> {
-    let mut one = open_worked(rt)?;
-    let twin = open_worked(rt)?;
+    let mut twins = open_twins(rt)?;
+    tried(rt.alloc(), &mut twins.one, &twins.two)
+}
+
+fn tried(alloc: Global, one: &mut Opened, twin: &Opened) -> Option<Outcome> {
     let [(edit, wanted), ..] = edits();
     let most = one.meter.count().saturating_add(u64::from(wanted.replayed));
-    match one.store.trial(rt.alloc(), edit, &mut one.meter) {
+    match one.store.trial(alloc, edit, &mut one.meter) {
         Ok((outcome, tallies)) => {
             let is_right = outcome == wanted && one.meter.count() == most;
-            let text = tallies.text(rt.alloc(), one.store.header()).ok()?;
+            let text = tallies.text(alloc, one.store.header()).ok()?;
             Some(Outcome::answered(is_right && text.as_str() == TALLIES))
         }
         Err(fault) => {
             let is_right = fault == StoreFault::NoMemory && one.meter.count() <= most;
-            let stays = is_same(rt.alloc(), &one.store, &twin.store).ok()?;
-            Some(Outcome::refused(is_right && stays && is_tried(rt.alloc(), &mut one)))
+            let stays = is_same(alloc, &one.store, &twin.store).ok()?;
+            Some(Outcome::refused(is_right && stays && is_tried(alloc, one)))
         }
     }
 }
@@ -50,16 +53,24 @@ fn candidates() -> [Edit; 2] {
     [edit, Edit::Remove { at: 6 }]
 }
 
-/// Where memory is refused to one trial, its entry says so, and else the call.
 pub(crate) fn all<R: Threads + Sync>(rt: &R, host: &HostRuntime) -> Option<Outcome> {
-    let one = open_worked(host)?;
-    let twin = open_worked(host)?;
-    let first = tried_all(rt, host, &one.store);
+    let twins = open_twins(host)?;
+    all_beside_twin(rt, host, &twins.one.store, &twins.two.store)
+}
+
+/// Where memory is refused to one trial, its entry says so, and else the call.
+fn all_beside_twin<R: Threads + Sync>(
+    rt: &R,
+    host: &HostRuntime,
+    store: &Store,
+    twin: &Store,
+) -> Option<Outcome> {
+    let first = tried_all(rt, host, store);
     if first == Outcome::Answered {
         return Some(first);
     }
-    let stays = is_same(host.alloc(), &one.store, &twin.store).ok()?;
-    let again = tried_all(rt, host, &one.store);
+    let stays = is_same(host.alloc(), store, twin).ok()?;
+    let again = tried_all(rt, host, store);
     Some(Outcome::refused(stays && first == Outcome::Refused && again == Outcome::Answered))
 }
 

@@ -239,6 +239,30 @@ fn push_trace(
     Ok(())
 }
 
+// A watch is dear to drop, so one call follows where one is made.
+fn told(
+    alloc: Global,
+    meter: &mut Meter,
+    places: Places,
+    interest: &Interest,
+    header: &Header,
+    watch: &mut Watch,
+    steps: &[Step],
+) -> Result<String, AllocError>
+    requires checked { All (IsCheckedStep watch.old.kernel.settings) steps.now }
+    requires shows { Shows watch.old.kernel watch.old.look }
+    requires started { StandsFor watch.old.kernel (start header.now) }
+    requires few { length steps.now + 1 < 2 ^ 32 }
+    ensures { IfOk result
+        (λ text. string_bytes text ≡ trace_text places interest.now header.now steps.now) }
+{
+    let mut text = String::new(alloc);
+    push_trace(
+        alloc, meter, &mut text, places, interest, header, watch, steps,
+    )?;
+    Ok(text)
+}
+
 /// The run of a checked session, told place by place and step by step: at each place the tick count
 /// and the cores, of each step its words, its reply and all that it changed. A step of no interest
 /// is left out, and the line of the place before it.
@@ -256,12 +280,8 @@ pub fn trace(
     ensures { IfOk result
         (λ text. string_bytes text ≡ trace_text places interest.now header.now steps.now) }
 {
-    let Ok(mut watch) = Watch::start(alloc, header) else {
-        return Err(AllocError);
-    };
-    let mut text = String::new(alloc);
-    push_trace(
-        alloc, meter, &mut text, places, interest, header, &mut watch, steps,
-    )?;
-    Ok(text)
+    match Watch::start(alloc, header) {
+        Ok(mut watch) => told(alloc, meter, places, interest, header, &mut watch, steps),
+        Err(_) => Err(AllocError),
+    }
 }

@@ -1,5 +1,6 @@
 ghost use Rattle.std.specs.Prelude.{◌≡◌, ◌↔◌, suc, ◌<◌, ◌≤◌, ◌+◌, ◌-◌, ◌*◌, All, true, Ok, Some, None, IfOk, IfSome, IsSome, OnOk, OnErr, length, take, map, option_map, option_and_then, slice_get};
 ghost use Rattle.std.specs.List.{flat_map};
+ghost use Rattle.std.specs.Vec.{vec_capacity};
 ghost use Rattle.bench_types.specs.Limits.{max_cores, max_steps};
 ghost use Rattle.bench_types.specs.Step.{IsCheckedStep};
 ghost use Rattle.bench_model.specs.Equal.{Same, StandsFor};
@@ -9,6 +10,7 @@ ghost use Rattle.bench_model.specs.Tallied.{part_tallies, shape, shape_of};
 ghost use Rattle.segment_laws.specs.Segments.{reply_after, running_after};
 ghost use Rattle.smp_kernel.specs.Kernel.{StandsForSome};
 ghost use Rattle.session_segments.specs.Counting.{meter_after, CountsUpTo};
+ghost use Rattle.session_segments.specs.Kept.{HasRoom, IsTold};
 
 use crate::replay::advance;
 use crate::tracing::{Traced, Tracing, Untraced};
@@ -221,12 +223,32 @@ impl Segment<Untraced> {
             steps,
             kept: _,
         } = self;
-        let mut next = kernel.copy(alloc)?;
-        let kept = Traced::of(alloc, &mut next, steps.as_slice(), meter)?;
+        let kept = told(alloc, &kernel, steps.as_slice(), meter)?;
         Ok(Segment {
             kernel,
             steps,
             kept,
         })
     }
+}
+
+// What the steps lead to on a copy of the kernel. A copy is dear to drop, so one call follows.
+fn told(
+    alloc: Global,
+    kernel: &Kernel,
+    steps: &[Step],
+    meter: &mut Meter,
+) -> Result<Traced, AllocError>
+    requires stands { StandsForSome kernel.now }
+    requires few { kernel.now.settings.cores ≤ max_cores }
+    requires steps { All (IsCheckedStep kernel.now.settings) steps.now }
+    requires few_steps { length steps.now ≤ max_steps }
+    ensures kept { IfOk result (λ kept. IsTold kernel.now steps.now kept.replies.items
+        kept.rows.items kept.tallies
+        × HasRoom kernel.now steps.now (vec_capacity kept.replies) (vec_capacity kept.rows)) }
+    ensures meter { OnOk result (meter.new ≡ meter_after (length steps.now) meter.old) }
+    ensures some { OnErr result (CountsUpTo (length steps.now) meter.old meter.new) }
+{
+    let mut next = kernel.copy(alloc)?;
+    Traced::of(alloc, &mut next, steps, meter)
 }

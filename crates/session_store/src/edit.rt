@@ -1,4 +1,4 @@
-ghost use Rattle.std.specs.Prelude.{◌≡◌, ◌<◌, ◌≤◌, ◌^◌, Ok, IfOk, OnOk, OnErr, length, drop};
+ghost use Rattle.std.specs.Prelude.{◌≡◌, ◌<◌, ◌≤◌, ◌^◌, Ok, IfOk, OnOk, OnErr, length, drop, take};
 ghost use Rattle.bench_types.specs.Edit.{IsEditOfWords};
 ghost use Rattle.bench_model.specs.Edits.{accepted, edited};
 ghost use Rattle.bench_model.specs.Meeting.{replayed};
@@ -6,7 +6,7 @@ ghost use Rattle.segment_laws.specs.Segments.{all_steps};
 ghost use Rattle.session_segments.specs.Counting.{meter_after, CountsUpTo};
 ghost use Rattle.session_store.specs.Kept.{kept_of, session_of, IsKept};
 ghost use Rattle.session_store.specs.Outcomes.{outcome_of};
-ghost use Rattle.session_store.specs.Replays.{AreRemade};
+ghost use Rattle.session_store.specs.Replays.{AreRemade, IsParting};
 
 use crate::Outcome;
 use crate::parting::{Parting, parted};
@@ -64,19 +64,54 @@ pub(crate) fn remake<K: Tracing>(
         (CountsUpTo (replayed (kept_of header.now span segments.old) edit.now) meter.old
         meter.new) }
 {
-    let Parting {
-        mut kernel,
-        steps,
-        from,
-        before,
-        after,
-    } = parted(alloc, header, segments, next, edit)?;
-    let steps = steps.as_slice();
-    let rest = segments.len() - after;
+    let mut parting = parted(alloc, header, segments, next, edit)?;
+    remake_from(alloc, &mut parting, header, span, segments, edit, meter)
+}
+
+// The same from where the edit begins. A kernel is dear to drop, so it is made where one call
+// follows.
+fn remake_from<K: Tracing>(
+    alloc: Global,
+    parting: &mut Parting,
+    header: &Header,
+    span: u32,
+    segments: &mut Segments<K>,
+    edit: &Edit,
+    meter: &mut Meter,
+) -> Result<Outcome, AllocError>
+    requires kept { IsKept header.now span segments.old }
+    requires words { IsEditOfWords edit.now }
+    requires accepted { accepted (session_of header.now segments.old) edit.now ≡ Ok tt }
+    requires parting { IsParting (session_of header.now segments.old) edit.now segments.old
+        parting.old.kernel parting.old.steps.items parting.old.before parting.old.after }
+    requires from { parting.old.from ≡ length (all_steps (take parting.old.before segments.old)) }
+    ensures replay { OnOk result
+        (AreRemade (kept_of header.now span segments.old) edit.now segments.old segments.new) }
+    ensures outcome { IfOk result
+        (λ outcome. outcome ≡ outcome_of (kept_of header.now span segments.old) edit.now) }
+    ensures unchanged { OnErr result (segments.new ≡ segments.old) }
+    ensures meter { OnOk result
+        (meter.new
+        ≡ meter_after (replayed (kept_of header.now span segments.old) edit.now) meter.old) }
+    ensures some { OnErr result
+        (CountsUpTo (replayed (kept_of header.now span segments.old) edit.now) meter.old
+        meter.new) }
+{
+    let (from, before) = (parting.from, parting.before);
+    let steps = parting.steps.as_slice();
+    let rest = segments.len() - parting.after;
     let mut made = Vec::new(alloc);
-    push_cut(alloc, &mut kernel, &mut made, span, rest == 0, steps, meter)?;
-    segments.replace(before, after, made)?;
-    let end = segments.replay_from(segments.len() - rest, &mut kernel, meter);
+    push_cut(
+        alloc,
+        &mut parting.kernel,
+        &mut made,
+        span,
+        rest == 0,
+        steps,
+        meter,
+    )?;
+    segments.replace(before, parting.after, made)?;
+    let end = segments.replay_from(segments.len() - rest, &mut parting.kernel, meter);
     let replayed = count_steps(&segments.as_slice()[before..end]);
     Ok(Outcome {
         from,

@@ -2,10 +2,11 @@ ghost use Rattle.std.specs.Prelude.{◌≡◌, ◌<◌, ◌≤◌, ◌+◌, ◌*
 ghost use Rattle.bench_types.specs.Limits.{max_cores, max_steps, max_span};
 ghost use Rattle.bench_types.specs.Name.{is_within};
 ghost use Rattle.bench_types.specs.Session.{IsSession};
-ghost use Rattle.bench_types.specs.Step.{IsCheckedStep};
+ghost use Rattle.bench_types.specs.Step.{settings_of, IsCheckedStep};
 ghost use Rattle.bench_model.specs.Equal.{StandsFor};
 ghost use Rattle.bench_model.specs.Meeting.{first_kept};
 ghost use Rattle.bench_model.specs.Session.{state_after};
+ghost use Rattle.bench_model.specs.Start.{start};
 ghost use Rattle.bench_model.specs.Table.{Table};
 ghost use Rattle.segment_laws.specs.Segments.{AreSegments};
 ghost use Rattle.smp_kernel.specs.Kernel.{StandsForSome};
@@ -66,17 +67,34 @@ pub(crate) fn opened<K: Tracing>(
     ensures meter { OnOk result (meter.new ≡ meter_after (length steps.now) meter.old) }
     ensures some { OnErr result (CountsUpTo (length steps.now) meter.old meter.new) }
 {
+    let mut kernel = started(alloc, header)?;
+    opened_from(alloc, &mut kernel, header, steps, span, meter)
+}
+
+// The same by a kernel at the start. A kernel is dear to drop, so it is made where one call
+// follows.
+fn opened_from<K: Tracing>(
+    alloc: Global,
+    kernel: &mut Kernel,
+    header: &Header,
+    steps: &[Step],
+    span: u32,
+    meter: &mut Meter,
+) -> Result<Segments<K>, AllocError>
+    requires stands { StandsFor kernel.old (start header.now) }
+    requires settings { kernel.old.settings ≡ settings_of header.now }
+    requires session { IsSession (record { header = header.now; steps = steps.now }) }
+    requires few_steps { length steps.now ≤ max_steps }
+    requires span { is_within 1 max_span span ≡ true }
+    ensures segments { IfOk result
+        (AreSegments (first_kept span (record { header = header.now; steps = steps.now }))) }
+    ensures meter { OnOk result (meter.new ≡ meter_after (length steps.now) meter.old) }
+    ensures some { OnErr result (CountsUpTo (length steps.now) meter.old meter.new) }
+{
     let span = span as usize;
     let full = steps.len().saturating_sub(1) / span;
-    let mut kernel = started(alloc, header)?;
     let mut segments = Vec::with_capacity(alloc, full + 1)?;
-    push_spans(alloc, &mut kernel, &mut segments, span, full, steps, meter)?;
-    push_segment(
-        alloc,
-        &mut kernel,
-        &mut segments,
-        &steps[full * span..],
-        meter,
-    )?;
+    push_spans(alloc, kernel, &mut segments, span, full, steps, meter)?;
+    push_segment(alloc, kernel, &mut segments, &steps[full * span..], meter)?;
     Segments::new(alloc, segments)
 }

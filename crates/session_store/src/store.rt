@@ -20,14 +20,14 @@ ghost use Rattle.session_store.specs.Sums.{AreSumsOf};
 ghost use Rattle.session_store.specs.Trials.{tallies_after, IsTried};
 
 use crate::checks::{check_edit, check_opening};
-use crate::edit::{count_steps, later, remake};
+use crate::edit::remake;
 use crate::edited::edited_header;
 use crate::fault::Refused;
 use crate::opening::opened;
-use crate::parting::{Parting, parted};
+use crate::parting::parted;
 use crate::sums::{Sums, sums_of};
-use crate::tallying::{add_segments, tallies_after};
-use crate::trial::retrace;
+use crate::tallying::add_segments;
+use crate::trial::try_from;
 use crate::{OpenFault, OpenRefusal, Outcome, StoreFault};
 use bench_reports::Tallies;
 use bench_types::{Edit, Header, Items, MAX_STEPS, Reply, Row, Step};
@@ -330,24 +330,19 @@ impl Store {
             (CountsUpTo (replayed self.now edit.now) meter.old meter.new) }
     {
         let next = edited_header(alloc, &self.header, edit)?;
-        let Parting {
-            mut kernel,
-            steps,
-            from,
-            before,
-            after,
-        } = parted(alloc, &self.header, &self.segments, &next, edit)?;
-        let steps = steps.as_slice();
-        let rest = later(&self.segments, after);
-        let (tallies, count) = retrace(alloc, &mut kernel, steps, rest, meter)?;
-        let replayed = steps.len() as u32 + count_steps(&rest[..count]);
-        let total = tallies_after(alloc, sums, &self.segments, before, after + count, tallies)?;
-        let outcome = Outcome {
-            from,
-            met: from + replayed,
-            replayed,
-        };
-        Ok((outcome, total))
+        let segments = &self.segments;
+        let mut parting = parted(alloc, &self.header, segments, &next, edit)?;
+        let (header, span) = (&self.header, self.span);
+        try_from(
+            alloc,
+            sums,
+            &mut parting,
+            header,
+            span,
+            segments,
+            edit,
+            meter,
+        )
     }
 
     /// The reply of the step at index `i`; `None` past the last.

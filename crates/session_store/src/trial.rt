@@ -1,18 +1,30 @@
-ghost use Rattle.std.specs.Prelude.{◌≡◌, ◌≤◌, ◌+◌, ◌-◌, ◌^◌, ◌++◌, [], All, IfOk, OnOk, OnErr, length, take};
+ghost use Rattle.std.specs.Prelude.{◌≡◌, ◌≤◌, ◌+◌, ◌-◌, ◌^◌, ◌++◌, [], All, Ok, IfOk, IfSome, OnOk, OnErr, length, take};
+ghost use Rattle.bench_types.specs.Edit.{IsEditOfWords};
 ghost use Rattle.bench_types.specs.Limits.{max_steps};
 ghost use Rattle.bench_types.specs.Step.{IsCheckedStep};
+ghost use Rattle.bench_model.specs.Edits.{accepted};
 ghost use Rattle.bench_model.specs.Equal.{StandsFor};
+ghost use Rattle.bench_model.specs.Meeting.{replayed};
 ghost use Rattle.bench_model.specs.Table.{Table};
 ghost use Rattle.bench_model.specs.Tallied.{part_tallies, shape, shape_of, tallied_after, AllCountsBelow};
 ghost use Rattle.bench_reports.specs.Tops.{HasTops};
 ghost use Rattle.segment_laws.specs.Segments.{all_steps};
 ghost use Rattle.session_segments.specs.Again.{HasSettings};
-ghost use Rattle.session_segments.specs.Counting.{meter_after};
-ghost use Rattle.session_store.specs.Trials.{IsMeeting};
+ghost use Rattle.session_segments.specs.Counting.{meter_after, CountsUpTo};
+ghost use Rattle.session_store.specs.Kept.{kept_of, session_of, IsKept};
+ghost use Rattle.session_store.specs.Outcomes.{outcome_of};
+ghost use Rattle.session_store.specs.Replays.{IsParting};
+ghost use Rattle.session_store.specs.Sums.{HasSums};
+ghost use Rattle.session_store.specs.Trials.{tallies_after, IsMeeting};
 
+use crate::Outcome;
+use crate::edit::{count_steps, later};
+use crate::parting::Parting;
+use crate::sums::Sums;
+use crate::tallying::tallies_after;
 use bench_reports::Tallies;
-use bench_types::Step;
-use session_segments::{Segment, tally_steps};
+use bench_types::{Edit, Header, Step};
+use session_segments::{Segment, Segments, tally_steps};
 use smp_kernel::{Kernel, Meter};
 use std::alloc::{AllocError, Global};
 
@@ -45,10 +57,10 @@ fn tally_segments(
     after.len()
 }
 
-/// Replays and counts the steps of an edited segment, and those of the segments after it as long as
-/// the edited session differs. Nothing else of them is kept. Returns the tallies, and how many of
-/// the segments were replayed.
-pub(crate) fn retrace(
+// Replays and counts the steps of an edited segment, and those of the segments after it as long as
+// the edited session differs. Nothing else of them is kept. Returns the tallies, and how many of
+// the segments were replayed.
+fn retrace(
     alloc: Global,
     kernel: &mut Kernel,
     steps: &[Step],
@@ -77,4 +89,48 @@ pub(crate) fn retrace(
     tally_steps(kernel, &mut tallies, steps, meter);
     let count = tally_segments(kernel, &mut tallies, after, meter);
     Ok((tallies, count))
+}
+
+/// What the replay of the steps where an accepted edit begins leads to, and how each task would
+/// fare then.
+pub(crate) fn try_from(
+    alloc: Global,
+    sums: Option<&Sums>,
+    parting: &mut Parting,
+    header: &Header,
+    span: u32,
+    segments: &Segments,
+    edit: &Edit,
+    meter: &mut Meter,
+) -> Result<(Outcome, Tallies), AllocError>
+    requires kept { IsKept header.now span segments.now }
+    requires sums { IfSome sums (λ sums. HasSums segments.now sums.now) }
+    requires words { IsEditOfWords edit.now }
+    requires accepted { accepted (session_of header.now segments.now) edit.now ≡ Ok tt }
+    requires parting { IsParting (session_of header.now segments.now) edit.now segments.now
+        parting.old.kernel parting.old.steps.items parting.old.before parting.old.after }
+    requires from { parting.old.from ≡ length (all_steps (take parting.old.before segments.now)) }
+    ensures outcome { IfOk result
+        (λ tried. tried.0 ≡ outcome_of (kept_of header.now span segments.now) edit.now) }
+    ensures tallies { IfOk result
+        (λ tried. tried.1 ≡ tallies_after edit.now (session_of header.now segments.now)) }
+    ensures meter { OnOk result
+        (meter.new
+        ≡ meter_after (replayed (kept_of header.now span segments.now) edit.now) meter.old) }
+    ensures some { OnErr result
+        (CountsUpTo (replayed (kept_of header.now span segments.now) edit.now) meter.old
+        meter.new) }
+{
+    let (from, before, after) = (parting.from, parting.before, parting.after);
+    let steps = parting.steps.as_slice();
+    let rest = later(segments, after);
+    let (tallies, count) = retrace(alloc, &mut parting.kernel, steps, rest, meter)?;
+    let replayed = steps.len() as u32 + count_steps(&rest[..count]);
+    let total = tallies_after(alloc, sums, segments, before, after + count, tallies)?;
+    let outcome = Outcome {
+        from,
+        met: from + replayed,
+        replayed,
+    };
+    Ok((outcome, total))
 }

@@ -22,6 +22,7 @@ ghost use Rattle.tick_delay.specs.Parts.{is_waiting};
 ghost use Rattle.smp_kernel.specs.Kernel.{HasTheirMutexes, IsSettled};
 
 mod equal;
+mod first;
 mod holds;
 mod mutexes;
 mod notes;
@@ -29,6 +30,7 @@ mod raises;
 mod refusals;
 mod sets;
 
+use self::first::{first_orders, no_ends, no_waits};
 use crate::deadlines::Deadlines;
 use bench_types::{
     Call, CoreLook, Header, Hold, Note, Reply, Settings, Step, TaskLook, Unfinished,
@@ -89,23 +91,25 @@ impl Scheduler {
         ensures { IfOk result (λ kernel. kernel ≡ unstarted (first_lists header.now) header.now) }
     {
         let config = &header.config;
-        let cores = config.cores;
-        let tasks = cores + header.tasks.as_slice().len() as u32;
+        let tasks = config.cores + header.tasks.as_slice().len() as u32;
         let settings = Settings {
-            cores,
+            cores: config.cores,
             priorities: config.priorities,
             slicing: config.slicing,
             mutexes: config.mutexes,
             tasks,
         };
+        let (cores, mutexes) = first_orders(alloc, header, settings)?;
+        let (calls, notes) = no_waits(alloc, tasks)?;
+        let (delays, deadlines) = no_ends(alloc, config.tick, tasks)?;
         Ok(Scheduler {
             settings,
-            cores: Cores::new(alloc, header)?,
-            calls: no_calls(alloc, tasks)?,
-            notes: Notes::new(alloc, tasks)?,
-            mutexes: Mutexes::new(alloc, tasks, config.priorities, config.mutexes)?,
-            delays: Delays::new(alloc, config.tick, tasks)?,
-            deadlines: Deadlines::new(alloc, tasks)?,
+            cores,
+            calls,
+            notes,
+            mutexes,
+            delays,
+            deadlines,
             hold: None,
         })
     }
@@ -443,14 +447,4 @@ fn delay_for(delays: &mut Delays, task: u32, ticks: Option<u32>)
     if let Some(ticks) = ticks {
         delays.delay(task, ticks);
     }
-}
-
-fn no_calls(alloc: Global, tasks: u32) -> Result<Vec<Option<Unfinished>>, AllocError>
-    ensures { IfOk result (λ calls. calls.items ≡ replicate tasks None) }
-{
-    let mut calls = Vec::with_capacity(alloc, tasks as usize)?;
-    for _task in 0..tasks {
-        calls.push(None)?;
-    }
-    Ok(calls)
 }

@@ -3,22 +3,30 @@ ghost use Rattle.std.specs.Prelude.{◌≡◌, ◌↔◌, IsTrue, IfOk};
 ghost use Rattle.smp_kernel.specs.Kernel.{HasSameOrders};
 
 use super::Scheduler;
+use crate::deadlines::Deadlines;
 use bench_types::{Hold, Settings, Unfinished};
+use mutex_inherit::Mutexes;
+use notify_core::Notes;
+use ready_core::Cores;
 use std::alloc::{AllocError, Global};
+use tick_delay::Delays;
 
 impl Scheduler {
     /// A second kernel, equal to this one.
     pub fn copy(&self, alloc: Global) -> Result<Self, AllocError>
         ensures { IfOk result (λ copy. copy ≡ self.now) }
     {
+        let (cores, mutexes) = copied_orders(alloc, &self.cores, &self.mutexes)?;
+        let (calls, notes) = copied_waits(alloc, &self.calls, &self.notes)?;
+        let (delays, deadlines) = copied_ends(alloc, &self.delays, &self.deadlines)?;
         Ok(Scheduler {
             settings: self.settings,
-            cores: self.cores.copy(alloc)?,
-            calls: Vec::from_slice(alloc, &self.calls)?,
-            notes: self.notes.copy(alloc)?,
-            mutexes: self.mutexes.copy(alloc)?,
-            delays: self.delays.copy(alloc)?,
-            deadlines: self.deadlines.copy(alloc)?,
+            cores,
+            calls,
+            notes,
+            mutexes,
+            delays,
+            deadlines,
             hold: self.hold,
         })
     }
@@ -84,4 +92,35 @@ fn have_same_calls(calls: &[Option<Unfinished>], others: &[Option<Unfinished>]) 
     ensures { IsTrue result ↔ (calls.now ≡ others.now) }
 {
     calls == others
+}
+
+fn copied_orders(
+    alloc: Global,
+    cores: &Cores,
+    mutexes: &Mutexes,
+) -> Result<(Cores, Mutexes), AllocError>
+    ensures { IfOk result (λ copies. copies ≡ (cores.now, mutexes.now)) }
+{
+    Ok((cores.copy(alloc)?, mutexes.copy(alloc)?))
+}
+
+fn copied_waits(
+    alloc: Global,
+    calls: &[Option<Unfinished>],
+    notes: &Notes,
+) -> Result<(Vec<Option<Unfinished>>, Notes), AllocError>
+    ensures calls { IfOk result (λ copies. copies.0.items ≡ calls.now) }
+    ensures notes { IfOk result (λ copies. copies.1 ≡ notes.now) }
+{
+    Ok((Vec::from_slice(alloc, calls)?, notes.copy(alloc)?))
+}
+
+fn copied_ends(
+    alloc: Global,
+    delays: &Delays,
+    deadlines: &Deadlines,
+) -> Result<(Delays, Deadlines), AllocError>
+    ensures { IfOk result (λ copies. copies ≡ (delays.now, deadlines.now)) }
+{
+    Ok((delays.copy(alloc)?, deadlines.copy(alloc)?))
 }

@@ -4,12 +4,12 @@ use Rattle.bench_model.specs.Start.{start}
 use Rattle.bench_model.specs.Meeting.{first_kept}
 use Rattle.session_segments.proofs.Counts.{counts_on, counts_some}
 use Rattle.session_store.proofs.Opened.{part_after, some_span, opened_count, opened_meter, opened_steps, opened_segments, on_ok, if_segments}
-use Rattle.session_store.proofs.opening.opened.Goals as goal
+use Rattle.session_store.proofs.opening.opened_from.Goals as goal
 
 pub push_segment-requires-clause-stands : goal.push_segment-requires-clause-stands
 push_segment-requires-clause-stands g c =
     let start_table = start c.args.header.now in
-    (state_after start_table (take (c.saturating_sub.result / c.args.span * c.args.span) c.args.steps.now), c.in_ok-push_spans.ensures.state start_table c.in_ok-kernel.ensures.stands)
+    (state_after start_table (take (c.saturating_sub.result / c.args.span * c.args.span) c.args.steps.now), c.in_ok-push_spans.ensures.state start_table c.requires.stands)
 
 pub returns-in_err-push_segment-clause-some : goal.returns-in_err-push_segment-clause-some
 returns-in_err-push_segment-clause-some g c =
@@ -29,7 +29,7 @@ new-requires-clause-few g c =
     let part = take (length steps - full * span) (drop (full * span) steps) in
     let cut : full ≡ (length steps - 1) / span = ap (λ n. n / span) (omega (arith, c.saturating_sub.ensures)) in
     let from = start c.args.header.now in
-    let stands = c.in_ok-kernel.ensures.stands in
+    let stands = c.requires.stands in
     let all = opened_steps c.args.header.now steps span full c.push_spans.new.kernel part c.push_spans.new.segments.items c.push_segment.new.segments.items (some_span span c.requires.span) cut (part_after (full * span) steps) (c.in_ok-push_spans.ensures.state from stands) c.in_ok-push_segment.ensures.segment (c.in_ok-push_spans.ensures.spans from stands) in
     omega (arith, ap length all, c.requires.few_steps)
 
@@ -41,7 +41,7 @@ returns-clause-segments g c =
     let part = take (length steps - full * span) (drop (full * span) steps) in
     let cut : full ≡ (length steps - 1) / span = ap (λ n. n / span) (omega (arith, c.saturating_sub.ensures)) in
     let from = start c.args.header.now in
-    let stands = c.in_ok-kernel.ensures.stands in
+    let stands = c.requires.stands in
     let are = opened_segments c.args.header.now steps span full c.push_spans.new.kernel part c.push_spans.new.segments.items c.push_segment.new.segments.items (some_span span c.requires.span) cut (part_after (full * span) steps) (c.in_ok-push_spans.ensures.state from stands) c.in_ok-push_segment.ensures.segment (c.in_ok-push_spans.ensures.spans from stands) in
     if_segments c.new.result (first_kept span (record { header = c.args.header.now; steps = steps })) c.push_segment.new.segments.items are c.new.ensures
 

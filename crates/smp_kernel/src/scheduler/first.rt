@@ -1,0 +1,71 @@
+//! The parts of a kernel before any core has selected.
+ghost use Rattle.std.specs.Prelude.{◌≡◌, ◌<◌, ◌+◌, ◌^◌, IfOk, Ok, None, replicate};
+ghost use Rattle.bench_types.specs.Header.{header_check};
+ghost use Rattle.bench_model.specs.Cores.{cores_of};
+ghost use Rattle.bench_model.specs.Notes.{no_note};
+ghost use Rattle.bench_model.specs.Start.{first_lists, unstarted};
+ghost use Rattle.mutex_inherit.specs.Parts.{free_mutexes};
+ghost use Rattle.tick_delay.specs.Parts.{no_delays};
+
+use crate::deadlines::Deadlines;
+use bench_types::{Header, Settings, Unfinished};
+use mutex_inherit::Mutexes;
+use notify_core::Notes;
+use ready_core::Cores;
+use std::alloc::{AllocError, Global};
+use tick_delay::Delays;
+
+pub(super) fn first_orders(
+    alloc: Global,
+    header: &Header,
+    settings: Settings,
+) -> Result<(Cores, Mutexes), AllocError>
+    requires passes { header_check header.now ≡ Ok tt }
+    requires few { settings.tasks + settings.mutexes < 2 ^ 32 }
+    ensures cores { IfOk result
+        (λ parts. parts.0 ≡ cores_of (unstarted (first_lists header.now) header.now)) }
+    ensures mutexes { IfOk result
+        (λ parts. parts.1
+        ≡ free_mutexes settings.tasks settings.priorities settings.mutexes) }
+{
+    let cores = Cores::new(alloc, header)?;
+    let (tasks, priorities) = (settings.tasks, settings.priorities);
+    let mutexes = Mutexes::new(alloc, tasks, priorities, settings.mutexes)?;
+    Ok((cores, mutexes))
+}
+
+pub(super) fn no_waits(
+    alloc: Global,
+    tasks: u32,
+) -> Result<(Vec<Option<Unfinished>>, Notes), AllocError>
+    ensures calls { IfOk result (λ parts. parts.0.items ≡ replicate tasks None) }
+    ensures notes { IfOk result (λ parts. parts.1 ≡ replicate tasks no_note) }
+{
+    Ok((no_calls(alloc, tasks)?, Notes::new(alloc, tasks)?))
+}
+
+fn no_calls(alloc: Global, tasks: u32) -> Result<Vec<Option<Unfinished>>, AllocError>
+    ensures { IfOk result (λ calls. calls.items ≡ replicate tasks None) }
+{
+    let mut calls = Vec::with_capacity(alloc, tasks as usize)?;
+    for _task in 0..tasks {
+        calls.push(None)?;
+    }
+    Ok(calls)
+}
+
+pub(super) fn no_ends(
+    alloc: Global,
+    tick: u32,
+    tasks: u32,
+) -> Result<(Delays, Deadlines), AllocError>
+    requires { tasks + 2 < 2 ^ 32 }
+    ensures delays { IfOk result (λ parts. parts.0 ≡ no_delays tick tasks) }
+    ensures word { IfOk result (λ parts. parts.0.tick < 2 ^ 32) }
+    ensures deadlines { IfOk result (λ parts. parts.1 ≡ replicate tasks None) }
+{
+    Ok((
+        Delays::new(alloc, tick, tasks)?,
+        Deadlines::new(alloc, tasks)?,
+    ))
+}

@@ -6,7 +6,7 @@ ghost use Rattle.bench_model.specs.Table.{Table};
 ghost use Rattle.bench_model.specs.Session.{step_of};
 ghost use Rattle.bench_model.specs.Equal.{StandsFor};
 
-use crate::samples::{Started, assert_at, assert_same, three_tasks};
+use crate::samples::{Started, assert_at, assert_is, assert_same, three_tasks};
 use bench_types::{Call, Header, NoteState, Refusal, Reply, Settings, Step, TaskLook};
 use smp_kernel::{Kernel, Meter, StartFault};
 use std::alloc::Global;
@@ -40,7 +40,7 @@ fn check_start(rt: &impl Abort, kernel: &Kernel) {
         mutexes: 0,
         tasks: 5,
     };
-    assert_eq!(rt; kernel.settings(), settings);
+    assert_same(rt, "settings", &kernel.settings(), &settings);
     for task in 0..kernel.settings().cores {
         assert_at(rt, "idle task", task, &kernel.look(task), &IDLE);
     }
@@ -135,12 +135,14 @@ fn check_copy(rt: &impl Abort, alloc: Global, started: &mut Started) -> Result<(
 }
 
 fn check_ways(rt: &impl Abort, started: &mut Started, copy: &Kernel) {
-    assert!(rt; copy.same(&started.kernel) && started.kernel.same(copy));
+    let same = (copy.same(&started.kernel), started.kernel.same(copy));
+    assert_same(rt, "the same", &same, &(true, true));
     make(rt, started, call(Call::HoldClose), Reply::Done);
     make(rt, started, Step::Tick, Reply::Done);
     assert_same(rt, "hold", &copy.hold(), &Some((0, 2)));
     assert_same(rt, "tick", &copy.tick(), &0);
-    assert!(rt; !copy.same(&started.kernel) && !started.kernel.same(copy));
+    let same = (copy.same(&started.kernel), started.kernel.same(copy));
+    assert_same(rt, "no longer the same", &same, &(false, false));
 }
 
 fn check_return(rt: &impl Abort, kernel: &mut Kernel, copy: &Kernel)
@@ -148,7 +150,7 @@ fn check_return(rt: &impl Abort, kernel: &mut Kernel, copy: &Kernel)
 {
     assert!(rt; kernel.settings() == copy.settings());
     kernel.copy_from(copy);
-    assert!(rt; copy.same(kernel));
+    assert_is(rt, "the same again", copy.same(kernel));
 }
 
 #[test]
@@ -164,9 +166,17 @@ fn check_ranks(rt: &impl Abort, kernel: &Kernel) {
     assert!(rt; settings.tasks == 5 && settings.cores == 2);
     let in_use = (kernel.in_use(0), kernel.in_use(2), kernel.in_use(3));
     assert_same(rt, "priorities", &in_use, &(0, 2, 1));
-    assert!(rt; kernel.stands_below(0, 3) && kernel.stands_below(3, 2));
-    assert!(rt; !kernel.stands_below(3, 4) && !kernel.stands_below(2, 3));
-    assert!(rt; kernel.is_allowed(1, 2));
-    assert!(rt; kernel.ready(0) && kernel.ready(4) && !kernel.ready(2));
-    assert!(rt; kernel.is_current(2) && kernel.is_current(3) && !kernel.is_current(4));
+    let below = (kernel.stands_below(0, 3), kernel.stands_below(3, 2));
+    assert_same(rt, "below", &below, &(true, true));
+    let above = (kernel.stands_below(3, 4), kernel.stands_below(2, 3));
+    assert_same(rt, "not below", &above, &(false, false));
+    assert_is(rt, "allowed", kernel.is_allowed(1, 2));
+    let ready = (kernel.ready(0), kernel.ready(4), kernel.ready(2));
+    assert_same(rt, "ready", &ready, &(true, true, false));
+    let current = (
+        kernel.is_current(2),
+        kernel.is_current(3),
+        kernel.is_current(4),
+    );
+    assert_same(rt, "current", &current, &(true, true, false));
 }

@@ -3,7 +3,7 @@
 
 use crate::replays::check_store;
 use crate::samples::{
-    Opened, SWITCH_0, Started, assert_same, assert_text, make_edit, tick_at, ticks,
+    Opened, SWITCH_0, Started, assert_is, assert_same, assert_text, make_edit, tick_at, ticks,
 };
 use bench_samples::{LARGEST, crowd};
 use bench_types::{Edit, Header, MAX_CORES, MAX_MUTEXES, MAX_SPAN, MAX_STEPS, MAX_TASKS};
@@ -34,7 +34,7 @@ fn check_copy(rt: &impl Abort, alloc: Global, kernel: &Kernel) -> Result<(), Fai
         &most,
     );
     let copy = kernel.copy(alloc)?;
-    assert!(rt; copy.same(kernel));
+    assert_is(rt, "the same", copy.same(kernel));
     Ok(())
 }
 

@@ -3,7 +3,7 @@ ghost use Rattle.std.specs.Prelude.{◌≡◌, All, IsTrue, Ok};
 ghost use Rattle.bench_types.specs.Step.{settings_of, step_check};
 
 use crate::random::{Mix, Played, random_session};
-use crate::samples::{Opened, assert_at, assert_same};
+use crate::samples::{Opened, assert_at, assert_is, assert_same};
 use bench_types::{Edit, Header, Reply, Row, Step};
 use session_store::Store;
 use slow_replay::replay_slow;
@@ -17,12 +17,19 @@ fn is_checked(header: &Header, step: &Step) -> bool
     step.check(header).is_ok()
 }
 
-/// Whether each step may stand under the header.
-pub(crate) fn are_checked(header: &Header, steps: &[Step]) -> bool
+// Whether each step may stand under the header.
+fn are_checked(header: &Header, steps: &[Step]) -> bool
     ensures { IsTrue result
         → All (λ step. step_check (settings_of header.now) step ≡ Ok tt) steps.now }
 {
     steps.iter().all(|step| is_checked(header, step))
+}
+
+/// Each step may stand under the header, or the test fails.
+pub(crate) fn need_checked(rt: &impl Abort, header: &Header, steps: &[Step])
+    ensures { All (λ step. step_check (settings_of header.now) step ≡ Ok tt) steps.now }
+{
+    assert!(rt; are_checked(header, steps));
 }
 
 // The plain replay, of a session that has to be checked.
@@ -33,7 +40,7 @@ fn by_the_definitions(
     steps: &[Step],
 ) -> Result<Vec<(Reply, Row)>, Fail> {
     header.check()?;
-    assert!(rt; are_checked(header, steps));
+    need_checked(rt, header, steps);
     let outcomes = replay_slow(host, host.alloc(), header, steps)?;
     assert_same(rt, "outcomes", &outcomes.len(), &steps.len());
     Ok(outcomes)
@@ -50,7 +57,7 @@ fn check_kernel(rt: &impl Abort, host: &HostRuntime, played: &Played) -> Result<
 }
 
 fn check_outcome(rt: &impl Abort, made: &(Reply, Row), outcome: &(Reply, Row)) {
-    assert_eq!(rt; made, outcome);
+    assert_same(rt, "outcome", made, outcome);
 }
 
 // Kernels are dear to drop, so one function does it for each mix.
@@ -156,7 +163,7 @@ const EDITS: [Edit; 3] = [
 fn make_edits(rt: &impl Abort, alloc: Global, opened: &mut Opened) {
     for edit in &EDITS {
         let made = opened.store.apply(alloc, *edit, &mut opened.meter);
-        assert!(rt; made.is_ok());
+        assert_is(rt, "an edit", made.is_ok());
     }
 }
 

@@ -4,7 +4,7 @@ ghost use Rattle.std.specs.Prelude.{◌≡◌, ◌<◌, suc, length, All, IfOk, 
 ghost use Rattle.bench_types.specs.Step.{settings_of, step_check};
 ghost use Rattle.bench_model.specs.Tallied.{shape, shape_of, AllCountsBelow};
 
-use crate::replays::are_checked;
+use crate::replays::need_checked;
 use crate::samples::{A_DELAYS, Opened, SWITCH_0, SWITCH_1, assert_same, assert_text, three_tasks};
 use bench_reports::Tallies;
 use bench_samples::low_and_high;
@@ -216,7 +216,8 @@ fn check_parts_from(
     requires { kernel.old.settings ≡ settings_of header.now }
 {
     let (first, second) = SHARED.split_at(5);
-    assert!(rt; are_checked(header, first) && are_checked(header, second));
+    need_checked(rt, header, first);
+    need_checked(rt, header, second);
     let mut meter = Meter::new(host);
     let tallies = tallied_in_parts(host.alloc(), kernel, &mut meter, first, second)?;
     assert_has_text(rt, host.alloc(), header, &tallies, SHARED_TALLIES)
@@ -239,7 +240,7 @@ fn check_copies_from(
 ) -> Result<(), Fail>
     requires { kernel.old.settings ≡ settings_of header.now }
 {
-    assert!(rt; are_checked(header, &SHARED));
+    need_checked(rt, header, &SHARED);
     let tallies = tallied_by_copies(host.alloc(), kernel, &mut Meter::new(host), &SHARED)?;
     assert_has_text(rt, host.alloc(), header, &tallies, SHARED_TALLIES)
 }
@@ -261,7 +262,7 @@ fn check_again_from(
 ) -> Result<(), Fail>
     requires { kernel.old.settings ≡ settings_of header.now }
 {
-    assert!(rt; are_checked(header, &SHARED));
+    need_checked(rt, header, &SHARED);
     let mut tallies = tallied(host.alloc(), kernel, &mut Meter::new(host), &SHARED)?;
     assert!(rt; tallies.len() == kernel.settings().tasks as usize);
     tallies.begin_again(kernel);
@@ -292,7 +293,7 @@ fn check_in_turn_from(
     requires few { length steps.now < 1000 }
     requires fits { kernel.old.settings ≡ settings_of header.now }
 {
-    assert!(rt; are_checked(header, steps));
+    need_checked(rt, header, steps);
     let tallies = tallied_in_turn(host.alloc(), kernel, &mut Meter::new(host), steps)?;
     assert_has_text(rt, host.alloc(), header, &tallies, wanted)
 }

@@ -51,6 +51,11 @@ pub fn assert_edit<T: PartialEq + Debug>(rt: &impl Abort, edit: Edit, made: &T, 
     assert_eq!(rt; made, wanted, "{edit:?}");
 }
 
+/// It is so.
+pub fn assert_is(rt: &impl Abort, what: &str, is_so: bool) {
+    assert!(rt; is_so, "{what}");
+}
+
 /// The text is what was wanted.
 pub fn assert_text(rt: &impl Abort, text: &str, wanted: &str) {
     assert_eq!(rt; text, wanted);

@@ -8,7 +8,7 @@ ghost use Rattle.smp_kernel.specs.Kernel.{StandsForSome};
 ghost use Rattle.session_segments.specs.Again.{HasSettings};
 
 use crate::samples::{
-    A_DELAYS, SWITCH_0, SWITCH_1, assert_at, assert_same, assert_text, three_tasks,
+    A_DELAYS, SWITCH_0, SWITCH_1, assert_at, assert_is, assert_same, assert_text, three_tasks,
 };
 use bench_types::{Header, MAX_CORES, Reply, Settings, Step};
 use session_segments::{Segment, Segments, advance};
@@ -48,6 +48,13 @@ fn are_checked(header: &Header, steps: &[Step]) -> bool
     ensures { IsTrue result → All (IsCheckedStep (settings_of header.now)) steps.now }
 {
     steps.iter().all(|step| is_checked(header, step))
+}
+
+/// Each step may stand under the header, or the test fails.
+fn need_checked(rt: &impl Abort, header: &Header, steps: &[Step])
+    ensures { All (IsCheckedStep (settings_of header.now)) steps.now }
+{
+    assert!(rt; are_checked(header, steps));
 }
 
 /// A kernel at the start of the header.
@@ -112,7 +119,8 @@ fn in_two(rt: &impl Abort, host: &HostRuntime, header: &Header) -> Result<Vec<Se
     ensures short { IfOk result (λ segments. length (all_steps segments.items) ≤ 8) }
 {
     let (first, second) = STEPS.split_at(3);
-    assert!(rt; are_checked(header, first) && are_checked(header, second));
+    need_checked(rt, header, first);
+    need_checked(rt, header, second);
     let (mut kernel, mut meter) = (started(rt, host.alloc(), header)?, Meter::new(host));
     let segments = two_segments(host.alloc(), &mut kernel, first, second, &mut meter)?;
     assert_same(rt, "steps", &meter.count(), &8);
@@ -149,7 +157,7 @@ const REPLIES: [(u32, Option<Reply>); 3] = [
 
 fn check_shown(rt: &impl Abort, segment: &Segment) {
     assert_same(rt, "tick", &segment.kernel().tick(), &1);
-    assert_eq!(rt; segment.steps(), &STEPS[3..]);
+    assert_same(rt, "steps", &segment.steps(), &&STEPS[3..]);
     for (index, reply) in &REPLIES {
         assert_at(rt, "step", *index, &segment.reply(*index), reply);
     }
@@ -189,13 +197,13 @@ fn check_states(
     segment: &Segment,
 ) -> Result<(), Fail> {
     let kernel = advanced(rt, host, header)?;
-    assert!(rt; segment.begins_with(&kernel));
+    assert_is(rt, "begins with it", segment.begins_with(&kernel));
     check_after(rt, host, segment)
 }
 
 /// A kernel after the first segment.
 fn advanced(rt: &impl Abort, host: &HostRuntime, header: &Header) -> Result<Kernel, Fail> {
-    assert!(rt; are_checked(header, &STEPS[..3]));
+    need_checked(rt, header, &STEPS[..3]);
     let (mut kernel, mut meter) = (started(rt, host.alloc(), header)?, Meter::new(host));
     advance(&mut kernel, &STEPS[..3], &mut meter);
     assert_same(rt, "steps", &meter.count(), &3);
@@ -212,7 +220,7 @@ fn check_after(rt: &impl Abort, host: &HostRuntime, segment: &Segment) -> Result
         &(kernel.tick(), meter.count()),
         &(2, 3),
     );
-    assert!(rt; !segment.begins_with(&kernel));
+    assert_is(rt, "begins before it", !segment.begins_with(&kernel));
     Ok(())
 }
 
@@ -223,7 +231,7 @@ fn a_segment_is_replayed_again(rt: HostRuntime) -> Result<(), Fail> {
 
 fn check_again(rt: &impl Abort, host: &HostRuntime, header: &Header) -> Result<(), Fail> {
     let (kernel, steps) = (&mut started(rt, host.alloc(), header)?, &STEPS[..3]);
-    assert!(rt; are_checked(header, steps));
+    need_checked(rt, header, steps);
     check_twice(rt, host.alloc(), kernel, steps, &mut Meter::new(host))
 }
 
@@ -246,7 +254,7 @@ fn check_twice(
     let ticks = (segment.kernel().tick(), kernel.tick());
     assert_same(rt, "ticks", &ticks, &(1, 2));
     assert_same(rt, "steps", &meter.count(), &6);
-    assert!(rt; segment.steps() == steps);
+    assert_same(rt, "steps", &segment.steps(), &steps);
     Ok(())
 }
 

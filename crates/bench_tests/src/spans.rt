@@ -63,7 +63,8 @@ fn check_places(
 fn check_place(rt: &impl Abort, store: &Store, anew: &Store, place: u32) {
     assert_at(rt, "step", place, &store.step(place), &anew.step(place));
     assert_at(rt, "reply", place, &store.reply(place), &anew.reply(place));
-    assert!(rt; store.row(place) == anew.row(place), "place {place}");
+    let is_same = store.row(place) == anew.row(place);
+    assert_at(rt, "row at place", place, &is_same, &true);
 }
 
 fn check_state(

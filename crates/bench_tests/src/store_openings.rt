@@ -1,7 +1,7 @@
 //! What a store shows of the session that it was opened with, and what it refuses to open.
 use crate::samples::{
-    A_DELAYS, Opened, SWITCH_0, assert_at, assert_replay, assert_row, assert_same, assert_steps,
-    three_tasks, tick_at, ticks,
+    A_DELAYS, Opened, SWITCH_0, assert_at, assert_is, assert_replay, assert_row, assert_same,
+    assert_steps, three_tasks, tick_at, ticks,
 };
 use bench_types::{Call, Fault, Header, Items, MAX_SPAN, MAX_STEPS, Reply, Step};
 use session_store::{OpenFault, OpenRefusal, Store};
@@ -38,7 +38,7 @@ fn check_shown(rt: &impl Abort, store: &Store) {
         assert_row(rt, store, *place, *row);
     }
     assert_steps(rt, store, STEPS.as_slice());
-    assert!(rt; store.row(6).is_none());
+    assert_is(rt, "no row", store.row(6).is_none());
     let checkpoints = (store.checkpoint(0), store.checkpoint(1));
     assert_same(rt, "checkpoints", &checkpoints, &(Some(0), None));
     assert_same(rt, "tasks", &store.header().tasks.as_slice().len(), &3);

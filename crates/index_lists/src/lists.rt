@@ -9,7 +9,7 @@ use std::alloc::{AllocError, Global};
 use std::marker::Model;
 
 /// Items in lists. Items and lists are numbers from 0 on.
-#[derive(Debug, Drop)]
+#[derive(Debug)]
 pub struct Lists {
     items: u32,
     /// The items, and after them the ends of the lists (`xListEnd`): each end closes the ring of
@@ -19,6 +19,18 @@ pub struct Lists {
     homes: Vec<Option<Home>>,
     /// Per list.
     lens: Vec<u32>,
+}
+
+// Written out, so that whoever drops one has one call to prove, and not one for each list in it.
+impl Drop for Lists {
+    fn drop(self) {
+        let Lists {
+            items: _,
+            links: _,
+            homes: _,
+            lens: _,
+        } = self;
+    }
 }
 
 impl Model for Lists {

@@ -19,7 +19,7 @@ use std::alloc::{AllocError, Global};
 use std::marker::Model;
 
 /// Who holds each mutex, and who waits for it.
-#[derive(Debug, Drop)]
+#[derive(Debug)]
 pub struct Mutexes {
     tasks: u32,
     priorities: u32,
@@ -28,6 +28,18 @@ pub struct Mutexes {
     /// Per mutex the tasks that wait for it, each with how far its waiting priority lies below the
     /// number of priorities; of equal ones, the longer one has been waiting, the earlier it stands.
     lists: Lists,
+}
+
+// Written out, so that whoever drops one has one call to prove, and not one for each list in it.
+impl Drop for Mutexes {
+    fn drop(self) {
+        let Mutexes {
+            tasks: _,
+            priorities: _,
+            holders: _,
+            lists: _,
+        } = self;
+    }
 }
 
 impl Model for Mutexes {

@@ -3,6 +3,7 @@ ghost use Rattle.std.specs.Prelude.{◌≡◌, ◌<◌, [], false, MatchOption, 
 ghost use Rattle.bench_model.specs.Lists.{due_tasks};
 ghost use Rattle.tick_delay.specs.Parts.{is_waiting};
 
+use crate::expected::{expect_is, expect_same};
 use bench_model::until::{is_ahead, next_wake};
 use std::process::Abort;
 use std::test::Fail;
@@ -41,13 +42,13 @@ fn delay_until(delays: &mut Delays, task: u32, prev: u32, inc: u32) -> (bool, u3
 fn check_delay(rt: &impl Abort, delays: &mut Delays, copy: &Delays)
     requires { delays.old.tasks ≡ 2 }
 {
-    assert!(rt; copy.same(delays));
+    expect_is(rt, copy.same(delays));
     advance(rt, delays);
-    assert_eq!(rt; delays.tick(), 0);
-    assert_eq!(rt; delays.left(0), Some(0));
-    assert!(rt; !copy.same(delays));
-    assert_eq!(rt; pop_due(delays), Some(0));
-    assert_eq!(rt; delays.left(0), None);
+    expect_same(rt, delays.tick(), 0);
+    expect_same(rt, delays.left(0), Some(0));
+    expect_is(rt, !copy.same(delays));
+    expect_same(rt, pop_due(delays), Some(0));
+    expect_same(rt, delays.left(0), None);
 }
 
 #[test]
@@ -64,9 +65,9 @@ fn delays_become_others(rt: HostRuntime) -> Result<(), Fail> {
     let mut delays = Delays::new(rt.alloc(), 4_294_967_295, 2)?;
     delays.delay(0, 1);
     let mut others = Delays::new(rt.alloc(), 0, 2)?;
-    assert!(&rt; !others.same(&delays));
+    expect_is(&rt, !others.same(&delays));
     others.copy_from(&delays);
-    assert!(&rt; others.same(&delays));
+    expect_is(&rt, others.same(&delays));
     Ok(())
 }
 
@@ -89,12 +90,12 @@ fn check_before(rt: &impl Abort, delays: &Delays) -> u32
     requires { delays.now.tasks ≡ 2 }
 {
     let (zero, one) = keys(delays);
-    assert_eq!(rt; zero, Some(4_294_967_295));
-    assert_eq!(rt; one, Some(1));
+    expect_same(rt, zero, Some(4_294_967_295));
+    expect_same(rt, one, Some(1));
     let (turn, first, other) = firsts(delays);
-    assert_eq!(rt; first, Some(0));
-    assert_eq!(rt; other, Some(1));
-    assert_eq!(rt; delays.turn(), turn);
+    expect_same(rt, first, Some(0));
+    expect_same(rt, other, Some(1));
+    expect_same(rt, delays.turn(), turn);
     turn
 }
 
@@ -102,13 +103,13 @@ fn check_before(rt: &impl Abort, delays: &Delays) -> u32
 fn check_after(rt: &impl Abort, delays: &Delays, turn: u32)
     requires { delays.now.tasks ≡ 2 }
 {
-    assert_eq!(rt; delays.left(1), Some(1));
+    expect_same(rt, delays.left(1), Some(1));
     let (after_wrap, first, other) = firsts(delays);
     assert!(rt; turn < 2);
-    assert_eq!(rt; after_wrap, 1 - turn);
-    assert_eq!(rt; first, Some(1));
-    assert_eq!(rt; other, None);
-    assert_eq!(rt; delays.turn(), after_wrap);
+    expect_same(rt, after_wrap, 1 - turn);
+    expect_same(rt, first, Some(1));
+    expect_same(rt, other, None);
+    expect_same(rt, delays.turn(), after_wrap);
 }
 
 // Task 0 is due at the last tick count, after which the count wraps.
@@ -117,8 +118,8 @@ fn check_last_tick(rt: &impl Abort, delays: &mut Delays)
     ensures { delays.new.tasks ≡ 2 }
 {
     advance(rt, delays);
-    assert_eq!(rt; pop_due(delays), Some(0));
-    assert_eq!(rt; delays.left(1), Some(2));
+    expect_same(rt, pop_due(delays), Some(0));
+    expect_same(rt, delays.left(1), Some(2));
     advance(rt, delays);
     let due = pop_due(delays);
     assert!(rt; due.is_none());
@@ -131,9 +132,9 @@ fn check_wrap(rt: &impl Abort, delays: &mut Delays)
     check_last_tick(rt, delays);
     check_after(rt, delays, turn);
     advance(rt, delays);
-    assert_eq!(rt; pop_due(delays), Some(1));
-    assert_eq!(rt; delays.tick(), 1);
-    assert_eq!(rt; delays.left(1), None);
+    expect_same(rt, pop_due(delays), Some(1));
+    expect_same(rt, delays.tick(), 1);
+    expect_same(rt, delays.left(1), None);
 }
 
 #[test]
@@ -151,17 +152,21 @@ fn check_until(rt: &impl Abort, delays: &mut Delays)
     requires free { is_waiting 0 delays.old.delayed ≡ false }
 {
     let (is_delayed, wake) = delay_until(delays, 0, 4_294_967_290, 10);
-    assert!(rt; is_delayed);
-    assert_eq!(rt; wake, 4);
+    expect_is(rt, is_delayed);
+    expect_same(rt, wake, 4);
     assert_eq!(rt; delays.left(0), Some(1));
+
     delays.cancel(0);
-    assert_eq!(rt; delays.left(0), None);
+    expect_same(rt, delays.left(0), None);
 }
 
 #[test]
 fn delays_until_a_tick_count(rt: HostRuntime) -> Result<(), Fail> {
-    assert_eq!(&rt; next_wake(4_294_967_290, 10), 4);
-    assert!(&rt; is_ahead(3, 4_294_967_290, 4) && !is_ahead(4, 4_294_967_290, 4));
+    expect_same(&rt, next_wake(4_294_967_290, 10), 4);
+    expect_is(
+        &rt,
+        is_ahead(3, 4_294_967_290, 4) && !is_ahead(4, 4_294_967_290, 4),
+    );
     let mut delays = Delays::new(rt.alloc(), 3, 1)?;
     check_until(&rt, &mut delays);
     Ok(())

@@ -2,6 +2,7 @@
 ghost use Rattle.std.specs.Prelude.{◌≡◌, ◌<◌, Ok, length};
 ghost use Rattle.bench_types.specs.Header.{header_check};
 
+use crate::expected::{expect_is, expect_same};
 use crate::ready::{expect_mask, expect_priorities};
 use crate::started::is_checked;
 use bench_samples::{LARGEST, crowd};
@@ -21,10 +22,20 @@ const LAST: u32 = TASKS - 1;
 
 // The copy is the same as the cores of the largest header.
 fn check_cores(rt: &impl Abort, cores: &Cores, copy: &Cores) {
-    assert!(rt; copy.same(cores));
-    assert!(rt; copy.has_core(MAX_CORES - 1) && !copy.has_core(MAX_CORES));
-    assert!(rt; copy.has_priority(MAX_PRIORITIES - 1) && !copy.has_priority(MAX_PRIORITIES));
-    assert!(rt; copy.has_task(LAST) && !copy.has_task(TASKS));
+    expect_is(rt, copy.same(cores));
+    expect_is(
+        rt,
+        copy.has_core(MAX_CORES - 1) && !copy.has_core(MAX_CORES),
+    );
+    expect_is(
+        rt,
+        copy.has_priority(MAX_PRIORITIES - 1) && !copy.has_priority(MAX_PRIORITIES),
+    );
+    expect_same(
+        rt,
+        (copy.has_task(LAST), copy.has_task(TASKS)),
+        (true, false),
+    );
     expect_priorities(rt, copy, LAST, 1, 1);
     expect_mask(rt, copy, LAST, 3);
 }
@@ -50,20 +61,20 @@ fn notify(rt: &impl Abort, notes: &mut Notes, task: u32, action: Action)
     ensures { length notes.new ≡ length notes.old }
 {
     let (passed, waited) = notes.notify(task, action);
-    assert!(rt; passed && !waited);
+    expect_same(rt, (passed, waited), (true, false));
 }
 
 fn expect_note(rt: &impl Abort, notes: &Notes, task: u32, value: u32, state: NoteState)
     requires { task < length notes.now }
 {
-    assert_eq!(rt; notes.value(task), value);
-    assert_eq!(rt; notes.state(task), state);
+    expect_same(rt, notes.value(task), value);
+    expect_same(rt, notes.state(task), state);
 }
 
 fn check_notes(rt: &impl Abort, notes: &Notes, copy: &Notes)
     requires { length copy.now ≡ TASKS }
 {
-    assert!(rt; copy.same(notes));
+    expect_is(rt, copy.same(notes));
     expect_note(rt, copy, LAST, 7, NoteState::Received);
     expect_note(rt, copy, 0, 0, NoteState::NotWaiting);
 }
@@ -81,10 +92,10 @@ fn notes(rt: HostRuntime) -> Result<(), Fail> {
 fn check_mutexes(rt: &impl Abort, mutexes: &Mutexes, copy: &Mutexes, task: u32, mutex: u32)
     requires { mutex < length copy.now.holders }
 {
-    assert!(rt; copy.same(mutexes));
-    assert_eq!(rt; copy.holder(mutex), Some(task));
-    assert_eq!(rt; copy.holder(0), None);
-    assert_eq!(rt; copy.held(task), 1);
+    expect_is(rt, copy.same(mutexes));
+    expect_same(rt, copy.holder(mutex), Some(task));
+    expect_same(rt, copy.holder(0), None);
+    expect_same(rt, copy.held(task), 1);
 }
 
 fn take(rt: &impl Abort, mutexes: &mut Mutexes, task: u32, mutex: u32)
@@ -93,7 +104,7 @@ fn take(rt: &impl Abort, mutexes: &mut Mutexes, task: u32, mutex: u32)
     ensures tasks { mutexes.new.tasks ≡ mutexes.old.tasks }
     ensures mutexes { length mutexes.new.holders ≡ length mutexes.old.holders }
 {
-    assert!(rt; mutexes.try_take(task, mutex));
+    expect_is(rt, mutexes.try_take(task, mutex));
 }
 
 #[test]
@@ -109,10 +120,10 @@ fn mutexes(rt: HostRuntime) -> Result<(), Fail> {
 fn check_delays(rt: &impl Abort, delays: &Delays, copy: &Delays, task: u32, ticks: u32)
     requires { task < copy.now.tasks }
 {
-    assert!(rt; copy.same(delays));
-    assert_eq!(rt; copy.tick(), u32::MAX);
-    assert_eq!(rt; copy.left(task), Some(ticks));
-    assert_eq!(rt; copy.left(0), None);
+    expect_is(rt, copy.same(delays));
+    expect_same(rt, copy.tick(), u32::MAX);
+    expect_same(rt, copy.left(task), Some(ticks));
+    expect_same(rt, copy.left(0), None);
 }
 
 #[test]

@@ -7,6 +7,8 @@
 #[cfg(test)]
 mod delays;
 #[cfg(test)]
+mod expected;
+#[cfg(test)]
 mod largest;
 #[cfg(test)]
 mod lists;

@@ -1,6 +1,7 @@
 //! Items that come to lists and leave them.
 ghost use Rattle.std.specs.Prelude.{◌≡◌, ◌<◌, All, length};
 
+use crate::expected::expect_same;
 use index_lists::Lists;
 use std::process::Abort;
 use std::test::Fail;
@@ -10,19 +11,19 @@ fn check_list(rt: &impl Abort, lists: &Lists, list: u32, items: &[u32])
     requires list { list < length lists.now.lists }
     requires items { All (λ item. item < lists.now.items) items.now }
 {
-    assert_eq!(rt; lists.len(list) as usize, items.len());
+    expect_same(rt, lists.len(list) as usize, items.len());
     let mut next = lists.first(list);
     for item in items {
-        assert_eq!(rt; next, Some(*item));
+        expect_same(rt, next, Some(*item));
         next = lists.next(*item);
     }
-    assert_eq!(rt; next, None);
+    expect_same(rt, next, None);
 }
 
 fn check_home(rt: &impl Abort, lists: &Lists, item: u32, list: Option<u32>)
     requires { item < lists.now.items }
 {
-    assert_eq!(rt; lists.list_of(item), list);
+    expect_same(rt, lists.list_of(item), list);
 }
 
 /// The item is in no list, so none comes after it.
@@ -30,14 +31,14 @@ fn check_gone(rt: &impl Abort, lists: &Lists, item: u32)
     requires { item < lists.now.items }
 {
     check_home(rt, lists, item, None);
-    assert_eq!(rt; lists.next(item), None);
+    expect_same(rt, lists.next(item), None);
 }
 
 fn check_next(rt: &impl Abort, lists: &Lists, item: u32, next: Option<u32>)
     requires { item < lists.now.items }
 {
     assert!(rt; lists.list_of(item).is_some());
-    assert_eq!(rt; lists.next_listed(item), next);
+    expect_same(rt, lists.next_listed(item), next);
 }
 
 /// The two lists, one of each, have the same items and keys, or not.
@@ -45,7 +46,7 @@ fn check_same(rt: &impl Abort, lists: &Lists, list: u32, others: &Lists, other: 
     requires one { list < length lists.now.lists }
     requires other { other < length others.now.lists }
 {
-    assert_eq!(rt; lists.has_same_entries(list, others, other), is_same);
+    expect_same(rt, lists.has_same_entries(list, others, other), is_same);
 }
 
 #[test]
@@ -114,7 +115,7 @@ fn the_lowest_key_is_first(rt: HostRuntime) -> Result<(), Fail> {
 fn check_keys(rt: &impl Abort, lists: &Lists)
     requires { lists.now.items ≡ 2 }
 {
-    assert_eq!(rt; (lists.key_of(1), lists.key_of(0)), (Some(7), None));
+    expect_same(rt, (lists.key_of(1), lists.key_of(0)), (Some(7), None));
 }
 
 #[test]

@@ -1,7 +1,8 @@
 //! Mutexes, and the priorities that their holders inherit.
 ghost use Rattle.std.specs.Prelude.{◌≡◌, ◌<◌, length, IsTrue};
 
-use crate::started::started;
+use crate::expected::{expect_is, expect_same};
+use crate::started::{need_priority, need_task, started};
 use index_lists::Lists;
 use mutex_inherit::Mutexes;
 use ready_core::Cores;
@@ -81,7 +82,7 @@ fn time_out(rt: &impl Abort, cores: &mut Cores, mutexes: &Mutexes, task: u32, mu
 }
 
 fn in_use(rt: &impl Abort, cores: &Cores, task: u32) -> u32 {
-    assert!(rt; cores.has_task(task));
+    need_task(rt, cores, task);
     cores.in_use(task)
 }
 
@@ -93,11 +94,11 @@ fn check_wait(rt: &impl Abort, cores: &mut Cores, mutexes: &mut Mutexes)
     ensures tasks { mutexes.new.tasks ≡ 4 }
     ensures mutexes { length mutexes.new.holders ≡ 2 }
 {
-    assert_eq!(rt; mutexes.holder(0), None);
-    assert!(rt; mutexes.try_take(2, 0));
-    assert_eq!(rt; mutexes.held(2), 1);
-    assert!(rt; wait(rt, cores, mutexes, 4, 3, 0));
-    assert_eq!(rt; in_use(rt, cores, 2), 3);
+    expect_same(rt, mutexes.holder(0), None);
+    expect_is(rt, mutexes.try_take(2, 0));
+    expect_same(rt, mutexes.held(2), 1);
+    expect_is(rt, wait(rt, cores, mutexes, 4, 3, 0));
+    expect_same(rt, in_use(rt, cores, 2), 3);
 }
 
 // Task 2 gives it, and task 3 waits no longer.
@@ -105,13 +106,14 @@ fn check_give(rt: &impl Abort, cores: &mut Cores, mutexes: &mut Mutexes, copy: &
     requires tasks { mutexes.old.tasks ≡ 4 }
     requires mutexes { length mutexes.old.holders ≡ 2 }
 {
-    assert!(rt; copy.same(mutexes));
-    assert_eq!(rt; give(rt, cores, mutexes, 2, 0), Some(3));
-    assert_eq!(rt; in_use(rt, cores, 2), 1);
-    assert!(rt; !copy.same(mutexes));
+    expect_is(rt, copy.same(mutexes));
+    expect_same(rt, give(rt, cores, mutexes, 2, 0), Some(3));
+    expect_same(rt, in_use(rt, cores, 2), 1);
+    expect_is(rt, !copy.same(mutexes));
     assert_eq!(rt; mutexes.waits_on(3), Some(0));
+
     mutexes.leave(3);
-    assert_eq!(rt; mutexes.waits_on(3), None);
+    expect_same(rt, mutexes.waits_on(3), None);
 }
 
 fn check_holder(
@@ -136,9 +138,9 @@ fn check_copied(rt: &impl Abort, alloc: Global, mutexes: &Mutexes) -> Result<(),
     requires mutexes { length mutexes.now.holders ≡ 2 }
 {
     let mut others = Mutexes::new(alloc, 4, 5, 2)?;
-    assert!(rt; !others.same(mutexes));
+    expect_is(rt, !others.same(mutexes));
     others.copy_from(mutexes);
-    assert!(rt; others.same(mutexes));
+    expect_is(rt, others.same(mutexes));
     Ok(())
 }
 
@@ -150,8 +152,8 @@ fn holder_inherits(rt: HostRuntime) -> Result<(), Fail> {
 }
 
 fn set_in_use(rt: &impl Abort, cores: &mut Cores, task: u32, priority: u32) {
-    assert!(rt; cores.has_task(task));
-    assert!(rt; cores.has_priority(priority));
+    need_task(rt, cores, task);
+    need_priority(rt, cores, priority);
     cores.set_in_use(task, priority);
 }
 
@@ -161,11 +163,11 @@ fn check_timeout(rt: &impl Abort, cores: &mut Cores, mutexes: &mut Mutexes)
     requires priorities { mutexes.old.priorities ≡ 5 }
     requires mutexes { length mutexes.old.holders ≡ 2 }
 {
-    assert!(rt; mutexes.try_take(2, 0));
-    assert_eq!(rt; mutexes.holder(0), Some(2));
+    expect_is(rt, mutexes.try_take(2, 0));
+    expect_same(rt, mutexes.holder(0), Some(2));
     set_in_use(rt, cores, 2, 3);
     time_out(rt, cores, mutexes, 3, 0);
-    assert_eq!(rt; in_use(rt, cores, 2), 1);
+    expect_same(rt, in_use(rt, cores, 2), 1);
 }
 
 #[test]
@@ -201,19 +203,19 @@ fn check_queue(rt: &impl Abort, mutexes: &Mutexes)
     requires mutexes { length mutexes.now.holders ≡ 2 }
 {
     let lists = mutexes.lists();
-    assert_eq!(rt; lists.len(0), 0);
-    assert_eq!(rt; lists.len(1), 3);
-    assert_eq!(rt; lists.first(1), Some(4));
-    assert_eq!(rt; next(lists, 4), Some(3));
-    assert_eq!(rt; next(lists, 3), Some(2));
-    assert_eq!(rt; next(lists, 2), None);
+    expect_same(rt, lists.len(0), 0);
+    expect_same(rt, lists.len(1), 3);
+    expect_same(rt, lists.first(1), Some(4));
+    expect_same(rt, next(lists, 4), Some(3));
+    expect_same(rt, next(lists, 3), Some(2));
+    expect_same(rt, next(lists, 2), None);
 }
 
 #[test]
 fn equal_waiters_stand_in_turn(rt: HostRuntime) -> Result<(), Fail> {
     let mut cores = started(&rt, rt.alloc(), false, &[(1, 3), (1, 3), (3, 3)])?;
     let mut mutexes = Mutexes::new(rt.alloc(), 5, 5, 2)?;
-    assert!(&rt; mutexes.try_take(0, 1));
+    expect_is(&rt, mutexes.try_take(0, 1));
     queue(&rt, &mut cores, &mut mutexes);
     check_queue(&rt, &mutexes);
     Ok(())

@@ -1,6 +1,7 @@
 //! Notifications of tasks, and the parts of their rules.
 ghost use Rattle.std.specs.Prelude.{◌≡◌, ◌<◌, length};
 
+use crate::expected::{expect_is, expect_same};
 use bench_model::notes::{acted, is_received, is_waiting, notified, passes, without_bits};
 use bench_types::{Action, NoteState, Notification};
 use notify_core::Notes;
@@ -15,7 +16,7 @@ fn notify(rt: &impl Abort, notes: &mut Notes, task: u32, action: Action)
     let state = notes.state(task);
     assert!(rt; is_waiting(state));
     let (passed, waited) = notes.notify(task, action);
-    assert!(rt; passed && waited);
+    expect_same(rt, (passed, waited), (true, true));
 }
 
 // A take waits, until a notification comes. Then it clears the value, or takes one from it.
@@ -23,9 +24,9 @@ fn take(rt: &impl Abort, notes: &mut Notes, task: u32, clear: bool)
     requires { task < length notes.old }
     ensures { length notes.new ≡ length notes.old }
 {
-    assert!(rt; notes.begin_take(task));
+    expect_is(rt, notes.begin_take(task));
     notify(rt, notes, task, Action::Set(7));
-    assert_eq!(rt; notes.end_take(task, clear), 7);
+    expect_same(rt, notes.end_take(task, clear), 7);
 }
 
 // A wait ends with a notification. The masks are those of its entry and of its exit. Returns what
@@ -34,7 +35,7 @@ fn wait(rt: &impl Abort, notes: &mut Notes, task: u32, entry: u32, exit: u32) ->
     requires { task < length notes.old }
     ensures { length notes.new ≡ length notes.old }
 {
-    assert!(rt; notes.begin_wait(task, entry));
+    expect_is(rt, notes.begin_wait(task, entry));
     notify(rt, notes, task, Action::SetBits(5));
     notes.end_wait(task, exit)
 }
@@ -44,10 +45,10 @@ fn check_wait(rt: &impl Abort, notes: &mut Notes, task: u32)
     requires { task < length notes.old }
     ensures { length notes.new ≡ length notes.old }
 {
-    assert_eq!(rt; notes.clear_value(task, 4), 6);
+    expect_same(rt, notes.clear_value(task, 4), 6);
     let (come, value) = wait(rt, notes, task, 2, 1);
-    assert!(rt; come && value == 5);
-    assert!(rt; !notes.clear_state(task));
+    expect_same(rt, (come, value), (true, 5));
+    expect_is(rt, !notes.clear_state(task));
 }
 
 #[test]
@@ -55,23 +56,23 @@ fn notes(rt: HostRuntime) -> Result<(), Fail> {
     let mut notes = Notes::new(rt.alloc(), 2)?;
     take(&rt, &mut notes, 1, false);
     let mut copy = notes.copy(rt.alloc())?;
-    assert!(&rt; copy.same(&notes));
+    expect_is(&rt, copy.same(&notes));
     check_wait(&rt, &mut notes, 1);
-    assert_eq!(&rt; notes.value(1), 4);
-    assert!(&rt; !copy.same(&notes));
+    expect_same(&rt, notes.value(1), 4);
+    expect_is(&rt, !copy.same(&notes));
     copy.copy_from(&notes);
-    assert!(&rt; copy.same(&notes));
+    expect_is(&rt, copy.same(&notes));
     Ok(())
 }
 
 #[test]
 fn parts_of_a_notification(rt: HostRuntime) {
     let state = NoteState::Waiting;
-    assert!(&rt; is_waiting(state) && !is_received(state));
-    assert!(&rt; passes(Action::SetNew(7), state));
-    assert_eq!(&rt; acted(Action::Increment, 4_294_967_295), 0);
-    assert_eq!(&rt; without_bits(5, 7), 2);
+    expect_same(&rt, (is_waiting(state), is_received(state)), (true, false));
+    expect_is(&rt, passes(Action::SetNew(7), state));
+    expect_same(&rt, acted(Action::Increment, 4_294_967_295), 0);
+    expect_same(&rt, without_bits(5, 7), 2);
     let note = notified(Action::SetBits(6), Notification { value: 5, state });
-    assert_eq!(&rt; note.value, 7);
-    assert!(&rt; is_received(note.state));
+    expect_same(&rt, note.value, 7);
+    expect_is(&rt, is_received(note.state));
 }

@@ -1,7 +1,8 @@
 //! Cores and ready lists.
 ghost use Rattle.std.specs.Prelude.{◌≡◌};
 
-use crate::started::{select, started};
+use crate::expected::{expect_is, expect_same};
+use crate::started::{need_core, need_priority, need_task, select, started};
 use Move::{
     Ask, AskItsCore, Base, HasMask, InUse, IsUnready, List, Looks, Mask, Preempt, Priorities,
     Select, Unready, Wake, YieldFor,
@@ -41,89 +42,89 @@ enum Move {
 }
 
 fn unready(rt: &impl Abort, cores: &mut Cores, task: u32) {
-    assert!(rt; cores.has_task(task));
+    need_task(rt, cores, task);
     cores.unready(task);
 }
 
 fn expect_unready(rt: &impl Abort, cores: &Cores, task: u32) {
-    assert!(rt; cores.has_task(task));
+    need_task(rt, cores, task);
     assert!(rt; !cores.ready(task));
 }
 
 fn wake(rt: &impl Abort, cores: &mut Cores, task: u32) {
-    assert!(rt; cores.has_task(task));
+    need_task(rt, cores, task);
     cores.wake(0, task);
 }
 
 fn set_in_use(rt: &impl Abort, cores: &mut Cores, task: u32, priority: u32) {
-    assert!(rt; cores.has_task(task));
-    assert!(rt; cores.has_priority(priority));
+    need_task(rt, cores, task);
+    need_priority(rt, cores, priority);
     cores.set_in_use(task, priority);
 }
 
 fn set_base(rt: &impl Abort, cores: &mut Cores, task: u32, priority: u32) {
-    assert!(rt; cores.has_task(task));
-    assert!(rt; cores.has_priority(priority));
+    need_task(rt, cores, task);
+    need_priority(rt, cores, priority);
     cores.set_base(task, priority);
 }
 
 fn set_mask(rt: &impl Abort, cores: &mut Cores, task: u32, mask: u32) {
-    assert!(rt; cores.has_task(task));
+    need_task(rt, cores, task);
     cores.set_mask(task, mask);
 }
 
 fn set_preempt(rt: &impl Abort, cores: &mut Cores, task: u32, on: bool) {
-    assert!(rt; cores.has_task(task));
+    need_task(rt, cores, task);
     cores.set_preempt(task, on);
 }
 
 fn ask(rt: &impl Abort, cores: &mut Cores, acting: u32, core: u32) {
-    assert!(rt; cores.has_core(core));
+    need_core(rt, cores, core);
     cores.ask(acting, core);
 }
 
 fn ask_its_core(rt: &impl Abort, cores: &mut Cores, acting: u32, task: u32) {
-    assert!(rt; cores.has_task(task));
+    need_task(rt, cores, task);
     cores.ask_its_core(acting, task);
 }
 
 fn yield_for(rt: &impl Abort, cores: &mut Cores, task: u32, among: u32) {
-    assert!(rt; cores.has_task(task));
+    need_task(rt, cores, task);
     assert!(rt; cores.ready(task));
     cores.yield_for(1, task, among);
 }
 
 fn look(rt: &impl Abort, cores: &Cores, core: u32) -> Look {
-    assert!(rt; cores.has_core(core));
+    need_core(rt, cores, core);
     let look = cores.flags(core);
     (cores.running(core), look.pend, look.asked)
 }
 
 fn expect(rt: &impl Abort, cores: &Cores, one: Look, other: Look) {
-    assert_eq!(rt; look(rt, cores, 0), one);
-    assert_eq!(rt; look(rt, cores, 1), other);
+    expect_same(rt, look(rt, cores, 0), one);
+    expect_same(rt, look(rt, cores, 1), other);
 }
 
 fn expect_list(rt: &impl Abort, cores: &Cores, priority: u32, tasks: &[u32]) {
-    assert!(rt; cores.has_priority(priority));
+    need_priority(rt, cores, priority);
     let lists = cores.lists();
-    assert_eq!(rt; lists.len(priority) as usize, tasks.len());
+    expect_same(rt, lists.len(priority) as usize, tasks.len());
     let mut next = lists.first(priority);
     for task in tasks {
-        assert_eq!(rt; next, Some(*task));
-        assert!(rt; cores.has_task(*task));
+        expect_same(rt, next, Some(*task));
+        need_task(rt, cores, *task);
         next = lists.next(*task);
     }
 }
 
 pub(crate) fn expect_mask(rt: &impl Abort, cores: &Cores, task: u32, mask: u32) {
-    assert!(rt; cores.has_task(task));
-    assert_eq!(rt; cores.mask(task), mask);
+    need_task(rt, cores, task);
+    expect_same(rt, cores.mask(task), mask);
 }
 
 pub(crate) fn expect_priorities(rt: &impl Abort, cores: &Cores, task: u32, base: u32, in_use: u32) {
-    assert!(rt; cores.has_task(task));
-    assert_eq!(rt; (cores.base(task), cores.in_use(task)), (base, in_use));
+    need_task(rt, cores, task);
+    expect_same(rt, (cores.base(task), cores.in_use(task)), (base, in_use));
 }
 
 fn make(rt: &impl Abort, cores: &mut Cores, made: Move) {
@@ -165,34 +166,49 @@ fn play_from(
 }
 
 fn check_sizes(rt: &impl Abort, cores: &Cores) {
-    assert!(rt; cores.has_core(1) && !cores.has_core(2));
-    assert!(rt; cores.has_priority(4) && !cores.has_priority(5));
-    assert!(rt; cores.has_task(4) && !cores.has_task(5));
+    expect_same(rt, (cores.has_core(1), cores.has_core(2)), (true, false));
+    expect_same(
+        rt,
+        (cores.has_priority(4), cores.has_priority(5)),
+        (true, false),
+    );
+    expect_same(rt, (cores.has_task(4), cores.has_task(5)), (true, false));
 }
 
 // What is told of a task that is ready, and may be preempted.
 fn check_task(rt: &impl Abort, cores: &Cores, task: u32) {
-    assert!(rt; cores.has_task(task));
-    assert!(rt; cores.preempt(task));
-    assert!(rt; cores.ready(task));
+    need_task(rt, cores, task);
+    expect_is(rt, cores.preempt(task));
+    expect_is(rt, cores.ready(task));
 }
 
 // The task of the first number runs on core 0, and stands above the others, of which the last
 // runs nowhere.
 fn check_order(rt: &impl Abort, cores: &Cores, first: u32, second: u32, third: u32) {
-    assert!(rt; cores.has_task(first));
-    assert!(rt; cores.has_task(second));
-    assert!(rt; cores.has_task(third));
-    assert!(rt; cores.stands_below(second, first) && !cores.stands_below(second, third));
-    assert_eq!(rt; cores.its_core(first), Some(0));
-    assert_eq!(rt; cores.its_core(third), None);
+    need_task(rt, cores, first);
+    need_task(rt, cores, second);
+    need_task(rt, cores, third);
+    expect_is(
+        rt,
+        cores.stands_below(second, first) && !cores.stands_below(second, third),
+    );
+    expect_same(rt, cores.its_core(first), Some(0));
+    expect_same(rt, cores.its_core(third), None);
 }
 
 fn check_cores_of_task(rt: &impl Abort, cores: &Cores) {
-    assert!(rt; cores.has_core(1));
-    assert!(rt; cores.has_task(4));
-    assert!(rt; cores.is_allowed(1, 4) && !cores.is_allowed(0, 4));
-    assert!(rt; cores.is_in_mask(4, 1) && !cores.is_in_mask(4, 0));
+    need_core(rt, cores, 1);
+    need_task(rt, cores, 4);
+    expect_same(
+        rt,
+        (cores.is_allowed(1, 4), cores.is_allowed(0, 4)),
+        (true, false),
+    );
+    expect_same(
+        rt,
+        (cores.is_in_mask(4, 1), cores.is_in_mask(4, 0)),
+        (true, false),
+    );
 }
 
 fn check_start(rt: &impl Abort, cores: &Cores) {
@@ -214,8 +230,11 @@ fn start(rt: HostRuntime) -> Result<(), Fail> {
 
 fn check_current(rt: &impl Abort, cores: &Cores) {
     assert!(rt; cores.has_task(4) && !cores.has_task(5));
-    assert!(rt; cores.is_current(2) && cores.is_current(3) && !cores.is_current(4));
-    assert!(rt; !cores.is_current(0) && !cores.ready(3));
+    expect_is(
+        rt,
+        cores.is_current(2) && cores.is_current(3) && !cores.is_current(4),
+    );
+    expect_same(rt, (cores.is_current(0), cores.ready(3)), (false, false));
 }
 
 #[test]
@@ -404,22 +423,22 @@ fn cores_become_others(rt: HostRuntime) -> Result<(), Fail> {
 fn check_copied(rt: &impl Abort, one: &Cores, other: &mut Cores)
     requires { other.old ≡ one.now }
 {
-    assert!(rt; other.has_task(4));
+    need_task(rt, other, 4);
     other.set_preempt(4, false);
-    assert!(rt; !one.same(other));
+    expect_is(rt, !one.same(other));
     other.copy_from(one);
-    assert!(rt; one.same(other));
+    expect_is(rt, one.same(other));
 }
 
 fn check_turns(rt: &impl Abort, one: &mut Cores, other: &mut Cores) {
-    assert!(rt; one.same(other));
+    expect_is(rt, one.same(other));
     play(rt, one, &[InUse(3, 1)]);
-    assert!(rt; !one.same(other));
+    expect_is(rt, !one.same(other));
     play(rt, one, &[InUse(2, 2)]);
     play(rt, other, &[InUse(2, 2), InUse(3, 1)]);
-    assert!(rt; one.same(other));
+    expect_is(rt, one.same(other));
     play(rt, one, &[Preempt(4, false)]);
-    assert!(rt; !one.same(other));
+    expect_is(rt, !one.same(other));
 }
 
 #[test]

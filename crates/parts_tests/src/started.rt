@@ -1,5 +1,5 @@
 //! Cores at the start of a session.
-ghost use Rattle.std.specs.Prelude.{◌≡◌, Ok, IsTrue};
+ghost use Rattle.std.specs.Prelude.{◌≡◌, ◌<◌, length, Ok, IsTrue};
 ghost use Rattle.bench_types.specs.Header.{header_check};
 
 use bench_samples::{PLAIN, numbered_header};
@@ -15,8 +15,29 @@ pub(crate) fn is_checked(header: &Header) -> bool
     header.check().is_ok()
 }
 
-pub(crate) fn select(rt: &impl Abort, cores: &mut Cores, core: u32) {
+/// The cores have this core, or the test fails.
+pub(crate) fn need_core(rt: &impl Abort, cores: &Cores, core: u32)
+    ensures { core < length cores.now.control.cores }
+{
     assert!(rt; cores.has_core(core));
+}
+
+/// The cores have the task, or the test fails.
+pub(crate) fn need_task(rt: &impl Abort, cores: &Cores, task: u32)
+    ensures { task < length cores.now.control.tasks }
+{
+    assert!(rt; cores.has_task(task));
+}
+
+/// The cores have the priority, or the test fails.
+pub(crate) fn need_priority(rt: &impl Abort, cores: &Cores, priority: u32)
+    ensures { priority < cores.now.priorities }
+{
+    assert!(rt; cores.has_priority(priority));
+}
+
+pub(crate) fn select(rt: &impl Abort, cores: &mut Cores, core: u32) {
+    need_core(rt, cores, core);
     cores.select(core);
 }
 

@@ -161,6 +161,14 @@ fn ends(ending: &Ending, output: &[u8], wanted: &Wanted<'_>) -> bool {
         && begins(output, wanted.output)
 }
 
+fn expect_task(rt: &impl Abort, words: &[&str], asked: Result<Task, AllocError>, wanted: Task) {
+    assert_eq!(rt; asked, Ok(wanted), "{words:?}");
+}
+
+fn expect_end(rt: &impl Abort, words: &[&str], ending: &Ending, is_wanted: bool) {
+    assert!(rt; is_wanted, "{words:?}: {ending:?}");
+}
+
 /// The input is empty, so that a replay is refused, and a recording too.
 fn check_words<R: Threads + Wait + Abort + Sync>(
     rt: &R,
@@ -168,11 +176,7 @@ fn check_words<R: Threads + Wait + Abort + Sync>(
     words: &[&str],
     wanted: &Wanted<'_>,
 ) {
-    assert_eq!(rt;
-        task_asked(host.alloc(), words),
-        Ok(wanted.task),
-        "{words:?}"
-    );
+    expect_task(rt, words, task_asked(host.alloc(), words), wanted.task);
     let mut sink = Sink::wide();
     let mut reader = Counted::new("".as_bytes());
     let mut writer = Counted::new(&mut sink);
@@ -184,10 +188,7 @@ fn check_words<R: Threads + Wait + Abort + Sync>(
         &mut reader,
         &mut writer,
     );
-    assert!(rt;
-        ends(&ending, sink.taken(), wanted),
-        "{words:?}: {ending:?}"
-    );
+    expect_end(rt, words, &ending, ends(&ending, sink.taken(), wanted));
 }
 
 fn check_line<R: Threads + Wait + Abort + Sync>(

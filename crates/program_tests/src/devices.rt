@@ -3,10 +3,34 @@ ghost use Rattle.std.specs.Prelude.{◌≡◌, true};
 ghost use Rattle.bench_commands.specs.Run.{has_span};
 
 use bench_commands::{Counted, CountedRead, CountedWrite, DEFAULT_SPAN, Mode, Status, run};
+use std::fmt::Debug;
 use std::io::{self, Read, Write};
+use std::process::Abort;
 use std::thread::Threads;
 
 const MAX_OUTPUT: usize = 4096;
+
+/// What was made is what was wanted. Tests call this, since each `assert_eq!` is dear to prove
+/// where it stands.
+pub(crate) fn expect_same<T>(rt: &impl Abort, what: &str, made: T, wanted: T)
+where
+    T: Copy + Debug + PartialEq,
+{
+    assert_eq!(rt; made, wanted, "{what}");
+}
+
+/// The same at a number.
+pub(crate) fn expect_at<T>(rt: &impl Abort, what: &str, at: usize, made: T, wanted: T)
+where
+    T: Copy + Debug + PartialEq,
+{
+    assert_eq!(rt; made, wanted, "{what} {at}");
+}
+
+/// It is so.
+pub(crate) fn expect(rt: &impl Abort, what: &str, is_so: bool) {
+    assert!(rt; is_so, "{what}");
+}
 
 /// Gives so many bytes at a read, and is interrupted once so many reads were made.
 #[derive(Drop)]
@@ -58,6 +82,11 @@ impl Sink {
 
     pub(crate) fn taken(&self) -> &[u8] {
         &self.bytes[..self.count.min(MAX_OUTPUT)]
+    }
+
+    /// It took this text and no more.
+    pub(crate) fn expect(&self, rt: &impl Abort, wanted: &str) {
+        assert_eq!(rt; self.taken(), wanted.as_bytes());
     }
 }
 

@@ -1,5 +1,5 @@
 //! Runs over the largest documents: what each writes, and whether it is refused.
-use crate::devices::{Sink, ran};
+use crate::devices::{Sink, expect_same, ran};
 use bench_commands::Status;
 use bench_types::{MAX_INPUT, MAX_STEPS};
 use std::alloc::{AllocError, Global};
@@ -29,12 +29,9 @@ fn expect<T: Threads + Abort + Sync, R: Read>(
     } else {
         Status::Fine
     };
-    assert_eq!(rt;
-        ran(rt, host, reader, &mut sink),
-        (status, 0, 0),
-        "{output}"
-    );
-    assert_eq!(rt; sink.taken(), output.as_bytes(), "{output}");
+    let ended = ran(rt, host, reader, &mut sink);
+    expect_same(rt, output, ended, (status, 0, 0));
+    sink.expect(rt, output);
 }
 
 /// A document with one step over and over, some number of times and then once more.

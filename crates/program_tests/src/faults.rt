@@ -1,5 +1,5 @@
 //! Runs over devices that give or take little, fail, or find no memory.
-use crate::devices::{Sink, Source, ran};
+use crate::devices::{Sink, Source, expect, expect_at, expect_same, ran};
 use bench_commands::{Counted, RunFault, Status};
 use std::io::{Read, Write};
 use std::test::Fail;
@@ -32,12 +32,9 @@ fn little_reads_and_failed_ones(rt: HostRuntime) -> Result<(), Fail> {
     for (piece, reads, ended, output) in table {
         let mut sink = Sink::new(1, LINES.len(), false);
         let mut source = source_of(piece, reads);
-        assert_eq!(rt;
-            ran(&rt, &rt, &mut source, &mut sink),
-            ended,
-            "{reads} reads"
-        );
-        assert_eq!(rt; sink.taken(), output.as_bytes(), "{reads} reads");
+        let made = ran(&rt, &rt, &mut source, &mut sink);
+        expect_at(&rt, "reads", reads, made, ended);
+        sink.expect(&rt, output);
     }
     Ok(())
 }
@@ -49,18 +46,16 @@ fn a_write_that_fails(rt: HostRuntime) -> Result<(), Fail> {
         for fails in [false, true] {
             let mut sink = Sink::new(7, room, fails);
             let mut source = source_of(1000, 1000);
-            assert_eq!(rt;
-                ran(&rt, &rt, &mut source, &mut sink),
-                failed,
-                "room for {room}"
-            );
-            assert_eq!(rt; sink.taken(), &LINES.as_bytes()[..room]);
+            let made = ran(&rt, &rt, &mut source, &mut sink);
+            expect_at(&rt, "room for", room, made, failed);
+            expect_same(&rt, "written", sink.taken(), &LINES.as_bytes()[..room]);
         }
     }
     let mut sink = Sink::new(7, LINES.len(), true);
     let mut source = source_of(1000, 1000);
-    assert_eq!(rt; ran(&rt, &rt, &mut source, &mut sink), (Status::Fine, 0, 0));
-    assert_eq!(rt; sink.taken(), LINES.as_bytes());
+    let made = ran(&rt, &rt, &mut source, &mut sink);
+    expect_same(&rt, "room for all", made, (Status::Fine, 0, 0));
+    sink.expect(&rt, LINES);
     Ok(())
 }
 
@@ -70,12 +65,12 @@ fn memory_that_is_refused(rt: HostRuntime) -> Result<(), Fail> {
     let mut sink = Sink::wide();
     let mut source = source_of(1000, 1000);
     let (status, failed_reads, failed_writes) = ran(&rt, &rt, &mut source, &mut sink);
-    assert_eq!(rt; (failed_reads, failed_writes), (0, 0));
+    expect_same(&rt, "faults", (failed_reads, failed_writes), (0, 0));
     let written = match status {
         Status::Fault(RunFault::Memory) => "",
         _ => LINES,
     };
-    assert_eq!(rt; sink.taken(), written.as_bytes());
+    sink.expect(&rt, written);
     Ok(())
 }
 
@@ -87,18 +82,23 @@ fn counted_devices_pass_on(rt: HostRuntime) -> Result<(), Fail> {
         reads: 1,
     });
     let mut buf = [0; 3];
-    assert!(rt; matches!(reader.read(&mut buf), Ok(2)));
-    assert_eq!(rt; (buf, reader.count()), (*b"ab\0", 0));
-    assert!(rt; reader.read(&mut buf).is_err());
-    assert_eq!(rt; reader.count(), 1);
+    let is_read = matches!(reader.read(&mut buf), Ok(2));
+    expect(&rt, "a read", is_read);
+    expect_same(&rt, "read", (buf, reader.count()), (*b"ab\0", 0));
+    let is_refused = reader.read(&mut buf).is_err();
+    expect(&rt, "a failed read", is_refused);
+    expect_same(&rt, "failed reads", reader.count(), 1);
 
     let mut sink = Sink::new(2, 2, false);
     let mut writer = Counted::new(&mut sink);
-    assert!(rt; matches!(writer.write(b"abc"), Ok(2)));
-    assert!(rt; writer.flush().is_ok());
-    assert_eq!(rt; writer.count(), 0);
-    assert!(rt; matches!(writer.write(b"c"), Ok(0)));
-    assert_eq!(rt; writer.count(), 1);
-    assert_eq!(rt; sink.taken(), b"ab".as_slice());
+    let is_written = matches!(writer.write(b"abc"), Ok(2));
+    expect(&rt, "a write", is_written);
+    let is_flushed = writer.flush().is_ok();
+    expect(&rt, "a flush", is_flushed);
+    expect_same(&rt, "no failed write", writer.count(), 0);
+    let is_refused = matches!(writer.write(b"c"), Ok(0));
+    expect(&rt, "a failed write", is_refused);
+    expect_same(&rt, "failed writes", writer.count(), 1);
+    sink.expect(&rt, "ab");
     Ok(())
 }

@@ -1,5 +1,5 @@
 //! Inputs that are no documents: what people are told of each, beside its refusal line.
-use crate::devices::Sink;
+use crate::devices::{Sink, expect, expect_same};
 use bench_commands::{Counted, Ending, Prompting, carry_out};
 use std::process::Abort;
 use std::sync::Wait;
@@ -29,13 +29,9 @@ fn check_told<R: Threads + Wait + Abort + Sync>(
 ) {
     let mut sink = Sink::wide();
     let ending = ended(rt, host, word, input, &mut sink);
-    assert_eq!(rt; ending.code(), 1, "{line}");
-    assert!(rt;
-        ending.message().starts_with(line),
-        "{line}{}",
-        ending.message()
-    );
-    assert!(rt; sink.taken().starts_with(b"refused "), "{line}");
+    expect_same(rt, line, ending.code(), 1);
+    expect(rt, ending.message(), ending.message().starts_with(line));
+    expect(rt, line, sink.taken().starts_with(b"refused "));
 }
 
 #[test]
@@ -81,6 +77,6 @@ fn terminals(rt: HostRuntime) {
     ] {
         let mut errors = Sink::wide();
         prompted(&rt, &rt, word, is_terminal, &mut errors);
-        assert_eq!(rt; errors.taken(), told.as_bytes(), "{word}");
+        errors.expect(&rt, told);
     }
 }

@@ -1,5 +1,5 @@
 //! Texts that are cut off or nested deep, and devices that are interrupted.
-use crate::devices::{Sink, ran};
+use crate::devices::{Sink, expect_at, expect_same, ran};
 use bench_commands::{RunFault, Status};
 use std::alloc::AllocError;
 use std::io::{self, ErrorKind, Read, Write};
@@ -80,12 +80,9 @@ fn check_no_json<T: Threads + Abort + Sync>(rt: &T, host: &HostRuntime, text: &[
     let mut sink = Sink::wide();
     let mut reader = text;
     let length = text.len();
-    assert_eq!(rt;
-        ran(rt, host, &mut reader, &mut sink),
-        (Status::Refused, 0, 0),
-        "{length} bytes"
-    );
-    assert_eq!(rt; sink.taken(), b"refused H1\n".as_slice(), "{length} bytes");
+    let ended = ran(rt, host, &mut reader, &mut sink);
+    expect_at(rt, "bytes", length, ended, (Status::Refused, 0, 0));
+    sink.expect(rt, "refused H1\n");
 }
 
 #[test]
@@ -132,12 +129,9 @@ fn check_read<T: Threads + Abort + Sync>(
     } else {
         ((Status::Fine, 0, 0), LINES)
     };
-    assert_eq!(rt;
-        ran(rt, host, &mut reader, &mut sink),
-        ended,
-        "read {before}"
-    );
-    assert_eq!(rt; sink.taken(), lines.as_bytes(), "read {before}");
+    let made = ran(rt, host, &mut reader, &mut sink);
+    expect_at(rt, "read", before as usize, made, ended);
+    sink.expect(rt, lines);
 }
 
 #[test]
@@ -161,11 +155,8 @@ fn check_write<T: Threads + Abort + Sync>(
     } else {
         (Status::Fine, 0, 0)
     };
-    assert_eq!(rt;
-        ran(rt, host, &mut WRITTEN.as_bytes(), &mut writer),
-        ended,
-        "write {before}"
-    );
+    let made = ran(rt, host, &mut WRITTEN.as_bytes(), &mut writer);
+    expect_at(rt, "write", before as usize, made, ended);
     let count = LINES.len().min(before as usize * PIECE);
-    assert_eq!(rt; sink.taken(), &LINES.as_bytes()[..count], "write {before}");
+    expect_same(rt, "written", sink.taken(), &LINES.as_bytes()[..count]);
 }

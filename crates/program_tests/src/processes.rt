@@ -1,5 +1,5 @@
 //! The whole program: words, standard output and error, and the exit status.
-use crate::devices::Sink;
+use crate::devices::{Sink, expect, expect_same};
 use bench_commands::{Counted, DEFAULT_SPAN, run_program};
 use bench_types::MAX_SPAN;
 use std::alloc::{AllocError, Global};
@@ -61,15 +61,9 @@ fn check_end<R: Threads + Wait + Abort + Sync>(
     let mut output = Sink::wide();
     let mut errors = Sink::wide();
     let status = status_of(rt, host, words, &mut output, &mut errors);
-    assert_eq!(rt;
-        status,
-        ExitCode::from(end.code),
-        "{}{}",
-        end.output,
-        end.message
-    );
-    assert!(rt; begins(output.taken(), end.output), "{}", end.output);
-    assert!(rt; begins(errors.taken(), end.message), "{}", end.message);
+    expect_same(rt, end.message, status, ExitCode::from(end.code));
+    expect(rt, end.output, begins(output.taken(), end.output));
+    expect(rt, end.message, begins(errors.taken(), end.message));
 }
 
 #[test]
@@ -112,7 +106,7 @@ fn standard_error_that_takes_nothing(rt: HostRuntime) -> Result<(), Fail> {
     let mut errors = Sink::new(9, 0, true);
     let words = Ok(args_of(rt.alloc(), "smp_bench")?);
     let status = status_of(&rt, &rt, words, &mut output, &mut errors);
-    assert_eq!(rt; status, ExitCode::from(2));
+    expect_same(&rt, "status", status, ExitCode::from(2));
     Ok(())
 }
 
@@ -125,7 +119,7 @@ fn spans_in_the_help(rt: HostRuntime) -> Result<(), Fail> {
     status_of(&rt, &rt, words, &mut output, &mut errors);
     let spans = format!(in rt.alloc(); "1 to {MAX_SPAN}, or {DEFAULT_SPAN} if left out")?;
     let text = std::str::from_utf8(output.taken()).unwrap_or("");
-    assert!(rt; text.contains(spans.as_str()), "{text}");
+    expect(&rt, text, text.contains(spans.as_str()));
     Ok(())
 }
 
@@ -146,6 +140,7 @@ impl Write for Stuck {
 #[test]
 fn a_flush_reaches_the_device(rt: HostRuntime) {
     let mut writer = Counted::new(Stuck);
-    assert!(rt; writer.flush().is_err());
-    assert_eq!(rt; writer.count(), 0);
+    let is_refused = writer.flush().is_err();
+    expect(&rt, "a failed flush", is_refused);
+    expect_same(&rt, "failed writes", writer.count(), 0);
 }

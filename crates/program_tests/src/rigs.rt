@@ -1,5 +1,5 @@
 //! Recordings of rig documents over devices in memory.
-use crate::devices::{Sink, Source};
+use crate::devices::{Sink, Source, expect, expect_at, expect_same};
 use bench_commands::{Counted, Ending, Gate, RunFault, Status, carry_out, record};
 use std::io::{Read, Write};
 use std::sync::Wait;
@@ -70,8 +70,8 @@ fn a_rig_is_recorded(rt: HostRuntime) {
     let mut sink = Sink::new(1, SESSION.len(), false);
     let mut source = source_of(1, 1000);
     let ended = recorded(&rt, &rt, &mut source, &mut sink);
-    assert_eq!(rt; ended, (Status::Fine, 0, 0, 6));
-    assert_eq!(rt; sink.taken(), SESSION.as_bytes());
+    expect_same(&rt, "ended", ended, (Status::Fine, 0, 0, 6));
+    sink.expect(&rt, SESSION);
 }
 
 /// The word alone does it, with a gate that holds nobody up.
@@ -82,8 +82,8 @@ fn the_command_records(rt: HostRuntime) {
     let mut writer = Counted::new(&mut sink);
     let words: Option<&[&str]> = Some(&["smp_bench", "record"]);
     let ending = carry_out(&rt, &rt, rt.alloc(), words, &mut reader, &mut writer);
-    assert!(rt; matches!(ending, Ending::Ran(Status::Fine)));
-    assert_eq!(rt; sink.taken(), SESSION.as_bytes());
+    expect(&rt, "ended", matches!(ending, Ending::Ran(Status::Fine)));
+    sink.expect(&rt, SESSION);
 }
 
 #[test]
@@ -92,12 +92,9 @@ fn reads_that_fail(rt: HostRuntime) {
         let mut sink = Sink::wide();
         let mut source = source_of(100, reads);
         let ended = recorded(&rt, &rt, &mut source, &mut sink);
-        assert_eq!(rt;
-            ended,
-            (Status::Fault(RunFault::Read), 1, 0, 0),
-            "{reads} reads"
-        );
-        assert_eq!(rt; sink.taken(), b"".as_slice());
+        let fault = (Status::Fault(RunFault::Read), 1, 0, 0);
+        expect_at(&rt, "reads", reads, ended, fault);
+        sink.expect(&rt, "");
     }
 }
 
@@ -108,12 +105,9 @@ fn writes_that_fail(rt: HostRuntime) {
             let mut sink = Sink::new(7, room, fails);
             let mut source = source_of(1000, 1000);
             let ended = recorded(&rt, &rt, &mut source, &mut sink);
-            assert_eq!(rt;
-                ended,
-                (Status::Fault(RunFault::Write), 0, 1, 6),
-                "room for {room}"
-            );
-            assert_eq!(rt; sink.taken(), &SESSION.as_bytes()[..room]);
+            let fault = (Status::Fault(RunFault::Write), 0, 1, 6);
+            expect_at(&rt, "room for", room, ended, fault);
+            expect_same(&rt, "written", sink.taken(), &SESSION.as_bytes()[..room]);
         }
     }
 }
@@ -136,12 +130,12 @@ fn stand_in_order(text: &str, words: &[&str]) -> bool {
 fn scripts_in_their_order(rt: HostRuntime) {
     let mut sink = Sink::wide();
     let ended = recorded(&rt, &rt, &mut BOTH.as_bytes(), &mut sink);
-    assert_eq!(rt; ended, (Status::Fine, 0, 0, 6));
+    expect_same(&rt, "ended", ended, (Status::Fine, 0, 0, 6));
     let text = std::str::from_utf8(sink.taken()).unwrap_or("");
     let first = ["\"bits\":10,", "\"bits\":11,", "\"bits\":12,"];
     let second = ["\"bits\":20,", "\"bits\":21,", "\"bits\":22,"];
-    assert!(rt; stand_in_order(text, &first), "{text}");
-    assert!(rt; stand_in_order(text, &second), "{text}");
+    expect(&rt, text, stand_in_order(text, &first));
+    expect(&rt, text, stand_in_order(text, &second));
 }
 
 /// Ends as one of two; which of them, `rt try --test --fail-alloc N` decides.
@@ -150,10 +144,10 @@ fn memory_that_is_refused(rt: HostRuntime) {
     let mut sink = Sink::wide();
     let mut source = source_of(1000, 1000);
     let (status, failed_reads, failed_writes, _) = recorded(&rt, &rt, &mut source, &mut sink);
-    assert_eq!(rt; (failed_reads, failed_writes), (0, 0));
+    expect_same(&rt, "faults", (failed_reads, failed_writes), (0, 0));
     let written = match status {
         Status::Fault(RunFault::Memory) => "",
         _ => SESSION,
     };
-    assert_eq!(rt; sink.taken(), written.as_bytes());
+    sink.expect(&rt, written);
 }

@@ -88,9 +88,13 @@ fn assert_answer(rt: &impl Abort, at: usize, trial: &Trial, wanted: Answer) {
     assert_eq!(rt; answer_of(trial), wanted, "at {at}");
 }
 
+fn assert_count(rt: &impl Abort, trials: &[Trial], wanted: usize) {
+    assert_eq!(rt; trials.len(), wanted);
+}
+
 /// The trials are answered so, in this order, and there are no more.
 fn assert_answers(rt: &impl Abort, trials: &[Trial], wanted: &[Answer]) {
-    assert_eq!(rt; trials.len(), wanted.len());
+    assert_count(rt, trials, wanted.len());
     for ((at, trial), wanted) in trials.iter().enumerate().zip(wanted) {
         assert_answer(rt, at, trial, *wanted);
     }
@@ -357,7 +361,7 @@ fn check_refused_memory<R: Threads + Abort + Sync>(rt: &R, host: &HostRuntime, s
 
 fn assert_refusals(rt: &impl Abort, trials: &[Trial]) {
     let wanted = [between(2, 5), refused(EditFault::NoPlace), between(0, 0)];
-    assert_eq!(rt; trials.len(), 3);
+    assert_count(rt, trials, 3);
     for (trial, wanted) in trials.iter().zip(wanted.iter()) {
         let answer = answer_of(trial);
         assert!(rt; answer == *wanted || answer == Err(StoreFault::NoMemory));

@@ -1,5 +1,5 @@
 //! Edits that are each tried alone: what is written for them, and by which span.
-use crate::devices::{Sink, Source, ran_in};
+use crate::devices::{Sink, Source, expect_at, expect_same, ran_in};
 use bench_commands::{DEFAULT_SPAN, Mode, RunFault, Status};
 use bench_types::MAX_STEPS;
 use std::process::Abort;
@@ -22,8 +22,8 @@ fn expect<T: Threads + Abort + Sync>(rt: &T, host: &HostRuntime, input: &str, ou
         Status::Fine
     };
     let ended = ran_in(rt, host, &mut input.as_bytes(), &mut sink, &mode);
-    assert_eq!(rt; ended, (status, 0, 0), "{output}");
-    assert_eq!(rt; sink.taken(), output.as_bytes(), "{output}");
+    expect_same(rt, output, ended, (status, 0, 0));
+    sink.expect(rt, output);
 }
 
 #[test]
@@ -63,8 +63,13 @@ fn check_devices<T: Threads + Abort + Sync>(rt: &T, host: &HostRuntime, reads: u
     } else {
         ((Status::Fine, 0, 0), REMOVED_LINES.len())
     };
-    assert_eq!(rt; ended, wanted, "{reads} reads, room for {room}");
-    assert_eq!(rt; sink.taken(), &REMOVED_LINES.as_bytes()[..written]);
+    expect_at(rt, "room for", room, ended, wanted);
+    expect_same(
+        rt,
+        "written",
+        sink.taken(),
+        &REMOVED_LINES.as_bytes()[..written],
+    );
 }
 
 #[test]
@@ -89,11 +94,11 @@ fn memory_that_is_refused(rt: HostRuntime) -> Result<(), Fail> {
         &mut sink,
         &mode,
     );
-    assert_eq!(rt; (failed_reads, failed_writes), (0, 0));
+    expect_same(&rt, "faults", (failed_reads, failed_writes), (0, 0));
     let written = match status {
         Status::Fault(RunFault::Memory) => "",
         _ => REMOVED_LINES,
     };
-    assert_eq!(rt; sink.taken(), written.as_bytes());
+    sink.expect(&rt, written);
     Ok(())
 }

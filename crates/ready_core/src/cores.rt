@@ -24,7 +24,7 @@ use std::marker::Model;
 use std::ops::Range;
 
 /// The cores, the tasks' control blocks and the ready lists.
-#[derive(Debug, Drop)]
+#[derive(Debug)]
 pub struct Cores {
     priorities: u32,
     slicing: bool,
@@ -37,6 +37,21 @@ pub struct Cores {
     listed: u32,
     /// Per task the bits of the cores that have it as current task (V11 tasks.c, `xTaskRunState`).
     seats: Vec<u32>,
+}
+
+// Written out, so that whoever drops one has one call to prove, and not one for each list in it.
+impl Drop for Cores {
+    fn drop(self) {
+        let Cores {
+            priorities: _,
+            slicing: _,
+            cores: _,
+            tasks: _,
+            lists: _,
+            listed: _,
+            seats: _,
+        } = self;
+    }
 }
 
 impl Model for Cores {

@@ -22,12 +22,23 @@ use std::marker::Model;
 
 /// The steps from one checkpoint to the next or to the end, with the kernel at the first and, if it
 /// is [`Traced`], what the steps led to.
-#[derive(Debug, Drop)]
+#[derive(Debug)]
 pub struct Segment<K: Tracing = Traced> {
     kernel: Kernel,
     steps: Vec<Step>,
     /// What is kept of what the steps led to.
     kept: K,
+}
+
+// Written out, so that whoever drops one has one call to prove, and not one for each list in it.
+impl<K: Tracing> Drop for Segment<K> {
+    fn drop(self) {
+        let Segment {
+            kernel: _,
+            steps: _,
+            kept: _,
+        } = self;
+    }
 }
 
 impl<K: Tracing> Model for Segment<K> {

@@ -15,10 +15,20 @@ use std::marker::Model;
 
 /// Segments one after another, with the place where each begins. There is always a first one, which
 /// begins at the start.
-#[derive(Debug, Drop)]
+#[derive(Debug)]
 pub struct Segments<K: Tracing = Traced> {
     places: Vec<u32>,
     segments: Vec<Segment<K>>,
+}
+
+// Written out, so that whoever drops one has one call to prove, and not one for each list in it.
+impl<K: Tracing> Drop for Segments<K> {
+    fn drop(self) {
+        let Segments {
+            places: _,
+            segments: _,
+        } = self;
+    }
 }
 
 impl<K: Tracing> Model for Segments<K> {

@@ -57,7 +57,7 @@ pub trait Tracing: Debug + Drop {
 }
 
 /// The replies of steps, the tasks that run after each, and how the tasks fared in them.
-#[derive(Debug, Drop)]
+#[derive(Debug)]
 pub struct Traced {
     /// Each step's reply.
     pub(crate) replies: Vec<Reply>,
@@ -65,6 +65,17 @@ pub struct Traced {
     pub(crate) rows: Vec<u32>,
     /// How the tasks fared in these steps.
     pub(crate) tallies: Tallies,
+}
+
+// Written out, so that whoever drops one has one call to prove, and not one for each list in it.
+impl Drop for Traced {
+    fn drop(self) {
+        let Traced {
+            replies: _,
+            rows: _,
+            tallies: _,
+        } = self;
+    }
 }
 
 impl Tracing for Traced {

@@ -41,12 +41,23 @@ use std::marker::Model;
 ///
 /// A `Store<Untraced>` keeps none of these, so that an edit of it costs hardly more than the steps
 /// of the kernel. [`Store::traced`] makes them for all steps at once, after many edits.
-#[derive(Debug, Drop)]
+#[derive(Debug)]
 pub struct Store<K: Tracing = Traced> {
     header: Header,
     /// About how many steps are to lie between two checkpoints.
     span: u32,
     segments: Segments<K>,
+}
+
+// Written out, so that whoever drops one has one call to prove, and not one for each list in it.
+impl<K: Tracing> Drop for Store<K> {
+    fn drop(self) {
+        let Store {
+            header: _,
+            span: _,
+            segments: _,
+        } = self;
+    }
 }
 
 impl<K: Tracing> Model for Store<K> {

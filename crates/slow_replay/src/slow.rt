@@ -33,7 +33,6 @@ use std::marker::Model;
 use std::ops::Range;
 
 /// The flat table as it is defined: a row a task, stamps and absolute wakes, searched whole.
-#[derive(Drop)]
 struct SlowTable {
     settings: Settings,
     cores: Vec<CoreLook>,
@@ -46,6 +45,25 @@ struct SlowTable {
     deadlines: Vec<Option<u128>>,
     tick: u128,
     next: u128,
+}
+
+// Written out, so that whoever drops one has one call to prove, and not one for each list in it.
+impl Drop for SlowTable {
+    fn drop(self) {
+        let SlowTable {
+            settings: _,
+            cores: _,
+            tasks: _,
+            calls: _,
+            notes: _,
+            holders: _,
+            hold: _,
+            rows: _,
+            deadlines: _,
+            tick: _,
+            next: _,
+        } = self;
+    }
 }
 
 impl Model for SlowTable {

@@ -1,4 +1,5 @@
 //! Documents: which texts are some, and what is found in them.
+use crate::answers::{check_is, check_same};
 use json_data::{Document, Item, Items, Refused, Scratch};
 use std::alloc::{AllocError, Global};
 use std::process::Abort;
@@ -112,21 +113,21 @@ fn finds_members(rt: HostRuntime) -> Result<(), Fail> {
 }
 
 fn check_members(rt: &impl Abort, root: &Item<'_, '_>) {
-    assert_eq!(rt; number_at(root, "b"), Some(2));
-    assert_eq!(rt; number_at(root, "a"), None);
-    assert!(rt; root.get("e").is_none());
+    check_same(rt, &number_at(root, "b"), &Some(2));
+    check_same(rt, &number_at(root, "a"), &None);
+    check_is(rt, root.get("e").is_none());
 }
 
 fn check_string(rt: &impl Abort, item: &Item<'_, '_>) {
-    assert_eq!(rt; item.as_str(), Some("x"));
-    assert_eq!(rt; item.as_bool(), None);
-    assert!(rt; item.as_array().is_none());
+    check_same(rt, &item.as_str(), &Some("x"));
+    check_same(rt, &item.as_bool(), &None);
+    check_is(rt, item.as_array().is_none());
 }
 
 fn check_bool(rt: &impl Abort, item: &Item<'_, '_>) {
-    assert_eq!(rt; item.as_bool(), Some(false));
-    assert_eq!(rt; item.as_str(), None);
-    assert!(rt; item.as_object().is_none());
+    check_same(rt, &item.as_bool(), &Some(false));
+    check_same(rt, &item.as_str(), &None);
+    check_is(rt, item.as_object().is_none());
 }
 
 fn check_values(rt: &impl Abort, root: &Item<'_, '_>) {
@@ -141,11 +142,11 @@ fn check_values(rt: &impl Abort, root: &Item<'_, '_>) {
 fn check_names(rt: &impl Abort, root: &Item<'_, '_>) {
     match root.as_object() {
         Some(members) => {
-            assert!(rt; members.has_only(&["a", "b", "c", "d"]));
-            assert!(rt; members.has_only(&["e", "d", "c", "b", "a"]));
-            assert!(rt; !members.has_only(&["a", "b", "d"]));
+            check_is(rt, members.has_only(&["a", "b", "c", "d"]));
+            check_is(rt, members.has_only(&["e", "d", "c", "b", "a"]));
+            check_is(rt, !members.has_only(&["a", "b", "d"]));
         }
-        None => assert!(rt; false),
+        None => check_is(rt, false),
     }
 }
 
@@ -157,10 +158,10 @@ fn next_number(items: &mut Items<'_, '_>) -> Option<Option<u64>> {
 }
 
 fn check_array(rt: &impl Abort, items: &mut Items<'_, '_>) {
-    assert_eq!(rt; next_number(items), Some(Some(3)));
-    assert_eq!(rt; next_number(items), Some(None));
-    assert_eq!(rt; next_number(items), Some(Some(6)));
-    assert_eq!(rt; next_number(items), None);
+    check_same(rt, &next_number(items), &Some(Some(3)));
+    check_same(rt, &next_number(items), &Some(None));
+    check_same(rt, &next_number(items), &Some(Some(6)));
+    check_same(rt, &next_number(items), &None);
 }
 
 #[test]
@@ -170,7 +171,7 @@ fn walks_items(rt: HostRuntime) -> Result<(), Fail> {
     let document = Document::parse(rt.alloc(), text.as_slice(), &mut scratch)?;
     match document.root().as_array() {
         Some(mut items) => check_array(&rt, &mut items),
-        None => assert!(&rt; false),
+        None => check_is(&rt, false),
     }
     Ok(())
 }

@@ -2,6 +2,7 @@
 ghost use Rattle.std.specs.Prelude.{◌≡◌, IsTrue, Ok};
 ghost use Rattle.bench_types.specs.Header.{header_check};
 
+use crate::answers::{check_is, check_same};
 use crate::sessions::with_steps;
 use crate::writing::most_ticks;
 use bench_samples::{LARGEST, crowd};
@@ -33,7 +34,7 @@ fn check_long_edit(rt: &impl Abort, alloc: Global, header: &Header) -> Result<()
         mask: 128,
     };
     let read = read_edit(alloc, text.as_bytes(), header).ok();
-    assert_eq!(rt; read, Some(edit));
+    check_same(rt, &read, &Some(edit));
     Ok(())
 }
 
@@ -60,10 +61,10 @@ fn long_bench(alloc: Global) -> Result<String, AllocError> {
 
 fn check_long_bench(rt: &impl Abort, bench: &Bench) {
     let steps = bench.steps.as_slice();
-    assert_eq!(rt; steps.len(), MAX_STEPS as usize);
-    assert!(rt; steps.iter().all(|step| *step == Step::Tick));
+    check_same(rt, &steps.len(), &(MAX_STEPS as usize));
+    check_is(rt, steps.iter().all(|step| *step == Step::Tick));
     let removal = Edit::Remove { at: MAX_STEPS - 1 };
-    assert_eq!(rt; bench.edits.as_slice(), [removal].as_slice());
+    check_same(rt, &bench.edits.as_slice(), &[removal].as_slice());
 }
 
 #[test]

@@ -1,6 +1,7 @@
 //! Rig documents as texts, and what reading them gives: worked out by hand from the format's
 //! description.
 
+use crate::answers::check_same;
 use bench_types::{Act, Action, Call, Note};
 use session_text::{RigScript, read_rig};
 use std::alloc::Global;
@@ -37,13 +38,13 @@ const FIRST: &[Act] = &[
 const SECOND: &[Act] = &[Act::Switch, Act::Call(Call::Delay(7))];
 
 fn check_rig(rt: &impl Abort, rig: &RigScript) {
-    assert_eq!(rt; rig.header.config.cores, 2);
-    assert_eq!(rt; rig.header.tasks.as_slice().len(), 2);
-    assert_eq!(rt; rig.limit, 10);
+    check_same(rt, &rig.header.config.cores, &2);
+    check_same(rt, &rig.header.tasks.as_slice().len(), &2);
+    check_same(rt, &rig.limit, &10);
     let scripts = rig.scripts.as_slice();
     assert_eq!(rt; scripts.len(), 2);
-    assert_eq!(rt; scripts[0].as_slice(), FIRST);
-    assert_eq!(rt; scripts[1].as_slice(), SECOND);
+    check_same(rt, &scripts[0].as_slice(), &FIRST);
+    check_same(rt, &scripts[1].as_slice(), &SECOND);
 }
 
 #[test]

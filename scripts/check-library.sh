@@ -1,6 +1,6 @@
 #!/usr/bin/env bash
-# The examples of docs/LIBRARY.md are pieces of crates/library_examples, whose tests are proved and run: each of them, from one blank
-# line of its block to the next, has to stand in one file of the crate, line by line. Status 1 where one does not.
+# The examples of docs/LIBRARY.md are pieces of the folder examples of crates/program_tests, whose tests are proved and run: each of
+# them, from one blank line of its block to the next, has to stand in one file of the folder, line by line. Status 1 where one does not.
 set -u
 export LC_ALL=C
 cd "$(dirname -- "${BASH_SOURCE[0]}")/.." || exit 2
@@ -17,7 +17,7 @@ awk '
         if (item == "") return
         items += 1
         for (file in source) if (index("\n" source[file], "\n" item)) found = 1
-        if (!found) { strange += 1; printf "not in the crate library_examples:\n%s", item }
+        if (!found) { strange += 1; printf "not in crates/program_tests/src/examples:\n%s", item }
         item = ""
     }
-' crates/library_examples/src/*.rt docs/LIBRARY.md
+' crates/program_tests/src/examples/*.rt docs/LIBRARY.md

@@ -67,10 +67,13 @@ fn assert_checkpoints(rt: &impl Abort, store: &Store, places: &[u32]) {
 
 fn check_cases(rt: &impl Abort, host: &HostRuntime, cases: &[Case<'_>]) -> Result<(), Fail> {
     for case in cases {
-        let mut opened = edited(rt, host, case)?;
-        check_as_new(rt, host, &mut opened)?;
+        check_case(rt, host, case)?;
     }
     Ok(())
+}
+
+fn check_case(rt: &impl Abort, host: &HostRuntime, case: &Case<'_>) -> Result<(), Fail> {
+    check_as_new(rt, host, &mut edited(rt, host, case)?)
 }
 
 /// Of ticks, with a checkpoint every second step.
@@ -100,7 +103,7 @@ const NO_TICKS: Case<'static> = Case {
 };
 
 /// Where checkpoints are moved with the steps after them.
-const MOVES: [Case<'static>; 8] = [
+const MOVES: [Case<'static>; 4] = [
     Case {
         edits: &[tick!(1, 0, 7)],
         checkpoints: &[0, 3, 5],
@@ -127,6 +130,10 @@ const MOVES: [Case<'static>; 8] = [
         checkpoints: &[0, 1, 3],
         ..TICKS_BY_2
     },
+];
+
+/// Where the last ones stay, or all of them, or none is but the first.
+const STAYS: [Case<'static>; 4] = [
     Case {
         edits: &[remove!(5, 4, 5), remove!(4, 4, 4)],
         ..TICKS_BY_2
@@ -218,8 +225,21 @@ const PARTED: [Case<'static>; 7] = [
 
 #[test]
 fn checkpoints_move_with_their_steps(rt: HostRuntime) -> Result<(), Fail> {
-    check_cases(&rt, &rt, &MOVES)?;
-    check_cases(&rt, &rt, &JOINED)?;
+    check_cases(&rt, &rt, &MOVES)
+}
+
+#[test]
+fn checkpoints_stay(rt: HostRuntime) -> Result<(), Fail> {
+    check_cases(&rt, &rt, &STAYS)
+}
+
+#[test]
+fn checkpoints_join(rt: HostRuntime) -> Result<(), Fail> {
+    check_cases(&rt, &rt, &JOINED)
+}
+
+#[test]
+fn spans_are_parted(rt: HostRuntime) -> Result<(), Fail> {
     check_cases(&rt, &rt, &PARTED)
 }
 
@@ -252,10 +272,18 @@ const STATES: [(Case<'static>, &[(u32, u32, u64)]); 2] = [
 #[test]
 fn a_state_counts_from_the_checkpoint(rt: HostRuntime) -> Result<(), Fail> {
     for (case, places) in &STATES {
-        let mut opened = edited(&rt, &rt, case)?;
-        check_states(&rt, rt.alloc(), &mut opened, places)?;
+        check_counted(&rt, &rt, case, places)?;
     }
     Ok(())
+}
+
+fn check_counted(
+    rt: &impl Abort,
+    host: &HostRuntime,
+    case: &Case<'_>,
+    places: &[(u32, u32, u64)],
+) -> Result<(), Fail> {
+    check_states(rt, host.alloc(), &mut edited(rt, host, case)?, places)
 }
 
 fn check_states(

@@ -10,7 +10,6 @@ use std::process::Abort;
 use std::test::Fail;
 
 /// A session of 8 cores that is made at random, and what a kernel made of it.
-#[derive(Drop)]
 pub struct Played {
     pub header: Header,
     pub kernel: Kernel,
@@ -22,6 +21,19 @@ pub struct Played {
     ghost fits: { kernel.settings ≡ settings_of header },
     ghost cores: { header.config.cores ≡ 8 },
     ghost mutexes: { header.config.mutexes ≡ 4 },
+}
+
+impl Drop for Played {
+    fn drop(self) {
+        let Played {
+            header: _,
+            kernel: _,
+            meter: _,
+            seed: _,
+            steps: _,
+            outcomes: _,
+        } = self;
+    }
 }
 
 /// What steps of a session do beside ticks, switches, yields and delays.

@@ -62,12 +62,21 @@ pub fn assert_text(rt: &impl Abort, text: &str, wanted: &str) {
 }
 
 /// A kernel that was started from a header, with the meter of its steps.
-#[derive(Drop)]
 pub struct Started {
     header: Header,
     pub kernel: Kernel,
     pub meter: Meter,
     ghost fits: { kernel.settings ≡ settings_of header },
+}
+
+impl Drop for Started {
+    fn drop(self) {
+        let Started {
+            header: _,
+            kernel: _,
+            meter: _,
+        } = self;
+    }
 }
 
 impl Started {
@@ -94,10 +103,15 @@ impl Started {
 }
 
 /// A store that was opened, with the meter of its steps.
-#[derive(Drop)]
 pub struct Opened {
     pub store: Store,
     pub meter: Meter,
+}
+
+impl Drop for Opened {
+    fn drop(self) {
+        let Opened { store: _, meter: _ } = self;
+    }
 }
 
 impl Opened {

@@ -8,6 +8,11 @@ pub(crate) fn expect_same<T: Copy + Debug + PartialEq>(rt: &impl Abort, made: T,
     assert_eq!(rt; made, wanted);
 }
 
+/// The texts are the same.
+pub(crate) fn expect_text(rt: &impl Abort, made: &str, wanted: &str) {
+    assert_eq!(rt; made, wanted);
+}
+
 /// It is so.
 pub(crate) fn expect_is(rt: &impl Abort, is_so: bool) {
     assert!(rt; is_so);

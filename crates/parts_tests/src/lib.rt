@@ -1,22 +1,10 @@
-//! Tests of the kernel's parts: cores and ready lists, mutexes, notifications and delays; and of
-//! the linked lists by index under them.
-//!
-//! There is nothing else here.
+//! Tests of crates each by itself: the kernel's parts, and types and texts of sessions. There is
+//! nothing else here.
 #![tactic(auto)]
 
 #[cfg(test)]
-mod delays;
-#[cfg(test)]
 mod expected;
 #[cfg(test)]
-mod largest;
+mod parts;
 #[cfg(test)]
-mod lists;
-#[cfg(test)]
-mod mutexes;
-#[cfg(test)]
-mod notes;
-#[cfg(test)]
-mod ready;
-#[cfg(test)]
-mod started;
+mod texts;

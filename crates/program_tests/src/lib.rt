@@ -1,5 +1,5 @@
-//! Tests of the bench's commands over devices in memory, of edits that are tried side by side, and
-//! what they share. There is nothing else here.
+//! Tests of the bench's commands over devices in memory, of edits that are tried side by side, of
+//! what a run shows, and the examples of docs/LIBRARY.md. There is nothing else here.
 #![tactic(auto)]
 
 #[cfg(test)]
@@ -8,6 +8,8 @@ mod command_lines;
 mod devices;
 #[cfg(test)]
 mod documents;
+#[cfg(test)]
+mod examples;
 #[cfg(test)]
 mod faults;
 #[cfg(test)]
@@ -22,3 +24,5 @@ mod rigs;
 mod side_by_side;
 #[cfg(test)]
 mod trials;
+#[cfg(test)]
+mod view;

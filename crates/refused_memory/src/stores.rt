@@ -1,7 +1,7 @@
 //! Calls of a store.
 use crate::outcome::Outcome;
 use crate::worked::{STEPS, header, steps};
-use bench_types::{Call, Edit, Step};
+use bench_types::{Call, Edit, Header, Step};
 use session_store::{OpenFault, OpenRefusal, Outcome as Replayed, Store, StoreFault, Untraced};
 use smp_kernel::Meter;
 use std::alloc::{AllocError, Global};
@@ -69,10 +69,15 @@ fn open_worked(rt: &HostRuntime) -> Option<Opened> {
 }
 
 /// Two stores of the worked session.
-#[derive(Drop)]
 pub(crate) struct Twins {
     pub(crate) one: Opened,
     pub(crate) two: Opened,
+}
+
+impl Drop for Twins {
+    fn drop(self) {
+        let Twins { one: _, two: _ } = self;
+    }
 }
 
 pub(crate) fn open_twins(rt: &HostRuntime) -> Option<Twins> {
@@ -83,17 +88,18 @@ pub(crate) fn open_twins(rt: &HostRuntime) -> Option<Twins> {
 
 pub(crate) fn open(rt: &HostRuntime) -> Option<Outcome> {
     let header = header(rt.alloc())?;
-    let steps = steps(rt.alloc())?;
+    Some(open_with(rt, header, steps(rt.alloc())?))
+}
+
+fn open_with(rt: &HostRuntime, header: Header, steps: Vec<Step>) -> Outcome {
     let mut meter = Meter::new(rt);
-    Some(
-        match Store::open(rt.alloc(), header, steps, SPAN, &mut meter) {
-            Ok(store) => Outcome::answered(store.len() == 6 && meter.count() == 6),
-            Err(fault) => {
-                let is_right = meter.count() <= 6 && is_handed_back(&fault);
-                Outcome::refused(is_right && opens(rt, fault))
-            }
-        },
-    )
+    match Store::open(rt.alloc(), header, steps, SPAN, &mut meter) {
+        Ok(store) => Outcome::answered(store.len() == 6 && meter.count() == 6),
+        Err(fault) => {
+            let is_right = meter.count() <= 6 && is_handed_back(&fault);
+            Outcome::refused(is_right && opens(rt, fault))
+        }
+    }
 }
 
 /// Whether memory was refused, and the session is given back.

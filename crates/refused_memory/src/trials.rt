@@ -28,15 +28,23 @@ fn tried(alloc: Global, one: &mut Opened, twin: &Opened) -> Option<Outcome> {
     match one.store.trial(alloc, edit, &mut one.meter) {
         Ok((outcome, tallies)) => {
             let is_right = outcome == wanted && one.meter.count() == most;
-            let text = tallies.text(alloc, one.store.header()).ok()?;
-            Some(Outcome::answered(is_right && text.as_str() == TALLIES))
+            answered(alloc, &one.store, is_right, &tallies)
         }
         Err(fault) => {
             let is_right = fault == StoreFault::NoMemory && one.meter.count() <= most;
-            let stays = is_same(alloc, &one.store, &twin.store).ok()?;
-            Some(Outcome::refused(is_right && stays && is_tried(alloc, one)))
+            refused(alloc, one, twin, is_right)
         }
     }
+}
+
+fn answered(alloc: Global, store: &Store, is_right: bool, tallies: &Tallies) -> Option<Outcome> {
+    let text = tallies.text(alloc, store.header()).ok()?;
+    Some(Outcome::answered(is_right && text.as_str() == TALLIES))
+}
+
+fn refused(alloc: Global, one: &mut Opened, twin: &Opened, is_right: bool) -> Option<Outcome> {
+    let stays = is_same(alloc, &one.store, &twin.store).ok()?;
+    Some(Outcome::refused(is_right && stays && is_tried(alloc, one)))
 }
 
 fn is_tried(alloc: Global, one: &mut Opened) -> bool {

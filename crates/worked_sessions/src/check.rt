@@ -18,11 +18,16 @@ pub(crate) fn check_text<R: Threads + Wait + Sync>(
     text: &str,
 ) -> io::Result<()> {
     print!(host; "{name}: ")?;
+    check_parts(rt, host, text)?;
+    let count = text.split("\n\n").count();
+    println!(host; "{count} blocks as expected")
+}
+
+fn check_parts<R: Threads + Wait + Sync>(rt: &R, host: &HostRuntime, text: &str) -> io::Result<()> {
     for part in text.split("\n\n") {
         check_part(rt, host, part)?;
     }
-    let count = text.split("\n\n").count();
-    println!(host; "{count} blocks as expected")
+    Ok(())
 }
 
 fn check_part<R: Threads + Wait + Sync>(rt: &R, host: &HostRuntime, part: &str) -> io::Result<()> {
@@ -63,11 +68,21 @@ fn check_rows<R: Threads + Wait + Sync>(
 ) -> io::Result<()> {
     let (base, rows) = first_line(block.rest);
     for row in rows.lines() {
-        let (given, expected) = row.split_once(" | ").unwrap_or((row, ""));
-        let found = outcome_of_row(rt, host, block.given, base, given)?;
-        compare(host, row, expected, found.as_str())?;
+        check_row(rt, host, block.given, base, row)?;
     }
     Ok(())
+}
+
+fn check_row<R: Threads + Wait + Sync>(
+    rt: &R,
+    host: &HostRuntime,
+    words: &str,
+    base: &str,
+    row: &str,
+) -> io::Result<()> {
+    let (given, expected) = row.split_once(" | ").unwrap_or((row, ""));
+    let found = outcome_of_row(rt, host, words, base, given)?;
+    compare(host, row, expected, found.as_str())
 }
 
 fn first_line(text: &str) -> (&str, &str) {

@@ -12,10 +12,18 @@ use smp_kernel::{Kernel, Meter};
 use std::alloc::{AllocError, Global};
 
 /// The kernel at the end of a session, and the lines of its replay.
-#[derive(Drop)]
 pub(crate) struct Played {
     kernel: Kernel,
     pub(crate) lines: String,
+}
+
+impl Drop for Played {
+    fn drop(self) {
+        let Played {
+            kernel: _,
+            lines: _,
+        } = self;
+    }
 }
 
 impl Played {

@@ -27,16 +27,26 @@ fn ended<R: Threads + Wait + Sync>(
     output: &mut Vec<u8>,
 ) -> Result<Ending, AllocError> {
     let words: Vec<&str> = words.split(' ').collect(host.alloc())?;
+    Ok(ended_with(rt, host, words.as_slice(), input, output))
+}
+
+fn ended_with<R: Threads + Wait + Sync>(
+    rt: &R,
+    host: &HostRuntime,
+    words: &[&str],
+    input: &str,
+    output: &mut Vec<u8>,
+) -> Ending {
     let mut reader = Counted::new(input.as_bytes());
     let mut writer = Counted::new(output);
-    Ok(carry_out(
+    carry_out(
         rt,
         host,
         host.alloc(),
-        Some(words.as_slice()),
+        Some(words),
         &mut reader,
         &mut writer,
-    ))
+    )
 }
 
 fn text_of(bytes: &[u8]) -> &str {

@@ -11,12 +11,17 @@ pub(crate) fn push_state(
     kernel: &Kernel,
 ) -> Result<(), AllocError> {
     write!(text, "  tick {}\n", kernel.tick())?;
-    if let Some((core, depth)) = kernel.hold() {
-        write!(text, "  hold core {core} depth {depth}\n")?;
-    }
+    push_hold(text, kernel)?;
     push_cores(text, kernel)?;
     push_tasks(text, header, kernel)?;
     push_holders(text, header, kernel)
+}
+
+fn push_hold(text: &mut String, kernel: &Kernel) -> Result<(), AllocError> {
+    match kernel.hold() {
+        Some((core, depth)) => write!(text, "  hold core {core} depth {depth}\n"),
+        None => Ok(()),
+    }
 }
 
 fn push_cores(text: &mut String, kernel: &Kernel) -> Result<(), AllocError> {
@@ -54,18 +59,31 @@ fn push_tasks(text: &mut String, header: &Header, kernel: &Kernel) -> Result<(),
 }
 
 fn push_look(text: &mut String, look: &TaskLook) -> Result<(), AllocError> {
-    let (in_use, base, mask) = (look.in_use, look.base, look.mask);
-    write!(text, " in_use {in_use} base {base} mask {mask}")?;
-    push_if(text, !look.preempt, " preempt_off")?;
-    text.push_str(if look.ready { " ready" } else { " blocked" })?;
-    if let Some(left) = look.left {
-        write!(text, " left {left}")?;
-    }
-    push_number(text, " value", look.value)?;
-    text.push_str(note_text(look.state))?;
+    push_settings(text, look)?;
+    push_wait(text, look)?;
+    push_note(text, look)?;
     push_number(text, " held", look.held)?;
     push_if(text, look.in_call, " in_call")?;
     text.push_str("\n")
+}
+
+fn push_settings(text: &mut String, look: &TaskLook) -> Result<(), AllocError> {
+    let (in_use, base, mask) = (look.in_use, look.base, look.mask);
+    write!(text, " in_use {in_use} base {base} mask {mask}")?;
+    push_if(text, !look.preempt, " preempt_off")
+}
+
+fn push_wait(text: &mut String, look: &TaskLook) -> Result<(), AllocError> {
+    text.push_str(if look.ready { " ready" } else { " blocked" })?;
+    match look.left {
+        Some(left) => write!(text, " left {left}"),
+        None => Ok(()),
+    }
+}
+
+fn push_note(text: &mut String, look: &TaskLook) -> Result<(), AllocError> {
+    push_number(text, " value", look.value)?;
+    text.push_str(note_text(look.state))
 }
 
 fn note_text(state: NoteState) -> &'static str {

@@ -2,9 +2,9 @@
 ghost use Rattle.std.specs.Prelude.{◌≡◌, ◌+◌, ◌<◌, ◌≤◌, vec_len, vec_capacity, All, IfOk};
 ghost use Rattle.rig_tests.specs.Use.{IsUsable};
 
+use crate::checks::assert_same;
 use crate::locks::log::Log;
 use port_locks::{CloseFault, Kept, LockPair, Seat};
-use std::fmt::Debug;
 use std::process::Abort;
 use std::sync::Wait;
 use std::test::Fail;
@@ -136,7 +136,7 @@ pub fn refused(
     match pair.close(seats) {
         Ok(_) => panic!(rt; "the pair was closed"),
         Err(refused) => {
-            assert_same(rt, &refused.why, &why);
+            assert_same(rt, "refusal", &refused.why, &why);
             (refused.pair, refused.seats.into_vec())
         }
     }
@@ -156,8 +156,8 @@ pub fn close(rt: &impl Abort, pair: LockPair<Log>, seats: Vec<Seat<Log>>, turns:
 fn check_entries(rt: &impl Abort, log: &Log, turns: u32, threads: u32)
     requires { 0 < threads }
 {
-    assert_same(rt, &log.entries(), &u64::from(turns));
-    assert_same(rt, &log.holder(), &None);
+    assert_same(rt, "entries", &log.entries(), &u64::from(turns));
+    assert_same(rt, "holder", &log.holder(), &None);
     for thread in 0..threads {
         check_share(rt, log, thread, share_of(turns, thread, threads));
     }
@@ -172,10 +172,4 @@ pub fn share_of(turns: u32, thread: u32, threads: u32) -> u64
     requires { 0 < threads }
 {
     u64::from(turns / threads) + u64::from(thread < turns % threads)
-}
-
-/// What was made is what was wanted. Tests call this, since an assertion is dear to prove where it
-/// stands.
-pub fn assert_same<T: PartialEq + Debug>(rt: &impl Abort, made: &T, wanted: &T) {
-    assert_eq!(rt; made, wanted);
 }

@@ -2,8 +2,9 @@
 ghost use Rattle.std.specs.Prelude.{All};
 ghost use Rattle.rig_tests.specs.Use.{IsUsable};
 
+use crate::checks::assert_same;
 use crate::locks::calls::{
-    assert_same, close, free, free_task, pair_of, put_back, refused, take, take_task, taken,
+    close, free, free_task, pair_of, put_back, refused, take, take_task, taken,
 };
 use crate::locks::log::Log;
 use port_locks::{CloseFault, Deep, LockPair, Seat, TryFault};
@@ -59,9 +60,9 @@ fn use_both(rt: &(impl Wait + Abort), pair: &LockPair<Log>, seats: &mut Vec<Seat
 
 // The two are all, in their order.
 fn check_numbers(rt: &impl Abort, others: &[Seat<Log>], zero: &Seat<Log>, one: &Seat<Log>) {
-    assert_same(rt, &others.len(), &0);
-    assert_same(rt, &zero.number(), &0);
-    assert_same(rt, &one.number(), &1);
+    assert_same(rt, "other seats", &others.len(), &0);
+    assert_same(rt, "first seat", &zero.number(), &0);
+    assert_same(rt, "second seat", &one.number(), &1);
 }
 
 fn check_interrupt_depths(
@@ -77,12 +78,17 @@ fn check_interrupt_depths(
 {
     take(rt, pair, zero, 1);
     assert_tried(rt, pair, one, Err(TryFault::Busy));
-    assert_same(rt, &(one.interrupt_depth(), one.seen()), &(0, 0));
+    assert_same(
+        rt,
+        "depth and entries seen",
+        &(one.interrupt_depth(), one.seen()),
+        &(0, 0),
+    );
     take(rt, pair, zero, 254);
-    assert_same(rt, &zero.interrupt_depth(), &255);
+    assert_same(rt, "interrupt depth", &zero.interrupt_depth(), &255);
     assert_deep(rt, pair, zero);
     assert_tried(rt, pair, zero, Err(TryFault::Deep));
-    assert_same(rt, &zero.interrupt_depth(), &255);
+    assert_same(rt, "interrupt depth", &zero.interrupt_depth(), &255);
 }
 
 /// Tries to take the interrupt word, which has to be answered so.
@@ -96,7 +102,7 @@ fn assert_tried(
     ensures { IsUsable pair.now seat.new }
 {
     let answer = pair.try_interrupt(seat);
-    assert_same(rt, &answer, &wanted);
+    assert_same(rt, "answer", &answer, &wanted);
 }
 
 /// The interrupt word is taken too often to be taken again.
@@ -120,9 +126,9 @@ fn check_interrupt_freed(
     ensures one { IsUsable pair.now one.new }
 {
     free(rt, pair, zero, 255);
-    assert_same(rt, &zero.interrupt_depth(), &0);
+    assert_same(rt, "interrupt depth", &zero.interrupt_depth(), &0);
     assert_tried(rt, pair, one, Ok(()));
-    assert_same(rt, &one.interrupt_depth(), &1);
+    assert_same(rt, "interrupt depth", &one.interrupt_depth(), &1);
     free(rt, pair, one, 1);
 }
 
@@ -131,11 +137,11 @@ fn check_task_depths(rt: &(impl Wait + Abort), pair: &LockPair<Log>, zero: &mut 
     ensures { IsUsable pair.now zero.new }
 {
     take_task(rt, pair, zero, 255);
-    assert_same(rt, &zero.task_depth(), &255);
+    assert_same(rt, "task depth", &zero.task_depth(), &255);
     assert_eq!(rt; zero.interrupt_depth(), 0);
     let deep = pair.take_task(rt, zero);
-    assert_same(rt, &deep, &Err(Deep));
-    assert_same(rt, &zero.task_depth(), &255);
+    assert_same(rt, "answer", &deep, &Err(Deep));
+    assert_same(rt, "task depth", &zero.task_depth(), &255);
 }
 
 fn check_task_freed(
@@ -150,7 +156,7 @@ fn check_task_freed(
     ensures one { IsUsable pair.now one.new }
 {
     free_task(rt, pair, zero, 255);
-    assert_same(rt, &zero.task_depth(), &0);
+    assert_same(rt, "task depth", &zero.task_depth(), &0);
     take_task(rt, pair, one, 1);
     free_task(rt, pair, one, 1);
 }
@@ -175,7 +181,7 @@ fn one_missing(
 {
     let last = taken(rt, &pair, &mut seats);
     let (pair, mut seats) = refused(rt, pair, seats, CloseFault::WrongSeats);
-    assert_same(rt, &seats.len(), &1);
+    assert_same(rt, "other seats", &seats.len(), &1);
     put_back(rt, &pair, &mut seats, last);
     (pair, seats)
 }

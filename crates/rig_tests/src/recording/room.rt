@@ -1,6 +1,7 @@
 //! The room that an open hold keeps.
 
-use crate::recording::samples::{assert_answer, assert_same, at, call, recording};
+use crate::checks::assert_same;
+use crate::recording::samples::{assert_answer, at, call, recording};
 use bench_types::{Call, Reply};
 use recordings::{RecordRefusal, Recording};
 use std::process::Abort;

@@ -1,10 +1,10 @@
 //! Recordings of tests, and calls of them.
 
+use crate::checks::assert_same;
 use bench_samples::three_tasks;
 use bench_types::{Call, Header, Note, Reply, Step};
 use recordings::{Answer, RecordRefusal, Recording};
 use smp_kernel::Meter;
-use std::fmt::Debug;
 use std::process::Abort;
 use std::test::Fail;
 
@@ -70,12 +70,6 @@ pub fn running(rt: &impl Abort, recording: &Recording, core: u32) -> u32 {
 /// What is answered to a step at the place.
 pub fn at(place: u32, reply: Reply) -> Result<Answer, RecordRefusal> {
     Ok(Answer { place, reply })
-}
-
-/// What was made is what was wanted. Tests call this, since each `assert_eq!` is dear to prove
-/// where it stands.
-pub fn assert_same<T: PartialEq + Debug>(rt: &impl Abort, what: &str, made: &T, wanted: &T) {
-    assert_eq!(rt; made, wanted, "{what}");
 }
 
 /// The step is answered so.

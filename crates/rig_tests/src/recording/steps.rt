@@ -1,7 +1,8 @@
 //! What is recorded of the steps, and which headers and calls are refused.
 
+use crate::checks::assert_same;
 use crate::recording::samples::{
-    assert_answer, assert_same, at, call, interrupt, recording, recording_of, running, switch,
+    assert_answer, at, call, interrupt, recording, recording_of, running, switch,
 };
 use bench_samples::{PLAIN, header_of};
 use bench_types::{Action, Call, Config, Entry, Header, Note, Reply, Step};

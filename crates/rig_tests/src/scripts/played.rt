@@ -1,4 +1,5 @@
 //! Rig documents whose scripts are played.
+use crate::checks::assert_same;
 use bench_types::Step;
 use core_rig::Recorded;
 use core_scripts::{Gate, play};
@@ -50,8 +51,8 @@ pub fn played<R: Threads + Wait + Abort + Sync, G: Gate>(
 
 /// Checks that these are the steps, and no others.
 pub fn check_steps(rt: &impl Abort, recorded: &Recorded, steps: &[Step]) {
-    assert_eq!(rt; recorded.entries.len(), steps.len());
+    assert_same(rt, "steps", &recorded.entries.len(), &steps.len());
     for (entry, step) in recorded.entries.iter().zip(steps) {
-        assert_eq!(rt; entry.step, *step);
+        assert_same(rt, "step", &entry.step, step);
     }
 }

@@ -1,6 +1,0 @@
-use Rattle.std.proofs.Common.{◌≡◌}
-use Rattle.bench_types.specs.Step.{settings_of}
-use Rattle.library_examples.proofs.kernel.check_steps.Given as goal
-
-abbrev pub invariant-loop-step : goal.invariant-loop-step
-invariant-loop-step g l = l.kernel.settings ≡ settings_of l.header

@@ -1,0 +1,9 @@
+//! The kernel's parts: cores and ready lists, mutexes, notifications and delays; and the linked
+//! lists by index under them.
+mod delays;
+mod largest;
+mod lists;
+mod mutexes;
+mod notes;
+mod ready;
+mod started;

@@ -1,0 +1,19 @@
+//! The types of a session, and the texts of sessions, benches, edits and rigs: as they are read,
+//! and as sessions are written.
+mod answers;
+mod codes;
+mod documents;
+mod edits;
+mod headers;
+mod holds;
+mod largest;
+mod mutexes;
+mod names;
+mod notes;
+mod refused;
+mod rigs;
+mod sessions;
+mod sets;
+mod steps;
+mod values;
+mod writing;

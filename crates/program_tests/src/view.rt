@@ -1,0 +1,7 @@
+//! What a run shows: its trace and its picture, and the command that makes them.
+mod command_lines;
+mod files;
+mod pictures;
+mod samples;
+mod traces;
+mod views;

@@ -1,0 +1,66 @@
+//! The text of a trace.
+
+use crate::view::samples::FIRST_RUN;
+use bench_types::Items;
+use run_views::{Interest, Places, trace};
+use session_text::read_session;
+use smp_kernel::Meter;
+use std::process::Abort;
+use std::test::Fail;
+
+const WHOLE: &str = "place 0, tick 0; core 0 A; core 1 B
+step 0: delay core 0 by A ticks 2
+  blocked: the call was made, and its task waits
+  core 0 pend set
+  A blocked until tick 2
+  A call begun
+place 1, tick 0; core 0 A, due by pend; core 1 B
+step 1: switch core 0
+  done: the step was made
+  core 0 current A to C
+  core 0 pend cleared
+place 2, tick 0; core 0 C; core 1 B
+step 2: tick
+  done: the step was made
+  tick 0 to 1
+place 3, tick 1; core 0 C; core 1 B
+step 3: yield core 0 by C
+  done: the step was made
+  core 0 pend set
+place 4, tick 1; core 0 C, due by pend; core 1 B
+step 4: switch core 0
+  done: the step was made
+  core 0 pend cleared
+place 5, tick 1; core 0 C; core 1 B
+";
+
+#[test]
+fn a_whole_run(rt: HostRuntime) -> Result<(), Fail> {
+    let text = trace_of(&rt, &rt, FIRST_RUN, 0, u32::MAX)?;
+    expect_text(&rt, text.as_str(), WHOLE);
+    Ok(())
+}
+
+fn expect_text(rt: &impl Abort, text: &str, expected: &str) {
+    assert_eq!(rt; text, expected);
+}
+
+fn trace_of(
+    rt: &impl Abort,
+    host: &HostRuntime,
+    document: &str,
+    from: u32,
+    to: u32,
+) -> Result<String, Fail> {
+    let alloc = host.alloc();
+    let (header, steps) = read_session(alloc, document.as_bytes())?;
+    assert!(rt; steps.len() < 100);
+    let mut meter = Meter::new(host);
+    let places = Places { from, to };
+    let interest = Interest {
+        tasks: Items::new(Vec::new(alloc)),
+        cores: Items::new(Vec::new(alloc)),
+    };
+    let steps = steps.as_slice();
+    Ok(trace(alloc, &mut meter, places, &interest, &header, steps)?)
+}

@@ -1,0 +1,98 @@
+//! What each command shows of a document.
+
+use crate::view::samples::{FIRST_RUN, SHARED_MUTEX};
+use bench_commands::{Counted, Status};
+use run_views::Places;
+use std::alloc::{AllocError, Global};
+use std::process::Abort;
+use std::test::Fail;
+use view_commands::{Command, Selection, run};
+
+const COMPARED: &str =
+    "  0 0 mutex_take core 1 by logger mutex 0 ticks 0: true: the mutex was taken; control logger
++ - 1 mutex_give core 1 by logger mutex 0: true: the mutex was given; control logger
+| 1 2 mutex_take core 0 by control mutex 0 ticks 5: blocked; control logger \
+    -> true: the mutex was taken; control logger
+- 2 - switch core 0: done; IDLE0 logger
+| 3 3 tick: done; IDLE0 logger -> done; control logger
+| 4 4 mutex_give core 1 by logger mutex 0: true: the mutex was given; IDLE0 logger \
+    -> yield core 1 by logger: done; control logger
+the runs differ first at - 1 and last at 4 4
+task IDLE0 run on core 0 -1 wait +1 in -1
+task control run on core 0 +1
+task logger top -2
+";
+
+const UNEDITED: &str = "  0 0 delay core 0 by A ticks 2: blocked; A B
+  1 1 switch core 0: done; C B
+  2 2 tick: done; C B
+  3 3 yield core 0 by C: done; C B
+  4 4 switch core 0: done; C B
+the runs do not differ
+";
+
+/// The session of `SHARED_MUTEX` with its edits made.
+pub(crate) const KEPT: &str =
+    "{\"cores\":2,\"format\":1,\"mutexes\":1,\"priorities\":4,\"slicing\":false,\"steps\":[\
+    {\"by\":\"logger\",\"core\":1,\"do\":\"mutex_take\",\"mutex\":0,\"ticks\":0},\
+    {\"by\":\"logger\",\"core\":1,\"do\":\"mutex_give\",\"mutex\":0},\
+    {\"by\":\"control\",\"core\":0,\"do\":\"mutex_take\",\"mutex\":0,\"ticks\":5},\
+    {\"do\":\"tick\"},{\"by\":\"logger\",\"core\":1,\"do\":\"yield\"}],\
+    \"tasks\":[{\"mask\":1,\"name\":\"control\",\"priority\":3},\
+    {\"mask\":2,\"name\":\"logger\",\"priority\":1}],\"tick\":0}\n";
+
+#[test]
+fn views(rt: HostRuntime) -> Result<(), Fail> {
+    expect(&rt, &rt, Command::Compare, SHARED_MUTEX, COMPARED);
+    expect(&rt, &rt, Command::Compare, FIRST_RUN, UNEDITED);
+    expect(&rt, &rt, Command::Session, SHARED_MUTEX, KEPT);
+    expect_traces(&rt, &rt)?;
+    Ok(())
+}
+
+fn expect(rt: &impl Abort, host: &HostRuntime, command: Command, document: &str, wanted: &str) {
+    let mut shown = Vec::new(host.alloc());
+    let mut reader = Counted::new(document.as_bytes());
+    let mut writer = Counted::new(&mut shown);
+    let status = run(host, host.alloc(), &mut reader, &mut writer, &command);
+    assert!(rt; status == Status::Fine);
+    assert!(rt; shown.as_slice() == wanted.as_bytes());
+}
+
+// The steps of task B and core 1, of which there are none, and then those of task C.
+const OF_C: &str = "place 1, tick 0; core 0 A, due by pend; core 1 B
+step 1: switch core 0
+  done: the step was made
+  core 0 current A to C
+  core 0 pend cleared
+place 3, tick 1; core 0 C; core 1 B
+step 3: yield core 0 by C
+  done: the step was made
+  core 0 pend set
+place 5, tick 1; core 0 C; core 1 B
+";
+
+fn expect_traces(rt: &impl Abort, host: &HostRuntime) -> Result<(), AllocError> {
+    let alloc = host.alloc();
+    expect(rt, host, trace_of(alloc, "C", None)?, FIRST_RUN, OF_C);
+    let last = "place 5, tick 1; core 0 C; core 1 B\n";
+    expect(rt, host, trace_of(alloc, "B", Some(1))?, FIRST_RUN, last);
+    Ok(())
+}
+
+fn trace_of(alloc: Global, task: &str, core: Option<u32>) -> Result<Command, AllocError> {
+    let mut tasks = Vec::new(alloc);
+    tasks.push(String::from_str(alloc, task)?)?;
+    let mut cores = Vec::new(alloc);
+    if let Some(core) = core {
+        cores.push(core)?;
+    }
+    Ok(Command::Trace(Selection {
+        places: Places {
+            from: 0,
+            to: u32::MAX,
+        },
+        tasks,
+        cores,
+    }))
+}

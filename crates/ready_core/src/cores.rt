@@ -756,8 +756,8 @@ impl Cores {
         self.ready(task) & (self.lists.len(self.in_use(task)) > 1)
     }
 
-    // Whether the core is not due, and its task has preemption on and stands in a ready list of more
-    // than one. All three are asked each time: `&` leaves none out.
+    // Whether the core is not due, and its task has preemption on and stands in a ready list of
+    // more than one. All three are asked each time: `&` leaves none out.
     fn shares_its_time(&self, core: u32) -> bool
         requires { core < length self.now.control.cores }
         ensures { result ≡ shares_its_time list_queues (bare_view self.now) core }

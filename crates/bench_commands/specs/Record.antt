@@ -4,7 +4,7 @@ use Rattle.std.specs.Io.KnownBytes.{Appends}
 use Rattle.bench_types.specs.declared.entry.Entry.{Entry}
 use Rattle.bench_types.specs.declared.header.Header.{Header}
 use Rattle.bench_types.specs.Limits.{max_input}
-use Rattle.bench_model.specs.History.{IsLegal, steps_of}
+use Rattle.bench_model.specs.History.{AreByCurrent, IsLegal, steps_of}
 use Rattle.port_locks.specs.Holds.{hold_after}
 use Rattle.core_scripts.specs.Played.{ArePlayed}
 use Rattle.session_text.specs.declared.fault.TextFault.{TextFault}
@@ -23,10 +23,12 @@ abbrev pub recorded_text : Header → List Entry → List ℕ
 recorded_text header entries = written header (steps_of entries) ++ codes "\n"
 
 -- The steps of some history are written, which the cores of the rig may have recorded when they
--- played their scripts: a legal one, within the limit, at whose end no core holds the kernel.
+-- played their scripts: a legal one, each call by the task that is current on its core there,
+-- within the limit, at whose end no core holds the kernel.
 pub record IsRecorded (rig : RigScript) (output : Output) : Type 0 where
   pub entries : List Entry
   pub legal : IsLegal rig.header entries
+  pub current : AreByCurrent rig.header entries
   pub few : length entries ≤ rig.limit
   pub unheld : hold_after rig.header entries ≡ None
   pub played : ArePlayed rig.header rig.limit entries rig.scripts

@@ -1,6 +1,5 @@
 //! Recordings of the scripts of a rig document.
-ghost use Rattle.std.specs.Prelude.{◌≡◌, All, IfOk, Ok, string_bytes, true};
-ghost use Rattle.bench_types.specs.Step.{IsCheckedStep, settings_of, step_check};
+ghost use Rattle.std.specs.Prelude.{◌≡◌, IfOk, string_bytes, true};
 ghost use Rattle.session_text.specs.Rig.{IsCheckedRig, rig_text};
 ghost use Rattle.bench_commands.specs.Device.{failures_after};
 ghost use Rattle.bench_commands.specs.Hint.{IsRigHint, IsRigTextHint};
@@ -14,7 +13,7 @@ use crate::execution::{RunFault, Status};
 use crate::input::{InputFault, read_input};
 use crate::program::Ending;
 use crate::writing::write_text;
-use bench_types::{Header, MAX_INPUT, Step};
+use bench_types::MAX_INPUT;
 use core_scripts::{Gate, play};
 use session_text::{RigScript, read_rig};
 use session_write::write_session;
@@ -49,18 +48,6 @@ fn told(answer: Answer) -> Written
     }
 }
 
-// Steps that are checked have numbers of 32 bits, as types say.
-fn check_all(header: &Header, steps: &[Step])
-    requires { All (λ step. step_check (settings_of header.now) step ≡ Ok tt) steps.now }
-    ensures { All (IsCheckedStep (settings_of header.now)) steps.now }
-{
-    for step in steps {
-        let Ok(()) = step.check(header) else {
-            unreachable!()
-        };
-    }
-}
-
 // The text of what was recorded of a rig document.
 fn recorded<R: Threads + Wait + Sync, G: Gate>(
     rt: &R,
@@ -75,7 +62,6 @@ fn recorded<R: Threads + Wait + Sync, G: Gate>(
     let scripts = rig.scripts.as_slice();
     let recorded = play(rt, host, alloc, &rig.header, rig.limit, scripts, gate)?;
     let steps = recorded.steps(alloc)?;
-    check_all(&recorded.header, steps.as_slice());
     let mut text = write_session(alloc, &recorded.header, steps.as_slice())?;
     text.push(b'\n')?;
     Ok(Written {

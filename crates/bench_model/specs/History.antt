@@ -1,5 +1,5 @@
 -- A history: the entries that the threads of cores recorded of one kernel, in their order.
-use Rattle.std.specs.Prelude.{◌≡◌, ◌≢◌, ℕ, ◌-◌, List, ◌++◌, length, map, filter, take, All, Bool, false, ◌==◌, Ok, Option, is_some, option_map, if◌then◌else◌, slice_get, ⊤}
+use Rattle.std.specs.Prelude.{◌≡◌, ◌≢◌, ℕ, ◌-◌, List, ◌++◌, length, map, filter, take, All, Bool, false, ◌==◌, [], ◌∷◌, Option, is_some, option_map, if◌then◌else◌, slice_get, ⊤}
 use Rattle.bench_types.specs.declared.entry.Entry.{Entry}
 use Rattle.bench_types.specs.declared.header.Header.{Header}
 use Rattle.bench_types.specs.declared.kernel_data.Hold.{Hold}
@@ -10,7 +10,7 @@ use Rattle.bench_types.specs.declared.step.Call.TheVariants.{HoldOpen, HoldClose
 use Rattle.bench_types.specs.declared.step.Step.{Step}
 use Rattle.bench_types.specs.declared.step.Step.TheVariants.{Tick, Switch, Interrupt}
 use Rattle.bench_types.specs.declared.step.Step.TheVariants as steps
-use Rattle.bench_types.specs.Step.{settings_of, step_check}
+use Rattle.bench_types.specs.Step.{settings_of, IsCheckedStep}
 use Rattle.bench_model.specs.Control.{Control, current}
 use Rattle.bench_model.specs.Holds.{is_held_by, is_held_elsewhere, depth_of}
 use Rattle.bench_model.specs.Session.{step_of, state_after, reply_at}
@@ -35,7 +35,7 @@ end_of header entries = state_after (start header) (steps_of entries)
 -- What cores may record from the start of the header on: checked steps, each by its own core, none
 -- of them kept out by a hold, with the replies of the session that they are.
 pub record IsLegal (header : Header) (entries : List Entry) : Type 0 where
-  pub checked : All (λ entry. step_check (settings_of header) entry.step ≡ Ok tt) entries
+  pub checked : All (λ entry. IsCheckedStep (settings_of header) entry.step) entries
   pub own : All (λ entry. entry.core ≡ core_of entry.step) entries
   pub unheld : All (λ entry. entry.reply ≢ Refused Held) entries
   pub replies :
@@ -44,7 +44,7 @@ pub record IsLegal (header : Header) (entries : List Entry) : Type 0 where
 
 -- what they may record after the entries: the same of one entry more
 pub record IsNext (header : Header) (entries : List Entry) (entry : Entry) : Type 0 where
-  pub checked : step_check (settings_of header) entry.step ≡ Ok tt
+  pub checked : IsCheckedStep (settings_of header) entry.step
   pub own : entry.core ≡ core_of entry.step
   pub unheld : entry.reply ≢ Refused Held
   pub reply : entry.reply ≡ (step_of entry.step (end_of header entries)).0
@@ -94,3 +94,9 @@ IsByCurrent control Tick = ⊤
 IsByCurrent control (Switch core) = ⊤
 IsByCurrent control (steps.Call core task call) = current control core ≡ task
 IsByCurrent control (Interrupt core note) = ⊤
+
+-- each call of a history is made by the current task of its core at that place
+abbrev pub AreByCurrent : Header → List Entry → Type 0
+AreByCurrent header entries =
+    (first : List Entry) (entry : Entry) → StartsWith entries (first ++ entry ∷ [])
+    → IsByCurrent (end_of header first).control entry.step

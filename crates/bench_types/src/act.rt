@@ -1,5 +1,5 @@
-ghost use Rattle.std.specs.Prelude.{◌≡◌};
-ghost use Rattle.bench_types.specs.Act.{act_check};
+ghost use Rattle.std.specs.Prelude.{◌≡◌, OnOk};
+ghost use Rattle.bench_types.specs.Act.{act_check, IsCheckedAct};
 ghost use Rattle.bench_types.specs.Step.{settings_of};
 
 use crate::step::check_note;
@@ -22,7 +22,8 @@ impl Act {
     /// F2 where a core other than 0 makes a tick, else the fault of the call, or F3 where the task
     /// that an interrupt notifies is no user task.
     pub fn check(&self, core: u32, header: &Header) -> Result<(), Fault>
-        ensures { result ≡ act_check (settings_of header.now) core self.now }
+        ensures value { result ≡ act_check (settings_of header.now) core self.now }
+        ensures checked { OnOk result (IsCheckedAct (settings_of header.now) core self.now) }
     {
         match *self {
             Act::Call(call) => call.check(header),

@@ -1,6 +1,6 @@
 -- What is so at the end of a rig.
 use Rattle.std.proofs.Common.{◌≡◌, ℕ, ◌+◌, ◌<◌, ◌==◌, ◌&&◌, Bool, true, false, cond, eqb, List, [], ◌∷◌, length, map, get_or, Option, Some, None, Result, Ok, Err, refl, sym, ap, subst, ◌∙◌, arith, All}
-use Rattle.std.specs.Prelude.{⊤, ltb, sum_by}
+use Rattle.std.specs.Prelude.{⊤, ◌↔◌, ltb, sum_by}
 use Rattle.std.specs.List.{list_all}
 use Rattle.std.proofs.lemmas.Bool.Decides.{nat_tests}
 use Rattle.std.proofs.lemmas.List.{length-map}
@@ -23,7 +23,9 @@ use Rattle.history_laws.proofs.HoldsAlong.{held_as_made}
 use Rattle.history_laws.proofs.KeptOut.{start_free}
 use Rattle.history_laws.proofs.Legal.{cores_there, end_empty}
 use Rattle.history_laws.proofs.Parts.{cores_add}
+use Rattle.history_laws.proofs.Recorded.{legal_sound}
 use Rattle.port_locks.proofs.CloseChecks.{numbers_there}
+use Rattle.port_locks.proofs.EachOnce.{all_found, each_once}
 use Rattle.port_locks.specs.Closing as locks
 use Rattle.port_locks.specs.declared.fault.CloseFault.TheVariants as lock_faults
 use Rattle.port_locks.specs.Holds.{hold_after}
@@ -32,7 +34,7 @@ use Rattle.recordings.proofs.Keeping.{none_held}
 use Rattle.recordings.specs.RecordingView.{RecordingView}
 use Rattle.core_rig.specs.declared.fault.CloseFault.{CloseFault}
 use Rattle.core_rig.specs.declared.fault.CloseFault.TheVariants.{WrongSeats, HoldOpen}
-use Rattle.core_rig.specs.Closing.{IsEndOf, close_check, counts, has_all_cores, hold_nothing}
+use Rattle.core_rig.specs.Closing.{HasEachOnce, IsEndOf, close_check, counts, has_all_cores, hold_nothing}
 use Rattle.core_rig.specs.Resting.{IsOwn, at_rest}
 use Rattle.core_rig.specs.Seats.{CoreView, depth_at, new_seat}
 
@@ -45,12 +47,28 @@ passed true true false is = absurd (cc is)
 passed true false none is = absurd (cc is)
 passed false all none is = absurd (cc is)
 
+wrong_where_failed : (long all none : Bool) (why : CloseFault) → outcome long all none ≡ Err why → (why ≡ WrongSeats ↔ ¬ ((long && all) ≡ true))
+wrong_where_failed true true true why is = absurd (cc is)
+wrong_where_failed true true false why is = (λ wrong. absurd (cc (is, wrong)), λ never. absurd (never refl))
+wrong_where_failed true false none why is = (λ wrong both. cc both, λ never. cc is)
+wrong_where_failed false all none why is = (λ wrong both. cc both, λ never. cc is)
+
+pub wrong_seats : (cores : ℕ) (seats : List CoreView) (why : CloseFault) → close_check cores seats ≡ Err why → (why ≡ WrongSeats ↔ ¬ HasEachOnce cores seats)
+wrong_seats cores seats why is =
+    let w = wrong_where_failed (length seats == cores) (has_all_cores cores seats) (hold_nothing seats) why is in (
+      λ wrong once. w.0 wrong (all_found (λ (seat : CoreView). seat.core) cores seats once),
+      λ never. w.1 (λ both. never (each_once (λ (seat : CoreView). seat.core) cores seats both)),
+    )
+
 module _ (cores : ℕ) (seats : List CoreView) (is : close_check cores seats ≡ Ok tt) where
   abbrev tests : (length seats == cores ≡ true) × (has_all_cores cores seats ≡ true) × (hold_nothing seats ≡ true)
   tests = passed (length seats == cores) (has_all_cores cores seats) (hold_nothing seats) is
 
   abbrev inner : List (SeatView RecordingView)
   inner = map at_rest seats
+
+  pub seats_once : HasEachOnce cores seats
+  seats_once = each_once (λ (seat : CoreView). seat.core) cores seats (ap (λ b. b && has_all_cores cores seats) tests.0 ∙ tests.1)
 
   pub nothing_held : All (λ seat. depth_at seat ≡ 0) seats
   nothing_held k d less =
@@ -95,7 +113,10 @@ none_made_above core cores entries below above =
     (recursion_from_All (λ (entry : Entry). entry.core < cores) entries below))
 
 -- a history at whose end each core's seat holds nothing ends with no hold
-module _ (header : Header) (entries : List Entry) (seats : List CoreView) (pair : PairView) (passes : header_check header ≡ Ok tt) (sound : IsSoundHistory header entries) (legal : IsLegal header entries) (is : close_check header.config.cores seats ≡ Ok tt) (terms : All (λ seat. seat.terms.header ≡ header) seats) (own : All IsOwn seats) (ends : All (IsEndOf entries) seats) where
+module _ (header : Header) (entries : List Entry) (seats : List CoreView) (pair : PairView) (passes : header_check header ≡ Ok tt) (legal : IsLegal header entries) (is : close_check header.config.cores seats ≡ Ok tt) (terms : All (λ seat. seat.terms.header ≡ header) seats) (own : All IsOwn seats) (ends : All (IsEndOf entries) seats) where
+  sound : IsSoundHistory header entries
+  sound = legal_sound header entries passes legal
+
   seat_holds_nothing : (k : ℕ) (d : CoreView) → k < length seats → is_held_by (get_or seats k d).core (end_of header entries).hold ≡ false
   seat_holds_nothing k d less =
       let seat = get_or seats k d in

@@ -1,12 +1,18 @@
 -- The end of a rig.
-use Rattle.std.specs.Prelude.{◌≡◌, ℕ, List, length, map, Bool, ◌&&◌, ◌==◌, Ok, Err, Result, ⊤, if◌then◌else◌}
-use Rattle.std.specs.List.{list_all, list_any}
+use Rattle.std.specs.Prelude.{◌≡◌, ℕ, ◌<◌, List, length, map, Bool, ◌&&◌, ◌==◌, Ok, Err, Result, ⊤, if◌then◌else◌}
+use Rattle.std.specs.List.{count_by, list_all, list_any}
 use Rattle.list_orders.specs.Search.{numbers}
 use Rattle.bench_types.specs.declared.entry.Entry.{Entry}
 use Rattle.bench_model.specs.History.{made_by, StartsWith}
 use Rattle.core_rig.specs.declared.fault.CloseFault.{CloseFault}
 use Rattle.core_rig.specs.declared.fault.CloseFault.TheVariants.{WrongSeats, HoldOpen}
 use Rattle.core_rig.specs.Seats.{CoreView, depth_at}
+
+-- there are as many seats as cores, and each of the rig's cores is that of just one of them
+abbrev pub HasEachOnce : ℕ → List CoreView → Type 0
+HasEachOnce cores seats =
+    (length seats ≡ cores)
+    × ((core : ℕ) → core < cores → count_by (λ seat. seat.core == core) seats ≡ 1)
 
 -- one of the seats is the core's
 abbrev pub has_core : ℕ → List CoreView → Bool

@@ -2,7 +2,7 @@ ghost use Rattle.std.specs.Prelude.{◌≡◌, IfOk};
 ghost use Rattle.bench_model.specs.History.{steps_of};
 
 use arrayvec::ArrayVec;
-use bench_types::{Entry, Header, Step};
+use bench_types::{Entry, Header, Items, Step};
 use std::alloc::{AllocError, Global};
 
 /// What the cores of a rig did, once it was closed.
@@ -11,7 +11,7 @@ pub struct Recorded {
     /// The settings and tasks that the kernel started with.
     pub header: Header,
     /// What the cores did, in the order in which the kernel did it.
-    pub entries: Vec<Entry>,
+    pub entries: Items<Entry>,
     /// How many of the entries each core made, core by core.
     pub made: ArrayVec<u64, 8>,
 }
@@ -19,8 +19,8 @@ pub struct Recorded {
 impl Recorded {
     /// The steps of the session that was recorded.
     pub fn steps(&self, alloc: Global) -> Result<Vec<Step>, AllocError>
-        ensures { IfOk result (λ steps. steps.items ≡ steps_of self.now.entries.items) }
+        ensures { IfOk result (λ steps. steps.items ≡ steps_of self.now.entries) }
     {
-        self.entries.iter().map(|entry| entry.step).collect(alloc)
+        self.entries.as_slice().iter().map(|entry| entry.step).collect(alloc)
     }
 }

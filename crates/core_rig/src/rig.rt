@@ -2,11 +2,11 @@ ghost use Rattle.std.specs.Prelude.{◌≡◌, ◌<◌, ◌≤◌, ◌↔◌, �
 ghost use Rattle.list_orders.specs.Search.{numbers};
 ghost use Rattle.bench_types.specs.Header.{header_check};
 ghost use Rattle.bench_types.specs.Limits.{max_steps};
-ghost use Rattle.bench_model.specs.History.{made_by, IsLegal};
-ghost use Rattle.history_laws.specs.SoundHistories.{IsSoundHistory};
+ghost use Rattle.bench_types.specs.Session.{IsSession};
+ghost use Rattle.bench_model.specs.History.{made_by, steps_of, AreByCurrent, IsLegal};
 ghost use Rattle.port_locks.specs.Holds.{hold_after};
 ghost use Rattle.core_rig.specs.declared.fault.RigFault.TheVariants.{BadHeader, BadLimit};
-ghost use Rattle.core_rig.specs.Closing.{IsEndOf, close_check, counts, has_all_cores, has_core, hold_nothing};
+ghost use Rattle.core_rig.specs.Closing.{HasEachOnce, IsEndOf, close_check, counts, has_all_cores, has_core, hold_nothing};
 ghost use Rattle.core_rig.specs.Resting.{IsOwn, at_rest};
 ghost use Rattle.core_rig.specs.Seats.{IsSeatOf, depth_at, new_seat};
 
@@ -105,15 +105,22 @@ impl Rig {
             × (refused.seats ≡ seats.items)
             × (close_check self.cores seats.items ≡ Err refused.why)) }
         ensures closed { OnOk result (close_check self.cores seats.items ≡ Ok tt) }
+        ensures each_once { OnOk result (HasEachOnce self.cores seats.items) }
+        ensures wrong_seats { IfErr result (λ refused. (refused.why ≡ CloseFault.WrongSeats)
+            ↔ ¬ HasEachOnce self.cores seats.items) }
         ensures header { IfOk result (λ it. it.header ≡ self.terms.header) }
-        ensures legal { IfOk result (λ it. IsLegal it.header it.entries.items) }
-        ensures sound { IfOk result (λ it. IsSoundHistory it.header it.entries.items) }
-        ensures few { IfOk result (λ it. length it.entries.items ≤ self.terms.limit) }
-        ensures seats { IfOk result (λ it. All (IsEndOf it.entries.items) seats.items) }
-        ensures unheld { IfOk result (λ it. hold_after it.header it.entries.items ≡ None) }
-        ensures made { IfOk result (λ it. it.made.items ≡ counts self.cores it.entries.items) }
+        // So it can be written and read, and a store opens it.
+        ensures session { IfOk result (λ it.
+            IsSession (record { header = it.header; steps = steps_of it.entries })) }
+        ensures legal { IfOk result (λ it. IsLegal it.header it.entries) }
+        ensures current { IfOk result (λ it. AreByCurrent it.header it.entries) }
+        ensures few { IfOk result (λ it. length it.entries ≤ self.terms.limit) }
+        ensures fits_store { IfOk result (λ it. length it.entries ≤ max_steps) }
+        ensures seats { IfOk result (λ it. All (IsEndOf it.entries) seats.items) }
+        ensures unheld { IfOk result (λ it. hold_after it.header it.entries ≡ None) }
+        ensures made { IfOk result (λ it. it.made.items ≡ counts self.cores it.entries) }
         ensures all_made { IfOk result (λ it.
-            sum_by (λ n. n) it.made.items ≡ length it.entries.items) }
+            sum_by (λ n. n) it.made.items ≡ length it.entries) }
     {
         match close_fault(self.header.config.cores, seats.as_slice()) {
             Ok(()) => Ok(self.end(seats)),
@@ -130,13 +137,16 @@ impl Rig {
         requires own { All (IsSeatOf self) seats.items }
         requires all { close_check self.cores seats.items ≡ Ok tt }
         ensures header { result.header ≡ self.terms.header }
-        ensures legal { IsLegal result.header result.entries.items }
-        ensures sound { IsSoundHistory result.header result.entries.items }
-        ensures few { length result.entries.items ≤ self.terms.limit }
-        ensures seats { All (IsEndOf result.entries.items) seats.items }
-        ensures unheld { hold_after result.header result.entries.items ≡ None }
-        ensures made { result.made.items ≡ counts self.cores result.entries.items }
-        ensures all_made { sum_by (λ n. n) result.made.items ≡ length result.entries.items }
+        ensures session { IsSession
+            (record { header = result.header; steps = steps_of result.entries }) }
+        ensures legal { IsLegal result.header result.entries }
+        ensures current { AreByCurrent result.header result.entries }
+        ensures few { length result.entries ≤ self.terms.limit }
+        ensures fits_store { length result.entries ≤ max_steps }
+        ensures seats { All (IsEndOf result.entries) seats.items }
+        ensures unheld { hold_after result.header result.entries ≡ None }
+        ensures made { result.made.items ≡ counts self.cores result.entries }
+        ensures all_made { sum_by (λ n. n) result.made.items ≡ length result.entries }
     {
         let Rig {
             pair,
@@ -152,7 +162,7 @@ impl Rig {
         let made = count_by_core(header.config.cores, entries.as_slice());
         Recorded {
             header,
-            entries,
+            entries: Items::new(entries),
             made,
         }
     }

@@ -1,6 +1,6 @@
 //! What a core does while it owns the interrupt word.
 ghost use Rattle.std.specs.Prelude.{◌≡◌, ◌<◌, ◌+◌, length, true, false, if◌then◌else◌, Ok};
-ghost use Rattle.bench_types.specs.Act.{act_check};
+ghost use Rattle.bench_types.specs.Act.{IsCheckedAct};
 ghost use Rattle.bench_types.specs.Step.{settings_of};
 ghost use Rattle.bench_model.specs.Holds.{depth_by, is_held_by};
 ghost use Rattle.bench_model.specs.History.{IsLegal};
@@ -50,7 +50,7 @@ pub(crate) fn act_and_leave(
     requires own { IsSeatOf pair.now seat.old }
     requires hand { IsInHand seat.old }
     requires count { made ≡ length seat.old.made }
-    requires act { act_check (settings_of seat.old.terms.header) seat.old.number act ≡ Ok tt }
+    requires act { IsCheckedAct (settings_of seat.old.terms.header) seat.old.number act }
     requires may { MayAct act seat.old }
     ensures answer { result.answer
         ≡ answered

@@ -1,7 +1,6 @@
 -- The depth of a hold, from entry to entry.
 use Rattle.std.proofs.Common.{◌≡◌, ℕ, suc, ◌+◌, ◌-◌, ◌≤◌, Bool, true, false, cond, eqb, List, [], ◌∷◌, ◌++◌, length, drop, Option, Some, None, refl, sym, ap, subst, ◌∙◌, arith, append_assoc}
 use Rattle.std.specs.Prelude.{◌≢◌}
-use Rattle.std.specs.List.{fold}
 use Rattle.std.specs.Option.{option_map_or}
 use Rattle.std.proofs.lemmas.Bool.Decides.{nat_tests}
 use Rattle.std.proofs.lemmas.List.{append-nil, length_push}
@@ -22,13 +21,11 @@ use Rattle.bench_model.specs.Holds.{is_held_elsewhere, depth_of, depth_by, hold_
 use Rattle.bench_model.specs.Refusals.{refusal}
 use Rattle.bench_model.specs.Session.{step_of}
 use Rattle.bench_model.specs.Sound.{IsSound}
-use Rattle.list_orders.specs.Search.{numbers}
-use Rattle.bench_model.specs.Seek.{after_switch}
-use Rattle.bench_model.specs.Start.{start, started, unstarted, first_stamps}
+use Rattle.bench_model.specs.Start.{start}
 use Rattle.bench_model.specs.Steps.{performed, called, after}
 use Rattle.bench_model.specs.Table.{Table, stamp_queues}
+use Rattle.step_laws.proofs.Along.{settings_after, start_settings}
 use Rattle.step_laws.proofs.Holds.{accepted}
-use Rattle.step_laws.proofs.Nears.{after_near, turned_settings}
 use Rattle.history_laws.specs.SoundHistories.{IsSoundHistory}
 use Rattle.history_laws.proofs.Legal.{end_empty, end-push}
 use Rattle.history_laws.proofs.OwnHolds.{kept_hold}
@@ -88,19 +85,10 @@ settings_along header [] front sound = ap (λ es. (end_of header es).settings) (
 settings_along header (entry ∷ rest) front sound =
     let whole : (front ++ entry ∷ []) ++ rest ≡ front ++ entry ∷ rest = append_assoc front (entry ∷ []) rest in
     let its = sound front (begins_with_first front (entry ∷ rest)) in
-    let sized = its.consistent.sized in
     ap (λ es. (end_of header es).settings) (sym whole)
     ∙ settings_along header rest (front ++ entry ∷ []) (subst (IsSoundHistory header) (sym whole) sound)
     ∙ ap (λ (table : Table). table.settings) (end-push header front entry)
-    ∙ (after_near entry.step (end_of header front) (omega arith)).2
-
-switches_settings : (cores : List ℕ) (table : Table) → (fold (λ table core. after_switch stamp_queues core table) table cores).settings ≡ table.settings
-switches_settings [] table = refl
-switches_settings (core ∷ cores) table = switches_settings cores (after_switch stamp_queues core table) ∙ turned_settings core table
-
-start_settings : (header : Header) → (start header).settings ≡ settings_of header
-unfolding started unstarted
-start_settings header = switches_settings (numbers header.config.cores) (unstarted (first_stamps header) header)
+    ∙ settings_after (end_of header front) entry.step its
 
 pub its_settings : (header : Header) (entries : List Entry) → IsSoundHistory header entries → (end_of header entries).settings ≡ settings_of header
 its_settings header entries sound = settings_along header entries [] sound ∙ ap (λ (table : Table). table.settings) (end_empty header) ∙ start_settings header

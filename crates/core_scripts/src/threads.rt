@@ -4,7 +4,8 @@ ghost use Rattle.std.specs.Thread.{IsSync};
 ghost use Rattle.list_orders.specs.Search.{numbers};
 ghost use Rattle.bench_types.specs.Header.{header_check};
 ghost use Rattle.bench_types.specs.Limits.{max_steps};
-ghost use Rattle.bench_model.specs.History.{IsLegal};
+ghost use Rattle.bench_types.specs.Session.{IsSession};
+ghost use Rattle.bench_model.specs.History.{steps_of, AreByCurrent, IsLegal};
 ghost use Rattle.port_locks.specs.Holds.{hold_after};
 ghost use Rattle.core_rig.specs.Closing.{counts};
 ghost use Rattle.bench_types.specs.Step.{settings_of};
@@ -54,13 +55,15 @@ pub fn play<R: Threads + Wait + Sync, G: Gate>(
     requires limit { limit ≤ max_steps }
     requires scripts { AreScripts header.now scripts.now }
     ensures header { IfOk result (λ it. it.header ≡ header.now) }
-    ensures legal { IfOk result (λ it. IsLegal it.header it.entries.items) }
-    ensures few { IfOk result (λ it. length it.entries.items ≤ limit) }
-    ensures unheld { IfOk result (λ it. hold_after it.header it.entries.items ≡ None) }
+    ensures session { IfOk result (λ it.
+        IsSession (record { header = it.header; steps = steps_of it.entries })) }
+    ensures legal { IfOk result (λ it. IsLegal it.header it.entries) }
+    ensures current { IfOk result (λ it. AreByCurrent it.header it.entries) }
+    ensures few { IfOk result (λ it. length it.entries ≤ limit) }
+    ensures unheld { IfOk result (λ it. hold_after it.header it.entries ≡ None) }
     ensures made { IfOk result (λ it. it.made.items
-        ≡ counts header.now.config.cores it.entries.items) }
-    ensures played { IfOk result (λ it.
-        ArePlayed it.header limit it.entries.items scripts.now) }
+        ≡ counts header.now.config.cores it.entries) }
+    ensures played { IfOk result (λ it. ArePlayed it.header limit it.entries scripts.now) }
 {
     let (rig, seats) = match Rig::new(host, alloc, header, limit) {
         Ok(made) => made,

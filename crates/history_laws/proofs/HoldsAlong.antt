@@ -9,7 +9,6 @@ use Rattle.bench_types.specs.declared.header.Header.{Header}
 use Rattle.bench_model.specs.History.{core_of, end_of, made_by, StartsWith, IsLegal}
 use Rattle.bench_model.specs.Holds.{is_held_by}
 use Rattle.bench_model.specs.Sound.{IsSound}
-use Rattle.bench_model.specs.Start.{start}
 use Rattle.history_laws.specs.SoundHistories.{IsSoundHistory}
 use Rattle.history_laws.proofs.Legal.{end_empty, end-push}
 use Rattle.history_laws.proofs.OwnHolds.{others_held}
@@ -55,12 +54,8 @@ held_as_made header core entries first sound legal begins same =
     ap (λ es. is_held_by core (end_of header es).hold) whole
     ∙ held_past header core rest first (subst (IsSoundHistory header) whole sound) own none
 
-pub start_is_sound : (header : Header) → IsSound (start header) → IsSoundHistory header []
-start_is_sound header sound [] begins = subst IsSound (sym (end_empty header)) sound
-start_is_sound header sound (entry ∷ first) begins = absurd (cc begins)
-
 -- a beginning of one entry more is one of those before, or all of it
-begins_push : {X : Type 0} (items : List X) (last : X) (first : List X) → StartsWith (items ++ last ∷ []) first → StartsWith items first ⊎ (first ≡ items ++ last ∷ [])
+pub begins_push : {X : Type 0} (items : List X) (last : X) (first : List X) → StartsWith (items ++ last ∷ []) first → StartsWith items first ⊎ (first ≡ items ++ last ∷ [])
 begins_push items last [] begins = inl refl
 begins_push [] last (x ∷ []) begins = inr (sym begins)
 begins_push [] last (x ∷ (y ∷ first)) begins = absurd (cc begins)
@@ -69,10 +64,3 @@ begins_push (item ∷ items) last (x ∷ first) begins = at (begins_push items l
     at : StartsWith items first ⊎ (first ≡ items ++ last ∷ []) → StartsWith (item ∷ items) (x ∷ first) ⊎ (x ∷ first ≡ item ∷ (items ++ last ∷ []))
     at (inl front) = inl (cc (front, begins))
     at (inr all) = inr (cc (all, begins))
-
-pub sound_push : (header : Header) (entries : List Entry) (entry : Entry) → IsSoundHistory header entries → IsSound (end_of header (entries ++ entry ∷ [])) → IsSoundHistory header (entries ++ entry ∷ [])
-sound_push header entries entry sound last first begins = at (begins_push entries entry first begins)
-  where
-    at : StartsWith entries first ⊎ (first ≡ entries ++ entry ∷ []) → IsSound (end_of header first)
-    at (inl front) = sound first front
-    at (inr all) = subst (λ es. IsSound (end_of header es)) (sym all) last

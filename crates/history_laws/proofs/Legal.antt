@@ -11,7 +11,7 @@ use Rattle.bench_types.specs.declared.header.Header.{Header}
 use Rattle.bench_types.specs.declared.reply.Refusal.TheVariants.{Held}
 use Rattle.bench_types.specs.declared.reply.Reply.TheVariants.{Refused}
 use Rattle.bench_types.specs.Header.{header_check}
-use Rattle.bench_types.specs.Step.{settings_of, step_check, core_check, task_check, call_check, ◌>>◌}
+use Rattle.bench_types.specs.Step.{settings_of, step_check, core_check, task_check, call_check, ◌>>◌, IsCheckedStep}
 use Rattle.bench_types.proofs.Passes.{both_pass, checked_core, checked_header}
 use Rattle.bench_types.specs.declared.step.Step.{Step}
 use Rattle.bench_types.specs.declared.step.Step.TheVariants.{Tick, Switch, Interrupt}
@@ -63,7 +63,7 @@ answers_last (first ∷ entries) table entry answers = answers_last entries (ste
 
 -- what is to hold of each entry by itself
 abbrev IsChecked : Header → Entry → Type 0
-IsChecked header entry = step_check (settings_of header) entry.step ≡ Ok tt
+IsChecked header entry = IsCheckedStep (settings_of header) entry.step
 
 abbrev IsOwn : Entry → Type 0
 IsOwn entry = entry.core ≡ core_of entry.step
@@ -118,4 +118,4 @@ core_there header (Interrupt core note) some checked =
 pub cores_there : (header : Header) (entries : List Entry) → header_check header ≡ Ok tt → IsLegal header entries → All (λ entry. entry.core < header.config.cores) entries
 cores_there header entries passes legal place other below =
     subst (λ core. core < header.config.cores) (sym (legal.own place other below))
-    (core_there header (slice_index_or entries place other).step (checked_header header passes).some_core (legal.checked place other below))
+    (core_there header (slice_index_or entries place other).step (checked_header header passes).some_core (legal.checked place other below).passes)

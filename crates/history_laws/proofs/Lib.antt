@@ -4,3 +4,4 @@ pub mod Legal
 pub mod OwnHolds
 pub mod Parts
 pub mod Room
+pub mod Recorded

@@ -3,7 +3,7 @@
 #![tactic(auto)]
 
 ghost use Rattle.history_laws.specs.HoldLaws.{HeldIsKeptOut, StartHoldsNothing, OthersKeepDepth, StepFitsRoom, CloseIsDone};
-ghost use Rattle.history_laws.specs.LegalLaws.{EmptyIsLegal, OneMoreIsLegal, EmptyEndsAtStart, OneMoreEndsAfter, CoresAreThere};
+ghost use Rattle.history_laws.specs.LegalLaws.{EmptyIsLegal, OneMoreIsLegal, EmptyEndsAtStart, OneMoreEndsAfter, CoresAreThere, LegalIsSound, LegalIsSession, RepliesAreKept, NoneIsByCurrent, OneMoreIsByCurrent};
 ghost use Rattle.history_laws.specs.PartLaws.{OneMoreIsMade, MadeInBoth, CoresAddUp, WholeIsBeginning, BeginningsNest, FirstIsBeginning, BeginningIsLegal, NoneIsGrowth, OneIsGrowth, GrowthGoesOn, GrowthLeavesOthers, GrowthKeepsBeginning};
 
 /// Legal histories, entry by entry.
@@ -19,6 +19,24 @@ pub fn laws_of_histories()
     ensures one_more_ends_after { OneMoreEndsAfter }
     // Each entry is made by one of the cores, where the header was checked.
     ensures cores_are_there { CoresAreThere }
+    // Where the header was checked, each table on the way is sound.
+    ensures legal_is_sound { LegalIsSound }
+{}
+
+/// Legal histories as sessions.
+pub fn laws_of_recorded_sessions()
+    // The steps of a legal history are a session of its header, where that was checked.
+    ensures legal_is_session { LegalIsSession }
+    // A replay of it gives each entry's reply.
+    ensures replies_are_kept { RepliesAreKept }
+{}
+
+/// Histories in which each call is by the current task of its core.
+pub fn laws_of_callers()
+    // So it is of no entries.
+    ensures none_is_by_current { NoneIsByCurrent }
+    // And of an entry more, exactly where it is so before, and of the entry.
+    ensures one_more_is_by_current { OneMoreIsByCurrent }
 {}
 
 /// The entries of one core in a history, in their order.

@@ -20,21 +20,13 @@ use Rattle.bench_model.specs.Session.{step_of, state_after, state_at, reply_at, 
 use Rattle.bench_model.specs.Sound.{IsSound}
 use Rattle.bench_model.specs.Start.{start, started, unstarted, first_stamps}
 use Rattle.bench_model.specs.Table.{Table, stamp_queues}
-use Rattle.step_laws.proofs.Nears.{turned_settings}
+use Rattle.step_laws.proofs.Along.{sound_along, settings_along, start_settings}
 use Rattle.step_laws.proofs.Starts.{start_sound}
 use Rattle.step_laws.proofs.Steps.{equal_after}
 use Rattle.meeting_laws.specs.RunLaws.{GoOnAlike}
-use Rattle.meeting_laws.proofs.Runs.{sound_along, settings_along, run_alike}
+use Rattle.meeting_laws.proofs.Runs.{run_alike}
 
 -- ---- the state at a place of a session
-
-switched_settings : (cores : List ℕ) (table : Table) → (fold (λ kernel core. after_switch stamp_queues core kernel) table cores).settings ≡ table.settings
-switched_settings [] table = refl
-switched_settings (core ∷ cores) table = switched_settings cores (after_switch stamp_queues core table) ∙ turned_settings core table
-
-start_settings : (header : Header) → (start header).settings ≡ settings_of header
-unfolding started unstarted
-start_settings header = switched_settings (numbers header.config.cores) (unstarted (first_stamps header) header)
 
 -- the steps of a session are checked under the settings of its start
 checked_from_start : (session : Session) → IsSession session → All (IsCheckedStep (start session.header).settings) session.steps

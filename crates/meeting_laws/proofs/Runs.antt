@@ -16,17 +16,11 @@ use Rattle.bench_model.specs.Table.{Table, stamp_queues}
 use Rattle.bench_model.specs.Tallied.{tallied, moment_of, tallied_after, first_tallies, first_tally, part_tallies, added}
 use Rattle.bench_model.specs.Tally.{TaskTally}
 use Rattle.session_laws.proofs.Tallies.{tallied_seen, length_each, parts_added}
-use Rattle.step_laws.proofs.Nears.{after_near}
+use Rattle.step_laws.proofs.Along.{settings_after, checked_rest}
 use Rattle.step_laws.proofs.Steps.{after_sound, equal_after}
 use Rattle.meeting_laws.specs.RunLaws.{RunAlike, tallies_in_turn}
 
 -- ---- one step
-
--- a step leaves the settings
-pub settings_after : (table : Table) (step : Step) → IsSound table → (step_of step table).1.settings ≡ table.settings
-settings_after table step sound =
-    let sized = sound.consistent.sized in
-    (after_near step table (omega (arith, sized.rows, sized.some_core, sized.idle_tasks))).2
 
 -- sound tables of which the same can be seen
 pub record AreAlike (a b : Table) : Type 0 where
@@ -49,23 +43,7 @@ alike_after a b step alike checked =
       same = (equal_after a b step alike.first alike.second alike.same checked).1;
     }
 
--- the steps after the first are checked under the settings after it
-checked_rest : (table : Table) (step : Step) (steps : List Step) → IsSound table → All (IsCheckedStep table.settings) (step ∷ steps) → All (IsCheckedStep (step_of step table).1.settings) steps
-checked_rest table step steps sound all =
-    subst (λ settings. All (IsCheckedStep settings) steps) (sym (settings_after table step sound)) (All-tail (IsCheckedStep table.settings) step steps all)
-
 -- ---- lists of steps
-
-pub sound_along : (steps : List Step) (table : Table) → IsSound table → All (IsCheckedStep table.settings) steps → IsSound (state_after table steps)
-sound_along [] table sound all = sound
-sound_along (step ∷ steps) table sound all =
-    sound_along steps (step_of step table).1 (after_sound step table sound (All-head (IsCheckedStep table.settings) step steps all)) (checked_rest table step steps sound all)
-
-pub settings_along : (steps : List Step) (table : Table) → IsSound table → All (IsCheckedStep table.settings) steps → (state_after table steps).settings ≡ table.settings
-settings_along [] table sound all = refl
-settings_along (step ∷ steps) table sound all =
-    settings_along steps (step_of step table).1 (after_sound step table sound (All-head (IsCheckedStep table.settings) step steps all)) (checked_rest table step steps sound all)
-    ∙ settings_after table step sound
 
 outcomes_alike : (steps : List Step) (a b : Table) → AreAlike a b → All (IsCheckedStep a.settings) steps → trace a steps ≡ trace b steps
 outcomes_alike [] a b alike all = refl

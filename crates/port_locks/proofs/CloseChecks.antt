@@ -6,7 +6,7 @@ use Rattle.std.proofs.lemmas.List.Sums.{AllPass-from_list_all, list_all-from_All
 use Rattle.std.proofs.lemmas.List.FromFn.{get_or-range_with_len, length-range_with_len}
 use Rattle.list_orders.specs.Search.{numbers}
 use Rattle.port_locks.specs.Closing.{HasAllNumbers, HasEachOnce, IsFree, has_number, has_all_numbers, is_free, are_free, close_check}
-use Rattle.port_locks.proofs.EachOnce.{some_counted, some_passes, just_one}
+use Rattle.port_locks.proofs.EachOnce.{all_found, and_true, each_once, number_there, same_number}
 use Rattle.std.specs.Prelude.{◌↔◌, Ok, Err, Result, ⊤, if◌then◌else◌}
 use Rattle.port_locks.specs.declared.fault.CloseFault.{CloseFault}
 use Rattle.port_locks.specs.declared.fault.CloseFault.TheVariants.{WrongSeats, Owned}
@@ -15,10 +15,6 @@ use Rattle.port_locks.specs.Seats.{SeatView}
 or_true : (a b : Bool) → (a || b) ≡ true → (a ≡ true) ⊎ (b ≡ true)
 or_true true b e = inl refl
 or_true false b e = inr e
-
-and_true : (a b : Bool) → (a && b) ≡ true → (a ≡ true) × (b ≡ true)
-and_true true b e = (refl, e)
-and_true false b e = absurd (true≢false (sym e))
 
 any_at : {X : Type 0} (p : X → Bool) (xs : List X) → list_any p xs ≡ true
     → (k : ℕ) × (k < length xs) × ((d : X) → p (get_or xs k d) ≡ true)
@@ -29,9 +25,6 @@ any_at p (x ∷ xs) e =
     (λ (later : list_any p xs ≡ true).
     let r = any_at p xs later in (suc r.0, (let less = r.1 in omega arith), r.2))
     (or_true (p x) (list_any p xs) e)
-
-same_number : (m n : ℕ) → (m == n) ≡ true → m ≡ n
-same_number m n is = grind (arith, nat_tests)
 
 abbrev outcome : Bool → Bool → Bool → Result ⊤ CloseFault
 outcome a b c = if a && b then (if c then Ok tt else Err Owned) else Err WrongSeats
@@ -56,19 +49,9 @@ wrong_where_failed true false c why e = (λ is both. true≢false (sym both), λ
 wrong_where_failed false b c why e = (λ is both. true≢false (sym both), λ never. cc e)
 
 module _ {V : Type 0} (seats : List (SeatView V)) where
-  number_there : (cores : ℕ) → has_all_numbers cores seats ≡ true → (number : ℕ) → number < cores
-      → has_number number seats ≡ true
-  number_there cores e number less =
-      let each = AllPass-from_list_all (λ n. has_number n seats) (numbers cores) e in
-      let long = length-range_with_len 0 cores in
-      let plain : 0 + number ≡ number = omega arith in
-      subst (λ n. has_number n seats ≡ true)
-      (get_or-range_with_len 0 cores number 0 less ∙ plain)
-      (each number 0 (omega arith))
-
   pub numbers_there : (cores : ℕ) → has_all_numbers cores seats ≡ true → HasAllNumbers cores seats
   numbers_there cores e number less =
-      let there = number_there cores e number less in
+      let there = number_there (λ (seat : SeatView V). seat.number) cores seats e number less in
       let r = any_at (λ (seat : SeatView V). seat.number == number) seats there in
       (r.0, r.1, λ d. same_number (get_or seats r.0 d).number number (r.2 d))
 
@@ -77,42 +60,9 @@ module _ {V : Type 0} (seats : List (SeatView V)) where
       numbers_there cores
       (passed (length seats == cores) (has_all_numbers cores seats) (are_free seats) e)
 
-  each_once : (cores : ℕ) → ((length seats == cores) && has_all_numbers cores seats) ≡ true
-      → HasEachOnce cores seats
-  each_once cores e =
-      let both = and_true (length seats == cores) (has_all_numbers cores seats) e in
-      let long = same_number (length seats) cores both.0 in (
-        long,
-        just_one (λ (seat : SeatView V). seat.number) cores seats long
-            (λ number less.
-            some_counted (λ (seat : SeatView V). seat.number == number) seats
-            (number_there cores both.1 number less)),
-      )
-
-  number_found : (cores : ℕ) → HasEachOnce cores seats → (number : ℕ) → number < cores
-      → has_number number seats ≡ true
-  number_found cores once number less =
-      let test : SeatView V → Bool = λ seat. seat.number == number in
-      some_passes test seats (omega (arith, length-filter test seats, once.1 number less))
-
-  all_found : (cores : ℕ) → HasEachOnce cores seats
-      → ((length seats == cores) && has_all_numbers cores seats) ≡ true
-  all_found cores once =
-      let all =
-      list_all-from_AllPass (λ n. has_number n seats) (numbers cores)
-      (λ k d less. there k d (let long = length-range_with_len 0 cores in omega (arith, less))) in
-      ap (λ b. b && has_all_numbers cores seats) (eq-eqb (length seats) cores once.0) ∙ all
-    where
-      there : (k d : ℕ) → k < cores → has_number (get_or (numbers cores) k d) seats ≡ true
-      there k d less =
-          let plain : 0 + k ≡ k = omega arith in
-          subst (λ n. has_number n seats ≡ true)
-          (sym (get_or-range_with_len 0 cores k d less ∙ plain))
-          (number_found cores once k less)
-
   pub check_once : (cores : ℕ) → close_check cores seats ≡ Ok tt → HasEachOnce cores seats
   check_once cores e =
-      each_once cores
+      each_once (λ (seat : SeatView V). seat.number) cores seats
       (both_passed (length seats == cores) (has_all_numbers cores seats) (are_free seats) e)
 
   pub wrong_seats : (cores : ℕ) (why : CloseFault) → close_check cores seats ≡ Err why
@@ -121,8 +71,8 @@ module _ {V : Type 0} (seats : List (SeatView V)) where
       let w =
       wrong_where_failed (length seats == cores) (has_all_numbers cores seats) (are_free seats)
       why e in (
-        λ is once. w.0 is (all_found cores once),
-        λ never. w.1 (λ both. never (each_once cores both)),
+        λ is once. w.0 is (all_found (λ (seat : SeatView V). seat.number) cores seats once),
+        λ never. w.1 (λ both. never (each_once (λ (seat : SeatView V). seat.number) cores seats both)),
       )
 
   pub all_free : are_free seats ≡ true → All IsFree seats

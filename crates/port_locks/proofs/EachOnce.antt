@@ -1,8 +1,10 @@
 -- Where items are as many as numbers, and each number is one's, no two have the same.
-use Rattle.std.proofs.Common.{◌≡◌, ℕ, zero, suc, ◌+◌, ◌-◌, ◌<◌, ◌≤◌, ◌==◌, Bool, true, false, true≢false, cond, ◌||◌, nat_lt, List, [], ◌∷◌, length, filter, refl, sym, ap, ◌∙◌, arith}
-use Rattle.std.specs.List.{count_by, list_any}
+use Rattle.std.proofs.Common.{◌≡◌, ℕ, zero, suc, ◌+◌, ◌-◌, ◌<◌, ◌≤◌, ◌==◌, ◌&&◌, Bool, true, false, true≢false, cond, ◌||◌, nat_lt, List, [], ◌∷◌, length, filter, get_or, refl, sym, ap, subst, ◌∙◌, arith, eq-eqb}
+use Rattle.std.specs.List.{count_by, list_all, list_any}
 use Rattle.std.proofs.lemmas.Bool.Decides.{nat_tests}
-use Rattle.std.proofs.lemmas.List.Sums.{length-filter, count_by-le-length}
+use Rattle.std.proofs.lemmas.List.FromFn.{get_or-range_with_len, length-range_with_len}
+use Rattle.std.proofs.lemmas.List.Sums.{AllPass-from_list_all, list_all-from_AllPass, length-filter, count_by-le-length}
+use Rattle.list_orders.specs.Search.{numbers}
 
 -- a test that some item passes counts some
 pub some_counted : {X : Type 0} (p : X → Bool) (xs : List X) → list_any p xs ≡ true
@@ -26,6 +28,13 @@ some_passes p (x ∷ xs) some = at (p x) some (some_passes p xs)
         → (0 < length (filter p xs) → list_any p xs ≡ true) → (b || list_any p xs) ≡ true
     at true some rest = refl
     at false some rest = rest some
+
+pub and_true : (a b : Bool) → (a && b) ≡ true → (a ≡ true) × (b ≡ true)
+and_true true b e = (refl, e)
+and_true false b e = absurd (true≢false (sym e))
+
+pub same_number : (m n : ℕ) → (m == n) ≡ true → m ≡ n
+same_number m n is = grind (arith, nat_tests)
 
 module _ {X : Type 0} (number_of : X → ℕ) where
   abbrev pub those : ℕ → List X → List X
@@ -100,3 +109,56 @@ module _ {X : Type 0} (number_of : X → ℕ) where
         lower_next number xs,
         many_lower (number + 1) rest xs (λ m low. some m (omega (arith, low, whole))),
       )
+
+  -- the tests of a close: there are so many, and each number is one's
+  abbrev pub has : ℕ → List X → Bool
+  has number xs = list_any (λ x. number_of x == number) xs
+
+  abbrev pub has_all : ℕ → List X → Bool
+  has_all cores xs = list_all (λ number. has number xs) (numbers cores)
+
+  abbrev pub EachOnce : ℕ → List X → Type 0
+  EachOnce cores xs =
+      (length xs ≡ cores)
+      × ((number : ℕ) → number < cores → count_by (λ x. number_of x == number) xs ≡ 1)
+
+  pub number_there : (cores : ℕ) (xs : List X) → has_all cores xs ≡ true → (number : ℕ)
+      → number < cores → has number xs ≡ true
+  number_there cores xs e number less =
+      let each = AllPass-from_list_all (λ n. has n xs) (numbers cores) e in
+      let long = length-range_with_len 0 cores in
+      let plain : 0 + number ≡ number = omega arith in
+      subst (λ n. has n xs ≡ true) (get_or-range_with_len 0 cores number 0 less ∙ plain)
+      (each number 0 (omega arith))
+
+  pub each_once : (cores : ℕ) (xs : List X) → ((length xs == cores) && has_all cores xs) ≡ true
+      → EachOnce cores xs
+  each_once cores xs e =
+      let both = and_true (length xs == cores) (has_all cores xs) e in
+      let long = same_number (length xs) cores both.0 in (
+        long,
+        just_one cores xs long
+            (λ number less.
+            some_counted (λ x. number_of x == number) xs
+            (number_there cores xs both.1 number less)),
+      )
+
+  number_found : (cores : ℕ) (xs : List X) → EachOnce cores xs → (number : ℕ) → number < cores
+      → has number xs ≡ true
+  number_found cores xs once number less =
+      let test : X → Bool = λ x. number_of x == number in
+      some_passes test xs (omega (arith, length-filter test xs, once.1 number less))
+
+  pub all_found : (cores : ℕ) (xs : List X) → EachOnce cores xs
+      → ((length xs == cores) && has_all cores xs) ≡ true
+  all_found cores xs once =
+      let all =
+      list_all-from_AllPass (λ n. has n xs) (numbers cores)
+      (λ k d less. there k d (let long = length-range_with_len 0 cores in omega (arith, less))) in
+      ap (λ b. b && has_all cores xs) (eq-eqb (length xs) cores once.0) ∙ all
+    where
+      there : (k d : ℕ) → k < cores → has (get_or (numbers cores) k d) xs ≡ true
+      there k d less =
+          let plain : 0 + k ≡ k = omega arith in
+          subst (λ n. has n xs ≡ true) (sym (get_or-range_with_len 0 cores k d less ∙ plain))
+          (number_found cores xs once k less)

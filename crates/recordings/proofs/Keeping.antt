@@ -10,19 +10,18 @@ use Rattle.bench_types.specs.declared.reply.Reply.{Reply}
 use Rattle.bench_types.specs.declared.step.Step.{Step}
 use Rattle.bench_types.specs.declared.fault.Fault.{Fault}
 use Rattle.bench_types.specs.Header.{header_check}
-use Rattle.bench_types.specs.Step.{settings_of, step_check}
+use Rattle.bench_types.specs.Step.{settings_of, IsCheckedStep}
 use Rattle.bench_model.specs.Equal.{StandsFor}
-use Rattle.bench_model.specs.History.{core_of, end_of, is_kept_out, places_of, IsByCurrent, IsLegal, IsNext}
+use Rattle.bench_model.specs.History.{core_of, end_of, is_kept_out, places_of, AreByCurrent, IsByCurrent, IsLegal, IsNext}
 use Rattle.bench_model.specs.Holds.{depth_of, depth_by, is_held_by}
 use Rattle.bench_model.specs.Lists.{View}
 use Rattle.bench_model.specs.Session.{step_of}
 use Rattle.bench_model.specs.Sound.{IsHeldWell, IsSound}
 use Rattle.bench_model.specs.Start.{start}
 use Rattle.bench_model.specs.Table.{Table}
-use Rattle.history_laws.specs.SoundHistories.{IsSoundHistory}
-use Rattle.history_laws.proofs.HoldsAlong.{start_is_sound, sound_push}
 use Rattle.history_laws.proofs.KeptOut.{held_kept_out, start_free}
 use Rattle.history_laws.proofs.Legal.{end_empty, end-push, legal_empty, legal-push}
+use Rattle.history_laws.proofs.Recorded.{none_by_current, by_current_push}
 use Rattle.history_laws.proofs.Room.{fits_room}
 use Rattle.recordings.specs.Kept.{IsRecording}
 use Rattle.recordings.specs.RecordingView.{RecordingView, entry_of, table_of, hold_of, room_of}
@@ -39,14 +38,14 @@ start_is_recording header entries limit capacity kernel passes stands settings n
       stands = subst (StandsFor kernel) (sym (end_empty header)) stands;
       settings = settings;
       legal = legal_empty header;
-      sound = start_is_sound header stands.sound;
+      current = none_by_current header;
       memory = memory;
       closable = omega (arith, ap (λ (table : Table). depth_of table.hold) (end_empty header), ap depth_of (start_free header));
     })
 
 -- a step that may be recorded next
 pub record IsFit (view : RecordingView) (step : Step) : Type 0 where
-  pub checked : step_check (settings_of view.header) step ≡ Ok tt
+  pub checked : IsCheckedStep (settings_of view.header) step
   pub current : IsByCurrent (table_of view).control step
   pub unheld : is_kept_out (hold_of view) step ≡ false
   pub room : places_of (hold_of view) step ≤ room_of view
@@ -79,7 +78,7 @@ module _ (header : Header) (entries later : List Entry) (limit capacity room : �
         stands = subst (StandsFor next) (sym ends) stands;
         settings = settings ∙ kept.settings;
         legal = subst (IsLegal header) (sym longer) (legal-push header entries entry kept.legal (fit_is_next before step fit));
-        sound = subst (IsSoundHistory header) (sym longer) (sound_push header entries entry kept.sound (subst IsSound (sym (end-push header entries entry)) stands.sound));
+        current = subst (AreByCurrent header) (sym longer) (by_current_push header entries entry kept.current fit.current);
         memory = omega (arith, kept.memory, stays);
         closable = omega (arith, ap length longer, length_push entries entry, ap (λ (t : Table). depth_of t.hold) ends, fits);
       }

@@ -1,9 +1,9 @@
 ghost use Rattle.std.specs.Prelude.{◌≡◌, ◌<◌, ◌≤◌, ◌+◌, ◌↔◌, length, option_map, is_some, false, [], Ok, Err, IsErr, IfOk, OnOk, OnErr};
 ghost use Rattle.std.specs.Vec.{vec_capacity};
-ghost use Rattle.bench_types.specs.Act.{act_check};
+ghost use Rattle.bench_types.specs.Act.{IsCheckedAct};
 ghost use Rattle.bench_types.specs.Header.{header_check};
-ghost use Rattle.bench_types.specs.Step.{settings_of, step_check, call_check, task_check};
-ghost use Rattle.bench_model.specs.History.{core_of as made_on, is_kept_out, places_of, IsByCurrent, IsGrowthBy, IsLegal, IsNext};
+ghost use Rattle.bench_types.specs.Step.{settings_of, task_check, IsActionOfWord, IsCheckedCall, IsCheckedStep};
+ghost use Rattle.bench_model.specs.History.{core_of as made_on, is_kept_out, places_of, AreByCurrent, IsByCurrent, IsGrowthBy, IsLegal, IsNext};
 ghost use Rattle.bench_model.specs.Holds.{depth_of, depth_by, is_held_by, is_held_elsewhere};
 ghost use Rattle.history_laws.specs.SoundHistories.{IsSoundHistory};
 ghost use Rattle.recordings.specs.Kept.{IsRecording};
@@ -143,7 +143,7 @@ impl Recording {
     /// [`Recording::is_kept_out`], [`Recording::places`] and [`Recording::room`] tell.
     #[inline(always)]
     pub fn record(&mut self, step: Step) -> Answer
-        requires checked { step_check (settings_of self.old.header) step ≡ Ok tt }
+        requires checked { IsCheckedStep (settings_of self.old.header) step }
         requires current { IsByCurrent (table_of self.old).control step }
         requires unheld { is_kept_out (hold_of self.old) step ≡ false }
         requires room { places_of (hold_of self.old) step ≤ room_of self.old }
@@ -165,7 +165,7 @@ impl Recording {
     // Makes the step and records it where there is room, else refuses it with G1.
     #[inline(always)]
     fn record_in_room(&mut self, step: Step) -> Result<Answer, RecordRefusal>
-        requires checked { step_check (settings_of self.old.header) step ≡ Ok tt }
+        requires checked { IsCheckedStep (settings_of self.old.header) step }
         requires current { IsByCurrent (table_of self.old).control step }
         requires unheld { is_kept_out (hold_of self.old) step ≡ false }
         ensures answer { result ≡ answer_in_room step self.old }
@@ -186,7 +186,7 @@ impl Recording {
     #[inline(always)]
     pub fn call(&mut self, core: u32, call: Call) -> Result<Answer, RecordRefusal>
         requires core { core < self.old.header.config.cores }
-        requires call { call_check (settings_of self.old.header) call ≡ Ok tt }
+        requires call { IsCheckedCall (settings_of self.old.header) call }
         requires unheld { is_held_elsewhere core (hold_of self.old) ≡ false }
         ensures answer { result ≡ answer_to_call core call self.old }
         ensures history { OnOk result (self.new ≡ with_step (call_on core call self.old) self.old) }
@@ -206,6 +206,7 @@ impl Recording {
     pub fn interrupt(&mut self, core: u32, note: Note) -> Result<Answer, RecordRefusal>
         requires core { core < self.old.header.config.cores }
         requires task { task_check (settings_of self.old.header) note.task ≡ Ok tt }
+        requires words { IsActionOfWord note.action }
         ensures answer { result ≡ answer_in_room (Step.Interrupt core note) self.old }
         ensures history { OnOk result (self.new ≡ with_step (Step.Interrupt core note) self.old) }
         ensures unchanged { OnErr result (self.new ≡ self.old) }
@@ -245,7 +246,7 @@ impl Recording {
     #[inline(always)]
     pub fn act(&mut self, core: u32, act: Act) -> Result<Answer, RecordRefusal>
         requires core { core < self.old.header.config.cores }
-        requires act { act_check (settings_of self.old.header) core act ≡ Ok tt }
+        requires act { IsCheckedAct (settings_of self.old.header) core act }
         requires unheld { is_kept_out (hold_of self.old) (act_on core act self.old) ≡ false }
         ensures answer { result ≡ answer_to_act core act self.old }
         ensures history { self.new ≡ after_act core act self.old }
@@ -275,7 +276,7 @@ impl Recording {
         ensures passes { header_check self.header ≡ Ok tt }
         ensures entries { result.1.items ≡ self.entries }
         ensures legal { IsLegal self.header self.entries }
-        ensures sound { IsSoundHistory self.header self.entries }
+        ensures current { AreByCurrent self.header self.entries }
         ensures few { length self.entries ≤ self.limit }
     {
         let Parts {

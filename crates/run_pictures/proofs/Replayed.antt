@@ -15,9 +15,8 @@ use Rattle.bench_model.specs.Seek.{after_switch}
 use Rattle.bench_model.specs.Session.{state_at}
 use Rattle.bench_model.specs.Start.{first_stamps, start, started, unstarted}
 use Rattle.bench_model.specs.Table.{Table, is_ready, stamp_queues, tick_count}
-use Rattle.step_laws.proofs.Nears.{turned_settings}
+use Rattle.step_laws.proofs.Along.{settings_along, start_settings}
 use Rattle.step_laws.proofs.Starts.{start_sound}
-use Rattle.meeting_laws.proofs.Runs.{settings_along}
 use Rattle.run_views.specs.declared.look.Look.{Look}
 use Rattle.run_views.specs.declared.look.Standing.TheVariants as standing
 use Rattle.run_views.specs.declared.look.TaskStatus.{TaskStatus}
@@ -32,14 +31,6 @@ use Rattle.run_pictures.specs.Shades.{numbers_told, stances_told}
 use Rattle.run_pictures.specs.Theorem.{currents_of, stances_of, ticks_of, IsTiled}
 use Rattle.run_pictures.proofs.Tiling.{tiled}
 use Rattle.run_pictures.proofs.Waiting.{told_last}
-
-switched_settings : (cores : List ℕ) (table : Table) → (fold (λ kernel core. after_switch stamp_queues core kernel) table cores).settings ≡ table.settings
-switched_settings [] table = refl
-switched_settings (core ∷ cores) table = switched_settings cores (after_switch stamp_queues core table) ∙ turned_settings core table
-
-start_settings : (header : Header) → (start header).settings ≡ settings_of header
-unfolding started unstarted
-start_settings header = switched_settings (numbers header.config.cores) (unstarted (first_stamps header) header)
 
 -- a session keeps the settings of its header
 pub kept_settings : (header : Header) (steps : List Step) (place : ℕ) → IsCheckedHeader header → All (IsCheckedStep (settings_of header)) steps → (state_at header steps place).settings ≡ settings_of header

@@ -14,7 +14,8 @@ use Rattle.bench_model.specs.Session.{step_of, state_after}
 use Rattle.bench_model.specs.Sound.{IsSound}
 use Rattle.bench_model.specs.Table.{Table}
 use Rattle.meeting_laws.proofs.Going.{stand_alike}
-use Rattle.meeting_laws.proofs.Runs.{run_alike, sound_along, settings_along}
+use Rattle.step_laws.proofs.Along.{sound_along, settings_along}
+use Rattle.meeting_laws.proofs.Runs.{run_alike}
 use Rattle.segment_laws.specs.Segments.{SegmentView, steps_of, all_steps, Follow}
 
 -- ---- lists

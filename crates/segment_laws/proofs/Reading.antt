@@ -24,11 +24,11 @@ use Rattle.bench_model.specs.Table.{Table, stamp_queues}
 use Rattle.bench_model.specs.Tallied.{part_tallies, added}
 use Rattle.bench_model.specs.Tally.{tallies}
 use Rattle.session_laws.proofs.Tallies.{parts_added, stepwise}
-use Rattle.step_laws.proofs.Nears.{turned_settings}
+use Rattle.step_laws.proofs.Along.{sound_along, settings_along, start_settings}
 use Rattle.step_laws.proofs.Starts.{start_sound}
 use Rattle.meeting_laws.specs.RunLaws.{tallies_in_turn}
 use Rattle.meeting_laws.proofs.Meetings.{before_is_untouched}
-use Rattle.meeting_laws.proofs.Runs.{sound_along, settings_along, segments_add_up}
+use Rattle.meeting_laws.proofs.Runs.{segments_add_up}
 use Rattle.segment_laws.specs.EditedSegments.{IsPartedAt}
 use Rattle.segment_laws.specs.SegmentLaws.{IsReadAt, IsFoundPart}
 use Rattle.segment_laws.specs.Segments.{SegmentView, steps_of, all_steps, lengths, starts, Follow, AreSegments, IsIndexOf, reply_after, running_after}
@@ -68,14 +68,6 @@ pub state_front : (header : Header) (steps front rest : List Step) → steps ≡
 unfolding state_at
 state_front header steps front rest whole =
     ap (state_after (start header)) (ap (take (length front)) whole ∙ take_at front rest (length front) refl)
-
-switched_settings : (cores : List ℕ) (table : Table) → (fold (λ kernel core. after_switch stamp_queues core kernel) table cores).settings ≡ table.settings
-switched_settings [] table = refl
-switched_settings (core ∷ cores) table = switched_settings cores (after_switch stamp_queues core table) ∙ turned_settings core table
-
-pub start_settings : (header : Header) → (start header).settings ≡ settings_of header
-unfolding started unstarted
-start_settings header = switched_settings (numbers header.config.cores) (unstarted (first_stamps header) header)
 
 -- the steps of a session in two parts: each is checked, and the state between them is sound
 module _ (session : Session) (front rest : List Step) (is : IsSession session) (whole : session.steps ≡ front ++ rest) where

@@ -4,7 +4,7 @@ use Rattle.std.specs.Prelude.{All, slice_get, option_map, option_and_then, Bool,
 use Rattle.std.proofs.lemmas.List.Elements.{All-take}
 use Rattle.std.proofs.lemmas.Option.{slice_get-map, slice_get-get_or, slice_get_past}
 use Rattle.bench_types.specs.declared.kernel_data.CoreLook.{CoreLook}
-use Rattle.meeting_laws.proofs.Runs.{sound_along, settings_along}
+use Rattle.step_laws.proofs.Along.{sound_along, settings_along}
 use Rattle.bench_types.specs.declared.kernel_data.Settings.{Settings}
 use Rattle.bench_types.specs.declared.reply.Reply.{Reply}
 use Rattle.bench_types.specs.declared.step.Step.{Step}

@@ -9,7 +9,7 @@ use Rattle.std.proofs.lemmas.List.Elements.{All-head, All-tail}
 use Rattle.bench_types.specs.declared.kernel_data.CoreLook.{CoreLook}
 use Rattle.bench_types.specs.declared.kernel_data.Settings.{Settings}
 use Rattle.step_laws.proofs.Steps.{after_sound}
-use Rattle.meeting_laws.proofs.Runs.{settings_after}
+use Rattle.step_laws.proofs.Along.{settings_after}
 use Rattle.std.specs.List.{flat_map}
 use Rattle.bench_types.specs.declared.step.Step.{Step}
 use Rattle.bench_types.specs.Step.{IsCheckedStep}

@@ -31,7 +31,8 @@ use Rattle.segment_laws.proofs.EditedSegments.{edited_segments_stand, unequal_ar
 use Rattle.segment_laws.proofs.EditedPlaces.{begins_there}
 use Rattle.segment_laws.proofs.EditedSteps.{made_steps, parted_steps}
 use Rattle.segment_laws.proofs.Following.{All_front, all_more, all_parted}
-use Rattle.segment_laws.proofs.Reading.{state_front, start_settings, front_settings, back_checked}
+use Rattle.step_laws.proofs.Along.{start_settings}
+use Rattle.segment_laws.proofs.Reading.{state_front, front_settings, back_checked}
 use Rattle.segment_laws.proofs.Shifts.{shifts}
 use Rattle.session_segments.specs.Again.{AreReplayedFrom, HasSettings, IsReplayOf}
 use Rattle.session_segments.specs.Counting.{meter_after, CountsUpTo}

@@ -8,7 +8,7 @@ use Rattle.bench_model.specs.Equal.{StandsFor}
 use Rattle.bench_model.specs.Lists.{View}
 use Rattle.bench_model.specs.Session.{state_after}
 use Rattle.bench_model.specs.Table.{Table}
-use Rattle.meeting_laws.proofs.Runs.{settings_along}
+use Rattle.step_laws.proofs.Along.{settings_along}
 use Rattle.segment_laws.specs.Segments.{SegmentView, all_steps, Follow}
 use Rattle.segment_laws.proofs.Following.{All_front, All_back}
 use Rattle.session_segments.specs.Again.{HasSettings}

@@ -13,7 +13,7 @@ use Rattle.bench_model.specs.Sound.{IsSound}
 use Rattle.bench_model.specs.Table.{Table, stamp_queues}
 use Rattle.bench_model.specs.Tallied.{first_tallies, moment_of, part_tallies, tallied, tallied_after, AllCountsBelow}
 use Rattle.bench_model.specs.Tally.{TaskTally}
-use Rattle.meeting_laws.proofs.Runs.{settings_along, sound_along}
+use Rattle.step_laws.proofs.Along.{settings_along, sound_along}
 use Rattle.segment_laws.specs.EditedSegments.{cut, has_none, AreReplayed, AreUnequal}
 use Rattle.segment_laws.specs.Segments.{SegmentView, steps_of, all_steps, Follow}
 use Rattle.segment_laws.proofs.EditedSteps.{cut_joined}

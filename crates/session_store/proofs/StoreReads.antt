@@ -17,7 +17,7 @@ use Rattle.bench_model.specs.Equal.{StandsFor}
 use Rattle.bench_model.specs.Lists.{View}
 use Rattle.bench_model.specs.Session.{state_after, state_at, reply_at, running_at}
 use Rattle.bench_model.specs.Table.{Table}
-use Rattle.meeting_laws.proofs.Runs.{sound_along, settings_along}
+use Rattle.step_laws.proofs.Along.{sound_along, settings_along}
 use Rattle.segment_laws.specs.SegmentLaws.{IsReadAt, IsFoundPart}
 use Rattle.segment_laws.specs.Segments.{SegmentView, all_steps, lengths, starts, AreSegments, IsIndexOf, reply_after, running_after}
 use Rattle.segment_laws.proofs.Following.{take_with, all_more}

@@ -19,7 +19,7 @@ use Rattle.session_laws.proofs.Tallies.{stepwise}
 use Rattle.meeting_laws.proofs.Runs.{run_alike}
 use Rattle.segment_laws.specs.Segments.{SegmentView, all_steps, lengths, starts}
 use Rattle.segment_laws.proofs.Following.{All_front, all_more, all_parted, kernel_at, split_at, take_with}
-use Rattle.segment_laws.proofs.Reading.{start_settings}
+use Rattle.step_laws.proofs.Along.{start_settings}
 use Rattle.segment_laws.proofs.Starts.{starts_at}
 use Rattle.session_store.specs.Kept.{kept_of, session_of}
 use Rattle.session_store.specs.Sums.{block, tallies_from, AreSums, AreSumsBefore, AreSumsOf, CheckpointSums, HasSums, HasSumsInFront}

@@ -1,3 +1,4 @@
+pub mod Along
 pub mod Holds
 pub mod Nears
 pub mod StartFlags

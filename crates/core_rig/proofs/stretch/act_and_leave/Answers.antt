@@ -32,7 +32,7 @@ overflow_add-result c =
     let told : c.is_ok.result ≡ is_ok (answer_to_act seat.number c.args.act (recording_of seat.terms seat.seen)) = search rules in
     let one : c.from.result ≡ cond c.is_ok.result 1 0 = search rules in
     let few : length c.free_interrupt.new.seat.seen < 2 ^ 64 = omega (arith, c.seen-seen.ensures, c.seen-seen.type_inv) in
-    let sum = count_fits seat c.args.act c.requires.hand c.requires.act _ c.is_ok.result _ _ is told c.requires.count one few in
+    let sum = count_fits seat c.args.act c.requires.hand c.requires.act.passes _ c.is_ok.result _ _ is told c.requires.count one few in
     omega (arith, sum)
 
 pub returns-clause-count : goal.returns-clause-count
@@ -41,4 +41,4 @@ returns-clause-count c =
     let is : c.free_interrupt.new.seat ≡ after_stretch c.args.act seat = search rules in
     let told : c.is_ok.result ≡ is_ok (answer_to_act seat.number c.args.act (recording_of seat.terms seat.seen)) = search rules in
     let one : c.from.result ≡ cond c.is_ok.result 1 0 = search rules in
-    count_after seat c.args.act c.requires.hand c.requires.act _ c.is_ok.result _ _ is told c.requires.count one
+    count_after seat c.args.act c.requires.hand c.requires.act.passes _ c.is_ok.result _ _ is told c.requires.count one

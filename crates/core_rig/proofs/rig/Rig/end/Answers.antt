@@ -46,7 +46,7 @@ unheld c =
     let all = subst (λ cores. close_check cores c.args.seats.items ≡ Ok tt) cores c.requires.all in
     let terms : All (λ (seat : CoreView). seat.terms.header ≡ header) c.args.seats.items =
     λ k d less. ap (λ terms. terms.header) ((c.requires.own k d less).1 ∙ ap (λ rig. rig.terms) (sym c.self.view_is)) ∙ sym (its_header c) in
-    ends_unheld header c.in-Ok.recording.entries c.args.seats.items c.self.inside.pair its.passes its.sound its.legal all terms c.move_all.ensures.own (ends c)
+    ends_unheld header c.in-Ok.recording.entries c.args.seats.items c.self.inside.pair its.passes its.legal all terms c.move_all.ensures.own (ends c)
 
 pub returns-clause-seats : goal.returns-clause-seats
 returns-clause-seats c =

@@ -1,5 +1,5 @@
 use Rattle.std.proofs.Common.{rules, ◌≡◌, ◌∙◌, Ok, map, sym, ap, subst, arith}
-use Rattle.bench_types.specs.Header.{header_check}
+use Rattle.bench_types.specs.Header.{header_check, IsCheckedHeader}
 use Rattle.list_orders.specs.Search.{numbers}
 use Rattle.port_locks.specs.Made as locks
 use Rattle.core_rig.proofs.Making.{all_new, seats_in_order}
@@ -14,6 +14,9 @@ its_header c =
 passes : (c : In_ok-room) → header_check c.args.header.now ≡ Ok tt
 passes c = search rules
 
+checked : (c : In_ok-room) → IsCheckedHeader c.args.header.now
+checked c = search rules
+
 pub all-requires : goal.all-requires
 all-requires c =
     all_new c.in_ok-pair.pair c.args.header.now (its_header c) (passes c) c.in_ok-header.header.config.cores
@@ -23,7 +26,7 @@ pub invariant_of-result : goal.invariant_of-result
 invariant_of-result c =
     let at = (goal.at.invariant_of-result c).In_ok-room in
     record {
-      passes = subst (λ header. header_check header ≡ Ok tt) (sym c.in_ok-header.ensures) (passes at);
+      checked = subst IsCheckedHeader (sym c.in_ok-header.ensures) (checked at);
       same = its_header at ∙ sym c.in_ok-header.ensures;
       cores = c.in_ok-pair.ensures.pair.1;
       limit =

@@ -1,7 +1,10 @@
 use Rattle.std.proofs.Common.{◌≡◌, ◌∙◌, All, None, Ok, length, sym, ap, subst}
 use Rattle.std.specs.Prelude.{sum_by}
 use Rattle.std.proofs.lemmas.List.Elements.{All-map}
-use Rattle.bench_model.specs.History.{end_of}
+use Rattle.bench_types.specs.declared.header.Header.{Header}
+use Rattle.bench_types.specs.Header.{IsCheckedHeader}
+use Rattle.bench_model.specs.History.{end_of, IsLegal}
+use Rattle.history_laws.proofs.Recorded.{legal_session}
 use Rattle.port_locks.specs.Seats as locks_seats
 use Rattle.core_rig.specs.Closing.{IsEndOf, close_check, counts}
 use Rattle.core_rig.specs.Resting.{at_rest}
@@ -48,17 +51,26 @@ unheld c =
     λ k d less. ap (λ terms. terms.header) ((c.requires.own k d less).1 ∙ ap (λ rig. rig.terms) (sym c.self.view_is)) ∙ sym (its_header c) in
     ends_unheld header c.in-Ok.recording.entries c.args.seats.items c.self.inside.pair its.passes its.legal all terms c.move_all.ensures.own (ends c)
 
+pub returns-clause-session : goal.returns-clause-session
+returns-clause-session c =
+    let its = c.into_parts-header.ensures in
+    let at = (goal.at.returns-clause-session c).After-into_parts-header in
+    let checked = subst IsCheckedHeader (sym (its.header ∙ its_header at ∙ c.self.invariant.same)) c.self.invariant.checked in
+    let legal = subst (λ entries. IsLegal c.in-Ok.recording.header entries) (sym (c.new.ensures ∙ its.entries)) its.legal in
+    legal_session c.into_parts-header.result.0 c.new.result checked (subst (λ (header : Header). IsLegal header c.new.result) (sym its.header) legal)
+
 pub returns-clause-seats : goal.returns-clause-seats
 returns-clause-seats c =
-    subst (λ entries. All (IsEndOf entries) c.args.seats.items) (sym c.into_parts-header.ensures.entries) (ends (goal.at.returns-clause-seats c).After-into_parts-header)
+    subst (λ entries. All (IsEndOf entries) c.args.seats.items) (sym (c.new.ensures ∙ c.into_parts-header.ensures.entries)) (ends (goal.at.returns-clause-seats c).After-into_parts-header)
 
 pub returns-clause-unheld : goal.returns-clause-unheld
 returns-clause-unheld c =
     let its = c.into_parts-header.ensures in
-    (λ i. (end_of (its.header i) (its.entries i)).hold) ∙ unheld (goal.at.returns-clause-unheld c).After-into_parts-header
+    let entries = c.new.ensures ∙ its.entries in
+    (λ i. (end_of (its.header i) (entries i)).hold) ∙ unheld (goal.at.returns-clause-unheld c).After-into_parts-header
 
 pub returns-clause-all_made : goal.returns-clause-all_made
 returns-clause-all_made c =
     let its = c.into_parts-header.ensures in
     ap (sum_by (λ n. n)) (c.count_by_core-made.ensures ∙ (λ i. counts (its.header i).config.cores ((c.as_slice.ensures.value ∙ its.entries) i)))
-    ∙ counts_add_up c.in-Ok.recording.header c.in-Ok.recording.entries its.passes its.legal ∙ ap length (sym its.entries)
+    ∙ counts_add_up c.in-Ok.recording.header c.in-Ok.recording.entries its.passes its.legal ∙ ap length (sym (c.new.ensures ∙ its.entries))

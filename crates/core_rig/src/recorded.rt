@@ -21,6 +21,10 @@ impl Recorded {
     pub fn steps(&self, alloc: Global) -> Result<Vec<Step>, AllocError>
         ensures { IfOk result (λ steps. steps.items ≡ steps_of self.now.entries) }
     {
-        self.entries.as_slice().iter().map(|entry| entry.step).collect(alloc)
+        self.entries
+            .as_slice()
+            .iter()
+            .map(|entry| entry.step)
+            .collect(alloc)
     }
 }

@@ -4,7 +4,7 @@ ghost use Rattle.std.specs.Prelude.{◌≡◌, [], IfSome};
 use crate::outcome::Outcome;
 use crate::worked::{STEPS, header};
 use arrayvec::ArrayVec;
-use bench_types::{Entry, Header, Reply, Step};
+use bench_types::{Entry, Header, Items, Reply, Step};
 use core_rig::{Recorded, Rig, RigFault};
 use port_locks::LockPair;
 use recordings::Recording;
@@ -57,10 +57,10 @@ fn seats_of_rig(rt: &HostRuntime, header: &Header) -> Result<usize, RigFault> {
 /// What core 0 is taken to have recorded: the steps of the worked session.
 fn recorded(alloc: Global) -> Option<Recorded> {
     let header = header(alloc)?;
-    let entries = STEPS.iter().map(|step| entry_of(*step));
+    let entries = STEPS.iter().map(|step| entry_of(*step)).collect(alloc);
     Some(Recorded {
         header,
-        entries: entries.collect(alloc).ok()?,
+        entries: Items::new(entries.ok()?),
         made: ArrayVec::new(),
     })
 }
@@ -83,7 +83,10 @@ pub(crate) fn steps(rt: &HostRuntime) -> Option<Outcome> {
 
 fn gives_steps(alloc: Global, recorded: &Recorded) -> bool {
     match recorded.steps(alloc) {
-        Ok(steps) => steps.as_slice() == STEPS.as_slice() && recorded.entries.len() == STEPS.len(),
+        Ok(steps) => {
+            let entries = recorded.entries.as_slice();
+            steps.as_slice() == STEPS.as_slice() && entries.len() == STEPS.len()
+        }
         Err(AllocError) => false,
     }
 }

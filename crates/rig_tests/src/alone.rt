@@ -66,7 +66,7 @@ pub fn act(
 fn an_interrupt_is_tried_once(rt: HostRuntime) -> Result<(), Fail> {
     let recorded = recorded(&rt, &rt, 1, Scene::Alone(Alone::Tries))?;
     assert_made(&rt, &recorded, &[0, 1]);
-    assert_reply(&rt, &recorded.entries, 0, 1, ISR);
+    assert_reply(&rt, recorded.entries.as_slice(), 0, 1, ISR);
     Ok(())
 }
 
@@ -199,6 +199,6 @@ fn check_open(rt: &(impl Wait + Abort), rig: &Rig, zero: &mut CoreSeat)
 fn an_idle_task_makes_no_call(rt: HostRuntime) -> Result<(), Fail> {
     let header = one_task(rt.alloc(), PLAIN, 2, 3)?;
     let recorded = recorded_over(&rt, &rt, &header, 10, Scene::Alone(Alone::Idle))?;
-    assert_same(&rt, "entries", &recorded.entries.len(), &0);
+    assert_same(&rt, "entries", &recorded.entries.as_slice().len(), &0);
     Ok(())
 }

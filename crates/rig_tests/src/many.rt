@@ -35,7 +35,7 @@ fn ticks_and_interrupts_come_from_two_threads(rt: HostRuntime) -> Result<(), Fai
     };
     let recorded = recorded(&rt, &rt, 2_000, scene)?;
     assert_made(&rt, &recorded, &[1_000, 1_000]);
-    check_interrupts(&rt, &recorded.entries);
+    check_interrupts(&rt, recorded.entries.as_slice());
     let end = End {
         tick: 1_000,
         task: 4,
@@ -77,9 +77,14 @@ fn check_session(
     entries: u32,
     end: End,
 ) -> Result<(), Fail> {
-    assert_same(rt, "entries", &recorded.entries.len(), &(entries as usize));
+    assert_same(
+        rt,
+        "entries",
+        &recorded.entries.as_slice().len(),
+        &(entries as usize),
+    );
     let store = store_of(host, recorded)?;
-    check_replies(rt, &store, &recorded.entries);
+    check_replies(rt, &store, recorded.entries.as_slice());
     check_end(rt, host, &store, entries, end)
 }
 

@@ -49,7 +49,7 @@ fn check_stop<R: Threads + Wait + Abort + Sync>(
     let calls = count as u64 + u64::from(depth);
     let interrupts = u64::from(INTERRUPTS);
     assert_made(rt, &recorded, &[calls, interrupts]);
-    let entries = recorded.entries.len() as u64;
+    let entries = recorded.entries.as_slice().len() as u64;
     assert_same(rt, "entries", &entries, &(calls + interrupts));
     Ok(())
 }

@@ -39,7 +39,7 @@ fn is_set_in_time(flag: &AtomicBool) -> bool {
 fn an_interrupt_comes_while_a_hold_is_open(rt: HostRuntime) -> Result<(), Fail> {
     let recorded = recorded(&rt, &rt, 10, Scene::Together)?;
     assert_made(&rt, &recorded, &[2, 2]);
-    check_entries(&rt, &recorded.entries);
+    check_entries(&rt, recorded.entries.as_slice());
     Ok(())
 }
 

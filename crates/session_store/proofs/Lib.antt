@@ -7,6 +7,7 @@ mod Opened
 mod Openings
 pub mod Parted
 mod Partings
+mod RecordedSessions
 mod Retraces
 mod Spans
 mod StepRows

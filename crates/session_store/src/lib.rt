@@ -6,6 +6,7 @@ mod checks;
 mod edit;
 mod edited;
 mod fault;
+mod laws;
 mod opening;
 mod outcome;
 mod parting;
@@ -16,6 +17,7 @@ mod tallying;
 mod trial;
 
 pub use fault::{OpenFault, OpenRefusal, StoreFault};
+pub use laws::laws_of_recordings;
 pub use outcome::Outcome;
 pub use session_segments::{Traced, Tracing, Untraced};
 pub use store::Store;

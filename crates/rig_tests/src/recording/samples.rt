@@ -2,7 +2,7 @@
 
 use crate::checks::assert_same;
 use bench_samples::three_tasks;
-use bench_types::{Call, Header, Note, Reply, Step};
+use bench_types::{Act, Call, Header, Note, Reply, Step};
 use recordings::{Answer, RecordRefusal, Recording};
 use smp_kernel::Meter;
 use std::process::Abort;
@@ -27,7 +27,9 @@ pub fn call(
     call: Call,
 ) -> Result<Answer, RecordRefusal> {
     assert!(rt; core < recording.settings().cores);
-    assert!(rt; call.check(recording.header()) == Ok(()));
+    let Ok(()) = call.check(recording.header()) else {
+        panic!(rt; "the call is at fault");
+    };
     let step = Step::Call {
         core,
         task: 0,
@@ -47,6 +49,9 @@ pub fn interrupt(
     let settings = recording.settings();
     assert!(rt; core < settings.cores);
     assert!(rt; settings.cores <= note.task && note.task < settings.tasks);
+    let Ok(()) = Act::Interrupt(note).check(core, recording.header()) else {
+        panic!(rt; "the interrupt is at fault");
+    };
     recording.interrupt(core, note)
 }
 

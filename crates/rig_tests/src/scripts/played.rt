@@ -51,8 +51,13 @@ pub fn played<R: Threads + Wait + Abort + Sync, G: Gate>(
 
 /// Checks that these are the steps, and no others.
 pub fn check_steps(rt: &impl Abort, recorded: &Recorded, steps: &[Step]) {
-    assert_same(rt, "steps", &recorded.entries.len(), &steps.len());
-    for (entry, step) in recorded.entries.iter().zip(steps) {
+    assert_same(
+        rt,
+        "steps",
+        &recorded.entries.as_slice().len(),
+        &steps.len(),
+    );
+    for (entry, step) in recorded.entries.as_slice().iter().zip(steps) {
         assert_same(rt, "step", &entry.step, step);
     }
 }

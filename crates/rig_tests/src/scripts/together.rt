@@ -12,7 +12,7 @@ fn both_cores_yield_at_one_time(rt: HostRuntime) -> Result<(), Fail> {
     let text = document(rt.alloc(), THREE, 10, YIELDS)?;
     let recorded = played(&rt, &rt, text.as_str(), &gate)?;
     assert_same(&rt, "late", &gate.is_late(), &false);
-    assert_same(&rt, "entries", &recorded.entries.len(), &2);
+    assert_same(&rt, "entries", &recorded.entries.as_slice().len(), &2);
     assert_made(&rt, &recorded, &[1, 1]);
     Ok(())
 }

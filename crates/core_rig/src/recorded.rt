@@ -21,10 +21,7 @@ impl Recorded {
     pub fn steps(&self, alloc: Global) -> Result<Vec<Step>, AllocError>
         ensures { IfOk result (λ steps. steps.items ≡ steps_of self.now.entries) }
     {
-        self.entries
-            .as_slice()
-            .iter()
-            .map(|entry| entry.step)
-            .collect(alloc)
+        let entries = self.entries.as_slice();
+        entries.iter().map(|entry| entry.step).collect(alloc)
     }
 }

@@ -32,6 +32,7 @@ bare_view cores = record {
     priorities = cores.priorities;
     slicing = cores.slicing;
     mutexes = 0;
+    notes = 0;
     tasks = length cores.control.tasks;
   };
   control = cores.control;

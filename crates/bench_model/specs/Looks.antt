@@ -2,10 +2,11 @@
 use Rattle.std.specs.Prelude.{ℕ, ◌-◌, ◌==◌, List, find, Option, option_map, is_some}
 use Rattle.bench_types.specs.declared.kernel_data.Delayed.{Delayed}
 use Rattle.bench_types.specs.declared.kernel_data.TaskLook.{TaskLook}
+use Rattle.bench_types.specs.declared.note.Notification.{Notification}
 use Rattle.bench_model.specs.Control.{task_at}
 use Rattle.bench_model.specs.Mutexes.{held_by}
-use Rattle.bench_model.specs.Notes.{note_at}
-use Rattle.bench_model.specs.State.{call_at}
+use Rattle.bench_model.specs.Notes.{note_at, slot_of}
+use Rattle.bench_model.specs.State.{State, call_at}
 use Rattle.list_orders.specs.Search.{has}
 use Rattle.bench_model.specs.Table.{Stamps, Table, row_at, wake_in, is_ready}
 use Rattle.bench_model.specs.Lists.{View}
@@ -15,6 +16,10 @@ use Rattle.bench_model.specs.Lists.{View}
 abbrev pub ticks_left : ℕ → Stamps → Option ℕ
 ticks_left task stamps =
     option_map (λ wake. wake - stamps.tick) (wake_in (row_at stamps task).standing)
+
+-- a task's notification of an index
+abbrev pub note_look : {Orders : Type 0} → State Orders → ℕ → ℕ → Notification
+note_look state task index = note_at state.notes (slot_of state.settings task index)
 
 -- What a table shows of a task (FreeRTOS Reference Manual, vTaskGetInfo and "Task Notifications").
 unfoldable pub task_look : Table → ℕ → TaskLook
@@ -27,8 +32,8 @@ task_look table task = let block = task_at table.control task in record {
   left = ticks_left task table.orders;
   held = held_by table.holders task;
   in_call = is_some (call_at table.calls task);
-  value = (note_at table.notes task).value;
-  state = (note_at table.notes task).state;
+  value = (note_look table task 0).value;
+  state = (note_look table task 0).state;
 }
 
 -- the ticks that are left in the entry of the task, if there is one
@@ -46,6 +51,6 @@ look_in view task = let block = task_at view.control task in record {
   left = left_in task view.orders.delayed;
   held = held_by view.holders task;
   in_call = is_some (call_at view.calls task);
-  value = (note_at view.notes task).value;
-  state = (note_at view.notes task).state;
+  value = (note_look view task 0).value;
+  state = (note_look view task 0).state;
 }

@@ -1,20 +1,30 @@
 -- Task notifications: what comes to a task, and what the calls that wait for it take (FreeRTOS
 -- Reference Manual, "Task Notifications").
-use Rattle.std.specs.Prelude.{ℕ, ◌+◌, ◌-◌, ◌^◌, ◌%◌, ◌==◌, List, Bool, true, false, if◌then◌else◌, slice_index_or, slice_set}
+use Rattle.std.specs.Prelude.{ℕ, ◌+◌, ◌-◌, ◌*◌, ◌^◌, ◌%◌, ◌==◌, List, Bool, true, false, if◌then◌else◌, slice_index_or, slice_set}
 use Rattle.std.specs.Int.{w32, bit_not}
 use Rattle.std.specs.Int.Bits.{bit_and, bit_or}
+use Rattle.bench_types.specs.declared.kernel_data.Settings.{Settings}
 use Rattle.bench_types.specs.declared.note.Action.{Action}
 use Rattle.bench_types.specs.declared.note.Action.TheVariants.{Nothing, SetBits, Increment, Set, SetNew}
 use Rattle.bench_types.specs.declared.note.NoteState.{NoteState}
 use Rattle.bench_types.specs.declared.note.NoteState.TheVariants.{NotWaiting, Waiting, Received}
 use Rattle.bench_types.specs.declared.note.Notification.{Notification}
 
--- what a task begins with
+-- what each notification begins with
 abbrev pub no_note : Notification
 no_note = record { value = 0; state = NotWaiting }
 
+-- where a task's notification of an index stands among those of all tasks, of which each task has
+-- so many
+unfoldable pub slot_in : ℕ → ℕ → ℕ → ℕ
+slot_in entries task index = task * entries + index
+
+-- the same under these settings
+abbrev pub slot_of : Settings → ℕ → ℕ → ℕ
+slot_of settings task index = slot_in settings.notes task index
+
 abbrev pub note_at : List Notification → ℕ → Notification
-note_at notes task = slice_index_or notes task no_note
+note_at notes slot = slice_index_or notes slot no_note
 
 abbrev pub is_received : NoteState → Bool
 is_received Received = true
@@ -90,8 +100,8 @@ state_cleared note =
 unfoldable pub value_cleared : ℕ → Notification → ℕ × Notification
 value_cleared bits note = (note.value, record note { value = without_bits bits note.value })
 
--- what a rule answers of the task's notification, and all notifications with what it makes of it
-abbrev pub of_task :
+-- what a rule answers of one notification, and all of them with what it makes of it
+abbrev pub of_slot :
     {A : Type 0} → ℕ → (Notification → A × Notification) → List Notification → A × List Notification
-of_task task rule notes =
-    let made = rule (note_at notes task) in (made.0, slice_set notes task made.1)
+of_slot slot rule notes =
+    let made = rule (note_at notes slot) in (made.0, slice_set notes slot made.1)

@@ -37,7 +37,7 @@ are_same_lists same xs ys = false
 abbrev pub are_same_settings : Settings → Settings → Bool
 are_same_settings a b =
     a.cores == b.cores && a.priorities == b.priorities && are_same_bools a.slicing b.slicing
-    && a.mutexes == b.mutexes && a.tasks == b.tasks
+    && a.mutexes == b.mutexes && a.notes == b.notes && a.tasks == b.tasks
 
 abbrev pub are_same_looks : CoreLook → CoreLook → Bool
 are_same_looks a b =
@@ -57,7 +57,8 @@ are_same_actions (SetNew value) (SetNew other) = value == other
 are_same_actions a b = false
 
 abbrev pub are_same_notes : Note → Note → Bool
-are_same_notes a b = a.task == b.task && are_same_actions a.action b.action
+are_same_notes a b =
+    a.task == b.task && are_same_actions a.action b.action && a.index == b.index
 
 abbrev pub are_same_states : NoteState → NoteState → Bool
 are_same_states NotWaiting NotWaiting = true
@@ -78,12 +79,13 @@ are_same_calls (AffinitySet task mask) (AffinitySet other bits) = task == other 
 are_same_calls (PreemptOff task) (PreemptOff other) = task == other
 are_same_calls (PreemptOn task) (PreemptOn other) = task == other
 are_same_calls (Notify note) (Notify other) = are_same_notes note other
-are_same_calls (NotifyWait entry exit ticks) (NotifyWait first last others) =
-    entry == first && exit == last && ticks == others
-are_same_calls (NotifyTake clear ticks) (NotifyTake all others) =
-    are_same_bools clear all && ticks == others
-are_same_calls (StateClear task) (StateClear other) = task == other
-are_same_calls (ValueClear task bits) (ValueClear other others) = task == other && bits == others
+are_same_calls (NotifyWait entry exit ticks index) (NotifyWait first last others place) =
+    entry == first && exit == last && ticks == others && index == place
+are_same_calls (NotifyTake clear ticks index) (NotifyTake all others place) =
+    are_same_bools clear all && ticks == others && index == place
+are_same_calls (StateClear task index) (StateClear other place) = task == other && index == place
+are_same_calls (ValueClear task bits index) (ValueClear other others place) =
+    task == other && bits == others && index == place
 are_same_calls (MutexTake mutex ticks) (MutexTake other others) = mutex == other && ticks == others
 are_same_calls (MutexGive mutex) (MutexGive other) = mutex == other
 are_same_calls Finish Finish = true

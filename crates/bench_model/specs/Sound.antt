@@ -1,5 +1,5 @@
 -- What the table of every kernel keeps: that it is sound.
-use Rattle.std.specs.Prelude.{◌≡◌, ℕ, suc, ◌+◌, ◌<◌, ◌≤◌, ◌^◌, List, length, Bool, true, false, Option, Some, None, IfSome}
+use Rattle.std.specs.Prelude.{◌≡◌, ℕ, suc, ◌+◌, ◌*◌, ◌<◌, ◌≤◌, ◌^◌, List, length, Bool, true, false, Option, Some, None, IfSome}
 use Rattle.std.specs.Option.{ForSome}
 use Rattle.bench_types.specs.declared.kernel_data.Hold.{Hold}
 use Rattle.bench_types.specs.declared.kernel_data.TaskControl.{TaskControl}
@@ -18,17 +18,19 @@ use Rattle.bench_model.specs.Notes.{note_at}
 use Rattle.bench_model.specs.State.{call_at, holder_at}
 use Rattle.bench_model.specs.Table.{Stamps, Table, row_at, stamp_of, wake_in, wait_in, deadline_at, is_ready}
 
--- there is a row, a control block, a notification, a deadline or none and an unfinished call or
--- none for each task, a holder or none for each mutex, and an idle task for each core
+-- there is a row, a control block, a deadline or none and an unfinished call or none for each task,
+-- some notifications for each as well, a holder or none for each mutex, and an idle task for each
+-- core
 pub record IsSized (table : Table) : Type 0 where
   pub cores : length table.control.cores ≡ table.settings.cores
   pub controls : length table.control.tasks ≡ table.settings.tasks
   pub calls : length table.calls ≡ table.settings.tasks
-  pub notes : length table.notes ≡ table.settings.tasks
+  pub notes : length table.notes ≡ table.settings.tasks * table.settings.notes
   pub holders : length table.holders ≡ table.settings.mutexes
   pub rows : length table.orders.rows ≡ table.settings.tasks
   pub deadlines : length table.orders.deadlines ≡ table.settings.tasks
   pub some_core : 0 < table.settings.cores
+  pub some_note : 0 < table.settings.notes
   pub idle_tasks : table.settings.cores ≤ table.settings.tasks
 
 -- every stamp was given once
@@ -135,4 +137,5 @@ StepFits table Tick = Unit {0}
 StepFits table (Switch core) = core < length table.control.cores
 StepFits table (Interrupt core note) =
     (core < length table.control.cores) × (note.task < table.settings.tasks)
+    × (note.index < table.settings.notes)
 StepFits table (steps.Call core task call) = IsCaller table core task

@@ -1,5 +1,5 @@
 -- The start of a kernel (V11 tasks.c, vTaskStartScheduler).
-use Rattle.std.specs.Prelude.{ℕ, ◌+◌, ◌-◌, ◌%◌, ◌^◌, [], ◌++◌, length, map, fold, replicate, false, true, None}
+use Rattle.std.specs.Prelude.{ℕ, ◌+◌, ◌-◌, ◌*◌, ◌%◌, ◌^◌, [], ◌++◌, length, map, fold, replicate, false, true, None}
 use Rattle.std.specs.List.{range_with_len}
 use Rattle.bench_types.specs.declared.header.Header.{Header}
 use Rattle.bench_types.specs.declared.header.TaskArgs.{TaskArgs}
@@ -69,7 +69,8 @@ module _ {Orders : Type 0} where
     settings = settings_of header;
     control = first_control header;
     calls = replicate (header.config.cores + length header.tasks) None;
-    notes = replicate (header.config.cores + length header.tasks) no_note;
+    notes =
+        replicate ((header.config.cores + length header.tasks) * header.config.notes) no_note;
     holders = replicate header.config.mutexes None;
     hold = None;
     orders = orders;

@@ -14,7 +14,7 @@ pub record State (Orders : Type 0) : Type 0 where
   pub control : Control
   -- per task its unfinished call
   pub calls : List (Option Unfinished)
-  -- per task its notification
+  -- the notifications of all tasks, as many for each as the settings say
   pub notes : List Notification
   -- per mutex the task that holds it, if there is one
   pub holders : List (Option ℕ)

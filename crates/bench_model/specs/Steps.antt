@@ -16,7 +16,7 @@ use Rattle.bench_model.specs.State.{State, QueueOps, after_return, call_at, yiel
 use Rattle.bench_model.specs.Until.{next_wake, is_ahead, ticks_to}
 use Rattle.bench_model.specs.Seek.{wake, after_switch, sliced}
 use Rattle.bench_model.specs.PriorityAffinity.{priority_set, affinity_set, preemption_off, preemption_on}
-use Rattle.bench_model.specs.Notes.{wait_begun, take_begun, of_task}
+use Rattle.bench_model.specs.Notes.{wait_begun, take_begun, of_slot, slot_of}
 use Rattle.bench_model.specs.Notifying.{notify, is_passed, interrupted, state_forgotten, bits_cleared, awaited, completed}
 use Rattle.bench_model.specs.Mutexes.{mutex_take, mutex_give, take_finished}
 
@@ -68,15 +68,15 @@ module _ {Orders : Type 0} (ops : QueueOps Orders) where
   called core task (PreemptOff other) state = (Done, preemption_off ops other state)
   called core task (PreemptOn other) state = (Done, preemption_on ops core other state)
   called core task (Notify note) state =
-      (Flag (is_passed note state), notify ops core note.task note.action state)
-  called core task (NotifyWait entry exit ticks) state =
-      awaited ops core task (NotifyWait entry exit ticks) ticks
-      (of_task task (wait_begun entry) state.notes) state
-  called core task (NotifyTake clear ticks) state =
-      awaited ops core task (NotifyTake clear ticks) ticks
-      (of_task task take_begun state.notes) state
-  called core task (StateClear other) state = state_forgotten other state
-  called core task (ValueClear other bits) state = bits_cleared other bits state
+      (Flag (is_passed note state), notify ops core note state)
+  called core task (NotifyWait entry exit ticks index) state =
+      awaited ops core task (NotifyWait entry exit ticks index) ticks
+      (of_slot (slot_of state.settings task index) (wait_begun entry) state.notes) state
+  called core task (NotifyTake clear ticks index) state =
+      awaited ops core task (NotifyTake clear ticks index) ticks
+      (of_slot (slot_of state.settings task index) take_begun state.notes) state
+  called core task (StateClear other index) state = state_forgotten other index state
+  called core task (ValueClear other bits index) state = bits_cleared other bits index state
   called core task (MutexTake mutex ticks) state = mutex_take ops core task mutex ticks state
   called core task (MutexGive mutex) state = mutex_give ops core task mutex state
   called core task HoldOpen state = (Done, hold_opened core state)

@@ -112,13 +112,13 @@ action_itself : (a : Action) → actions.eq-value.it a a ≡ true
 action_itself a = grind (arith, nat_tests)
 
 same_note : (a b : Note) → notes.eq-value.it a b ≡ true → a ≡ b
-same_note a b same = at a.task b.task a.action b.action (grind (arith, nat_tests, same)) (same_action a.action b.action (grind (arith, nat_tests, same)))
+same_note a b same = at a.task b.task a.index b.index a.action b.action (grind (arith, nat_tests, same)) (grind (arith, nat_tests, same)) (same_action a.action b.action (grind (arith, nat_tests, same)))
   where
-    note : ℕ → Action → Note
-    note task action = record { task = task; action = action }
+    note : ℕ → ℕ → Action → Note
+    note task index action = record { task = task; action = action; index = index }
 
-    at : (i j : ℕ) (s t : Action) → i ≡ j → s ≡ t → note i s ≡ note j t
-    at i j s t one two = cc
+    at : (i j k l : ℕ) (s t : Action) → i ≡ j → k ≡ l → s ≡ t → note i k s ≡ note j l t
+    at i j k l s t one two three = cc
 
 note_itself : (a : Note) → notes.eq-value.it a a ≡ true
 note_itself a = grind (arith, nat_tests, action_itself a.action)

@@ -6,9 +6,9 @@ use Rattle.std.proofs.lemmas.Bool.Decides.{nat_tests}
 use Rattle.bench_types.specs.declared.header.Header.{Header}
 use Rattle.bench_types.specs.declared.kernel_data.Settings.{Settings}
 use Rattle.bench_types.specs.Header.{header_check, is_header, has_valid_config, has_valid_args, repeats_name}
-use Rattle.bench_types.specs.Limits.{max_cores, max_priorities, max_tasks, max_mutexes}
+use Rattle.bench_types.specs.Limits.{max_cores, max_priorities, max_tasks, max_mutexes, max_notes}
 use Rattle.bench_types.specs.Name.{is_within}
-use Rattle.bench_types.specs.Step.{core_check, task_check, mutex_check, ◌>>◌}
+use Rattle.bench_types.specs.Step.{core_check, index_check, task_check, mutex_check, ◌>>◌}
 
 -- two checks, one after the other
 pub both_pass : {Why : Type 0} (one other : Result (Unit {0}) Why) → (one >> other) ≡ Ok tt → (one ≡ Ok tt) × (other ≡ Ok tt)
@@ -39,6 +39,13 @@ checked_mutex settings mutex passes = at (ltb mutex settings.mutexes) refl
     at true below = grind (arith, nat_tests, below)
     at false above = absurd (cc (passes, above))
 
+pub checked_index : (settings : Settings) (index : ℕ) → index_check settings index ≡ Ok tt → index < settings.notes
+checked_index settings index passes = at (ltb index settings.notes) refl
+  where
+    at : (b : Bool) → ltb index settings.notes ≡ b → index < settings.notes
+    at true below = grind (arith, nat_tests, below)
+    at false above = absurd (cc (passes, above))
+
 -- what a header that passes its check says of its numbers and names
 pub record IsWithinLimits (header : Header) : Type 0 where
   pub some_core : 0 < header.config.cores
@@ -46,6 +53,8 @@ pub record IsWithinLimits (header : Header) : Type 0 where
   pub some_priority : 0 < header.config.priorities
   pub few_priorities : header.config.priorities ≤ max_priorities
   pub few_mutexes : header.config.mutexes ≤ max_mutexes
+  pub some_note : 0 < header.config.notes
+  pub few_notes : header.config.notes ≤ max_notes
   pub few_tasks : length header.tasks ≤ max_tasks
   pub args : list_all (has_valid_args header.config) header.tasks ≡ true
   pub once : repeats_name header.tasks ≡ false
@@ -64,6 +73,8 @@ header_facts header all =
       some_priority = grind (arith, nat_tests, one.0);
       few_priorities = grind (arith, nat_tests, one.0);
       few_mutexes = grind (arith, nat_tests, one.0);
+      some_note = grind (arith, nat_tests, one.0);
+      few_notes = grind (arith, nat_tests, one.0);
       few_tasks = grind (arith, nat_tests, one.1);
       args = two.1;
       once = grind (arith, three.1);

@@ -5,12 +5,12 @@ use Rattle.bench_types.specs.declared.act.Act.TheVariants as acts
 use Rattle.bench_types.specs.declared.fault.Fault.{Fault}
 use Rattle.bench_types.specs.declared.fault.Fault.TheVariants.{BadCore}
 use Rattle.bench_types.specs.declared.kernel_data.Settings.{Settings}
-use Rattle.bench_types.specs.Step.{call_check, task_check, IsActionOfWord, IsOfWords}
+use Rattle.bench_types.specs.Step.{call_check, note_check, IsActionOfWord, IsOfWords}
 
 -- the fault of what the core would do: F2 for a tick of another core than 0
 abbrev pub act_check : Settings → ℕ → Act → Result ⊤ Fault
 act_check settings core (acts.Call call) = call_check settings call
-act_check settings core (acts.Interrupt note) = task_check settings note.task
+act_check settings core (acts.Interrupt note) = note_check settings note
 act_check settings core acts.Tick = if core == 0 then Ok tt else Err BadCore
 act_check settings core acts.Switch = Ok tt
 

@@ -3,7 +3,7 @@
 -- documentation).
 use Rattle.std.specs.Prelude.{◌≡◌, ℕ, ◌-◌, ◌<◌, ◌%◌, ◌^◌, All, IsTrue, List, [], ◌∷◌, ◌++◌, length, Bool, false, not, ◌&&◌, ◌||◌, nat_lt, nat_le, bytes_eq, codes, decimal, slice_index_or, Result, Ok, Err, if◌then◌else◌, ⊤}
 use Rattle.std.specs.List.{list_all, list_any}
-use Rattle.bench_types.specs.Limits.{min_cores, max_cores, max_priorities, max_tasks, max_mutexes}
+use Rattle.bench_types.specs.Limits.{min_cores, max_cores, max_priorities, max_tasks, max_mutexes, max_notes}
 use Rattle.bench_types.specs.Name.{is_name, is_within}
 use Rattle.bench_types.specs.declared.fault.Fault.{Fault}
 use Rattle.bench_types.specs.declared.fault.Fault.TheVariants.{BadHeader}
@@ -11,11 +11,11 @@ use Rattle.bench_types.specs.declared.header.Config.{Config}
 use Rattle.bench_types.specs.declared.header.TaskArgs.{TaskArgs}
 use Rattle.bench_types.specs.declared.header.Header.{Header}
 
--- the numbers of cores, priorities and mutexes are within their limits
+-- the numbers of cores, priorities, mutexes and notifications a task are within their limits
 abbrev pub has_valid_config : Config → Bool
 has_valid_config config =
     is_within min_cores max_cores config.cores && is_within 1 max_priorities config.priorities
-    && nat_le config.mutexes max_mutexes
+    && nat_le config.mutexes max_mutexes && is_within 1 max_notes config.notes
 
 -- the bits of a core affinity mask that mean a core
 abbrev pub cores_of_mask : ℕ → ℕ → ℕ

@@ -19,6 +19,10 @@ max_tasks = 64
 abbrev pub max_mutexes : ℕ
 max_mutexes = 32
 
+-- the notifications of a task (FreeRTOS Reference Manual, configTASK_NOTIFICATION_ARRAY_ENTRIES)
+abbrev pub max_notes : ℕ
+max_notes = 8
+
 -- the steps of a session
 abbrev pub max_steps : ℕ
 max_steps = 100000

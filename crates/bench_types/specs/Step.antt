@@ -6,6 +6,7 @@ use Rattle.bench_types.specs.Header.{cores_of_mask}
 use Rattle.bench_types.specs.declared.header.Header.{Header}
 use Rattle.bench_types.specs.declared.kernel_data.Settings.{Settings}
 use Rattle.bench_types.specs.declared.note.Action.{Action}
+use Rattle.bench_types.specs.declared.note.Note.{Note}
 use Rattle.bench_types.specs.declared.note.Action.TheVariants.{Nothing, SetBits, Increment, Set, SetNew}
 use Rattle.bench_types.specs.declared.step.Step.{Step}
 use Rattle.bench_types.specs.declared.step.Step.TheVariants as step
@@ -21,6 +22,7 @@ settings_of header = record {
   priorities = header.config.priorities;
   slicing = header.config.slicing;
   mutexes = header.config.mutexes;
+  notes = header.config.notes;
   tasks = header.config.cores + length header.tasks;
 }
 
@@ -42,6 +44,10 @@ abbrev pub mask_check : Settings → ℕ → Result ⊤ Fault
 mask_check settings mask =
     if nat_lt 0 (cores_of_mask settings.cores mask) then Ok tt else Err BadArgument
 
+-- F5: a task has no notification of the index
+abbrev pub index_check : Settings → ℕ → Result ⊤ Fault
+index_check settings index = if nat_lt index settings.notes then Ok tt else Err BadArgument
+
 -- F5: the wake is not after the last one
 abbrev pub increment_check : ℕ → Result ⊤ Fault
 increment_check inc = if inc == 0 then Err BadArgument else Ok tt
@@ -52,8 +58,12 @@ abbrev pub ◌>>◌ : {Why : Type 0} → Result ⊤ Why → Result ⊤ Why → R
 Ok done >> next = next
 Err fault >> next = Err fault
 
--- the fault of a call's arguments: the task that it is for, then the mask or the ticks between
--- wakes
+-- the fault of a notification: the task that it is for, then its index there
+abbrev pub note_check : Settings → Note → Result ⊤ Fault
+note_check settings note = task_check settings note.task >> index_check settings note.index
+
+-- the fault of a call's arguments: the task that it is for, then the mask, the ticks between wakes
+-- or the index of a notification
 abbrev pub call_check : Settings → Call → Result ⊤ Fault
 call_check settings call.Yield = Ok tt
 call_check settings (call.Delay ticks) = Ok tt
@@ -66,11 +76,13 @@ call_check settings (call.AffinitySet task mask) =
     task_check settings task >> mask_check settings mask
 call_check settings (call.PreemptOff task) = task_check settings task
 call_check settings (call.PreemptOn task) = task_check settings task
-call_check settings (call.Notify note) = task_check settings note.task
-call_check settings (call.NotifyWait entry exit ticks) = Ok tt
-call_check settings (call.NotifyTake clear ticks) = Ok tt
-call_check settings (call.StateClear task) = task_check settings task
-call_check settings (call.ValueClear task bits) = task_check settings task
+call_check settings (call.Notify note) = note_check settings note
+call_check settings (call.NotifyWait entry exit ticks index) = index_check settings index
+call_check settings (call.NotifyTake clear ticks index) = index_check settings index
+call_check settings (call.StateClear task index) =
+    task_check settings task >> index_check settings index
+call_check settings (call.ValueClear task bits index) =
+    task_check settings task >> index_check settings index
 call_check settings (call.MutexTake mutex ticks) = mutex_check settings mutex
 call_check settings (call.MutexGive mutex) = mutex_check settings mutex
 
@@ -81,7 +93,7 @@ step_check settings (step.Switch core) = core_check settings core
 step_check settings (step.Call core task call) =
     core_check settings core >> task_check settings task >> call_check settings call
 step_check settings (step.Interrupt core note) =
-    core_check settings core >> task_check settings note.task
+    core_check settings core >> note_check settings note
 
 -- the number of an action is one of 32 bits
 abbrev pub IsActionOfWord : Action → Type 0
@@ -104,10 +116,10 @@ IsOfWords (call.AffinitySet task mask) = mask < 2 ^ 32
 IsOfWords (call.PreemptOff task) = ⊤
 IsOfWords (call.PreemptOn task) = ⊤
 IsOfWords (call.Notify note) = IsActionOfWord note.action
-IsOfWords (call.NotifyWait entry exit ticks) = (entry < 2 ^ 32) × (exit < 2 ^ 32) × (ticks < 2 ^ 32)
-IsOfWords (call.NotifyTake clear ticks) = ticks < 2 ^ 32
-IsOfWords (call.StateClear task) = ⊤
-IsOfWords (call.ValueClear task bits) = bits < 2 ^ 32
+IsOfWords (call.NotifyWait entry exit ticks index) = (entry < 2 ^ 32) × (exit < 2 ^ 32) × (ticks < 2 ^ 32)
+IsOfWords (call.NotifyTake clear ticks index) = ticks < 2 ^ 32
+IsOfWords (call.StateClear task index) = ⊤
+IsOfWords (call.ValueClear task bits index) = bits < 2 ^ 32
 IsOfWords (call.MutexTake mutex ticks) = ticks < 2 ^ 32
 IsOfWords (call.MutexGive mutex) = ⊤
 

@@ -4,7 +4,9 @@ ghost use Rattle.bench_types.specs.Header.{header_check, has_valid_config, has_v
 ghost use Rattle.bench_types.specs.Name.{is_name};
 
 use crate::mask::cores_of_mask;
-use crate::{Fault, Items, MAX_CORES, MAX_MUTEXES, MAX_PRIORITIES, MAX_TASKS, MIN_CORES, Name};
+use crate::{
+    Fault, Items, MAX_CORES, MAX_MUTEXES, MAX_NOTES, MAX_PRIORITIES, MAX_TASKS, MIN_CORES, Name,
+};
 use std::alloc::{AllocError, Global};
 
 /// The settings of a session.
@@ -21,6 +23,9 @@ pub struct Config {
     pub tick: u32,
     /// How many mutexes there are, 0 to [`MAX_MUTEXES`].
     pub mutexes: u32,
+    /// How many notifications each task has, 1 to [`MAX_NOTES`]
+    /// (`configTASK_NOTIFICATION_ARRAY_ENTRIES`).
+    pub notes: u32,
 }
 
 /// What a user task is created with.
@@ -119,6 +124,8 @@ fn is_valid_config(config: Config) -> bool
         && 1 <= config.priorities
         && config.priorities <= MAX_PRIORITIES
         && config.mutexes <= MAX_MUTEXES
+        && 1 <= config.notes
+        && config.notes <= MAX_NOTES
 }
 
 fn are_valid_args(config: &Config, tasks: &[TaskArgs]) -> bool

@@ -7,6 +7,8 @@ pub struct Settings {
     pub priorities: u32,
     pub slicing: bool,
     pub mutexes: u32,
+    /// How many notifications each task has.
+    pub notes: u32,
     /// All tasks, the idle tasks too.
     pub tasks: u32,
 }
@@ -88,8 +90,8 @@ pub struct TaskLook {
     pub held: u32,
     /// Whether it made a call that has not returned.
     pub in_call: bool,
-    /// The notification value (`ulNotifiedValue`).
+    /// The value of its notification of index 0 (`ulNotifiedValue[0]`).
     pub value: u32,
-    /// The state of its notification (`ucNotifyState`).
+    /// The state of that notification (`ucNotifyState[0]`).
     pub state: NoteState,
 }

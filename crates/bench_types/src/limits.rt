@@ -1,6 +1,6 @@
 //! How large a session may be.
 ghost use Rattle.std.specs.Prelude.{◌≡◌};
-ghost use Rattle.bench_types.specs.Limits.{min_cores, max_cores, max_priorities, max_tasks, max_mutexes, max_steps, max_depth, max_span, max_input};
+ghost use Rattle.bench_types.specs.Limits.{min_cores, max_cores, max_priorities, max_tasks, max_mutexes, max_notes, max_steps, max_depth, max_span, max_input};
 
 /// The least number of cores.
 pub const MIN_CORES: u32 = 2;
@@ -16,6 +16,9 @@ pub const MAX_TASKS: u32 = 64;
 
 /// How many mutexes there are at most.
 pub const MAX_MUTEXES: u32 = 32;
+
+/// How many notifications each task has at most (`configTASK_NOTIFICATION_ARRAY_ENTRIES`).
+pub const MAX_NOTES: u32 = 8;
 
 /// How many steps a session has at most.
 pub const MAX_STEPS: u32 = 100_000;
@@ -36,6 +39,7 @@ pub fn laws_of_limits()
     ensures priorities { MAX_PRIORITIES ≡ max_priorities }
     ensures tasks { MAX_TASKS ≡ max_tasks }
     ensures mutexes { MAX_MUTEXES ≡ max_mutexes }
+    ensures notes { MAX_NOTES ≡ max_notes }
     ensures steps { MAX_STEPS ≡ max_steps }
     ensures depth { MAX_DEPTH ≡ max_depth }
     ensures span { MAX_SPAN ≡ max_span }

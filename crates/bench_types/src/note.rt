@@ -10,7 +10,7 @@ pub enum NoteState {
     Received,
 }
 
-/// The notification of a task.
+/// One of the notifications of a task (`ulNotifiedValue[i]` and `ucNotifyState[i]`).
 #[derive(Clone, Copy, Debug, PartialEq, Eq, Hash)]
 pub struct Notification {
     /// The notification value (`ulNotifiedValue`).
@@ -34,9 +34,10 @@ pub enum Action {
     SetNew(u32),
 }
 
-/// A notification of a task.
+/// A notification of a task, at an index of its notifications (`uxIndexToNotify`).
 #[derive(Clone, Copy, Debug, PartialEq, Eq, Hash)]
 pub struct Note {
     pub task: u32,
     pub action: Action,
+    pub index: u32,
 }

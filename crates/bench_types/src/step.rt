@@ -1,5 +1,5 @@
 ghost use Rattle.std.specs.Prelude.{◌≡◌, OnOk};
-ghost use Rattle.bench_types.specs.Step.{settings_of, call_check, core_check, increment_check, mask_check, mutex_check, step_check, task_check, IsActionOfWord, IsCheckedCall, IsCheckedStep};
+ghost use Rattle.bench_types.specs.Step.{settings_of, call_check, core_check, increment_check, index_check, mask_check, mutex_check, note_check, step_check, task_check, IsActionOfWord, IsCheckedCall, IsCheckedStep};
 
 use crate::header::allows_core;
 use crate::{Action, Fault, Header, Note};
@@ -26,29 +26,57 @@ pub enum Call {
     Delay(u32),
     /// `xTaskDelayUntil` the tick count that lies `inc` ticks after `prev`, the one at which the
     /// task woke last.
-    DelayUntil { prev: u32, inc: u32 },
+    DelayUntil {
+        prev: u32,
+        inc: u32,
+    },
     /// `vTaskPrioritySet` of the task. A priority that is none counts as the greatest.
-    PrioritySet { task: u32, priority: u32 },
+    PrioritySet {
+        task: u32,
+        priority: u32,
+    },
     /// `vTaskCoreAffinitySet` of the task. Bits at or above the number of cores mean nothing.
-    AffinitySet { task: u32, mask: u32 },
+    AffinitySet {
+        task: u32,
+        mask: u32,
+    },
     /// `vTaskPreemptionDisable` of the task.
     PreemptOff(u32),
     /// `vTaskPreemptionEnable` of the task.
     PreemptOn(u32),
-    /// `xTaskNotify`.
+    /// `xTaskNotifyIndexed`.
     Notify(Note),
-    /// `xTaskNotifyWait`, for so many ticks; 4294967295 is without end (`portMAX_DELAY`). The bits
+    /// `xTaskNotifyWaitIndexed`, for so many ticks; 4294967295 is without end (`portMAX_DELAY`). The bits
     /// of `entry` are cleared before the task waits, those of `exit` once a notification has come.
-    NotifyWait { entry: u32, exit: u32, ticks: u32 },
-    /// `ulTaskNotifyTake`, for so many ticks; 4294967295 is without end. It clears the value, or
+    NotifyWait {
+        entry: u32,
+        exit: u32,
+        ticks: u32,
+        index: u32,
+    },
+    /// `ulTaskNotifyTakeIndexed`, for so many ticks; 4294967295 is without end. It clears the value, or
     /// counts it down.
-    NotifyTake { clear: bool, ticks: u32 },
-    /// `xTaskNotifyStateClear` of the task.
-    StateClear(u32),
-    /// `ulTaskNotifyValueClear` of these bits of the task's value.
-    ValueClear { task: u32, bits: u32 },
+    NotifyTake {
+        clear: bool,
+        ticks: u32,
+        index: u32,
+    },
+    /// `xTaskNotifyStateClearIndexed` of the task.
+    StateClear {
+        task: u32,
+        index: u32,
+    },
+    /// `ulTaskNotifyValueClearIndexed` of these bits of the task's value.
+    ValueClear {
+        task: u32,
+        bits: u32,
+        index: u32,
+    },
     /// `xSemaphoreTake` of the mutex, for so many ticks; 4294967295 is without end.
-    MutexTake { mutex: u32, ticks: u32 },
+    MutexTake {
+        mutex: u32,
+        ticks: u32,
+    },
     /// `xSemaphoreGive` of the mutex.
     MutexGive(u32),
     /// The return of the task's unfinished call, once the task runs again.
@@ -104,16 +132,18 @@ impl Call {
         // A number that may be any is bound too: so it is known to be one of 32 bits.
         match *self {
             Call::Yield | Call::Finish | Call::HoldOpen | Call::HoldClose => Ok(()),
-            Call::Delay(_ticks)
-            | Call::NotifyTake {
+            Call::Delay(_ticks) => Ok(()),
+            Call::NotifyTake {
                 clear: _,
                 ticks: _ticks,
-            } => Ok(()),
+                index,
+            } => check_index(index, header),
             Call::NotifyWait {
                 entry: _entry,
                 exit: _exit,
                 ticks: _ticks,
-            } => Ok(()),
+                index,
+            } => check_index(index, header),
             Call::DelayUntil { prev: _prev, inc } => check_increment(inc),
             Call::AffinitySet { task, mask } => {
                 check_task(task, header)?;
@@ -122,11 +152,20 @@ impl Call {
             Call::PrioritySet {
                 task,
                 priority: _any,
+            } => check_task(task, header),
+            Call::ValueClear {
+                task,
+                bits: _any,
+                index,
+            } => {
+                check_task(task, header)?;
+                check_index(index, header)
             }
-            | Call::ValueClear { task, bits: _any } => check_task(task, header),
-            Call::PreemptOff(task) | Call::PreemptOn(task) | Call::StateClear(task) => {
-                check_task(task, header)
+            Call::StateClear { task, index } => {
+                check_task(task, header)?;
+                check_index(index, header)
             }
+            Call::PreemptOff(task) | Call::PreemptOn(task) => check_task(task, header),
             Call::Notify(note) => check_note(note, header),
             Call::MutexTake {
                 mutex,
@@ -158,14 +197,32 @@ pub(crate) fn check_task(task: u32, header: &Header) -> Result<(), Fault>
 
 // Any action will do, whatever its number.
 pub(crate) fn check_note(note: Note, header: &Header) -> Result<(), Fault>
-    ensures value { result ≡ task_check (settings_of header.now) note.task }
+    ensures value { result ≡ note_check (settings_of header.now) note }
     ensures words { IsActionOfWord note.action }
 {
     match note.action {
-        Action::Nothing | Action::Increment => check_task(note.task, header),
+        Action::Nothing | Action::Increment => check_address(note, header),
         Action::SetBits(_any) | Action::Set(_any) | Action::SetNew(_any) => {
-            check_task(note.task, header)
+            check_address(note, header)
         }
+    }
+}
+
+// The task and the index.
+fn check_address(note: Note, header: &Header) -> Result<(), Fault>
+    ensures { result ≡ note_check (settings_of header.now) note }
+{
+    check_task(note.task, header)?;
+    check_index(note.index, header)
+}
+
+fn check_index(index: u32, header: &Header) -> Result<(), Fault>
+    ensures { result ≡ index_check (settings_of header.now) index }
+{
+    if index < header.config.notes {
+        Ok(())
+    } else {
+        Err(Fault::BadArgument)
     }
 }
 

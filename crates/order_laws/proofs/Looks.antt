@@ -12,11 +12,10 @@ use Rattle.bench_model.specs.declared.row.TaskState.{TaskState}
 use Rattle.bench_model.specs.declared.row.TaskState.TheVariants.{Ready, Blocked}
 use Rattle.bench_model.specs.Control.{Control, task_at}
 use Rattle.bench_model.specs.Mutexes.{held_by}
-use Rattle.bench_model.specs.Notes.{note_at}
 use Rattle.bench_model.specs.State.{call_at}
 use Rattle.bench_model.specs.Table.{Stamps, Table, row_at, wake_in, wait_in}
 use Rattle.bench_model.specs.Lists.{lists_of, wakes_first, waits_first, view_of}
-use Rattle.bench_model.specs.Looks.{ticks_left, task_look, left_in, look_in}
+use Rattle.bench_model.specs.Looks.{ticks_left, note_look, task_look, left_in, look_in}
 use Rattle.bench_model.specs.Sound.{IsConsistent}
 use Rattle.order_laws.proofs.Entries.{entry_found}
 use Rattle.order_laws.proofs.Restamps.{IsGiven, waits}
@@ -59,6 +58,6 @@ pub look_seen : (table : Table) (task : ℕ) → IsConsistent table → task < t
 unfolding look_in task_look
 look_seen table task sound low =
     let below : task < length table.orders.rows = omega (arith, sound.sized.rows, low) in
-    same_look (task_at table.control task) (is_some (call_at table.calls task)) (note_at table.notes task) (held_by table.holders task) _ _ _ _
+    same_look (task_at table.control task) (is_some (call_at table.calls task)) (note_look table task 0) (held_by table.holders task) _ _ _ _
     (is_ready_seen table.control table.orders task sound.stamped.given below)
     (left_seen table.control table.orders task sound.stamped.given below)

@@ -1,5 +1,5 @@
 -- How long the lists of a table are: what a rule does to them says whether the table stays sized.
-use Rattle.std.proofs.Common.{◌≡◌, ℕ, ◌<◌, ◌≤◌, length, sym, ap, subst, ◌∙◌}
+use Rattle.std.proofs.Common.{◌≡◌, ℕ, ◌*◌, ◌<◌, ◌≤◌, length, sym, ap, subst, ◌∙◌}
 use Rattle.bench_types.specs.declared.kernel_data.Settings.{Settings}
 use Rattle.bench_model.specs.Table.{Table}
 use Rattle.bench_model.specs.Sound.{IsSized}
@@ -31,10 +31,11 @@ resized table later same lengths sized =
       cores = ap (λ (l : Lengths). l.cores) lengths ∙ sized.cores ∙ ap (λ (s : Settings). s.cores) (sym same);
       controls = ap (λ (l : Lengths). l.controls) lengths ∙ sized.controls ∙ ap (λ (s : Settings). s.tasks) (sym same);
       calls = ap (λ (l : Lengths). l.calls) lengths ∙ sized.calls ∙ ap (λ (s : Settings). s.tasks) (sym same);
-      notes = ap (λ (l : Lengths). l.notes) lengths ∙ sized.notes ∙ ap (λ (s : Settings). s.tasks) (sym same);
+      notes = ap (λ (l : Lengths). l.notes) lengths ∙ sized.notes ∙ ap (λ (s : Settings). s.tasks * s.notes) (sym same);
       holders = ap (λ (l : Lengths). l.holders) lengths ∙ sized.holders ∙ ap (λ (s : Settings). s.mutexes) (sym same);
       rows = ap (λ (l : Lengths). l.rows) lengths ∙ sized.rows ∙ ap (λ (s : Settings). s.tasks) (sym same);
       deadlines = ap (λ (l : Lengths). l.deadlines) lengths ∙ sized.deadlines ∙ ap (λ (s : Settings). s.tasks) (sym same);
       some_core = subst (λ (s : Settings). 0 < s.cores) (sym same) sized.some_core;
+      some_note = subst (λ (s : Settings). 0 < s.notes) (sym same) sized.some_note;
       idle_tasks = subst (λ (s : Settings). s.cores ≤ s.tasks) (sym same) sized.idle_tasks;
     }

@@ -14,7 +14,7 @@ use Rattle.bench_types.specs.declared.step.Call.{Call}
 use Rattle.bench_types.specs.declared.step.Call.TheVariants as calls
 use Rattle.bench_types.specs.Step.{IsActionOfWord, IsCheckedCall}
 use Rattle.bench_model.specs.Control.{core_at}
-use Rattle.bench_model.specs.Notes.{note_at, is_received, without_bits, wait_begun, wait_ended, take_begun, take_ended, state_cleared, value_cleared}
+use Rattle.bench_model.specs.Notes.{note_at, is_received, without_bits, wait_begun, wait_ended, take_begun, take_ended, state_cleared, value_cleared, slot_of}
 use Rattle.bench_model.specs.Notifying.{timeout_of, is_passed, interrupted, state_forgotten, bits_cleared, completed, awaited}
 use Rattle.bench_model.specs.State.{State, blocked}
 use Rattle.bench_model.specs.Table.{Table, stamp_queues, is_ready}
@@ -82,10 +82,10 @@ completed_notes task (calls.AffinitySet other mask) state = (state.notes, refl)
 completed_notes task (calls.PreemptOff other) state = (state.notes, refl)
 completed_notes task (calls.PreemptOn other) state = (state.notes, refl)
 completed_notes task (calls.Notify note) state = (state.notes, refl)
-completed_notes task (calls.NotifyWait entry exit ticks) state = (slice_set state.notes task (wait_ended exit (note_at state.notes task)).1, refl)
-completed_notes task (calls.NotifyTake clear ticks) state = (slice_set state.notes task (take_ended clear (note_at state.notes task)).1, refl)
-completed_notes task (calls.StateClear other) state = (state.notes, refl)
-completed_notes task (calls.ValueClear other bits) state = (state.notes, refl)
+completed_notes task (calls.NotifyWait entry exit ticks index) state = (let slot = slot_of state.settings task index in slice_set state.notes slot (wait_ended exit (note_at state.notes slot)).1, refl)
+completed_notes task (calls.NotifyTake clear ticks index) state = (let slot = slot_of state.settings task index in slice_set state.notes slot (take_ended clear (note_at state.notes slot)).1, refl)
+completed_notes task (calls.StateClear other index) state = (state.notes, refl)
+completed_notes task (calls.ValueClear other bits index) state = (state.notes, refl)
 completed_notes task (calls.MutexTake mutex ticks) state = (state.notes, refl)
 completed_notes task (calls.MutexGive mutex) state = (state.notes, refl)
 completed_notes task calls.Finish state = (state.notes, refl)
@@ -102,15 +102,15 @@ same_seen reply one other a = ap (seen_from reply) a
 
 pub interrupted_seen : (table : Table) (core : ℕ) (note : Note) → IsConsistent table → note.task < table.settings.tasks → seen_of (interrupted stamp_queues core note table) ≡ interrupted list_queues core note (view_of table)
 unfolding interrupted
-interrupted_seen table core note sound low = ap (λ (view : View). (Isr (is_passed note table) (core_at view.control core).pend, view)) (notify_seen table core note.task note.action sound low)
+interrupted_seen table core note sound low = ap (λ (view : View). (Isr (is_passed note table) (core_at view.control core).pend, view)) (notify_seen table core note sound low)
 
-pub forgotten_seen : (table : Table) (task : ℕ) → seen_of (state_forgotten task table) ≡ state_forgotten task (view_of table)
+pub forgotten_seen : (table : Table) (task index : ℕ) → seen_of (state_forgotten task index table) ≡ state_forgotten task index (view_of table)
 unfolding state_forgotten
-forgotten_seen table task = refl
+forgotten_seen table task index = refl
 
-pub bits_seen : (table : Table) (task bits : ℕ) → seen_of (bits_cleared task bits table) ≡ bits_cleared task bits (view_of table)
+pub bits_seen : (table : Table) (task bits index : ℕ) → seen_of (bits_cleared task bits index table) ≡ bits_cleared task bits index (view_of table)
 unfolding bits_cleared
-bits_seen table task bits = refl
+bits_seen table task bits index = refl
 
 pub completed_seen : (table : Table) (task : ℕ) (call : Call) → seen_of (completed task call table) ≡ completed task call (view_of table)
 unfolding completed
@@ -121,10 +121,10 @@ completed_seen table task (calls.AffinitySet other mask) = refl
 completed_seen table task (calls.PreemptOff other) = refl
 completed_seen table task (calls.PreemptOn other) = refl
 completed_seen table task (calls.Notify note) = refl
-completed_seen table task (calls.NotifyWait entry exit ticks) = refl
-completed_seen table task (calls.NotifyTake clear ticks) = refl
-completed_seen table task (calls.StateClear other) = refl
-completed_seen table task (calls.ValueClear other bits) = refl
+completed_seen table task (calls.NotifyWait entry exit ticks index) = refl
+completed_seen table task (calls.NotifyTake clear ticks index) = refl
+completed_seen table task (calls.StateClear other index) = refl
+completed_seen table task (calls.ValueClear other bits index) = refl
 completed_seen table task (calls.MutexTake mutex ticks) = refl
 completed_seen table task (calls.MutexGive mutex) = refl
 completed_seen table task (calls.DelayUntil prev inc) = refl
@@ -148,35 +148,35 @@ timeout_seen table core task call ticks begun sound below ready = either (begun.
 
 pub interrupted_sound : (table : Table) (core : ℕ) (note : Note) → IsConsistent table → note.task < table.settings.tasks → IsActionOfWord note.action → IsConsistent (interrupted stamp_queues core note table).1
 unfolding interrupted
-interrupted_sound table core note sound low word = notify_sound table core note.task note.action sound low word
+interrupted_sound table core note sound low word = notify_sound table core note sound low word
 
-pub forgotten_sound : (table : Table) (task : ℕ) → IsConsistent table → task < table.settings.tasks → IsConsistent (state_forgotten task table).1
+pub forgotten_sound : (table : Table) (task index : ℕ) → IsConsistent table → IsConsistent (state_forgotten task index table).1
 unfolding state_forgotten
-forgotten_sound table task sound low = ruled_sound task state_cleared table sound low state_cleared_word
+forgotten_sound table task index sound = ruled_sound (slot_of table.settings task index) state_cleared table sound state_cleared_word
 
-pub bits_sound : (table : Table) (task bits : ℕ) → IsConsistent table → task < table.settings.tasks → IsConsistent (bits_cleared task bits table).1
+pub bits_sound : (table : Table) (task bits index : ℕ) → IsConsistent table → IsConsistent (bits_cleared task bits index table).1
 unfolding bits_cleared
-bits_sound table task bits sound low = ruled_sound task (value_cleared bits) table sound low (value_cleared_word bits)
+bits_sound table task bits index sound = ruled_sound (slot_of table.settings task index) (value_cleared bits) table sound (value_cleared_word bits)
 
-pub completed_sound : (table : Table) (task : ℕ) (call : Call) → IsConsistent table → task < table.settings.tasks → IsConsistent (completed task call table).1
+pub completed_sound : (table : Table) (task : ℕ) (call : Call) → IsConsistent table → IsConsistent (completed task call table).1
 unfolding completed
-completed_sound table task calls.Yield sound low = sound
-completed_sound table task (calls.Delay ticks) sound low = sound
-completed_sound table task (calls.PrioritySet other priority) sound low = sound
-completed_sound table task (calls.AffinitySet other mask) sound low = sound
-completed_sound table task (calls.PreemptOff other) sound low = sound
-completed_sound table task (calls.PreemptOn other) sound low = sound
-completed_sound table task (calls.Notify note) sound low = sound
-completed_sound table task (calls.NotifyWait entry exit ticks) sound low = ruled_sound task (wait_ended exit) table sound low (wait_ended_word exit)
-completed_sound table task (calls.NotifyTake clear ticks) sound low = ruled_sound task (take_ended clear) table sound low (take_ended_word clear)
-completed_sound table task (calls.StateClear other) sound low = sound
-completed_sound table task (calls.ValueClear other bits) sound low = sound
-completed_sound table task (calls.MutexTake mutex ticks) sound low = sound
-completed_sound table task (calls.MutexGive mutex) sound low = sound
-completed_sound table task (calls.DelayUntil prev inc) sound low = sound
-completed_sound table task calls.Finish sound low = sound
-completed_sound table task calls.HoldOpen sound low = sound
-completed_sound table task calls.HoldClose sound low = sound
+completed_sound table task calls.Yield sound = sound
+completed_sound table task (calls.Delay ticks) sound = sound
+completed_sound table task (calls.PrioritySet other priority) sound = sound
+completed_sound table task (calls.AffinitySet other mask) sound = sound
+completed_sound table task (calls.PreemptOff other) sound = sound
+completed_sound table task (calls.PreemptOn other) sound = sound
+completed_sound table task (calls.Notify note) sound = sound
+completed_sound table task (calls.NotifyWait entry exit ticks index) sound = ruled_sound (slot_of table.settings task index) (wait_ended exit) table sound (wait_ended_word exit)
+completed_sound table task (calls.NotifyTake clear ticks index) sound = ruled_sound (slot_of table.settings task index) (take_ended clear) table sound (take_ended_word clear)
+completed_sound table task (calls.StateClear other index) sound = sound
+completed_sound table task (calls.ValueClear other bits index) sound = sound
+completed_sound table task (calls.MutexTake mutex ticks) sound = sound
+completed_sound table task (calls.MutexGive mutex) sound = sound
+completed_sound table task (calls.DelayUntil prev inc) sound = sound
+completed_sound table task calls.Finish sound = sound
+completed_sound table task calls.HoldOpen sound = sound
+completed_sound table task calls.HoldClose sound = sound
 
 -- the ticks of a wait that does not end at once
 pub waits_on : (ticks : ℕ) → 0 < ticks → ticks < 2 ^ 32 → IsWait (timeout_of ticks)
@@ -204,4 +204,4 @@ timeout_sound table core task call ticks begun sound place checked user low = ei
 
     either : (b : Bool) → (begun.0 && ltb 0 ticks) ≡ b → IsConsistent (cond {A = Reply × Table} b (Blocked, blocked stamp_queues core task (Made call) (timeout_of ticks) None waiting) (completed task call waiting)).1
     either true waits = blocked_sound core task (Made call) (timeout_of ticks) None waiting sound place checked user (waits_on ticks (grind (arith, nat_tests, waits)) low) tt (λ none. absurd (cc (none)))
-    either false done = completed_sound waiting task call sound (omega (arith, sound.sized.rows, place.2))
+    either false done = completed_sound waiting task call sound

@@ -387,7 +387,7 @@ pub finished_sound : (table : Table) (core task : ℕ) (call : Unfinished) → I
 unfolding after_finish
 finished_sound table core task (Made call) sound place checked user =
     let low : task < table.settings.tasks = omega (arith, sound.sized.rows, place.2) in
-    completed_sound (after_return stamp_queues task table) task call (forgotten_sound table task sound low) low
+    completed_sound (after_return stamp_queues task table) task call (forgotten_sound table task sound low)
 finished_sound table core task (Take mutex mark) sound place checked user = finish_sound table core task mutex mark sound place user checked
 
 -- ---- giving

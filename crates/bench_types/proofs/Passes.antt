@@ -5,10 +5,11 @@ use Rattle.std.proofs.lemmas.Bool.{and_parts}
 use Rattle.std.proofs.lemmas.Bool.Decides.{nat_tests}
 use Rattle.bench_types.specs.declared.header.Header.{Header}
 use Rattle.bench_types.specs.declared.kernel_data.Settings.{Settings}
+use Rattle.bench_types.specs.declared.note.Note.{Note}
 use Rattle.bench_types.specs.Header.{header_check, is_header, has_valid_config, has_valid_args, repeats_name}
 use Rattle.bench_types.specs.Limits.{max_cores, max_priorities, max_tasks, max_mutexes, max_notes}
 use Rattle.bench_types.specs.Name.{is_within}
-use Rattle.bench_types.specs.Step.{core_check, index_check, task_check, mutex_check, ◌>>◌}
+use Rattle.bench_types.specs.Step.{core_check, index_check, note_check, task_check, mutex_check, ◌>>◌}
 
 -- two checks, one after the other
 pub both_pass : {Why : Type 0} (one other : Result (Unit {0}) Why) → (one >> other) ≡ Ok tt → (one ≡ Ok tt) × (other ≡ Ok tt)
@@ -45,6 +46,17 @@ checked_index settings index passes = at (ltb index settings.notes) refl
     at : (b : Bool) → ltb index settings.notes ≡ b → index < settings.notes
     at true below = grind (arith, nat_tests, below)
     at false above = absurd (cc (passes, above))
+
+-- the task and the index of a notification
+module _ (settings : Settings) (note : Note) (passes : note_check settings note ≡ Ok tt) where
+  abbrev both : (task_check settings note.task ≡ Ok tt) × (index_check settings note.index ≡ Ok tt)
+  both = both_pass (task_check settings note.task) (index_check settings note.index) passes
+
+  pub noted_task : (settings.cores ≤ note.task) × (note.task < settings.tasks)
+  noted_task = checked_task settings note.task both.0
+
+  pub noted_index : note.index < settings.notes
+  noted_index = checked_index settings note.index both.1
 
 -- what a header that passes its check says of its numbers and names
 pub record IsWithinLimits (header : Header) : Type 0 where

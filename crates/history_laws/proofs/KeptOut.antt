@@ -51,8 +51,8 @@ module _ {S : Type 0} where
 module _ {Orders : Type 0} (ops : QueueOps Orders) where
   completed_made : (task : ℕ) (call : Call) (state : State Orders) → IsMade (completed task call state)
   unfolding completed
-  completed_made task (NotifyWait entry exit ticks) state = refl
-  completed_made task (NotifyTake clear ticks) state = refl
+  completed_made task (NotifyWait entry exit ticks index) state = refl
+  completed_made task (NotifyTake clear ticks index) state = refl
   completed_made task call state = refl
 
   take_finished_made : (core task mutex : ℕ) (mark : Bool) (state : State Orders) → IsMade (take_finished ops core task mutex mark state)
@@ -79,10 +79,10 @@ module _ {Orders : Type 0} (ops : QueueOps Orders) where
   called_made core task (PreemptOff other) state = refl
   called_made core task (PreemptOn other) state = refl
   called_made core task (Notify note) state = refl
-  called_made core task (NotifyWait entry exit ticks) state = awaited_made core task _ ticks _ state
-  called_made core task (NotifyTake clear ticks) state = awaited_made core task _ ticks _ state
-  called_made core task (StateClear other) state = refl
-  called_made core task (ValueClear other bits) state = refl
+  called_made core task (NotifyWait entry exit ticks index) state = awaited_made core task _ ticks _ state
+  called_made core task (NotifyTake clear ticks index) state = awaited_made core task _ ticks _ state
+  called_made core task (StateClear other index) state = refl
+  called_made core task (ValueClear other bits index) state = refl
   called_made core task (MutexTake mutex ticks) state = some_made _ (holder_at state.holders mutex) _ (λ holder. search (rules, either_made)) refl
   called_made core task (MutexGive mutex) state = some_made _ (holder_at state.holders mutex) _ (λ holder. refl) refl
   called_made core task HoldOpen state = refl

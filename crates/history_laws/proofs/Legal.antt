@@ -11,7 +11,7 @@ use Rattle.bench_types.specs.declared.header.Header.{Header}
 use Rattle.bench_types.specs.declared.reply.Refusal.TheVariants.{Held}
 use Rattle.bench_types.specs.declared.reply.Reply.TheVariants.{Refused}
 use Rattle.bench_types.specs.Header.{header_check}
-use Rattle.bench_types.specs.Step.{settings_of, step_check, core_check, task_check, call_check, ◌>>◌, IsCheckedStep}
+use Rattle.bench_types.specs.Step.{settings_of, step_check, core_check, note_check, task_check, call_check, ◌>>◌, IsCheckedStep}
 use Rattle.bench_types.proofs.Passes.{both_pass, checked_core, checked_header}
 use Rattle.bench_types.specs.declared.step.Step.{Step}
 use Rattle.bench_types.specs.declared.step.Step.TheVariants.{Tick, Switch, Interrupt}
@@ -113,7 +113,7 @@ core_there header (steps.Call core task call) some checked =
     checked_core settings core (both_pass (core_check settings core) (task_check settings task) (both_pass (core_check settings core >> task_check settings task) (call_check settings call) checked).0).0
 core_there header (Interrupt core note) some checked =
     let settings = settings_of header in
-    checked_core settings core (both_pass (core_check settings core) (task_check settings note.task) checked).0
+    checked_core settings core (both_pass (core_check settings core) (note_check settings note) checked).0
 
 pub cores_there : (header : Header) (entries : List Entry) → header_check header ≡ Ok tt → IsLegal header entries → All (λ entry. entry.core < header.config.cores) entries
 cores_there header entries passes legal place other below =

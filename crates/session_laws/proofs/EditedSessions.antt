@@ -136,7 +136,7 @@ changed_fits header task priority mask fits numbers =
 
 changed_settings : (header : Header) (task priority mask : ℕ) → settings_of (changed task priority mask header) ≡ settings_of header
 changed_settings header task priority mask =
-    ap (λ users. record { cores = header.config.cores; priorities = header.config.priorities; slicing = header.config.slicing; mutexes = header.config.mutexes; tasks = header.config.cores + users }) (length-set header.tasks (task - header.config.cores) _)
+    ap (λ users. record { cores = header.config.cores; priorities = header.config.priorities; slicing = header.config.slicing; mutexes = header.config.mutexes; notes = header.config.notes; tasks = header.config.cores + users }) (length-set header.tasks (task - header.config.cores) _)
 
 numbers_pass : (config : Config) (priority mask : ℕ) → numbers_check config priority mask ≡ Ok tt → has_valid_numbers config priority mask ≡ true
 unfolding chosen

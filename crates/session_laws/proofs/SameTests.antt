@@ -45,9 +45,9 @@ two {x = x} {y = y} first second = Decides-and x y first second
 
 settings : Tells are_same_settings
 settings a b = Decides-like (are_same_settings a b)
-    (λ h i. record { cores = h.0.0.0.0 i; priorities = h.0.0.0.1 i; slicing = h.0.0.1 i; mutexes = h.0.1 i; tasks = h.1 i })
-    (λ e. ((((λ i. (e i).cores, λ i. (e i).priorities), λ i. (e i).slicing), λ i. (e i).mutexes), λ i. (e i).tasks))
-    (two (two (two (two (Decides-eqb a.cores b.cores) (Decides-eqb a.priorities b.priorities)) (bools a.slicing b.slicing)) (Decides-eqb a.mutexes b.mutexes)) (Decides-eqb a.tasks b.tasks))
+    (λ h i. record { cores = h.0.0.0.0.0 i; priorities = h.0.0.0.0.1 i; slicing = h.0.0.0.1 i; mutexes = h.0.0.1 i; notes = h.0.1 i; tasks = h.1 i })
+    (λ e. (((((λ i. (e i).cores, λ i. (e i).priorities), λ i. (e i).slicing), λ i. (e i).mutexes), λ i. (e i).notes), λ i. (e i).tasks))
+    (two (two (two (two (two (Decides-eqb a.cores b.cores) (Decides-eqb a.priorities b.priorities)) (bools a.slicing b.slicing)) (Decides-eqb a.mutexes b.mutexes)) (Decides-eqb a.notes b.notes)) (Decides-eqb a.tasks b.tasks))
 
 looks : Tells are_same_looks
 looks a b = Decides-like (are_same_looks a b)
@@ -91,9 +91,9 @@ actions a b = apart (λ e. cc e)
 
 notes : Tells are_same_notes
 notes a b = Decides-like (are_same_notes a b)
-    (λ h i. record { task = h.0 i; action = h.1 i })
-    (λ e. (λ i. (e i).task, λ i. (e i).action))
-    (two (Decides-eqb a.task b.task) (actions a.action b.action))
+    (λ h i. record { task = h.0.0 i; action = h.0.1 i; index = h.1 i })
+    (λ e. ((λ i. (e i).task, λ i. (e i).action), λ i. (e i).index))
+    (two (two (Decides-eqb a.task b.task) (actions a.action b.action)) (Decides-eqb a.index b.index))
 
 states : Tells are_same_states
 states NotWaiting NotWaiting = (λ e. refl, λ e. refl)
@@ -118,10 +118,10 @@ calls (AffinitySet a b) (AffinitySet c d) = Decides-like (are_same_calls (Affini
 calls (PreemptOff a) (PreemptOff b) = Decides-like (are_same_calls (PreemptOff a) (PreemptOff b)) (λ e. ap PreemptOff e) (λ e. cc e) (Decides-eqb a b)
 calls (PreemptOn a) (PreemptOn b) = Decides-like (are_same_calls (PreemptOn a) (PreemptOn b)) (λ e. ap PreemptOn e) (λ e. cc e) (Decides-eqb a b)
 calls (Notify a) (Notify b) = Decides-like (are_same_calls (Notify a) (Notify b)) (λ e. ap Notify e) (λ e. cc e) (notes a b)
-calls (NotifyWait a b c) (NotifyWait d e f) = Decides-like (are_same_calls (NotifyWait a b c) (NotifyWait d e f)) (λ h i. NotifyWait (h.0.0 i) (h.0.1 i) (h.1 i)) (λ e. ((cc e, cc e), cc e)) (two (two (Decides-eqb a d) (Decides-eqb b e)) (Decides-eqb c f))
-calls (NotifyTake a b) (NotifyTake c d) = Decides-like (are_same_calls (NotifyTake a b) (NotifyTake c d)) (λ h i. NotifyTake (h.0 i) (h.1 i)) (λ e. (cc e, cc e)) (two (bools a c) (Decides-eqb b d))
-calls (StateClear a) (StateClear b) = Decides-like (are_same_calls (StateClear a) (StateClear b)) (λ e. ap StateClear e) (λ e. cc e) (Decides-eqb a b)
-calls (ValueClear a b) (ValueClear c d) = Decides-like (are_same_calls (ValueClear a b) (ValueClear c d)) (λ h i. ValueClear (h.0 i) (h.1 i)) (λ e. (cc e, cc e)) (two (Decides-eqb a c) (Decides-eqb b d))
+calls (NotifyWait a b c k) (NotifyWait d e f l) = Decides-like (are_same_calls (NotifyWait a b c k) (NotifyWait d e f l)) (λ h i. NotifyWait (h.0.0.0 i) (h.0.0.1 i) (h.0.1 i) (h.1 i)) (λ e. (((cc e, cc e), cc e), cc e)) (two (two (two (Decides-eqb a d) (Decides-eqb b e)) (Decides-eqb c f)) (Decides-eqb k l))
+calls (NotifyTake a b k) (NotifyTake c d l) = Decides-like (are_same_calls (NotifyTake a b k) (NotifyTake c d l)) (λ h i. NotifyTake (h.0.0 i) (h.0.1 i) (h.1 i)) (λ e. ((cc e, cc e), cc e)) (two (two (bools a c) (Decides-eqb b d)) (Decides-eqb k l))
+calls (StateClear a k) (StateClear b l) = Decides-like (are_same_calls (StateClear a k) (StateClear b l)) (λ h i. StateClear (h.0 i) (h.1 i)) (λ e. (cc e, cc e)) (two (Decides-eqb a b) (Decides-eqb k l))
+calls (ValueClear a b k) (ValueClear c d l) = Decides-like (are_same_calls (ValueClear a b k) (ValueClear c d l)) (λ h i. ValueClear (h.0.0 i) (h.0.1 i) (h.1 i)) (λ e. ((cc e, cc e), cc e)) (two (two (Decides-eqb a c) (Decides-eqb b d)) (Decides-eqb k l))
 calls (MutexTake a b) (MutexTake c d) = Decides-like (are_same_calls (MutexTake a b) (MutexTake c d)) (λ h i. MutexTake (h.0 i) (h.1 i)) (λ e. (cc e, cc e)) (two (Decides-eqb a c) (Decides-eqb b d))
 calls (MutexGive a) (MutexGive b) = Decides-like (are_same_calls (MutexGive a) (MutexGive b)) (λ e. ap MutexGive e) (λ e. cc e) (Decides-eqb a b)
 calls Finish Finish = (λ e. refl, λ e. refl)

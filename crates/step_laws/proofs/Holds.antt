@@ -28,10 +28,10 @@ use Rattle.bench_model.specs.Table.{Table, stamp_queues, is_ready, stands_ready,
 use Rattle.bench_model.specs.Sound.{IsCaller, IsConsistent, IsHeldWell}
 use Rattle.std.proofs.lemmas.Bool.{true_from_ne_false}
 use Rattle.std.proofs.lemmas.Option.{same_Some}
-use Rattle.bench_types.proofs.Passes.{both_pass, checked_core, checked_task}
-use Rattle.bench_types.specs.Step.{IsCheckedStep, IsCheckedCall, step_check, core_check, task_check, call_check, ◌>>◌}
+use Rattle.bench_types.proofs.Passes.{both_pass, checked_core, checked_task, noted_index, noted_task}
+use Rattle.bench_types.specs.Step.{IsCheckedStep, IsCheckedCall, step_check, core_check, note_check, task_check, call_check, ◌>>◌}
 use Rattle.bench_types.specs.Limits.{max_depth}
-use Rattle.bench_model.specs.Notes.{wait_begun, take_begun, of_task}
+use Rattle.bench_model.specs.Notes.{wait_begun, take_begun, of_slot, slot_of}
 use Rattle.bench_model.specs.Notifying.{interrupted, timeout_of, completed, awaited}
 use Rattle.bench_model.specs.Seek.{after_switch}
 use Rattle.bench_model.specs.Steps.{ticked, called, performed, delayed_until, after}
@@ -99,8 +99,8 @@ pub in_place : (step : Step) (table : Table) → IsSound table → step_check ta
 in_place steps.Tick table sound checked none = tt
 in_place (steps.Switch core) table sound checked none = omega (arith, sound.consistent.sized.cores, checked_core table.settings core checked)
 in_place (steps.Interrupt core note) table sound checked none =
-    let both = both_pass (core_check table.settings core) (task_check table.settings note.task) checked in
-    (omega (arith, sound.consistent.sized.cores, checked_core table.settings core both.0), (checked_task table.settings note.task both.1).1)
+    let both = both_pass (core_check table.settings core) (note_check table.settings note) checked in
+    (omega (arith, sound.consistent.sized.cores, checked_core table.settings core both.0), (noted_task table.settings note both.1).1, noted_index table.settings note both.1)
 in_place (steps.Call core task call) table sound checked none =
     let low : core < length table.control.cores = omega (arith, sound.consistent.sized.cores, checked_core table.settings core (both_pass (core_check table.settings core) (task_check table.settings task) (both_pass (core_check table.settings core >> task_check table.settings task) (call_check table.settings call) checked).0).0) in
     let found = accepted stamp_queues core task call table none in
@@ -122,11 +122,11 @@ calm core task (PrioritySet other priority) table sound place checked begins kee
 calm core task (AffinitySet other mask) table sound place checked begins keeps goes = affinity_undisturbed core other mask table
 calm core task (PreemptOff other) table sound place checked begins keeps goes = off_undisturbed other table
 calm core task (PreemptOn other) table sound place checked begins keeps goes = on_undisturbed core other table
-calm core task (Notify note) table sound place checked begins keeps goes = notify_undisturbed core note.task note.action table (omega (arith, sound.sized.rows, (checked_task table.settings note.task checked.passes).1))
-calm core task (NotifyWait entry exit ticks) table sound place checked begins keeps goes = timeout_undisturbed core task (NotifyWait entry exit ticks) ticks (of_task task (wait_begun entry) table.notes) table goes
-calm core task (NotifyTake clear ticks) table sound place checked begins keeps goes = timeout_undisturbed core task (NotifyTake clear ticks) ticks (of_task task take_begun table.notes) table goes
-calm core task (StateClear other) table sound place checked begins keeps goes = forgotten_undisturbed other table
-calm core task (ValueClear other bits) table sound place checked begins keeps goes = bits_undisturbed other bits table
+calm core task (Notify note) table sound place checked begins keeps goes = notify_undisturbed core note table (omega (arith, sound.sized.rows, (noted_task table.settings note checked.passes).1))
+calm core task (NotifyWait entry exit ticks index) table sound place checked begins keeps goes = timeout_undisturbed core task (NotifyWait entry exit ticks index) ticks (of_slot (slot_of table.settings task index) (wait_begun entry) table.notes) table goes
+calm core task (NotifyTake clear ticks index) table sound place checked begins keeps goes = timeout_undisturbed core task (NotifyTake clear ticks index) ticks (of_slot (slot_of table.settings task index) take_begun table.notes) table goes
+calm core task (StateClear other index) table sound place checked begins keeps goes = forgotten_undisturbed other index table
+calm core task (ValueClear other bits index) table sound place checked begins keeps goes = bits_undisturbed other bits index table
 calm core task (MutexTake mutex ticks) table sound place checked begins keeps goes = take_undisturbed core task mutex ticks table goes
 calm core task (MutexGive mutex) table sound place checked begins keeps goes = give_undisturbed core task mutex table place.2
 calm core task HoldOpen table sound place checked begins keeps goes = absurd (cc (keeps))
@@ -260,10 +260,10 @@ called_held core task (AffinitySet other mask) table sound place checked user ta
 called_held core task (PreemptOff other) table sound place checked user taken = kept_held core task (PreemptOff other) table sound place checked user taken refl
 called_held core task (PreemptOn other) table sound place checked user taken = kept_held core task (PreemptOn other) table sound place checked user taken refl
 called_held core task (Notify note) table sound place checked user taken = kept_held core task (Notify note) table sound place checked user taken refl
-called_held core task (NotifyWait entry exit ticks) table sound place checked user taken = kept_held core task (NotifyWait entry exit ticks) table sound place checked user taken refl
-called_held core task (NotifyTake clear ticks) table sound place checked user taken = kept_held core task (NotifyTake clear ticks) table sound place checked user taken refl
-called_held core task (StateClear other) table sound place checked user taken = kept_held core task (StateClear other) table sound place checked user taken refl
-called_held core task (ValueClear other bits) table sound place checked user taken = kept_held core task (ValueClear other bits) table sound place checked user taken refl
+called_held core task (NotifyWait entry exit ticks index) table sound place checked user taken = kept_held core task (NotifyWait entry exit ticks index) table sound place checked user taken refl
+called_held core task (NotifyTake clear ticks index) table sound place checked user taken = kept_held core task (NotifyTake clear ticks index) table sound place checked user taken refl
+called_held core task (StateClear other index) table sound place checked user taken = kept_held core task (StateClear other index) table sound place checked user taken refl
+called_held core task (ValueClear other bits index) table sound place checked user taken = kept_held core task (ValueClear other bits index) table sound place checked user taken refl
 called_held core task (MutexTake mutex ticks) table sound place checked user taken = kept_held core task (MutexTake mutex ticks) table sound place checked user taken refl
 called_held core task (MutexGive mutex) table sound place checked user taken = kept_held core task (MutexGive mutex) table sound place checked user taken refl
 
@@ -289,8 +289,8 @@ held_after (steps.Switch core) table sound checked none = at table.hold refl
     at None free = none_held table _ (turned_hold core table) free
     at (Some hold) is = absurd (kept_out core table (ap is_some is) none)
 held_after (steps.Interrupt core note) table sound checked none =
-    let low = (checked_task table.settings note.task (both_pass (core_check table.settings core) (task_check table.settings note.task) checked.passes).1).1 in
-    hold_kept table _ (notify_undisturbed core note.task note.action table (omega (arith, sound.consistent.sized.rows, low))) sound.held
+    let low = (noted_task table.settings note (both_pass (core_check table.settings core) (note_check table.settings note) checked.passes).1).1 in
+    hold_kept table _ (notify_undisturbed core note table (omega (arith, sound.consistent.sized.rows, low))) sound.held
 held_after (steps.Call core task call) table sound checked none =
     let called = checked_call table.settings core task call checked in
     called_held core task call table sound (in_place (steps.Call core task call) table sound checked.passes none) called.0 called.1 (accepted stamp_queues core task call table none)
@@ -372,8 +372,8 @@ pub blocks_where_it_would : (table : Table) (core task : ℕ) (call : Call) → 
 unfolding called would_block hold_opened hold_closed
 blocks_where_it_would table core task (Delay ticks) sound place checked begins = goes_or_waits table core task sound place (Delay ticks) checked begins refl (delay_waits core task ticks table place.2)
 blocks_where_it_would table core task (DelayUntil prev inc) sound place checked begins = goes_or_waits table core task sound place (DelayUntil prev inc) checked begins refl (until_waits core task prev inc table place.2)
-blocks_where_it_would table core task (NotifyWait entry exit ticks) sound place checked begins = goes_or_waits table core task sound place (NotifyWait entry exit ticks) checked begins refl (await_waits core task (NotifyWait entry exit ticks) ticks (of_task task (wait_begun entry) table.notes) table place.2)
-blocks_where_it_would table core task (NotifyTake clear ticks) sound place checked begins = goes_or_waits table core task sound place (NotifyTake clear ticks) checked begins refl (await_waits core task (NotifyTake clear ticks) ticks (of_task task take_begun table.notes) table place.2)
+blocks_where_it_would table core task (NotifyWait entry exit ticks index) sound place checked begins = goes_or_waits table core task sound place (NotifyWait entry exit ticks index) checked begins refl (await_waits core task (NotifyWait entry exit ticks index) ticks (of_slot (slot_of table.settings task index) (wait_begun entry) table.notes) table place.2)
+blocks_where_it_would table core task (NotifyTake clear ticks index) sound place checked begins = goes_or_waits table core task sound place (NotifyTake clear ticks index) checked begins refl (await_waits core task (NotifyTake clear ticks index) ticks (of_slot (slot_of table.settings task index) take_begun table.notes) table place.2)
 blocks_where_it_would table core task (MutexTake mutex ticks) sound place checked begins = goes_or_waits table core task sound place (MutexTake mutex ticks) checked begins refl (take_waits core task mutex ticks table sound place.2)
 blocks_where_it_would table core task HoldOpen sound place checked begins = place.3
 blocks_where_it_would table core task HoldClose sound place checked begins = place.3
@@ -384,8 +384,8 @@ blocks_where_it_would table core task (AffinitySet other mask) sound place check
 blocks_where_it_would table core task (PreemptOff other) sound place checked begins = goes_or_waits table core task sound place (PreemptOff other) checked begins refl (λ never. absurd (cc (never)))
 blocks_where_it_would table core task (PreemptOn other) sound place checked begins = goes_or_waits table core task sound place (PreemptOn other) checked begins refl (λ never. absurd (cc (never)))
 blocks_where_it_would table core task (Notify note) sound place checked begins = goes_or_waits table core task sound place (Notify note) checked begins refl (λ never. absurd (cc (never)))
-blocks_where_it_would table core task (StateClear other) sound place checked begins = goes_or_waits table core task sound place (StateClear other) checked begins refl (λ never. absurd (cc (never)))
-blocks_where_it_would table core task (ValueClear other bits) sound place checked begins = goes_or_waits table core task sound place (ValueClear other bits) checked begins refl (λ never. absurd (cc (never)))
+blocks_where_it_would table core task (StateClear other index) sound place checked begins = goes_or_waits table core task sound place (StateClear other index) checked begins refl (λ never. absurd (cc (never)))
+blocks_where_it_would table core task (ValueClear other bits index) sound place checked begins = goes_or_waits table core task sound place (ValueClear other bits index) checked begins refl (λ never. absurd (cc (never)))
 blocks_where_it_would table core task (MutexGive mutex) sound place checked begins = goes_or_waits table core task sound place (MutexGive mutex) checked begins refl (λ never. absurd (cc (never)))
 
 kept_by_call : (table : Table) (core task : ℕ) (call : Call) (hold : Hold) → IsSound table → IsCaller table core task → IsCheckedCall table.settings call → table.settings.cores ≤ task → IsAccepted stamp_queues core task call table → table.hold ≡ Some hold → current (called stamp_queues core task call table).1.control hold.core ≡ current table.control hold.core
@@ -401,10 +401,10 @@ kept_by_call table core task (AffinitySet other mask) hold sound place checked u
 kept_by_call table core task (PreemptOff other) hold sound place checked user taken is = (held_on core task (PreemptOff other) table sound place checked user taken hold is refl).currents hold.core
 kept_by_call table core task (PreemptOn other) hold sound place checked user taken is = (held_on core task (PreemptOn other) table sound place checked user taken hold is refl).currents hold.core
 kept_by_call table core task (Notify note) hold sound place checked user taken is = (held_on core task (Notify note) table sound place checked user taken hold is refl).currents hold.core
-kept_by_call table core task (NotifyWait entry exit ticks) hold sound place checked user taken is = (held_on core task (NotifyWait entry exit ticks) table sound place checked user taken hold is refl).currents hold.core
-kept_by_call table core task (NotifyTake clear ticks) hold sound place checked user taken is = (held_on core task (NotifyTake clear ticks) table sound place checked user taken hold is refl).currents hold.core
-kept_by_call table core task (StateClear other) hold sound place checked user taken is = (held_on core task (StateClear other) table sound place checked user taken hold is refl).currents hold.core
-kept_by_call table core task (ValueClear other bits) hold sound place checked user taken is = (held_on core task (ValueClear other bits) table sound place checked user taken hold is refl).currents hold.core
+kept_by_call table core task (NotifyWait entry exit ticks index) hold sound place checked user taken is = (held_on core task (NotifyWait entry exit ticks index) table sound place checked user taken hold is refl).currents hold.core
+kept_by_call table core task (NotifyTake clear ticks index) hold sound place checked user taken is = (held_on core task (NotifyTake clear ticks index) table sound place checked user taken hold is refl).currents hold.core
+kept_by_call table core task (StateClear other index) hold sound place checked user taken is = (held_on core task (StateClear other index) table sound place checked user taken hold is refl).currents hold.core
+kept_by_call table core task (ValueClear other bits index) hold sound place checked user taken is = (held_on core task (ValueClear other bits index) table sound place checked user taken hold is refl).currents hold.core
 kept_by_call table core task (MutexTake mutex ticks) hold sound place checked user taken is = (held_on core task (MutexTake mutex ticks) table sound place checked user taken hold is refl).currents hold.core
 kept_by_call table core task (MutexGive mutex) hold sound place checked user taken is = (held_on core task (MutexGive mutex) table sound place checked user taken hold is refl).currents hold.core
 
@@ -413,8 +413,8 @@ unfolding performed interrupted
 kept_by_step table steps.Tick hold sound checked is none = (ticked_undisturbed table).currents hold.core
 kept_by_step table (steps.Switch core) hold sound checked is none = absurd (kept_out core table (ap is_some is) none)
 kept_by_step table (steps.Interrupt core note) hold sound checked is none =
-    let low = (checked_task table.settings note.task (both_pass (core_check table.settings core) (task_check table.settings note.task) checked.passes).1).1 in
-    (notify_undisturbed core note.task note.action table (omega (arith, sound.consistent.sized.rows, low))).currents hold.core
+    let low = (noted_task table.settings note (both_pass (core_check table.settings core) (note_check table.settings note) checked.passes).1).1 in
+    (notify_undisturbed core note table (omega (arith, sound.consistent.sized.rows, low))).currents hold.core
 kept_by_step table (steps.Call core task call) hold sound checked is none =
     let made = checked_call table.settings core task call checked in
     kept_by_call table core task call hold sound (in_place (steps.Call core task call) table sound checked.passes none) made.0 made.1 (accepted stamp_queues core task call table none) is

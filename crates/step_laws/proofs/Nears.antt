@@ -2,7 +2,7 @@
 use Rattle.std.proofs.Common.{◌≡◌, ℕ, suc, ◌+◌, ◌<◌, ◌≤◌, Bool, true, false, cond, not, eqb, ltb, ◌&&◌, List, [], ◌∷◌, length, Option, Some, None, refl, ap, ◌∙◌, arith}
 use Rattle.std.specs.Prelude.{slice_set}
 use Rattle.std.specs.Option.{option_map_or}
-use Rattle.bench_types.specs.declared.note.Action.{Action}
+use Rattle.bench_types.specs.declared.note.Note.{Note}
 use Rattle.bench_types.specs.declared.note.Notification.{Notification}
 use Rattle.bench_types.specs.declared.reply.Reply.{Reply}
 use Rattle.bench_types.specs.declared.reply.Reply.TheVariants.{Done, Flag, Refused, Until}
@@ -21,7 +21,7 @@ use Rattle.bench_model.specs.Holds.{hold_opened, hold_closed}
 use Rattle.bench_model.specs.Until.{next_wake, is_ahead, ticks_to}
 use Rattle.bench_model.specs.ControlFields.{with_base, in_use_set}
 use Rattle.bench_model.specs.Control.{task_at, current, ask_each}
-use Rattle.bench_model.specs.Notes.{note_at, is_waiting, notified, wait_begun, take_begun, of_task}
+use Rattle.bench_model.specs.Notes.{note_at, is_waiting, notified, wait_begun, take_begun, of_slot, slot_of}
 use Rattle.bench_model.specs.Notifying.{timeout_of, notify, interrupted, state_forgotten, bits_cleared, completed, awaited}
 use Rattle.bench_model.specs.Mutexes.{is_marked, held_by, taken, inherited, waited_at, mutex_take, owed, after_disinherit, timed_out, take_finished, disinherited, first_woken, mutex_give}
 use Rattle.bench_model.specs.Refusals.{refusal}
@@ -297,17 +297,17 @@ give_near core task mutex table = at (holder_at table.holders mutex)
     at None = giving_none 2 table
     at (Some holder) = giving_then 1 1 table lower (first_woken stamp_queues core mutex lower) (giving_then 0 1 table freed lower (giving_none 0 table) (disinherited_gives core task freed)) (first_woken_gives core mutex lower)
 
-notify_near : (acting task : ℕ) (action : Action) (table : Table) → 0 < length table.orders.rows → IsNearer table (notify stamp_queues acting task action table)
+notify_near : (acting : ℕ) (note : Note) (table : Table) → 0 < length table.orders.rows → IsNearer table (notify stamp_queues acting note table)
 unfolding notify wake add_to_ready_list
-notify_near acting task action table some = at (is_waiting note.state)
+notify_near acting note table some = at (is_waiting old.state)
   where
-    note : Notification
-    note = note_at table.notes task
+    old : Notification
+    old = note_at table.notes (slot_of table.settings note.task note.index)
 
     told : Table
-    told = record table { notes = slice_set table.notes task (notified action note) }
+    told = record table { notes = slice_set table.notes (slot_of table.settings note.task note.index) (notified note.action old) }
 
-    at : (b : Bool) → IsNearer table (cond b (wake stamp_queues acting task told) told)
+    at : (b : Bool) → IsNearer table (cond b (wake stamp_queues acting note.task told) told)
     at true = (omega arith, omega arith, refl, refl)
     at false = (omega arith, omega arith, refl, refl)
 
@@ -362,11 +362,11 @@ called_near core task (PrioritySet other priority) table some = let near = prior
 called_near core task (AffinitySet other mask) table some = (omega arith, omega arith, refl, λ keeps. refl)
 called_near core task (PreemptOff other) table some = (omega arith, omega arith, refl, λ keeps. refl)
 called_near core task (PreemptOn other) table some = (omega arith, omega arith, refl, λ keeps. refl)
-called_near core task (Notify note) table some = let near = notify_near core note.task note.action table some in (near.0, near.1, near.2, λ keeps. near.3)
-called_near core task (NotifyWait entry exit ticks) table some = let near = timeout_near core task (NotifyWait entry exit ticks) ticks (of_task task (wait_begun entry) table.notes) table some in (near.0, near.1, near.2, λ keeps. near.3)
-called_near core task (NotifyTake clear ticks) table some = let near = timeout_near core task (NotifyTake clear ticks) ticks (of_task task take_begun table.notes) table some in (near.0, near.1, near.2, λ keeps. near.3)
-called_near core task (StateClear other) table some = (omega arith, omega arith, refl, λ keeps. refl)
-called_near core task (ValueClear other bits) table some = (omega arith, omega arith, refl, λ keeps. refl)
+called_near core task (Notify note) table some = let near = notify_near core note table some in (near.0, near.1, near.2, λ keeps. near.3)
+called_near core task (NotifyWait entry exit ticks index) table some = let near = timeout_near core task (NotifyWait entry exit ticks index) ticks (of_slot (slot_of table.settings task index) (wait_begun entry) table.notes) table some in (near.0, near.1, near.2, λ keeps. near.3)
+called_near core task (NotifyTake clear ticks index) table some = let near = timeout_near core task (NotifyTake clear ticks index) ticks (of_slot (slot_of table.settings task index) take_begun table.notes) table some in (near.0, near.1, near.2, λ keeps. near.3)
+called_near core task (StateClear other index) table some = (omega arith, omega arith, refl, λ keeps. refl)
+called_near core task (ValueClear other bits index) table some = (omega arith, omega arith, refl, λ keeps. refl)
 called_near core task (MutexTake mutex ticks) table some = let near = giving_near table (mutex_take stamp_queues core task mutex ticks table).1 some (take_near core task mutex ticks table) in (near.0, near.1, near.2, λ keeps. near.3)
 called_near core task (MutexGive mutex) table some = let near = giving_near table (mutex_give stamp_queues core task mutex table).1 some (give_near core task mutex table) in (near.0, near.1, near.2, λ keeps. near.3)
 
@@ -381,7 +381,7 @@ unfolding performed interrupted
 performed_near Tick table some = let near = ticked_near table in (near.0, near.1, near.2, λ keeps. near.3)
 performed_near (Switch core) table some = let near = after_select_near core table some in (near.0, near.1, near.2, λ keeps. near.3)
 performed_near (steps.Call core task call) table some = called_near core task call table some
-performed_near (Interrupt core note) table some = let near = notify_near core note.task note.action table some in (near.0, near.1, near.2, λ keeps. near.3)
+performed_near (Interrupt core note) table some = let near = notify_near core note table some in (near.0, near.1, near.2, λ keeps. near.3)
 
 pub after_near : (step : Step) (table : Table) → 0 < length table.orders.rows → IsNear table (after stamp_queues step table).1
 unfolding after

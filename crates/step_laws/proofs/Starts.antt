@@ -1,6 +1,6 @@
 -- The start of a checked header is sound, and seen as lists it is the start over lists.
 use Rattle.order_laws.proofs.FirstBlocks.{first_tasks, first_blocks}
-use Rattle.std.proofs.Common.{◌≡◌, ℕ, zero, suc, ◌+◌, ◌-◌, ◌<◌, ◌≤◌, true, false, cond, ltb, List, [], ◌∷◌, ◌++◌, length, map, replicate, Bool, Option, Some, None, Ok, refl, ap, ◌∙◌, add-zero, arith, inl, inr}
+use Rattle.std.proofs.Common.{◌≡◌, ℕ, ◌*◌, zero, suc, ◌+◌, ◌-◌, ◌<◌, ◌≤◌, true, false, cond, ltb, List, [], ◌∷◌, ◌++◌, length, map, replicate, Bool, Option, Some, None, Ok, refl, ap, ◌∙◌, add-zero, arith, inl, inr}
 use Rattle.std.specs.Prelude.{slice_index_or}
 use Rattle.std.specs.List.{fold, range_with_len, AllByRecursion}
 use Rattle.std.proofs.lemmas.Bool.Decides.{nat_tests}
@@ -197,9 +197,9 @@ module _ (header : Header) where
   first_calls : (i : ℕ) (call : Unfinished) → call_at (replicate (cores + users) None) i ≡ Some call → IsCheckedUnfinished (settings_of header) call
   first_calls i call found = absurd (cc (none_at {A = Unfinished} (cores + users) i, found))
 
-  first_words : HasWords (replicate (cores + users) no_note)
+  first_words : HasWords (replicate ((cores + users) * header.config.notes) no_note)
   first_words i low =
-      let at = get_or-replicate (cores + users) i no_note no_note (omega (arith, length-replicate (cores + users) no_note)) in
+      let at = get_or-replicate ((cores + users) * header.config.notes) i no_note no_note (omega (arith, low, length-replicate ((cores + users) * header.config.notes) no_note)) in
       omega (arith, ap (λ (n : Notification). n.value) at)
 
   pub first_sound : IsWithinLimits header → IsConsistent (unstarted first header)
@@ -209,7 +209,8 @@ module _ (header : Header) where
       cores = first_cores;
       controls = first_tasks header;
       calls = length-replicate (cores + users) None;
-      notes = length-replicate (cores + users) no_note;
+      notes = length-replicate ((cores + users) * header.config.notes) no_note;
+      some_note = valid.some_note;
       holders = length-replicate header.config.mutexes None;
       rows = first_length;
       deadlines = first_deadlines;
@@ -255,7 +256,7 @@ start_consistent header passes = in_turn_sound (numbers header.config.cores) (un
 
 unstarted_seen : (header : Header) → view_of (unstarted (first_stamps header) header) ≡ unstarted (first_lists header) header
 unfolding unstarted
-unstarted_seen header = same_state (settings_of header) (first_control header) (first_control header) (replicate (header.config.cores + length header.tasks) None) (replicate (header.config.cores + length header.tasks) no_note) (replicate header.config.mutexes None) None _ _ refl (first_seen header)
+unstarted_seen header = same_state (settings_of header) (first_control header) (first_control header) (replicate (header.config.cores + length header.tasks) None) (replicate ((header.config.cores + length header.tasks) * header.config.notes) no_note) (replicate header.config.mutexes None) None _ _ refl (first_seen header)
 
 pub start_seen_lem : (header : Header) → header_check header ≡ Ok tt → view_of (start header) ≡ start_seen header
 unfolding started

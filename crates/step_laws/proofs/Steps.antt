@@ -15,10 +15,10 @@ use Rattle.bench_types.specs.declared.step.Unfinished.{Unfinished}
 use Rattle.bench_types.specs.declared.step.Unfinished.TheVariants.{Made}
 use Rattle.bench_types.specs.declared.step.Call.{Call}
 use Rattle.bench_types.specs.declared.step.Call.TheVariants.{Yield, Delay, DelayUntil, Finish, PrioritySet, AffinitySet, PreemptOff, PreemptOn, Notify, NotifyWait, NotifyTake, StateClear, ValueClear, MutexTake, MutexGive, HoldOpen, HoldClose}
-use Rattle.bench_types.proofs.Passes.{both_pass, checked_task, checked_mutex}
+use Rattle.bench_types.proofs.Passes.{both_pass, checked_task, checked_mutex, noted_task}
 use Rattle.bench_types.specs.Step.{IsCheckedStep, IsCheckedCall, task_check, mask_check, ◌>>◌}
 use Rattle.bench_types.specs.Limits.{max_depth}
-use Rattle.bench_model.specs.Notes.{wait_begun, take_begun, of_task}
+use Rattle.bench_model.specs.Notes.{wait_begun, take_begun, of_slot, slot_of}
 use Rattle.bench_model.specs.Notifying.{is_passed}
 use Rattle.bench_model.specs.Refusals.{call_refusal, give_refusal, opens_hold, closes_hold, would_block, refusal}
 use Rattle.bench_model.specs.State.{call_at, yielded, blocked}
@@ -104,11 +104,11 @@ called_seen core task (PrioritySet other priority) table sound checked place = s
 called_seen core task (AffinitySet other mask) table sound checked place = same_outcome Done _ _ (affinity_seen table core other mask sound (affinity_set_task table.settings other mask checked.passes))
 called_seen core task (PreemptOff other) table sound checked place = same_outcome Done _ _ (off_seen table other)
 called_seen core task (PreemptOn other) table sound checked place = same_outcome Done _ _ (on_seen table core other)
-called_seen core task (Notify note) table sound checked place = same_outcome (Flag (is_passed note table)) _ _ (notify_seen table core note.task note.action sound (set_task table.settings note.task checked.passes))
-called_seen core task (NotifyWait entry exit ticks) table sound checked place = timeout_seen table core task (NotifyWait entry exit ticks) ticks (of_task task (wait_begun entry) table.notes) sound place.2 place.3
-called_seen core task (NotifyTake clear ticks) table sound checked place = timeout_seen table core task (NotifyTake clear ticks) ticks (of_task task take_begun table.notes) sound place.2 place.3
-called_seen core task (StateClear other) table sound checked place = forgotten_seen table other
-called_seen core task (ValueClear other bits) table sound checked place = bits_seen table other bits
+called_seen core task (Notify note) table sound checked place = same_outcome (Flag (is_passed note table)) _ _ (notify_seen table core note sound (noted_task table.settings note checked.passes).1)
+called_seen core task (NotifyWait entry exit ticks index) table sound checked place = timeout_seen table core task (NotifyWait entry exit ticks index) ticks (of_slot (slot_of table.settings task index) (wait_begun entry) table.notes) sound place.2 place.3
+called_seen core task (NotifyTake clear ticks index) table sound checked place = timeout_seen table core task (NotifyTake clear ticks index) ticks (of_slot (slot_of table.settings task index) take_begun table.notes) sound place.2 place.3
+called_seen core task (StateClear other index) table sound checked place = forgotten_seen table other index
+called_seen core task (ValueClear other bits index) table sound checked place = bits_seen table other bits index
 called_seen core task (MutexTake mutex ticks) table sound checked place = take_seen table core task mutex ticks sound place
 called_seen core task (MutexGive mutex) table sound checked place = give_seen table core task mutex sound (caller_below core task table sound place) (checked_mutex table.settings mutex checked.passes)
 called_seen core task HoldOpen table sound checked place = opened_seen core table
@@ -137,10 +137,10 @@ would_block_seen task (AffinitySet other mask) table = refl
 would_block_seen task (PreemptOff other) table = refl
 would_block_seen task (PreemptOn other) table = refl
 would_block_seen task (Notify note) table = refl
-would_block_seen task (NotifyWait entry exit ticks) table = refl
-would_block_seen task (NotifyTake clear ticks) table = refl
-would_block_seen task (StateClear other) table = refl
-would_block_seen task (ValueClear other bits) table = refl
+would_block_seen task (NotifyWait entry exit ticks index) table = refl
+would_block_seen task (NotifyTake clear ticks index) table = refl
+would_block_seen task (StateClear other index) table = refl
+would_block_seen task (ValueClear other bits index) table = refl
 would_block_seen task (MutexTake mutex ticks) table = refl
 would_block_seen task (MutexGive mutex) table = refl
 would_block_seen task HoldOpen table = refl
@@ -230,17 +230,17 @@ called_sound core task (PrioritySet other priority) table sound place checked us
 called_sound core task (AffinitySet other mask) table sound place checked user = affinity_sound table core other mask sound (affinity_set_task table.settings other mask checked.passes)
 called_sound core task (PreemptOff other) table sound place checked user = off_sound table other sound (set_task table.settings other checked.passes)
 called_sound core task (PreemptOn other) table sound place checked user = on_sound table core other sound (set_task table.settings other checked.passes)
-called_sound core task (Notify note) table sound place checked user = notify_sound table core note.task note.action sound (set_task table.settings note.task checked.passes) checked.words
-called_sound core task (NotifyWait entry exit ticks) table sound place checked user =
-    let call = NotifyWait entry exit ticks in
-    let begun = ruled_sound task (wait_begun entry) table sound (caller_below core task table sound place) (wait_begun_word entry) in
-    timeout_sound table core task call ticks (of_task task (wait_begun entry) table.notes) begun place checked user checked.words.2
-called_sound core task (NotifyTake clear ticks) table sound place checked user =
-    let call = NotifyTake clear ticks in
-    let begun = ruled_sound task take_begun table sound (caller_below core task table sound place) take_begun_word in
-    timeout_sound table core task call ticks (of_task task take_begun table.notes) begun place checked user checked.words
-called_sound core task (StateClear other) table sound place checked user = forgotten_sound table other sound (set_task table.settings other checked.passes)
-called_sound core task (ValueClear other bits) table sound place checked user = bits_sound table other bits sound (set_task table.settings other checked.passes)
+called_sound core task (Notify note) table sound place checked user = notify_sound table core note sound (noted_task table.settings note checked.passes).1 checked.words
+called_sound core task (NotifyWait entry exit ticks index) table sound place checked user =
+    let call = NotifyWait entry exit ticks index in
+    let begun = ruled_sound (slot_of table.settings task index) (wait_begun entry) table sound (wait_begun_word entry) in
+    timeout_sound table core task call ticks (of_slot (slot_of table.settings task index) (wait_begun entry) table.notes) begun place checked user checked.words.2
+called_sound core task (NotifyTake clear ticks index) table sound place checked user =
+    let call = NotifyTake clear ticks index in
+    let begun = ruled_sound (slot_of table.settings task index) take_begun table sound take_begun_word in
+    timeout_sound table core task call ticks (of_slot (slot_of table.settings task index) take_begun table.notes) begun place checked user checked.words
+called_sound core task (StateClear other index) table sound place checked user = forgotten_sound table other index sound
+called_sound core task (ValueClear other bits index) table sound place checked user = bits_sound table other bits index sound
 called_sound core task (MutexTake mutex ticks) table sound place checked user = take_sound table core task mutex ticks sound place user checked.words (checked_mutex table.settings mutex checked.passes)
 called_sound core task (MutexGive mutex) table sound place checked user = give_sound table core task mutex sound (caller_below core task table sound place) (checked_mutex table.settings mutex checked.passes)
 called_sound core task HoldOpen table sound place checked user = opened_sound core table sound

@@ -8,7 +8,7 @@ use Rattle.bench_types.specs.declared.kernel_data.Hold.{Hold}
 use Rattle.bench_types.specs.declared.kernel_data.Settings.{Settings}
 use Rattle.bench_types.specs.declared.kernel_data.TaskControl.{TaskControl}
 use Rattle.bench_types.specs.declared.kernel_data.Waiter.{Waiter}
-use Rattle.bench_types.specs.declared.note.Action.{Action}
+use Rattle.bench_types.specs.declared.note.Note.{Note}
 use Rattle.bench_types.specs.declared.note.Notification.{Notification}
 use Rattle.bench_types.specs.declared.reply.Reply.{Reply}
 use Rattle.bench_types.specs.declared.reply.Reply.TheVariants.{Blocked, Flag, Until}
@@ -19,7 +19,7 @@ use Rattle.bench_types.specs.declared.step.Unfinished.TheVariants.{Made}
 use Rattle.bench_model.specs.ControlFields.{with_task, with_base, with_in_use, in_use_set}
 use Rattle.bench_model.specs.Control.{Control, current, task_at, in_mask}
 use Rattle.bench_model.specs.Mutexes.{held_by, taken, inherited, waited_at, mutex_take, after_disinherit, disinherited, first_woken, mutex_give}
-use Rattle.bench_model.specs.Notes.{note_at, is_waiting, notified}
+use Rattle.bench_model.specs.Notes.{note_at, is_waiting, notified, slot_of}
 use Rattle.bench_model.specs.Notifying.{timeout_of, notify, completed, awaited, state_forgotten, bits_cleared}
 use Rattle.bench_model.specs.Seek.{seek, wake, shares_its_time, sliced}
 use Rattle.bench_model.specs.PriorityAffinity.{capped, in_use_after, yields_after_priority_set, priority_set, affinity_set, preemption_off, preemption_on}
@@ -121,13 +121,14 @@ ticked_undisturbed table =
     (undisturbed_then table later woke (advanced_undisturbed table) (woken_undisturbed (due later.orders) later (due_below later.orders)))
     (sliced_undisturbed woke)
 
-pub notify_undisturbed : (acting task : ℕ) (action : Action) (table : Table) → task < length table.orders.rows → IsUndisturbed table (notify stamp_queues acting task action table)
+pub notify_undisturbed : (acting : ℕ) (note : Note) (table : Table) → note.task < length table.orders.rows → IsUndisturbed table (notify stamp_queues acting note table)
 unfolding notify
-notify_undisturbed acting task action table below =
-    let note = note_at table.notes task in
-    let told = record table { notes = slice_set table.notes task (notified action note) } in
-    let first = notes_undisturbed table (slice_set table.notes task (notified action note)) in
-    either_undisturbed table (wake stamp_queues acting task told) told (is_waiting note.state) (undisturbed_then table told _ first (wake_undisturbed acting task told below)) first
+notify_undisturbed acting note table below =
+    let slot = slot_of table.settings note.task note.index in
+    let old = note_at table.notes slot in
+    let told = record table { notes = slice_set table.notes slot (notified note.action old) } in
+    let first = notes_undisturbed table (slice_set table.notes slot (notified note.action old)) in
+    either_undisturbed table (wake stamp_queues acting note.task told) told (is_waiting old.state) (undisturbed_then table told _ first (wake_undisturbed acting note.task told below)) first
 
 -- calls that set something
 in_use_undisturbed : (task priority : ℕ) (table : Table) → task < length table.orders.rows → IsUndisturbed table (in_use_set stamp_queues task priority table)
@@ -234,13 +235,13 @@ until_undisturbed core task prev inc table low later = at (is_ahead (tick_count 
     at true ahead = absurd (cc (ahead))
     at false ahead = yielded_undisturbed core table low
 
-pub forgotten_undisturbed : (task : ℕ) (table : Table) → IsUndisturbed table (state_forgotten task table).1
+pub forgotten_undisturbed : (task index : ℕ) (table : Table) → IsUndisturbed table (state_forgotten task index table).1
 unfolding state_forgotten
-forgotten_undisturbed task table = notes_undisturbed table _
+forgotten_undisturbed task index table = notes_undisturbed table _
 
-pub bits_undisturbed : (task bits : ℕ) (table : Table) → IsUndisturbed table (bits_cleared task bits table).1
+pub bits_undisturbed : (task bits index : ℕ) (table : Table) → IsUndisturbed table (bits_cleared task bits index table).1
 unfolding bits_cleared
-bits_undisturbed task bits table = notes_undisturbed table _
+bits_undisturbed task bits index table = notes_undisturbed table _
 
 completed_undisturbed : (task : ℕ) (call : Call) (table : Table) → IsUndisturbed table (completed task call table).1
 completed_undisturbed task call table = let made = completed_notes task call table in subst (IsUndisturbed table) (sym made.1) (notes_undisturbed table made.0)

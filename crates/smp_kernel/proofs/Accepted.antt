@@ -61,7 +61,7 @@ finds_its_task core task call view settled passes none =
       checked = both.1;
       own = found.own;
       depth = depth_most view settled;
-      mutexes = settled.mutexes;
+      calls = settled.calls;
     }
 
 pub after_refused : (step : Step) (view : View) (why : Refusal) → refusal list_queues step view ≡ Some why → (Refused why, view) ≡ after list_queues step view

@@ -4,12 +4,12 @@ use Rattle.std.specs.Prelude.{unwrap_or, slice_set, Option, Some, None}
 use Rattle.std.specs.Option.{option_map_or}
 use Rattle.std.specs.List.{find}
 use Rattle.std.proofs.lemmas.List.{length-set}
-use Rattle.bench_types.specs.declared.note.Action.{Action}
+use Rattle.bench_types.specs.declared.note.Note.{Note}
 use Rattle.list_orders.specs.Search.{placed, without, has}
 use Rattle.bench_model.specs.Control.{Control, task_at, current, may_select, in_mask, run_on, ask, ask_each, runs_on, ask_its_core}
 use Rattle.bench_model.specs.State.{after_select}
 use Rattle.bench_model.specs.Seek.{seek, may_move, wake, after_eviction, after_switch, shares_its_time, sliced}
-use Rattle.bench_model.specs.Notes.{note_at, is_waiting, notified}
+use Rattle.bench_model.specs.Notes.{note_at, is_waiting, notified, slot_of}
 use Rattle.bench_model.specs.Notifying.{notify}
 use Rattle.bench_model.specs.Mutexes.{inherited, after_disinherit}
 use Rattle.bench_model.specs.Steps.{woken}
@@ -369,11 +369,12 @@ pub turned_settings : (core : ℕ) (view : View) → (after_switch list_queues c
 unfolding after_switch after_select
 turned_settings core view = ap (λ (v : View). v.settings) (resettle_part core (current view.control core) (after_select list_queues core view))
 
-pub notify_settings : (acting task : ℕ) (action : Action) (view : View) → (notify list_queues acting task action view).settings ≡ view.settings
+pub notify_settings : (acting : ℕ) (note : Note) (view : View) → (notify list_queues acting note view).settings ≡ view.settings
 unfolding notify wake
-notify_settings acting task action view =
-    let told = record view { notes = slice_set view.notes task (notified action (note_at view.notes task)) } in
-    elim (is_waiting (note_at view.notes task).state) as (λ b. (cond b (wake list_queues acting task told) told).settings ≡ view.settings) [ true ↦ refl | false ↦ refl ]
+notify_settings acting note view =
+    let slot = slot_of view.settings note.task note.index in
+    let told = record view { notes = slice_set view.notes slot (notified note.action (note_at view.notes slot)) } in
+    elim (is_waiting (note_at view.notes slot).state) as (λ b. (cond b (wake list_queues acting note.task told) told).settings ≡ view.settings) [ true ↦ refl | false ↦ refl ]
 
 pub woken_settings : (tasks : List ℕ) (view : View) → (woken list_queues tasks view).settings ≡ view.settings
 unfolding wake

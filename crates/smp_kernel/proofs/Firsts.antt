@@ -10,7 +10,7 @@ use Rattle.bench_types.proofs.Passes.{checked_header}
 use Rattle.list_orders.specs.Search.{numbers}
 use Rattle.bench_model.specs.Cores.{cores_of}
 use Rattle.bench_model.specs.Lists.{View, list_queues}
-use Rattle.bench_model.specs.Notes.{no_note}
+use Rattle.notify_core.specs.Parts.{fresh_notes}
 use Rattle.bench_model.specs.Seek.{after_switch}
 use Rattle.bench_model.specs.Start.{first_look, first_lists, unstarted, started, start_seen}
 use Rattle.list_orders.proofs.Filters.{fold-append}
@@ -51,7 +51,7 @@ first_parts header = let tasks = header.config.cores + length header.tasks in re
   settings = settings_of header;
   cores = cores_of (unstarted (first_lists header) header);
   calls = replicate tasks None;
-  notes = replicate tasks no_note;
+  notes = fresh_notes tasks header.config.notes;
   mutexes = free_mutexes tasks header.config.priorities header.config.mutexes;
   delays = no_delays header.config.tick tasks;
   deadlines = replicate tasks None;
@@ -75,7 +75,9 @@ first_kernel_shape header passes = let tasks = header.config.cores + length head
   cores = length-map (numbers header.config.cores) first_look ∙ length-range_with_len 0 header.config.cores;
   controls = first_tasks header;
   calls = length-replicate tasks None;
-  notes = length-replicate tasks no_note;
+  note_tasks = refl;
+  note_entries = refl;
+  some_note = (checked_header header passes).some_note;
   mutexes = refl;
   mutex_priorities = refl;
   holders = length-replicate header.config.mutexes None;

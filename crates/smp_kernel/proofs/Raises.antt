@@ -5,7 +5,7 @@ use Rattle.std.specs.Option.{option_map_or}
 use Rattle.bench_types.specs.Header.{cores_of_mask}
 use Rattle.bench_types.specs.declared.kernel_data.TaskControl.{TaskControl}
 use Rattle.bench_types.specs.declared.kernel_data.Waiter.{Waiter}
-use Rattle.bench_types.specs.declared.note.Action.{Action}
+use Rattle.bench_types.specs.declared.note.Note.{Note}
 use Rattle.bench_types.specs.declared.note.Notification.{Notification}
 use Rattle.bench_types.specs.declared.reply.Refusal.{Refusal}
 use Rattle.bench_types.specs.declared.reply.Reply.{Reply}
@@ -21,7 +21,7 @@ use Rattle.bench_model.specs.Control.{Control, current, task_at, in_mask, ask_ea
 use Rattle.bench_model.specs.ControlFields.{with_base, with_affinity, with_preemption, in_use_set}
 use Rattle.bench_model.specs.Holds.{hold_opened, hold_closed}
 use Rattle.bench_model.specs.Mutexes.{held_by, taken, inherited, waited_at, mutex_take, owed, after_disinherit, timed_out, take_finished, disinherited, first_woken, mutex_give}
-use Rattle.bench_model.specs.Notes.{note_at, is_waiting, notified, wait_begun, take_begun, of_task}
+use Rattle.bench_model.specs.Notes.{note_at, is_waiting, notified, wait_begun, take_begun, of_slot, slot_of}
 use Rattle.bench_model.specs.Notifying.{timeout_of, notify, interrupted, state_forgotten, bits_cleared, completed, awaited}
 use Rattle.bench_model.specs.PriorityAffinity.{capped, in_use_after, yields_after_priority_set, yields_after_affinity_set, priority_set, affinity_set, preemption_off, preemption_on}
 use Rattle.bench_model.specs.Refusals.{refusal}
@@ -93,15 +93,18 @@ module _ {Orders : Type 0} (ops : QueueOps Orders) where
   unfolding after_switch after_select
   switch_kept core state task = evicted_kept core (current state.control core) (after_select ops core state) task
 
-  notify_kept : (acting task : ℕ) (action : Action) (state : State Orders) → KeepsAll state.control (notify ops acting task action state).control
+  notify_kept : (acting : ℕ) (note : Note) (state : State Orders) → KeepsAll state.control (notify ops acting note state).control
   unfolding notify
-  notify_kept acting task action state = at (is_waiting (note_at state.notes task).state)
+  notify_kept acting note state = at (is_waiting (note_at state.notes slot).state)
     where
-      told : State Orders
-      told = record state { notes = slice_set state.notes task (notified action (note_at state.notes task)) }
+      slot : ℕ
+      slot = slot_of state.settings note.task note.index
 
-      at : (b : Bool) → KeepsAll state.control (cond b (wake ops acting task told) told).control
-      at true = wake_kept acting task told
+      told : State Orders
+      told = record state { notes = slice_set state.notes slot (notified note.action (note_at state.notes slot)) }
+
+      at : (b : Bool) → KeepsAll state.control (cond b (wake ops acting note.task told) told).control
+      at true = wake_kept acting note.task told
       at false = λ task. refl
 
   -- calls that set something
@@ -309,11 +312,11 @@ module _ {Orders : Type 0} (ops : QueueOps Orders) where
   called_others core task (AffinitySet set mask) state = λ other away. affinity_kept core set mask state other
   called_others core task (PreemptOff set) state = λ other away. off_kept set state other
   called_others core task (PreemptOn set) state = λ other away. on_kept core set state other
-  called_others core task (Notify note) state = λ other away. notify_kept core note.task note.action state other
-  called_others core task (NotifyWait entry exit ticks) state = λ other away. awaited_kept core task (NotifyWait entry exit ticks) ticks (of_task task (wait_begun entry) state.notes) state other
-  called_others core task (NotifyTake clear ticks) state = λ other away. awaited_kept core task (NotifyTake clear ticks) ticks (of_task task take_begun state.notes) state other
-  called_others core task (StateClear set) state = λ other away. refl
-  called_others core task (ValueClear set bits) state = λ other away. refl
+  called_others core task (Notify note) state = λ other away. notify_kept core note state other
+  called_others core task (NotifyWait entry exit ticks index) state = λ other away. awaited_kept core task (NotifyWait entry exit ticks index) ticks (of_slot (slot_of state.settings task index) (wait_begun entry) state.notes) state other
+  called_others core task (NotifyTake clear ticks index) state = λ other away. awaited_kept core task (NotifyTake clear ticks index) ticks (of_slot (slot_of state.settings task index) take_begun state.notes) state other
+  called_others core task (StateClear set index) state = λ other away. refl
+  called_others core task (ValueClear set bits index) state = λ other away. refl
   called_others core task (MutexTake mutex ticks) state = take_others core task mutex ticks state
   called_others core task (MutexGive mutex) state = give_others core task mutex state
   called_others core task HoldOpen state = λ other away. refl
@@ -324,7 +327,7 @@ module _ {Orders : Type 0} (ops : QueueOps Orders) where
   performed_others Tick state = λ other away. ticked_kept state other
   performed_others (Switch core) state = λ other away. switch_kept core state other
   performed_others (steps.Call core task call) state = called_others core task call state
-  performed_others (Interrupt core note) state = λ other away. notify_kept core note.task note.action state other
+  performed_others (Interrupt core note) state = λ other away. notify_kept core note state other
 
   pub step_others : (step : Step) (state : State Orders) → KeepsOthers (raised_by state step) state.control (after ops step state).1.control
   unfolding after

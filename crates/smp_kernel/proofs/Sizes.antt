@@ -11,7 +11,8 @@ pub record Sizes : Type 0 where
   pub cores : ℕ
   pub controls : ℕ
   pub calls : ℕ
-  pub notes : ℕ
+  pub note_tasks : ℕ
+  pub note_entries : ℕ
   pub mutexes : ℕ
   pub mutex_priorities : ℕ
   pub holders : ℕ
@@ -25,7 +26,8 @@ sizes_of parts = record {
   cores = length parts.cores.control.cores;
   controls = length parts.cores.control.tasks;
   calls = length parts.calls;
-  notes = length parts.notes;
+  note_tasks = parts.notes.tasks;
+  note_entries = parts.notes.entries;
   mutexes = parts.mutexes.tasks;
   mutex_priorities = parts.mutexes.priorities;
   holders = length parts.mutexes.holders;
@@ -47,7 +49,9 @@ reshaped parts later same sizes undelayed unqueued shape = record {
   cores = ap (λ (s : Sizes). s.cores) sizes ∙ shape.cores ∙ ap (λ (s : Settings). s.cores) (sym same);
   controls = ap (λ (s : Sizes). s.controls) sizes ∙ shape.controls ∙ ap (λ (s : Settings). s.tasks) (sym same);
   calls = ap (λ (s : Sizes). s.calls) sizes ∙ shape.calls ∙ ap (λ (s : Settings). s.tasks) (sym same);
-  notes = ap (λ (s : Sizes). s.notes) sizes ∙ shape.notes ∙ ap (λ (s : Settings). s.tasks) (sym same);
+  note_tasks = ap (λ (s : Sizes). s.note_tasks) sizes ∙ shape.note_tasks ∙ ap (λ (s : Settings). s.tasks) (sym same);
+  note_entries = ap (λ (s : Sizes). s.note_entries) sizes ∙ shape.note_entries ∙ ap (λ (s : Settings). s.notes) (sym same);
+  some_note = subst (λ (s : Settings). 0 < s.notes) (sym same) shape.some_note;
   mutexes = ap (λ (s : Sizes). s.mutexes) sizes ∙ shape.mutexes ∙ ap (λ (s : Settings). s.tasks) (sym same);
   mutex_priorities = ap (λ (s : Sizes). s.mutex_priorities) sizes ∙ shape.mutex_priorities ∙ ap (λ (s : Settings). s.priorities) (sym same);
   holders = ap (λ (s : Sizes). s.holders) sizes ∙ shape.holders ∙ ap (λ (s : Settings). s.mutexes) (sym same);

@@ -25,7 +25,7 @@ use Rattle.bench_model.specs.Holds.{hold_opened, hold_closed}
 use Rattle.bench_model.specs.Refusals.{refusal}
 use Rattle.bench_model.specs.Until.{next_wake, is_ahead, ticks_to}
 use Rattle.bench_model.specs.Seek.{seek, wake}
-use Rattle.bench_model.specs.Notes.{wait_begun, take_begun, of_task}
+use Rattle.bench_model.specs.Notes.{wait_begun, take_begun, of_slot, slot_of}
 use Rattle.bench_model.specs.Notifying.{interrupted, state_forgotten, bits_cleared, completed, awaited, timeout_of}
 use Rattle.bench_model.specs.Mutexes.{held_by, taken, inherited, waited_at, mutex_take, owed, after_disinherit, timed_out, take_finished, disinherited, first_woken, mutex_give}
 use Rattle.bench_model.specs.ControlFields.{with_base, in_use_set}
@@ -79,7 +79,7 @@ view_settled table sound = let kept = sound.consistent in record {
         depth = well.depth.1;
         ready = current_ready_seen table kept hold.core (omega (arith, kept.sized.cores, well.core_below)) ∙ well.ready;
       };
-  mutexes = λ task mutex mark is. kept.calls task (Take mutex mark) is;
+  calls = kept.calls;
 }
 
 pub settled_of : (view : View) → StandsForSome view → IsSettled view
@@ -229,11 +229,11 @@ called_settings core task (PrioritySet other priority) view = priority_settings 
 called_settings core task (AffinitySet other mask) view = refl
 called_settings core task (PreemptOff other) view = refl
 called_settings core task (PreemptOn other) view = refl
-called_settings core task (Notify note) view = notify_settings core note.task note.action view
-called_settings core task (NotifyWait entry exit ticks) view = timeout_settings core task (NotifyWait entry exit ticks) ticks (of_task task (wait_begun entry) view.notes) view
-called_settings core task (NotifyTake clear ticks) view = timeout_settings core task (NotifyTake clear ticks) ticks (of_task task take_begun view.notes) view
-called_settings core task (StateClear other) view = refl
-called_settings core task (ValueClear other bits) view = refl
+called_settings core task (Notify note) view = notify_settings core note view
+called_settings core task (NotifyWait entry exit ticks index) view = timeout_settings core task (NotifyWait entry exit ticks index) ticks (of_slot (slot_of view.settings task index) (wait_begun entry) view.notes) view
+called_settings core task (NotifyTake clear ticks index) view = timeout_settings core task (NotifyTake clear ticks index) ticks (of_slot (slot_of view.settings task index) take_begun view.notes) view
+called_settings core task (StateClear other index) view = refl
+called_settings core task (ValueClear other bits index) view = refl
 called_settings core task (MutexTake mutex ticks) view = taken_settings core task mutex ticks view
 called_settings core task (MutexGive mutex) view = given_settings core task mutex view
 called_settings core task (DelayUntil prev inc) view = until_settings core task prev inc view
@@ -247,7 +247,7 @@ performed_settings Tick view =
     sliced_settings (woken list_queues (seen.due later.orders) later) ∙ woken_settings (seen.due later.orders) later
 performed_settings (Switch core) view = turned_settings core view
 performed_settings (steps.Call core task call) view = called_settings core task call view
-performed_settings (Interrupt core note) view = notify_settings core note.task note.action view
+performed_settings (Interrupt core note) view = notify_settings core note view
 
 after_settings : (step : Step) (view : View) → (after list_queues step view).1.settings ≡ view.settings
 unfolding after

@@ -6,11 +6,9 @@ use Rattle.bench_types.specs.declared.kernel_data.Delayed.{Delayed}
 use Rattle.bench_types.specs.declared.kernel_data.Hold.{Hold}
 use Rattle.bench_types.specs.declared.kernel_data.Settings.{Settings}
 use Rattle.bench_types.specs.declared.kernel_data.Waiter.{Waiter}
-use Rattle.bench_types.specs.declared.note.Notification.{Notification}
 use Rattle.bench_types.specs.declared.step.Call.{Call}
 use Rattle.bench_types.specs.declared.step.Unfinished.{Unfinished}
-use Rattle.bench_types.specs.declared.step.Unfinished.TheVariants.{Take}
-use Rattle.bench_types.specs.Step.{call_check}
+use Rattle.bench_types.specs.Step.{call_check, IsCheckedUnfinished}
 use Rattle.bench_types.specs.Limits.{max_cores, max_depth}
 use Rattle.list_orders.specs.Search.{has}
 use Rattle.bench_model.specs.Control.{current, is_due}
@@ -22,6 +20,7 @@ use Rattle.bench_model.specs.Lists.{View, due_tasks}
 use Rattle.bench_model.specs.Equal.{StandsFor}
 use Rattle.bench_model.specs.Cores.{CoresView}
 use Rattle.mutex_inherit.specs.Parts.{MutexPart}
+use Rattle.notify_core.specs.Parts.{NotesPart}
 use Rattle.tick_delay.specs.Parts.{DelayView}
 
 pub record Parts : Type 0 where
@@ -29,8 +28,7 @@ pub record Parts : Type 0 where
   pub cores : CoresView
   -- per task its unfinished call
   pub calls : List (Option Unfinished)
-  -- per task its notification
-  pub notes : List Notification
+  pub notes : NotesPart
   pub mutexes : MutexPart
   pub delays : DelayView
   -- per task the ticks left to the end of its unfinished wait for a mutex
@@ -40,7 +38,7 @@ pub record Parts : Type 0 where
 
 -- the parts, in the order of the record
 abbrev pub parts_of :
-    Settings → CoresView → List (Option Unfinished) → List Notification → MutexPart → DelayView
+    Settings → CoresView → List (Option Unfinished) → NotesPart → MutexPart → DelayView
     → List (Option ℕ) → Option Hold → Parts
 parts_of settings cores calls notes mutexes delays deadlines hold = record {
   settings = settings;
@@ -59,7 +57,7 @@ kernel_view parts = record {
   settings = parts.settings;
   control = parts.cores.control;
   calls = parts.calls;
-  notes = parts.notes;
+  notes = parts.notes.notes;
   holders = parts.mutexes.holders;
   hold = parts.hold;
   orders = record {
@@ -91,7 +89,9 @@ pub record IsKernelShape (parts : Parts) : Type 0 where
   pub cores : length parts.cores.control.cores ≡ parts.settings.cores
   pub controls : length parts.cores.control.tasks ≡ parts.settings.tasks
   pub calls : length parts.calls ≡ parts.settings.tasks
-  pub notes : length parts.notes ≡ parts.settings.tasks
+  pub note_tasks : parts.notes.tasks ≡ parts.settings.tasks
+  pub note_entries : parts.notes.entries ≡ parts.settings.notes
+  pub some_note : 0 < parts.settings.notes
   pub mutexes : parts.mutexes.tasks ≡ parts.settings.tasks
   pub mutex_priorities : parts.mutexes.priorities ≡ parts.settings.priorities
   pub holders : length parts.mutexes.holders ≡ parts.settings.mutexes
@@ -100,11 +100,11 @@ pub record IsKernelShape (parts : Parts) : Type 0 where
   pub undelayed : IsDisjoint delayed_task parts.cores.ready parts.delays.delayed
   pub unqueued : IsDisjoint waiting_task parts.cores.ready parts.mutexes.waiters
 
--- each unfinished wait is for a mutex that there is
-abbrev pub HasTheirMutexes : View → Type 0
-HasTheirMutexes view =
-    (task mutex : ℕ) (mark : Bool) → call_at view.calls task ≡ Some (Take mutex mark)
-    → mutex < view.settings.mutexes
+-- each unfinished call was checked, so it is for a mutex or a notification that there is
+abbrev pub HasCheckedCalls : View → Type 0
+HasCheckedCalls view =
+    (task : ℕ) (call : Unfinished) → call_at view.calls task ≡ Some call
+    → IsCheckedUnfinished view.settings call
 
 -- an open hold is not open too many times over, and its core runs a ready task
 pub record IsHeldReady (view : View) (hold : Hold) : Type 0 where
@@ -112,14 +112,14 @@ pub record IsHeldReady (view : View) (hold : Hold) : Type 0 where
   pub ready : has (current view.control hold.core) view.orders.ready ≡ true
 
 -- between steps no task has waited long enough, a core that is not due or holds the kernel runs a
--- ready task, and unfinished waits are for mutexes that there are
+-- ready task, and unfinished calls were checked
 pub record IsSettled (view : View) : Type 0 where
   pub none_due : due_tasks view.orders.delayed ≡ []
   pub runs_ready :
       (core : ℕ) → core < view.settings.cores → is_due view.control core ≡ false
       → has (current view.control core) view.orders.ready ≡ true
   pub held : ForSome view.hold (IsHeldReady view)
-  pub mutexes : HasTheirMutexes view
+  pub calls : HasCheckedCalls view
 
 -- what a call finds that is not refused: its core, its ready task and what it is for; it gives no
 -- mutex that another task holds, and a hold that is not open too many times over
@@ -130,7 +130,7 @@ pub record FindsItsTask (view : View) (core task : ℕ) (call : Call) : Type 0 w
   pub checked : call_check view.settings call ≡ Ok tt
   pub own : give_refusal view.holders task call ≡ None
   pub depth : depth_of view.hold ≤ max_depth
-  pub mutexes : HasTheirMutexes view
+  pub calls : HasCheckedCalls view
 
 -- there is a sound table that a kernel of which this can be seen stands for
 abbrev pub StandsForSome : View → Type 0

@@ -6,7 +6,7 @@ ghost use Rattle.bench_model.specs.Control.{core_at, current, is_allowed, task_a
 ghost use Rattle.bench_model.specs.State.{holder_at};
 ghost use Rattle.bench_model.specs.Table.{Table};
 ghost use Rattle.bench_model.specs.Start.{start};
-ghost use Rattle.bench_model.specs.Looks.{task_look};
+ghost use Rattle.bench_model.specs.Looks.{note_look, task_look};
 ghost use Rattle.bench_model.specs.Session.{step_of};
 ghost use Rattle.bench_model.specs.Equal.{Same, StandsFor};
 ghost use Rattle.bench_model.specs.Seek.{effective};
@@ -17,7 +17,7 @@ ghost use Rattle.smp_kernel.specs.Raised.{raised_by, KeepsOthers};
 
 use crate::Meter;
 use crate::scheduler::Scheduler;
-use bench_types::{CoreLook, Fault, Header, Reply, Settings, Step, TaskLook};
+use bench_types::{CoreLook, Fault, Header, NoteState, Reply, Settings, Step, TaskLook};
 use std::alloc::{AllocError, Global};
 use std::marker::Model;
 use thiserror::Error;
@@ -168,6 +168,17 @@ impl Kernel {
         ensures { (table : Table) → StandsFor self.now table → result ≡ task_look table task }
     {
         self.scheduler.look(task)
+    }
+
+    /// The task's notification of the index.
+    pub fn note_look(&self, task: u32, index: u32) -> (u32, NoteState)
+        requires task { task < self.now.settings.tasks }
+        requires index { index < self.now.settings.notes }
+        ensures { (table : Table) → StandsFor self.now table
+            → result ≡ ((note_look table task index).value, (note_look table task index).state) }
+    {
+        let note = self.scheduler.note_look(task, index);
+        (note.value, note.state)
     }
 
     /// The priority in use of the task: its base priority, or one that it inherited

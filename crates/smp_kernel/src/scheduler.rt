@@ -16,10 +16,10 @@ ghost use Rattle.bench_model.specs.State.{holder_at, yielded, blocked};
 ghost use Rattle.bench_model.specs.Seek.{effective, wake, after_switch, sliced};
 ghost use Rattle.bench_model.specs.Steps.{ticked, delayed_until, called, performed, after};
 ghost use Rattle.bench_model.specs.Lists.{list_queues, is_ready, wakes_first, advance, due_tasks};
-ghost use Rattle.bench_model.specs.Looks.{look_in};
+ghost use Rattle.bench_model.specs.Looks.{look_in, note_look};
 ghost use Rattle.bench_model.specs.Tally.{is_current};
 ghost use Rattle.tick_delay.specs.Parts.{is_waiting};
-ghost use Rattle.smp_kernel.specs.Kernel.{HasTheirMutexes, IsSettled};
+ghost use Rattle.smp_kernel.specs.Kernel.{HasCheckedCalls, IsSettled};
 
 mod equal;
 mod first;
@@ -33,7 +33,7 @@ mod sets;
 use self::first::{first_orders, no_ends, no_waits};
 use crate::deadlines::Deadlines;
 use bench_types::{
-    Call, CoreLook, Header, Hold, Note, Reply, Settings, Step, TaskLook, Unfinished,
+    Call, CoreLook, Header, Hold, Note, Notification, Reply, Settings, Step, TaskLook, Unfinished,
 };
 use mutex_inherit::Mutexes;
 use notify_core::Notes;
@@ -97,10 +97,11 @@ impl Scheduler {
             priorities: config.priorities,
             slicing: config.slicing,
             mutexes: config.mutexes,
+            notes: config.notes,
             tasks,
         };
         let (cores, mutexes) = first_orders(alloc, header, settings)?;
-        let (calls, notes) = no_waits(alloc, tasks)?;
+        let (calls, notes) = no_waits(alloc, tasks, config.notes)?;
         let (delays, deadlines) = no_ends(alloc, config.tick, tasks)?;
         Ok(Scheduler {
             settings,
@@ -154,8 +155,20 @@ impl Scheduler {
             left: self.delays.left(task),
             held: self.mutexes.held(task),
             in_call: self.calls[task as usize].is_some(),
-            value: self.notes.value(task),
-            state: self.notes.state(task),
+            value: self.notes.value(task, 0),
+            state: self.notes.state(task, 0),
+        }
+    }
+
+    /// The task's notification of the index.
+    pub fn note_look(&self, task: u32, index: u32) -> Notification
+        requires task { task < self.now.settings.tasks }
+        requires index { index < self.now.settings.notes }
+        ensures { result ≡ note_look self.now task index }
+    {
+        Notification {
+            value: self.notes.value(task, index),
+            state: self.notes.state(task, index),
         }
     }
 
@@ -344,7 +357,7 @@ impl Scheduler {
         requires checked { call_check self.old.settings call ≡ Ok tt }
         requires own { give_refusal self.old.holders task call ≡ None }
         requires depth { depth_of self.old.hold ≤ max_depth }
-        requires mutexes { HasTheirMutexes self.old }
+        requires calls { HasCheckedCalls self.old }
         ensures { (result, self.new) ≡ called list_queues core task call self.old }
     {
         match call {
@@ -358,14 +371,21 @@ impl Scheduler {
             Call::Delay(ticks) => return self.delay(core, task, ticks),
             Call::DelayUntil { prev, inc } => return self.delay_until(core, task, prev, inc),
             Call::Notify(note) => return Reply::Flag(self.notify(core, note)),
-            Call::NotifyWait { entry, ticks, .. } => return self.wait(
-                core, task, call, entry, ticks,
-            ),
-            Call::NotifyTake { ticks, .. } => return self.take(core, task, call, ticks),
+            Call::NotifyWait {
+                entry,
+                exit,
+                ticks,
+                index,
+            } => return self.wait(core, task, entry, exit, ticks, index),
+            Call::NotifyTake {
+                clear,
+                ticks,
+                index,
+            } => return self.take(core, task, clear, ticks, index),
             Call::MutexTake { mutex, ticks } => return self.take_mutex(core, task, mutex, ticks),
             Call::MutexGive(mutex) => return self.give_mutex(core, task, mutex),
-            Call::StateClear(task) => return self.clear_state(task),
-            Call::ValueClear { task, bits } => return self.clear_value(task, bits),
+            Call::StateClear { task, index } => return self.clear_state(task, index),
+            Call::ValueClear { task, bits, index } => return self.clear_value(task, bits, index),
             Call::Finish => return self.finish(core, task),
         }
         Reply::Done

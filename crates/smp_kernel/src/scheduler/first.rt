@@ -1,10 +1,10 @@
 //! The parts of a kernel before any core has selected.
-ghost use Rattle.std.specs.Prelude.{◌≡◌, ◌<◌, ◌+◌, ◌^◌, IfOk, Ok, None, replicate};
+ghost use Rattle.std.specs.Prelude.{◌≡◌, ◌<◌, ◌+◌, ◌*◌, ◌^◌, IfOk, Ok, None, replicate};
 ghost use Rattle.bench_types.specs.Header.{header_check};
 ghost use Rattle.bench_model.specs.Cores.{cores_of};
-ghost use Rattle.bench_model.specs.Notes.{no_note};
 ghost use Rattle.bench_model.specs.Start.{first_lists, unstarted};
 ghost use Rattle.mutex_inherit.specs.Parts.{free_mutexes};
+ghost use Rattle.notify_core.specs.Parts.{fresh_notes};
 ghost use Rattle.tick_delay.specs.Parts.{no_delays};
 
 use crate::deadlines::Deadlines;
@@ -37,11 +37,13 @@ pub(super) fn first_orders(
 pub(super) fn no_waits(
     alloc: Global,
     tasks: u32,
+    entries: u32,
 ) -> Result<(Vec<Option<Unfinished>>, Notes), AllocError>
+    requires { tasks * entries < 2 ^ 32 }
     ensures calls { IfOk result (λ parts. parts.0.items ≡ replicate tasks None) }
-    ensures notes { IfOk result (λ parts. parts.1 ≡ replicate tasks no_note) }
+    ensures notes { IfOk result (λ parts. parts.1 ≡ fresh_notes tasks entries) }
 {
-    Ok((no_calls(alloc, tasks)?, Notes::new(alloc, tasks)?))
+    Ok((no_calls(alloc, tasks)?, Notes::new(alloc, tasks, entries)?))
 }
 
 fn no_calls(alloc: Global, tasks: u32) -> Result<Vec<Option<Unfinished>>, AllocError>

@@ -8,7 +8,7 @@ ghost use Rattle.bench_model.specs.State.{call_at, holder_at, after_return};
 ghost use Rattle.bench_model.specs.Lists.{list_queues, first_of};
 ghost use Rattle.bench_model.specs.Steps.{after_finish};
 ghost use Rattle.bench_model.specs.Mutexes.{waited_at, mutex_take, timed_out, take_finished, disinherited, mutex_give};
-ghost use Rattle.smp_kernel.specs.Kernel.{HasTheirMutexes};
+ghost use Rattle.smp_kernel.specs.Kernel.{HasCheckedCalls};
 ghost use Rattle.mutex_inherit.specs.Parts.{holder_of};
 
 use super::notes::timeout_of;
@@ -64,7 +64,7 @@ impl Scheduler {
         requires core { core < self.old.settings.cores }
         requires task { task < self.old.settings.tasks }
         requires ready { has task self.old.orders.ready ≡ true }
-        requires mutexes { HasTheirMutexes self.old }
+        requires calls { HasCheckedCalls self.old }
         ensures { (result, self.new)
             ≡ option_map_or (λ call. after_finish list_queues core task call self.old)
             (call_at self.old.calls task) (Done, self.old) }

@@ -1,7 +1,9 @@
 //! Notifying a task, and the calls that wait for a notification.
-ghost use Rattle.std.specs.Prelude.{◌≡◌, ◌<◌, true};
+ghost use Rattle.std.specs.Prelude.{◌≡◌, ◌<◌, true, Ok};
 ghost use Rattle.list_orders.specs.Search.{has};
-ghost use Rattle.bench_model.specs.Notes.{of_task, wait_begun, take_begun};
+ghost use Rattle.bench_types.specs.declared.step.Call.TheVariants.{NotifyTake, NotifyWait};
+ghost use Rattle.bench_types.specs.Step.{call_check};
+ghost use Rattle.bench_model.specs.Notes.{of_slot, slot_of, wait_begun, take_begun};
 ghost use Rattle.bench_model.specs.Notifying.{notify, is_passed, interrupted, state_forgotten, bits_cleared, completed, awaited, timeout_of};
 ghost use Rattle.bench_model.specs.Lists.{list_queues};
 
@@ -13,12 +15,13 @@ impl Scheduler {
     // notification passed.
     #[tactic(auto, unfolding(bench_model::specs::Notifying::notify, bench_model::specs::Seek::wake))]
     pub(super) fn notify(&mut self, acting: u32, note: Note) -> bool
-        requires { note.task < self.old.settings.tasks }
+        requires task { note.task < self.old.settings.tasks }
+        requires index { note.index < self.old.settings.notes }
         ensures passed { result ≡ is_passed note self.old }
-        ensures notified { self.new ≡ notify list_queues acting note.task note.action self.old }
+        ensures notified { self.new ≡ notify list_queues acting note self.old }
         ensures settings { self.new.settings ≡ self.old.settings }
     {
-        let (passes, waits) = self.notes.notify(note.task, note.action);
+        let (passes, waits) = self.notes.notify(note.task, note.index, note.action);
         if waits {
             self.wake(acting, note.task);
         }
@@ -30,6 +33,7 @@ impl Scheduler {
     pub(super) fn interrupt(&mut self, core: u32, note: Note) -> Reply
         requires core { core < self.old.settings.cores }
         requires task { note.task < self.old.settings.tasks }
+        requires index { note.index < self.old.settings.notes }
         ensures { (result, self.new) ≡ interrupted list_queues core note self.old }
     {
         let pass = self.notify(core, note);
@@ -39,34 +43,39 @@ impl Scheduler {
 
     // Forgets that a notification has come to the task. Returns whether one had.
     #[tactic(auto, unfolding(bench_model::specs::Notifying::state_forgotten))]
-    pub(super) fn clear_state(&mut self, task: u32) -> Reply
-        requires { task < self.old.settings.tasks }
-        ensures { (result, self.new) ≡ state_forgotten task self.old }
+    pub(super) fn clear_state(&mut self, task: u32, index: u32) -> Reply
+        requires task { task < self.old.settings.tasks }
+        requires index { index < self.old.settings.notes }
+        ensures { (result, self.new) ≡ state_forgotten task index self.old }
     {
-        Reply::Flag(self.notes.clear_state(task))
+        Reply::Flag(self.notes.clear_state(task, index))
     }
 
     // Clears the bits of the task's value. Returns the value before.
     #[tactic(auto, unfolding(bench_model::specs::Notifying::bits_cleared))]
-    pub(super) fn clear_value(&mut self, task: u32, bits: u32) -> Reply
-        requires { task < self.old.settings.tasks }
-        ensures { (result, self.new) ≡ bits_cleared task bits self.old }
+    pub(super) fn clear_value(&mut self, task: u32, bits: u32, index: u32) -> Reply
+        requires task { task < self.old.settings.tasks }
+        requires index { index < self.old.settings.notes }
+        ensures { (result, self.new) ≡ bits_cleared task bits index self.old }
     {
-        Reply::Value(self.notes.clear_value(task, bits))
+        Reply::Value(self.notes.clear_value(task, index, bits))
     }
 
     // A call completes: one that waited for a notification answers with that, every other is done.
     #[tactic(auto, unfolding(bench_model::specs::Notifying::completed))]
     pub(super) fn complete(&mut self, task: u32, call: Call) -> Reply
-        requires { task < self.old.settings.tasks }
+        requires task { task < self.old.settings.tasks }
+        requires checked { call_check self.old.settings call ≡ Ok tt }
         ensures { (result, self.new) ≡ completed task call self.old }
     {
         match call {
-            Call::NotifyWait { exit, .. } => {
-                let (ok, value) = self.notes.end_wait(task, exit);
+            Call::NotifyWait { exit, index, .. } => {
+                let (ok, value) = self.notes.end_wait(task, index, exit);
                 Reply::Waited { ok, value }
             }
-            Call::NotifyTake { clear, .. } => Reply::Value(self.notes.end_take(task, clear)),
+            Call::NotifyTake { clear, index, .. } => {
+                Reply::Value(self.notes.end_take(task, index, clear))
+            }
             _ => Reply::Done,
         }
     }
@@ -79,6 +88,7 @@ impl Scheduler {
         requires core { core < self.old.settings.cores }
         requires task { task < self.old.settings.tasks }
         requires ready { has task self.old.orders.ready ≡ true }
+        requires checked { call_check self.old.settings call ≡ Ok tt }
         ensures { (result, self.new)
             ≡ awaited list_queues core task call ticks (begun, self.old.notes) self.old }
     {
@@ -89,29 +99,60 @@ impl Scheduler {
         self.complete(task, call)
     }
 
+    // A call that waits for a notification of the index.
     #[tactic(auto, unfolding(bench_model::specs::Notifying::awaited))]
-    pub(super) fn wait(&mut self, core: u32, task: u32, call: Call, entry: u32, ticks: u32) -> Reply
+    pub(super) fn wait(
+        &mut self,
+        core: u32,
+        task: u32,
+        entry: u32,
+        exit: u32,
+        ticks: u32,
+        index: u32,
+    ) -> Reply
         requires core { core < self.old.settings.cores }
         requires task { task < self.old.settings.tasks }
+        requires index { index < self.old.settings.notes }
         requires ready { has task self.old.orders.ready ≡ true }
         ensures { (result, self.new)
-            ≡ awaited list_queues core task call ticks
-            (of_task task (wait_begun entry) self.old.notes) self.old }
+            ≡ awaited list_queues core task (NotifyWait entry exit ticks index) ticks
+            (of_slot (slot_of self.old.settings task index) (wait_begun entry) self.old.notes)
+            self.old }
     {
-        let begun = self.notes.begin_wait(task, entry);
+        let begun = self.notes.begin_wait(task, index, entry);
+        let call = Call::NotifyWait {
+            entry,
+            exit,
+            ticks,
+            index,
+        };
         self.await_note(core, task, call, ticks, begun)
     }
 
+    // A call that takes the value of the index.
     #[tactic(auto, unfolding(bench_model::specs::Notifying::awaited))]
-    pub(super) fn take(&mut self, core: u32, task: u32, call: Call, ticks: u32) -> Reply
+    pub(super) fn take(
+        &mut self,
+        core: u32,
+        task: u32,
+        clear: bool,
+        ticks: u32,
+        index: u32,
+    ) -> Reply
         requires core { core < self.old.settings.cores }
         requires task { task < self.old.settings.tasks }
+        requires index { index < self.old.settings.notes }
         requires ready { has task self.old.orders.ready ≡ true }
         ensures { (result, self.new)
-            ≡ awaited list_queues core task call ticks
-            (of_task task take_begun self.old.notes) self.old }
+            ≡ awaited list_queues core task (NotifyTake clear ticks index) ticks
+            (of_slot (slot_of self.old.settings task index) take_begun self.old.notes) self.old }
     {
-        let begun = self.notes.begin_take(task);
+        let begun = self.notes.begin_take(task, index);
+        let call = Call::NotifyTake {
+            clear,
+            ticks,
+            index,
+        };
         self.await_note(core, task, call, ticks, begun)
     }
 }

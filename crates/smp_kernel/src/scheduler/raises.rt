@@ -2,7 +2,7 @@
 ghost use Rattle.std.specs.Prelude.{◌≡◌, ◌<◌, IfSome, Ok};
 ghost use Rattle.bench_types.specs.Step.{call_check, step_check};
 ghost use Rattle.bench_model.specs.State.{call_at};
-ghost use Rattle.smp_kernel.specs.Kernel.{HasTheirMutexes};
+ghost use Rattle.smp_kernel.specs.Kernel.{HasCheckedCalls};
 ghost use Rattle.smp_kernel.specs.Raised.{raised_by, raised_by_call, raised_by_end};
 
 use super::Scheduler;
@@ -12,7 +12,7 @@ impl Scheduler {
     /// The task whose priority in use the step may raise, if there is one.
     pub fn raised_by(&self, step: &Step) -> Option<u32>
         requires checked { step_check self.now.settings step.now ≡ Ok tt }
-        requires mutexes { HasTheirMutexes self.now }
+        requires calls { HasCheckedCalls self.now }
         ensures raised { result ≡ raised_by self.now step.now }
         ensures task { IfSome result (λ task. task < self.now.settings.tasks) }
     {
@@ -25,7 +25,7 @@ impl Scheduler {
     fn raised_by_call(&self, task: u32, call: Call) -> Option<u32>
         requires task { task < self.now.settings.tasks }
         requires checked { call_check self.now.settings call ≡ Ok tt }
-        requires mutexes { HasTheirMutexes self.now }
+        requires calls { HasCheckedCalls self.now }
         ensures raised { result ≡ raised_by_call self.now task call }
         ensures task { IfSome result (λ task. task < self.now.settings.tasks) }
     {
@@ -41,7 +41,7 @@ impl Scheduler {
     // A wait for a mutex raises its holder, or gives up what that inherited.
     fn raised_by_finish(&self, task: u32) -> Option<u32>
         requires task { task < self.now.settings.tasks }
-        requires mutexes { HasTheirMutexes self.now }
+        requires calls { HasCheckedCalls self.now }
         ensures raised { result ≡ raised_by_end self.now.holders (call_at self.now.calls task) }
         ensures task { IfSome result (λ task. task < self.now.settings.tasks) }
     {

@@ -106,8 +106,12 @@ impl Scheduler {
             Call::DelayUntil { prev, inc } => {
                 is_ahead(self.tick_count(), prev, next_wake(prev, inc))
             }
-            Call::NotifyWait { ticks, .. } => { !is_received(self.notes.state(task)) && ticks > 0 }
-            Call::NotifyTake { ticks, .. } => self.notes.value(task) == 0 && ticks > 0,
+            Call::NotifyWait { ticks, index, .. } => {
+                !is_received(self.notes.state(task, index)) && ticks > 0
+            }
+            Call::NotifyTake { ticks, index, .. } => {
+                self.notes.value(task, index) == 0 && ticks > 0
+            }
             Call::MutexTake { mutex, ticks } => self.mutexes.holder(mutex).is_some() && ticks > 0,
             _ => false,
         }

@@ -7,8 +7,8 @@ use Rattle.smp_kernel.proofs.Raises.{step_others}
 use Rattle.smp_kernel.proofs.Stands.{settled_of}
 use Rattle.smp_kernel.proofs.kernel.Kernel.raised_by.Goals as goal
 
-pub raised_by-requires-clause-mutexes : goal.raised_by-requires-clause-mutexes
-raised_by-requires-clause-mutexes c = (settled_of c.self.inside.scheduler c.self.invariant).mutexes
+pub raised_by-requires-clause-calls : goal.raised_by-requires-clause-calls
+raised_by-requires-clause-calls c = (settled_of c.self.inside.scheduler c.self.invariant).calls
 
 pub returns-clause-others : goal.returns-clause-others
 returns-clause-others c table stands =

@@ -2,7 +2,7 @@ ghost use Rattle.std.specs.Prelude.{◌≡◌, ◌<◌, ◌≤◌, ◌+◌, ◌�
 ghost use Rattle.std.specs.Vec.{vec_capacity};
 ghost use Rattle.bench_types.specs.Act.{IsCheckedAct};
 ghost use Rattle.bench_types.specs.Header.{header_check};
-ghost use Rattle.bench_types.specs.Step.{settings_of, task_check, IsActionOfWord, IsCheckedCall, IsCheckedStep};
+ghost use Rattle.bench_types.specs.Step.{settings_of, note_check, IsActionOfWord, IsCheckedCall, IsCheckedStep};
 ghost use Rattle.bench_model.specs.History.{core_of as made_on, is_kept_out, places_of, AreByCurrent, IsByCurrent, IsGrowthBy, IsLegal, IsNext};
 ghost use Rattle.bench_model.specs.Holds.{depth_of, depth_by, is_held_by, is_held_elsewhere};
 ghost use Rattle.history_laws.specs.SoundHistories.{IsSoundHistory};
@@ -205,7 +205,7 @@ impl Recording {
     #[inline(always)]
     pub fn interrupt(&mut self, core: u32, note: Note) -> Result<Answer, RecordRefusal>
         requires core { core < self.old.header.config.cores }
-        requires task { task_check (settings_of self.old.header) note.task ≡ Ok tt }
+        requires note { note_check (settings_of self.old.header) note ≡ Ok tt }
         requires words { IsActionOfWord note.action }
         ensures answer { result ≡ answer_in_room (Step.Interrupt core note) self.old }
         ensures history { OnOk result (self.new ≡ with_step (Step.Interrupt core note) self.old) }

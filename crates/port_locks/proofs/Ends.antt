@@ -1,5 +1,5 @@
 -- What the seats of a pair know at its end, once all are joined into one.
-use Rattle.std.proofs.Common.{◌≡◌, ◌≢◌, ℕ, ◌+◌, ◌<◌, ◌≤◌, ◌==◌, ◌-◌, List, [], ◌∷◌, length, get_or, Bool, true, false, true≢false, Option, Some, None, option_map, refl, sym, ap, ◌∙◌, subst, ⊎_elim, arith, eq-eqb}
+use Rattle.std.proofs.Common.{◌≡◌, ℕ, ◌+◌, ◌<◌, ◌≤◌, ◌==◌, ◌-◌, List, [], ◌∷◌, length, get_or, Bool, true, false, true≢false, Option, Some, None, option_map, refl, sym, ap, ◌∙◌, subst, ⊎_elim, arith, eq-eqb}
 use Rattle.std.specs.List.{All}
 use mathlib.Core.Logic.{dite}
 use mathlib.Core.Option as maybe

@@ -1,7 +1,7 @@
 -- The worked edits of sessions with checkpoints, computed on the definitions.
 use Rattle.std.proofs.Common.{ℕ}
 use Rattle.bench_model.specs.Meeting.{checkpoint_before, met}
-use Rattle.bench_model.specs.Notes.{state_cleared}
+use Rattle.bench_model.specs.Notes.{slot_in, state_cleared}
 use Rattle.bench_model.specs.Notifying.{state_forgotten}
 use Rattle.bench_model.specs.SameTest.{is_same}
 use Rattle.bench_model.specs.Table.{deadline_left}
@@ -10,7 +10,7 @@ use Rattle.worked_examples.proofs.Examples.{computed}
 
 -- whoever names this computes with meetings
 unfoldable of_meetings : ℕ
-unfolding computed checkpoint_before met is_same state_cleared state_forgotten deadline_left
+unfolding computed checkpoint_before met is_same slot_in state_cleared state_forgotten deadline_left
 of_meetings = 0
 
 pub openings : WorkedOpenings

@@ -1,13 +1,14 @@
 -- The worked notifications, computed on the definitions.
 use Rattle.std.proofs.Common.{ℕ}
-use Rattle.bench_model.specs.Notes.{notified, wait_begun, wait_ended, take_begun, take_ended, state_cleared, value_cleared}
-use Rattle.worked_examples.specs.NoteExamples.{WorkedNotes, WorkedWaits, WorkedTakes, WorkedClears, WorkedNotifies, WorkedCalls}
+use Rattle.bench_model.specs.Notes.{notified, slot_in, wait_begun, wait_ended, take_begun, take_ended, state_cleared, value_cleared}
+use Rattle.worked_examples.specs.NoteExamples.{WorkedNotes, WorkedWaits, WorkedTakes, WorkedClears, WorkedNotifies, WorkedCalls, WorkedIndexes}
+use Rattle.bench_model.specs.Session.{state_at}
 use Rattle.bench_model.specs.Notifying.{notify, interrupted, state_forgotten, bits_cleared, awaited}
 use Rattle.worked_examples.proofs.Examples.{computed}
 
 -- whoever names this computes with notifications
 unfoldable of_notes : ℕ
-unfolding notified wait_begun wait_ended take_begun take_ended state_cleared value_cleared
+unfolding notified slot_in wait_begun wait_ended take_begun take_ended state_cleared value_cleared
 of_notes = 0
 
 pub notes : WorkedNotes
@@ -33,3 +34,7 @@ notifies = assumption
 pub called : WorkedCalls
 unfolding of_notes notify interrupted state_forgotten bits_cleared awaited computed
 called = assumption
+
+pub indexed : WorkedIndexes
+unfolding of_notes notify interrupted state_forgotten bits_cleared awaited computed state_at
+indexed = assumption

@@ -56,7 +56,7 @@ pub record WorkedMeetings : Type 0 where
   -- one whose effect is over meets at the next checkpoint, and each tick more lasts
   pub soon_over :
       outcomes_of yields
-      (Replace 0 (Call 0 2 (StateClear 2)) ∷ Insert 6 Tick ∷ Insert 7 Tick ∷ Insert 8 Tick ∷ [])
+      (Replace 0 (Call 0 2 (StateClear 2 0)) ∷ Insert 6 Tick ∷ Insert 7 Tick ∷ Insert 8 Tick ∷ [])
       ≡ (0, 2, 2) ∷ (4, 7, 3) ∷ (4, 8, 4) ∷ (6, 9, 3) ∷ []
   pub removed_ticks : outcomes_of yields (Remove 2 ∷ Remove 2 ∷ []) ≡ (2, 5, 3) ∷ (2, 4, 2) ∷ []
   -- the checkpoint after the removed step falls on the place of the edit, and is compared there

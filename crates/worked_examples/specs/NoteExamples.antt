@@ -14,12 +14,12 @@ use Rattle.bench_types.specs.declared.step.Step.TheVariants.{Tick, Switch, Call,
 use Rattle.bench_types.specs.declared.step.Call.TheVariants.{Delay, Notify, NotifyWait, NotifyTake, StateClear, ValueClear, Finish}
 use Rattle.worked_examples.specs.Examples.{timed, three_tasks}
 use Rattle.bench_model.specs.Lists.{view_of}
-use Rattle.bench_model.specs.Looks.{ticks_left}
+use Rattle.bench_model.specs.Looks.{note_look, ticks_left}
 use Rattle.bench_model.specs.Notes.{no_note, note_at, passes, notified, wait_begun, wait_ended, take_begun, take_ended, state_cleared, value_cleared}
 use Rattle.bench_model.specs.Notifying.{notify}
 use Rattle.bench_model.specs.Seek.{after_switch}
 use Rattle.worked_examples.specs.SeekExamples.{flags, delayed_once}
-use Rattle.bench_model.specs.Session.{state_after, trace}
+use Rattle.bench_model.specs.Session.{state_after, state_at, trace}
 use Rattle.bench_model.specs.Start.{start}
 use Rattle.bench_model.specs.Table.{Table, stamp_queues, is_ready, delay}
 
@@ -83,52 +83,52 @@ shows table = (note_at table.notes 2, is_ready 2 table.orders, flags table.contr
 abbrev pub late : Table → Table
 late table = record table { notes = slice_set table.notes 3 (waiting 0) }
 
+abbrev pub told : ℕ → Action → Note
+told task action = record { task = task; action = action; index = 0 }
+
 -- who is woken by a notification, and who is not
 pub record WorkedNotifies : Type 0 where
   pub waits : shows (awaiting None) ≡ (waiting 0, false, (false, false) ∷ (false, false) ∷ [])
   pub woken :
-      shows (notify stamp_queues 0 2 Increment (awaiting None))
+      shows (notify stamp_queues 0 (told 2 Increment) (awaiting None))
       ≡ (received 1, true, (false, false) ∷ (false, true) ∷ [])
   pub woken_by_core_1 :
-      shows (notify stamp_queues 1 2 Nothing (awaiting None))
+      shows (notify stamp_queues 1 (told 2 Nothing) (awaiting None))
       ≡ (received 0, true, (false, false) ∷ (true, false) ∷ [])
   pub woken_before_its_ticks :
-      (view_of (notify stamp_queues 0 2 Increment (awaiting (Some 5)))).orders.delayed ≡ []
+      (view_of (notify stamp_queues 0 (told 2 Increment) (awaiting (Some 5)))).orders.delayed ≡ []
   pub other_notified :
-      shows (notify stamp_queues 0 3 Increment (awaiting None)) ≡ shows (awaiting None)
+      shows (notify stamp_queues 0 (told 3 Increment) (awaiting None)) ≡ shows (awaiting None)
   pub delay_waits_on :
-      shows (notify stamp_queues 0 2 (Set 5) (delayed_once three_tasks))
+      shows (notify stamp_queues 0 (told 2 (Set 5)) (delayed_once three_tasks))
       ≡ (received 5, false, (false, false) ∷ (false, false) ∷ [])
   pub ticks_have_run_out :
-      (view_of (notify stamp_queues 0 3 Increment (late (start three_tasks)))).orders.ready
+      (view_of (notify stamp_queues 0 (told 3 Increment) (late (start three_tasks)))).orders.ready
       ≡ 2 ∷ 4 ∷ 3 ∷ 0 ∷ 1 ∷ []
   pub ready_keeps_its_place :
-      (notify stamp_queues 0 3 Increment (start three_tasks)).orders ≡ (start three_tasks).orders
+      (notify stamp_queues 0 (told 3 Increment) (start three_tasks)).orders ≡ (start three_tasks).orders
 
 abbrev pub replies : Header → List Step → List Reply
 replies header steps = map (λ outcome. outcome.0) (trace (start header) steps)
 
-abbrev pub told : ℕ → Action → Note
-told task action = record { task = task; action = action }
-
 -- task 2 waits for one tick, and is notified after that
 abbrev pub late_wait : List Step
 late_wait =
-    Call 0 2 (NotifyWait 0 (2 ^ 32 - 1) 1) ∷ Tick ∷ Interrupt 1 (told 2 Increment) ∷ Switch 0
+    Call 0 2 (NotifyWait 0 (2 ^ 32 - 1) 1 0) ∷ Tick ∷ Interrupt 1 (told 2 Increment) ∷ Switch 0
     ∷ Call 0 2 Finish ∷ []
 
 -- task 2 takes without end, and core 0 runs task 4
 abbrev pub endless_take : List Step
-endless_take = Call 0 2 (NotifyTake true (2 ^ 32 - 1)) ∷ Switch 0 ∷ Tick ∷ []
+endless_take = Call 0 2 (NotifyTake true (2 ^ 32 - 1) 0) ∷ Switch 0 ∷ Tick ∷ []
 
 -- Task 2 (priority 2) runs on core 0 and task 3 (priority 1) on core 1; task 4 (priority 1) is
 -- ready.
 pub record WorkedCalls : Type 0 where
   pub takes_at_once :
       replies three_tasks
-      (Call 0 2 (NotifyTake false 0) ∷ Interrupt 1 (told 2 (Set 2))
-      ∷ Interrupt 1 (told 2 (SetNew 9)) ∷ Call 0 2 (NotifyTake false 0)
-      ∷ Call 0 2 (NotifyTake false 0) ∷ Call 0 2 (StateClear 2) ∷ [])
+      (Call 0 2 (NotifyTake false 0 0) ∷ Interrupt 1 (told 2 (Set 2))
+      ∷ Interrupt 1 (told 2 (SetNew 9)) ∷ Call 0 2 (NotifyTake false 0 0)
+      ∷ Call 0 2 (NotifyTake false 0 0) ∷ Call 0 2 (StateClear 2 0) ∷ [])
       ≡ Value 0 ∷ Isr true false ∷ Isr false false ∷ Value 2 ∷ Value 1 ∷ Flag false ∷ []
   pub waits :
       replies (timed three_tasks) late_wait
@@ -136,23 +136,23 @@ pub record WorkedCalls : Type 0 where
   pub exit_bits_cleared :
       note_at (state_after (start (timed three_tasks)) late_wait).notes 2 ≡ resting 0
   pub none_came :
-      replies three_tasks (Call 0 2 (NotifyWait 0 0 1) ∷ Tick ∷ Switch 0 ∷ Call 0 2 Finish ∷ [])
+      replies three_tasks (Call 0 2 (NotifyWait 0 0 1 0) ∷ Tick ∷ Switch 0 ∷ Call 0 2 Finish ∷ [])
       ≡ Blocked ∷ Done ∷ Done ∷ Waited false 0 ∷ []
   pub entry_bits_cleared :
       replies three_tasks
-      (Call 1 3 (Notify (told 2 (Set 7))) ∷ Call 1 3 (StateClear 2) ∷ Call 0 2 (NotifyWait 5 0 0)
-      ∷ Call 1 3 (ValueClear 2 6) ∷ Call 1 3 (ValueClear 2 0) ∷ [])
+      (Call 1 3 (Notify (told 2 (Set 7))) ∷ Call 1 3 (StateClear 2 0) ∷ Call 0 2 (NotifyWait 5 0 0 0)
+      ∷ Call 1 3 (ValueClear 2 6 0) ∷ Call 1 3 (ValueClear 2 0 0) ∷ [])
       ≡ Flag true ∷ Flag true ∷ Waited false 2 ∷ Value 2 ∷ Value 0 ∷ []
   pub without_end :
       ticks_left 2
-      (state_after (start three_tasks) (Call 0 2 (NotifyWait 0 0 (2 ^ 32 - 1)) ∷ [])).orders ≡ None
+      (state_after (start three_tasks) (Call 0 2 (NotifyWait 0 0 (2 ^ 32 - 1) 0) ∷ [])).orders ≡ None
   pub delay_has_an_end :
       ticks_left 2 (state_after (start three_tasks) (Call 0 2 (Delay (2 ^ 32 - 1)) ∷ [])).orders
       ≡ Some (2 ^ 32 - 1)
   pub woken_by_a_call :
       replies three_tasks
       (endless_take ++ Call 1 3 (Notify (told 2 (SetBits 5))) ∷ Switch 1 ∷ Call 1 2 Finish
-      ∷ Call 1 2 (NotifyTake false 0) ∷ [])
+      ∷ Call 1 2 (NotifyTake false 0 0) ∷ [])
       ≡ Blocked ∷ Done ∷ Done ∷ Flag true ∷ Done ∷ Value 5 ∷ Value 0 ∷ []
   pub own_core_is_to_switch :
       replies three_tasks (endless_take ++ Interrupt 1 (told 2 Increment) ∷ [])
@@ -160,3 +160,33 @@ pub record WorkedCalls : Type 0 where
   pub other_core_is_to_switch :
       replies three_tasks (endless_take ++ Interrupt 0 (told 2 Increment) ∷ [])
       ≡ Blocked ∷ Done ∷ Done ∷ Isr true false ∷ []
+
+-- a task has two notifications
+abbrev pub with_two : Header → Header
+with_two header = record header { config = record header.config { notes = 2 } }
+
+-- a notification at the index
+abbrev pub told_at : ℕ → ℕ → Action → Note
+told_at index task action = record { task = task; action = action; index = index }
+
+-- Task 2 waits at index 1, and an interrupt notifies it at index 0, then one at index 1.
+abbrev pub waits_at_one : List Step
+waits_at_one =
+    Call 0 2 (NotifyWait 0 0 10 1) ∷ Interrupt 1 (told_at 0 2 Increment)
+    ∷ Interrupt 1 (told_at 1 2 (Set 9)) ∷ Switch 0 ∷ Call 0 2 Finish ∷ []
+
+abbrev pub two_at_end : Table
+two_at_end = state_after (start (with_two three_tasks)) waits_at_one
+
+abbrev pub two_after : ℕ → Table
+two_after place = state_at (with_two three_tasks) waits_at_one place
+
+-- each index is waited for and notified by itself
+pub record WorkedIndexes : Type 0 where
+  pub answers :
+      replies (with_two three_tasks) waits_at_one
+      ≡ Blocked ∷ Isr true false ∷ Isr true false ∷ Done ∷ Waited true 9 ∷ []
+  pub other_index_wakes_nobody : is_ready 2 (two_after 2).orders ≡ false
+  pub own_index_wakes : is_ready 2 (two_after 3).orders ≡ true
+  pub first_at_end : note_look two_at_end 2 0 ≡ received 1
+  pub second_at_end : note_look two_at_end 2 1 ≡ resting 9

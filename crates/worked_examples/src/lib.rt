@@ -7,7 +7,7 @@ ghost use Rattle.worked_examples.specs.Examples.{WorkedSessions, TimedSessions, 
 ghost use Rattle.worked_examples.specs.HoldExamples.{WorkedHolds, WorkedUntils};
 ghost use Rattle.worked_examples.specs.MeetingExamples.{WorkedOpenings, WorkedMeetings, WorkedCheckpoints};
 ghost use Rattle.worked_examples.specs.MutexExamples.{WorkedMutexes};
-ghost use Rattle.worked_examples.specs.NoteExamples.{WorkedNotes, WorkedWaits, WorkedTakes, WorkedClears, WorkedNotifies, WorkedCalls};
+ghost use Rattle.worked_examples.specs.NoteExamples.{WorkedNotes, WorkedWaits, WorkedTakes, WorkedClears, WorkedNotifies, WorkedCalls, WorkedIndexes};
 ghost use Rattle.worked_examples.specs.SeekExamples.{AskedCores, SoughtCores, WorkedChoices};
 ghost use Rattle.worked_examples.specs.SetExamples.{WorkedPriorities, WorkedMasks, WorkedPreemption};
 ghost use Rattle.worked_examples.specs.TallyExamples.{WorkedTallies};
@@ -76,6 +76,8 @@ pub fn examples_of_notifications()
     ensures worked_notifies { WorkedNotifies }
     // The definitions give the worked sessions of tasks that notify, wait and take.
     ensures worked_calls { WorkedCalls }
+    // Each index of a task is waited for and notified by itself.
+    ensures worked_indexes { WorkedIndexes }
 {}
 
 /// Mutexes with priority inheritance.

@@ -1,4 +1,4 @@
-use Rattle.worked_examples.proofs.NoteExamples.{notes, waits, takes, clears, notifies, called}
+use Rattle.worked_examples.proofs.NoteExamples.{notes, waits, takes, clears, notifies, called, indexed}
 use Rattle.worked_examples.proofs.examples_of_notifications.Goals as goal
 
 pub returns-clause-worked_notes : goal.returns-clause-worked_notes
@@ -18,3 +18,6 @@ returns-clause-worked_notifies c = notifies
 
 pub returns-clause-worked_calls : goal.returns-clause-worked_calls
 returns-clause-worked_calls c = called
+
+pub returns-clause-worked_indexes : goal.returns-clause-worked_indexes
+returns-clause-worked_indexes c = indexed

@@ -4,6 +4,7 @@ mod answers;
 mod codes;
 mod documents;
 mod edits;
+mod formats;
 mod headers;
 mod holds;
 mod largest;

@@ -13,7 +13,7 @@ from referencing import Registry, Resource
 
 SEED = 38
 ACCEPTED = {"session": 400, "bench": 400, "rig": 200}
-WRONG = {"session": 230, "bench": 100, "rig": 140}
+WRONG = {"session": 240, "bench": 90, "rig": 140}
 UNTELLABLE = {"session": 15, "bench": 15}
 NUMBERS = [0, 0, 1, 2, 3, 5, 7, 31, 4294967294, 4294967295]
 # The members of a step after `core` and `by`, or after `core` for an interrupt.
@@ -25,6 +25,8 @@ STEPS = {
     "value_clear": ["to", "bits"], "mutex_take": ["mutex", "ticks"], "mutex_give": ["mutex"],
     "finish": [], "hold_open": [], "hold_close": [],
 }
+# The steps that are for a notification: in format 2 they may have its index.
+INDEXED = ("isr_notify", "notify", "notify_wait", "notify_take", "state_clear", "value_clear")
 ACTIONS = {"none": False, "set_bits": True, "increment": False, "set": True, "set_new": True}
 EDITS = ("insert", "remove", "replace", "change")
 # How the output begins where the input is accepted; that of a recording is a session.
@@ -41,8 +43,9 @@ def mask(rng, cores):
 def header(rng):
     cores, priorities = rng.randint(2, 8), rng.randint(1, 32)
     names = rng.sample(NAMES, rng.randint(1, 6))
+    notes = rng.choice([None, 1, 2, 8])
     return {
-        "format": 1, "cores": cores, "priorities": priorities, "slicing": rng.random() < 0.5,
+        **({"format": 2, "notes": notes} if notes else {"format": 1}), "cores": cores, "priorities": priorities, "slicing": rng.random() < 0.5,
         "tick": rng.choice(NUMBERS), "mutexes": rng.choice([0, 1, 2, 32]),
         "tasks": [{"name": name, "priority": rng.randrange(priorities), "mask": mask(rng, cores)}
                   for name in names],
@@ -73,6 +76,8 @@ def action(rng, head, kinds):
         step[name] = member(rng, name, head)
     if ACTIONS.get(step.get("action")):
         step["value"] = rng.choice(NUMBERS)
+    if head["format"] == 2 and do in INDEXED and rng.random() < 0.7:
+        step["index"] = rng.randrange(head["notes"])
     return step
 
 
@@ -147,14 +152,20 @@ def wrong_value(rng, path, value):
     return other_kind(rng, value)
 
 
+def needed_of(value):
+    """The members that an object can't be without."""
+    return [name for name in value if name != "index"] if isinstance(value, dict) else []
+
+
 def damaged(rng, good):
     """A document with one fault of its shape."""
     bad = copy.deepcopy(good)
     path = rng.choice(list(places(bad)))
     here = at(bad, path)
     way = rng.random()
-    if isinstance(here, dict) and here and way < 0.4:
-        del here[rng.choice(list(here))]
+    needed = needed_of(here)
+    if needed and way < 0.4:
+        del here[rng.choice(needed)]
     elif isinstance(here, dict) and way < 0.8:
         here[rng.choice(["note", "Core", "", "value "])] = rng.choice([0, None, "A"])
     elif not path:
@@ -166,8 +177,9 @@ def damaged(rng, good):
 
 def faults(rng, good):
     """An object without each of its members, with each ill-typed, and with one more."""
-    for name in good:
+    for name in needed_of(good):
         yield {key: value for key, value in good.items() if key != name}
+    for name in good:
         yield {**good, name: wrong_value(rng, (name,), good[name])}
     yield {**good, "note": 0}
 
@@ -180,26 +192,45 @@ def faults_of_value(good):
             yield {**bare, "action": word, **({} if has_value else {"value": 1})}
 
 
+def parts_of(rng, kind, head):
+    """A step, edit or action of each kind, and what makes a document that has it."""
+    bare = {**head, "steps": []}
+    if kind == "session":
+        return ([step(rng, head, (do,)) for do in STEPS],
+                lambda piece: {**head, "steps": [step(rng, head), piece, step(rng, head)]})
+    if kind == "bench":
+        return ([edit(rng, head, (name,)) for name in EDITS],
+                lambda piece: {"session": bare, "edits": [edit(rng, head), piece]})
+    return ([action(rng, head, (do,)) for do in STEPS],
+            lambda piece: {"session": bare, "limit": 5, "scripts": [[piece]] + [[]] * (head["cores"] - 1)})
+
+
 def faults_of_parts(rng, kind):
     """Documents of which one step, edit, action, task or the outermost object has each fault."""
-    good = document(rng, kind)
     head = {**header(rng), "mutexes": 2}
-    yield from faults(rng, good)
+    pieces, whole = parts_of(rng, kind, head)
+    yield from faults(rng, document(rng, kind))
     if kind == "session":
-        pieces = [step(rng, head, (do,)) for do in STEPS]
-        whole = lambda piece: {**head, "steps": [step(rng, head), piece, step(rng, head)]}
         for bad in faults(rng, head["tasks"][0]):
             yield {**head, "tasks": [bad] + head["tasks"][1:], "steps": []}
-    elif kind == "bench":
-        pieces = [edit(rng, head, (name,)) for name in EDITS]
-        whole = lambda piece: {"session": {**head, "steps": []}, "edits": [edit(rng, head), piece]}
-    else:
-        pieces = [action(rng, head, (do,)) for do in STEPS]
-        whole = lambda piece: {"session": {**head, "steps": []}, "limit": 5,
-                               "scripts": [[piece]] + [[]] * (head["cores"] - 1)}
     for piece in pieces:
         for bad in [*faults(rng, piece), *faults_of_value(piece)]:
             yield whole(bad)
+
+
+def faults_of_format(rng, kind):
+    """Documents of format 1 with a member that only format 2 has."""
+    head = {**header(rng), "mutexes": 2, "format": 1}
+    head.pop("notes", None)
+    pieces, whole = parts_of(rng, kind, head)
+    noted = {**head, "notes": 1, "steps": []}
+    yield noted if kind == "session" else {**whole(pieces[0]), "session": noted}
+    name = head["tasks"][0]["name"]
+    for piece in pieces:
+        if piece.get("do") in INDEXED:
+            yield whole({**piece, "index": 0})
+        if "step" in piece:
+            yield whole({**piece, "step": {"do": "isr_notify", "core": 0, "to": name, "action": "none", "index": 0}})
 
 
 def with_odd_number(rng, good):
@@ -295,7 +326,7 @@ def accepted(check, rng):
 
 def of_wrong_shape(check, rng):
     for kind, many in WRONG.items():
-        parts = list(faults_of_parts(rng, kind))
+        parts = [*faults_of_parts(rng, kind), *faults_of_format(rng, kind)]
         assert len(parts) <= many
         for bad in parts + [damaged(rng, document(rng, kind)) for _ in range(many - len(parts))]:
             check.hold(kind, json.dumps(bad), "refused H2 ", False)

@@ -4,14 +4,14 @@ use Rattle.std.specs.Str.{is_utf8}
 use Rattle.serde_json.specs.Read.{read}
 use Rattle.bench_types.specs.declared.fault.Fault.{Fault}
 use Rattle.bench_types.specs.declared.fault.Fault.TheVariants.{BadHeader, BadCore, BadTask, BadMutex, BadArgument}
-use Rattle.bench_types.specs.Limits.{min_cores, max_cores, max_priorities, max_tasks, max_mutexes, max_input, max_steps}
+use Rattle.bench_types.specs.Limits.{min_cores, max_cores, max_priorities, max_tasks, max_mutexes, max_notes, max_input, max_steps}
 use Rattle.session_text.specs.declared.bench.Bench.{Bench}
 use Rattle.session_text.specs.declared.fault.TextFault.{TextFault}
 use Rattle.session_text.specs.declared.fault.Why.{Why}
 use Rattle.session_text.specs.declared.fault.Why.TheVariants.{NotJson, BadShape, NoMemory}
 use Rattle.session_text.specs.declared.fault.Why.TheVariants as why
 use Rattle.session_text.specs.declared.flaw.HeaderFlaw.{HeaderFlaw}
-use Rattle.session_text.specs.declared.flaw.HeaderFlaw.TheVariants.{Cores, Priorities, Mutexes, TaskCount, NoName, Priority, Mask, SharedName}
+use Rattle.session_text.specs.declared.flaw.HeaderFlaw.TheVariants.{Cores, Priorities, Mutexes, Notes, TaskCount, NoName, Priority, Mask, SharedName}
 use Rattle.session_text.specs.declared.rig.RigScript.{RigScript}
 use Rattle.session_text.specs.Bench.{bench_text}
 use Rattle.session_text.specs.Flaw.{flaw_in}
@@ -68,6 +68,7 @@ abbrev pub flaw_line : HeaderFlaw → List ℕ
 flaw_line (Cores n) = limits_line (codes "cores") n min_cores max_cores
 flaw_line (Priorities n) = limits_line (codes "priorities") n 1 max_priorities
 flaw_line (Mutexes n) = limits_line (codes "mutexes") n 0 max_mutexes
+flaw_line (Notes n) = limits_line (codes "notes") n 1 max_notes
 flaw_line (TaskCount n) = limits_line (codes "the number of tasks") n 1 max_tasks
 flaw_line (NoName task) =
     task_line task

@@ -7,7 +7,8 @@ ghost use Rattle.session_text.specs.Flaw.{flaw_in};
 ghost use Rattle.bench_commands.specs.Hint.{IsFaultHint, IsNotJsonHint, IsShortTextHint, TellsPlace, fault_line, flaw_line, header_line, limits_line, line_at, task_limit_line, task_line, too_long_line, too_many_steps_line};
 
 use bench_types::{
-    Fault, MAX_CORES, MAX_INPUT, MAX_MUTEXES, MAX_PRIORITIES, MAX_STEPS, MAX_TASKS, MIN_CORES,
+    Fault, MAX_CORES, MAX_INPUT, MAX_MUTEXES, MAX_NOTES, MAX_PRIORITIES, MAX_STEPS, MAX_TASKS,
+    MIN_CORES,
 };
 use serde_json::{Error, Value};
 use session_text::{HeaderFlaw, TextFault, Why, header_flaw};
@@ -105,6 +106,7 @@ fn push_flaw(text: &mut String, flaw: HeaderFlaw) -> Result<(), AllocError>
         HeaderFlaw::Cores(n) => push_limits(text, "cores", n as usize, MIN_CORES, MAX_CORES),
         HeaderFlaw::Priorities(n) => push_limits(text, "priorities", n as usize, 1, MAX_PRIORITIES),
         HeaderFlaw::Mutexes(n) => push_limits(text, "mutexes", n as usize, 0, MAX_MUTEXES),
+        HeaderFlaw::Notes(n) => push_limits(text, "notes", n as usize, 1, MAX_NOTES),
         HeaderFlaw::TaskCount(n) => push_limits(text, "the number of tasks", n, 1, MAX_TASKS),
         HeaderFlaw::NoName(task) => push_task(
             text,

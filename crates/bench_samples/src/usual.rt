@@ -5,22 +5,25 @@ use crate::{SampleFault, header_of, numbered_header};
 use bench_types::{Config, Header, MAX_CORES, MAX_MUTEXES, MAX_PRIORITIES};
 use std::alloc::Global;
 
-/// Two cores, 5 priorities, no time slices and no mutexes, from tick 0.
+/// Two cores, 5 priorities, no time slices, no mutexes and one notification a task, from tick 0.
 pub const PLAIN: Config = Config {
     cores: 2,
     priorities: 5,
     slicing: false,
     tick: 0,
     mutexes: 0,
+    notes: 1,
 };
 
-/// The most cores, priorities and mutexes, with time slices, from the last tick.
+/// The most cores, priorities and mutexes, with time slices and one notification a task, from the
+/// last tick.
 pub const LARGEST: Config = Config {
     cores: MAX_CORES,
     priorities: MAX_PRIORITIES,
     slicing: true,
     tick: u32::MAX,
     mutexes: MAX_MUTEXES,
+    notes: 1,
 };
 
 /// Two cores and the tasks A, B and C on both, of the priorities 2, 1 and 1.

@@ -5,6 +5,7 @@ mod codes;
 mod documents;
 mod edits;
 mod errors;
+mod formats;
 mod headers;
 mod holds;
 mod largest;

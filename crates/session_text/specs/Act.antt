@@ -9,6 +9,7 @@ use Rattle.bench_types.specs.declared.fault.Fault.{Fault}
 use Rattle.bench_types.specs.declared.header.Header.{Header}
 use Rattle.bench_types.specs.declared.kernel_data.Settings.{Settings}
 use Rattle.session_text.specs.declared.fault.TextFault.{TextFault}
+use Rattle.session_text.specs.declared.format.Format.{Format}
 use Rattle.session_text.specs.declared.step.Kind.{Kind}
 use Rattle.session_text.specs.declared.step.Kind.TheVariants as kind
 use Rattle.session_text.specs.Array.{each_at}
@@ -17,29 +18,30 @@ use Rattle.session_text.specs.Names.{TaskNames}
 use Rattle.session_text.specs.Outcome.{◌>>=◌}
 use Rattle.session_text.specs.Step.{call_at, kind_at, members_of_act, note_at}
 
-unfoldable pub act_of_kind_at : TaskNames → Kind → List ℕ → Data → Result Act TextFault
-act_of_kind_at names kind.Tick at d = Ok act.Tick
-act_of_kind_at names kind.Switch at d = Ok act.Switch
-act_of_kind_at names (kind.Call which) at d = do
-  made ← call_at names which at d
+unfoldable pub act_of_kind_at :
+    Format → TaskNames → Kind → List ℕ → Data → Result Act TextFault
+act_of_kind_at format names kind.Tick at d = Ok act.Tick
+act_of_kind_at format names kind.Switch at d = Ok act.Switch
+act_of_kind_at format names (kind.Call which) at d = do
+  made ← call_at format names which at d
   Ok (act.Call made)
-act_of_kind_at names kind.Interrupt at d = do
-  note ← note_at names at d
+act_of_kind_at format names kind.Interrupt at d = do
+  note ← note_at format names at d
   Ok (act.Interrupt note)
 
-unfoldable pub act_at : TaskNames → List ℕ → Data → Result Act TextFault
-act_at names at d = do
+unfoldable pub act_at : Format → TaskNames → List ℕ → Data → Result Act TextFault
+act_at format names at d = do
   members ← object_at at d
   which ← kind_at at d
-  made ← act_of_kind_at names which at d
-  only ← only_at at (members_of_act made) members
+  made ← act_of_kind_at format names which at d
+  only ← only_at at (members_of_act format made) members
   Ok made
 
 -- the actions of one core
-unfoldable pub script_at : TaskNames → List ℕ → Data → Result (List Act) TextFault
-script_at names at d = do
+unfoldable pub script_at : Format → TaskNames → List ℕ → Data → Result (List Act) TextFault
+script_at format names at d = do
   items ← items_at at d
-  each_at (act_at names) at 0 items
+  each_at (act_at format names) at 0 items
 
 -- the fault of what a core would do under a header
 abbrev pub act_fault : Header → ℕ → Act → Result ⊤ Fault

@@ -26,19 +26,19 @@ bench_members = codes "session" ∷ codes "edits" ∷ []
 unfoldable pub unedited_at : List ℕ → Data → Result Bench TextFault
 unedited_at at d = do
   read ← session_at at d
-  held ← session_accepted at read.0 read.1
+  held ← session_accepted at read.1 read.2
   Ok (record { header = held.0; steps = held.1; edits = [] })
 
 -- the header, accepted or not, of the session that was found as the member `session`, its steps,
--- and the edits; shapes alone are judged
+-- and the edits, which are in its format; shapes alone are judged
 unfoldable pub shapes_at :
     List ℕ → Data → Data → Result (Result Header Fault × List Step × List Edit) TextFault
 shapes_at at d inner = do
   members ← object_at at d
   read ← session_at (member_path at (codes "session")) inner
-  edits ← list_at (edit_at (known_names read.0)) at (codes "edits") d
+  edits ← list_at (edit_at read.0 (known_names read.1)) at (codes "edits") d
   only ← only_at at bench_members members
-  Ok (read.0, read.1, edits)
+  Ok (read.1, read.2, edits)
 
 -- the first fault of the edits
 unfoldable pub edits_accepted : Header → List ℕ → List Edit → Result ⊤ TextFault

@@ -7,6 +7,8 @@ use Rattle.bench_types.specs.declared.edit.Edit.{Edit}
 use Rattle.bench_types.specs.declared.edit.Edit.TheVariants as edit
 use Rattle.bench_types.specs.Edit.{edit_check}
 use Rattle.session_text.specs.declared.fault.TextFault.{TextFault}
+use Rattle.session_text.specs.declared.format.Format.{Format}
+use Rattle.session_text.specs.declared.format.Format.TheVariants.{Two}
 use Rattle.session_text.specs.declared.edit.EditKind.{EditKind}
 use Rattle.session_text.specs.declared.edit.EditKind.TheVariants.{Insert, Remove, Replace, Change}
 use Rattle.session_text.specs.Accepted.{item_accepted}
@@ -38,41 +40,43 @@ edit_members_of Replace = codes "edit" ∷ codes "at" ∷ codes "step" ∷ []
 edit_members_of Change = codes "edit" ∷ codes "task" ∷ codes "priority" ∷ codes "mask" ∷ []
 
 -- the step that an edit brings
-unfoldable pub new_step_at : TaskNames → List ℕ → Data → Result Step TextFault
-new_step_at names at d = do
+unfoldable pub new_step_at : Format → TaskNames → List ℕ → Data → Result Step TextFault
+new_step_at format names at d = do
   value ← member_at at (codes "step") d
-  step_at names (member_path at (codes "step")) value
+  step_at format names (member_path at (codes "step")) value
 
-unfoldable pub edit_of_kind_at : TaskNames → EditKind → List ℕ → Data → Result Edit TextFault
-edit_of_kind_at names Insert at d = do
+unfoldable pub edit_of_kind_at :
+    Format → TaskNames → EditKind → List ℕ → Data → Result Edit TextFault
+edit_of_kind_at format names Insert at d = do
   place ← number_at at (codes "at") d
-  step ← new_step_at names at d
+  step ← new_step_at format names at d
   Ok (edit.Insert place step)
-edit_of_kind_at names Remove at d = do
+edit_of_kind_at format names Remove at d = do
   place ← number_at at (codes "at") d
   Ok (edit.Remove place)
-edit_of_kind_at names Replace at d = do
+edit_of_kind_at format names Replace at d = do
   place ← number_at at (codes "at") d
-  step ← new_step_at names at d
+  step ← new_step_at format names at d
   Ok (edit.Replace place step)
-edit_of_kind_at names Change at d = do
+edit_of_kind_at format names Change at d = do
   task ← task_named_at names at (codes "task") d
   priority ← number_at at (codes "priority") d
   mask ← number_at at (codes "mask") d
   Ok (edit.ChangeTask task priority mask)
 
-unfoldable pub edit_at : TaskNames → List ℕ → Data → Result Edit TextFault
-edit_at names at d = do
+unfoldable pub edit_at : Format → TaskNames → List ℕ → Data → Result Edit TextFault
+edit_at format names at d = do
   members ← object_at at d
   which ← edit_kind_at at d
-  made ← edit_of_kind_at names which at d
+  made ← edit_of_kind_at format names which at d
   only ← only_at at (edit_members_of which) members
   Ok made
 
--- the edit that a text spells under a header, or its first fault
+-- the edit that a text spells under a header, or its first fault; its step may have an index, as in
+-- the second format
 unfoldable pub edit_text : Header → List ℕ → Result Edit TextFault
 edit_text header text = do
   d ← document text
-  made ← edit_at (names_of header) [] d
+  made ← edit_at Two (names_of header) [] d
   done ← item_accepted [] (edit_check header made)
   Ok made

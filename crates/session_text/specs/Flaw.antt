@@ -8,12 +8,13 @@ use Rattle.bench_types.specs.declared.header.Config.{Config}
 use Rattle.bench_types.specs.declared.header.Header.{Header}
 use Rattle.bench_types.specs.declared.header.TaskArgs.{TaskArgs}
 use Rattle.bench_types.specs.Header.{cores_of_mask}
-use Rattle.bench_types.specs.Limits.{min_cores, max_cores, max_priorities, max_tasks, max_mutexes}
+use Rattle.bench_types.specs.Limits.{min_cores, max_cores, max_priorities, max_tasks, max_mutexes, max_notes}
 use Rattle.bench_types.specs.Name.{is_name, is_within}
 use Rattle.session_text.specs.declared.fault.TextFault.{TextFault}
 use Rattle.session_text.specs.declared.flaw.HeaderFlaw.{HeaderFlaw}
-use Rattle.session_text.specs.declared.flaw.HeaderFlaw.TheVariants.{Cores, Priorities, Mutexes, TaskCount, NoName, Priority, Mask, SharedName}
+use Rattle.session_text.specs.declared.flaw.HeaderFlaw.TheVariants.{Cores, Priorities, Mutexes, Notes, TaskCount, NoName, Priority, Mask, SharedName}
 use Rattle.session_text.specs.Array.{list_at}
+use Rattle.session_text.specs.Format.{format_at}
 use Rattle.session_text.specs.Header.{config_at, task_at}
 use Rattle.session_text.specs.Outcome.{◌>>=◌}
 use Rattle.session_text.specs.Path.{member_path}
@@ -26,9 +27,11 @@ limits_flaw low high n flaw = if is_within low high n then None else Some flaw
 abbrev pub config_flaw : Config → Option HeaderFlaw
 config_flaw config =
     option_or
+    (option_or
     (option_or (limits_flaw min_cores max_cores config.cores (Cores config.cores))
     (limits_flaw 1 max_priorities config.priorities (Priorities config.priorities)))
-    (limits_flaw 0 max_mutexes config.mutexes (Mutexes config.mutexes))
+    (limits_flaw 0 max_mutexes config.mutexes (Mutexes config.mutexes)))
+    (limits_flaw 1 max_notes config.notes (Notes config.notes))
 
 -- the place of the first task whose name is none
 abbrev pub place_of_no_name : List TaskArgs → Option ℕ
@@ -83,7 +86,8 @@ header_flaw header =
 -- that of the header that an object has, accepted or not
 unfoldable pub flaw_at : List ℕ → Data → Result (Option HeaderFlaw) TextFault
 flaw_at at d = do
-  config ← config_at at d
+  format ← format_at at d
+  config ← config_at format at d
   tasks ← list_at task_at at (codes "tasks") d
   Ok (header_flaw (record { config = config; tasks = tasks }))
 

@@ -10,19 +10,28 @@ use Rattle.bench_types.specs.declared.header.Header.{Header}
 use Rattle.bench_types.specs.Header.{is_header}
 use Rattle.bench_types.specs.Name.{is_name}
 use Rattle.session_text.specs.declared.fault.TextFault.{TextFault}
+use Rattle.session_text.specs.declared.format.Format.{Format}
 use Rattle.session_text.specs.Array.{list_at}
+use Rattle.session_text.specs.Format.{notes_at}
 use Rattle.session_text.specs.Member.{object_at, number_at, text_at, flag_at, only_at}
 use Rattle.session_text.specs.Outcome.{◌>>=◌}
 
-unfoldable pub config_at : List ℕ → Data → Result Config TextFault
-config_at at d = do
+unfoldable pub config_at : Format → List ℕ → Data → Result Config TextFault
+config_at format at d = do
   cores ← number_at at (codes "cores") d
   priorities ← number_at at (codes "priorities") d
   slicing ← flag_at at (codes "slicing") d
   tick ← number_at at (codes "tick") d
   mutexes ← number_at at (codes "mutexes") d
-  Ok (record
-      { cores = cores; priorities = priorities; slicing = slicing; tick = tick; mutexes = mutexes })
+  notes ← notes_at format at d
+  Ok (record {
+    cores = cores;
+    priorities = priorities;
+    slicing = slicing;
+    tick = tick;
+    mutexes = mutexes;
+    notes = notes;
+  })
 
 abbrev pub task_members : List (List ℕ)
 task_members = codes "name" ∷ codes "priority" ∷ codes "mask" ∷ []
@@ -54,7 +63,7 @@ header_of config at d = do
   Ok (accepted (record { config = config; tasks = tasks }))
 
 -- the header, accepted or not: its shape alone is judged
-unfoldable pub header_at : List ℕ → Data → Result (Result Header Fault) TextFault
-header_at at d = do
-  config ← config_at at d
+unfoldable pub header_at : Format → List ℕ → Data → Result (Result Header Fault) TextFault
+header_at format at d = do
+  config ← config_at format at d
   header_of config at d

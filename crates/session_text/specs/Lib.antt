@@ -5,6 +5,7 @@ pub mod Array
 pub mod Bench
 pub mod Edit
 pub mod Flaw
+pub mod Format
 pub mod Header
 pub mod Member
 pub mod Names

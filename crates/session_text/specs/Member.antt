@@ -31,6 +31,15 @@ number_at at name d = do
   value ← member_at at name d
   found (as_u32 value) (member_path at name)
 
+-- the number that stands at a place, or another one where nothing does
+abbrev number_or : ℕ → Option Data → List ℕ → Result ℕ TextFault
+number_or other None at = Ok other
+number_or other (Some value) at = found (as_u32 value) at
+
+-- a number that may be left out: it is then another one
+unfoldable pub number_or_at : ℕ → List ℕ → List ℕ → Data → Result ℕ TextFault
+number_or_at other at name d = number_or other (get name d) (member_path at name)
+
 unfoldable pub text_at : List ℕ → List ℕ → Data → Result (List ℕ) TextFault
 text_at at name d = do
   value ← member_at at name d

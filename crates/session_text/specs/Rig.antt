@@ -13,16 +13,18 @@ use Rattle.bench_types.specs.declared.fault.Fault.TheVariants.{BadArgument}
 use Rattle.bench_types.specs.declared.header.Header.{Header}
 use Rattle.session_text.specs.declared.fault.TextFault.{TextFault}
 use Rattle.session_text.specs.declared.fault.Why.TheVariants.{Bench}
+use Rattle.session_text.specs.declared.format.Format.{Format}
 use Rattle.session_text.specs.declared.rig.RigScript.{RigScript}
 use Rattle.session_text.specs.Accepted.{items_accepted}
 use Rattle.session_text.specs.Act.{act_fault, script_at, IsCheckedAct}
 use Rattle.session_text.specs.Array.{list_at}
+use Rattle.session_text.specs.Format.{format_at}
 use Rattle.session_text.specs.Header.{config_at, header_of}
 use Rattle.session_text.specs.Member.{object_at, member_at, array_at, number_at, only_at}
 use Rattle.session_text.specs.Names.{TaskNames, known_names}
 use Rattle.session_text.specs.Outcome.{◌>>=◌, bad_shape}
 use Rattle.session_text.specs.Path.{item_path, member_path, path_text}
-use Rattle.session_text.specs.Session.{document, format_at, session_members}
+use Rattle.session_text.specs.Session.{document, session_members}
 
 -- `steps` has no items, or H2 there
 unfoldable pub no_steps_at : List ℕ → Data → Result ⊤ TextFault
@@ -30,16 +32,17 @@ no_steps_at at d = do
   items ← array_at at (codes "steps") d
   if items_len items == 0 then Ok tt else Err (bad_shape (member_path at (codes "steps")))
 
--- the number of cores, and the header, accepted or not, of a session with no steps
-unfoldable pub stepless_at : List ℕ → Data → Result (ℕ × Result Header Fault) TextFault
+-- the format, the number of cores, and the header, accepted or not, of a session with no steps
+unfoldable pub stepless_at :
+    List ℕ → Data → Result (Format × ℕ × Result Header Fault) TextFault
 stepless_at at d = do
   members ← object_at at d
   format ← format_at at d
-  config ← config_at at d
+  config ← config_at format at d
   header ← header_of config at d
   none ← no_steps_at at d
-  only ← only_at at session_members members
-  Ok (config.cores, header)
+  only ← only_at at (session_members format) members
+  Ok (format, config.cores, header)
 
 -- each item is an array
 abbrev pub are_arrays : Items → Bool
@@ -55,16 +58,18 @@ abbrev pub one_per_core : ℕ → List ℕ → Items → Result ⊤ TextFault
 one_per_core cores at items = if has_arrays cores items then Ok tt else Err (bad_shape at)
 
 -- one script per core
-unfoldable pub scripts_at : ℕ → TaskNames → List ℕ → Data → Result (List (List Act)) TextFault
-scripts_at cores names at d = do
+unfoldable pub scripts_at :
+    Format → ℕ → TaskNames → List ℕ → Data → Result (List (List Act)) TextFault
+scripts_at format cores names at d = do
   items ← array_at at (codes "scripts") d
   done ← one_per_core cores (member_path at (codes "scripts")) items
-  list_at (script_at names) at (codes "scripts") d
+  list_at (script_at format names) at (codes "scripts") d
 
 abbrev pub rig_members : List (List ℕ)
 rig_members = codes "session" ∷ codes "limit" ∷ codes "scripts" ∷ []
 
--- the header, accepted or not, of the session, the limit and the scripts; shapes alone are judged
+-- the header, accepted or not, of the session, the limit and the scripts, which are in its format;
+-- shapes alone are judged
 unfoldable pub rig_shapes_at :
     List ℕ → Data → Result (Result Header Fault × ℕ × List (List Act)) TextFault
 rig_shapes_at at d = do
@@ -72,9 +77,9 @@ rig_shapes_at at d = do
   inner ← member_at at (codes "session") d
   read ← stepless_at (member_path at (codes "session")) inner
   limit ← number_at at (codes "limit") d
-  scripts ← scripts_at read.0 (known_names read.1) at d
+  scripts ← scripts_at read.0 read.1 (known_names read.2) at d
   only ← only_at at rig_members members
-  Ok (read.1, limit, scripts)
+  Ok (read.2, limit, scripts)
 
 -- F5 at `limit`, where it is more than the steps that a session may have
 abbrev pub limit_accepted : List ℕ → ℕ → Result ⊤ TextFault

@@ -1,5 +1,5 @@
 -- A session: the whole text is read before the header and the steps are judged.
-use Rattle.std.specs.Prelude.{◌≡◌, ◌⊎◌, ℕ, ◌==◌, List, [], ◌∷◌, codes, Option, Some, None, Result, Ok, Err, if◌then◌else◌, ⊤}
+use Rattle.std.specs.Prelude.{◌≡◌, ◌⊎◌, ℕ, List, [], ◌∷◌, codes, Option, Some, None, Result, Ok, Err, if◌then◌else◌, ⊤}
 use Rattle.std.specs.Str.{is_utf8}
 use Rattle.serde_json.specs.Data.{Data}
 use Rattle.serde_json.specs.Read.{read}
@@ -9,12 +9,14 @@ use Rattle.bench_types.specs.declared.step.Step.{Step}
 use Rattle.bench_types.specs.Step.{settings_of, step_check}
 use Rattle.session_text.specs.declared.fault.Why.TheVariants.{NotJson, Bench, NoMemory}
 use Rattle.session_text.specs.declared.fault.TextFault.{TextFault}
+use Rattle.session_text.specs.declared.format.Format.{Format}
+use Rattle.session_text.specs.Format.{format_at, notes_member}
 use Rattle.session_text.specs.Header.{header_at}
-use Rattle.session_text.specs.Member.{object_at, number_at, only_at}
+use Rattle.session_text.specs.Member.{object_at, only_at}
 use Rattle.session_text.specs.Names.{known_names}
 use Rattle.session_text.specs.Accepted.{items_accepted}
 use Rattle.session_text.specs.Array.{list_at}
-use Rattle.session_text.specs.Outcome.{◌>>=◌, bad_shape}
+use Rattle.session_text.specs.Outcome.{◌>>=◌}
 use Rattle.session_text.specs.Path.{member_path}
 use Rattle.session_text.specs.Step.{step_at}
 
@@ -26,26 +28,21 @@ json_or_fault None = Err (record { why = NotJson; path = [] })
 abbrev pub document : List ℕ → Result Data TextFault
 document text = json_or_fault (if is_utf8 text then read text else None)
 
--- the one format so far
-unfoldable pub format_at : List ℕ → Data → Result ⊤ TextFault
-format_at at d = do
-  format ← number_at at (codes "format") d
-  if format == 1 then Ok tt else Err (bad_shape (member_path at (codes "format")))
-
-abbrev pub session_members : List (List ℕ)
-session_members =
+abbrev pub session_members : Format → List (List ℕ)
+session_members format =
     codes "format" ∷ codes "cores" ∷ codes "priorities" ∷ codes "slicing" ∷ codes "tick"
-    ∷ codes "mutexes" ∷ codes "tasks" ∷ codes "steps" ∷ []
+    ∷ codes "mutexes" ∷ codes "tasks" ∷ codes "steps" ∷ notes_member format
 
--- the header, accepted or not, and the steps; shapes alone are judged
-unfoldable pub session_at : List ℕ → Data → Result (Result Header Fault × List Step) TextFault
+-- the format, the header, accepted or not, and the steps; shapes alone are judged
+unfoldable pub session_at :
+    List ℕ → Data → Result (Format × Result Header Fault × List Step) TextFault
 session_at at d = do
   members ← object_at at d
   format ← format_at at d
-  header ← header_at at d
-  steps ← list_at (step_at (known_names header)) at (codes "steps") d
-  only ← only_at at session_members members
-  Ok (header, steps)
+  header ← header_at format at d
+  steps ← list_at (step_at format (known_names header)) at (codes "steps") d
+  only ← only_at at (session_members format) members
+  Ok (format, header, steps)
 
 -- the fault of a step under a header
 abbrev pub step_fault : Header → Step → Result ⊤ Fault
@@ -64,7 +61,7 @@ unfoldable pub session : List ℕ → Result (Header × List Step) TextFault
 session text = do
   d ← document text
   read ← session_at [] d
-  session_accepted [] read.0 read.1
+  session_accepted [] read.1 read.2
 
 -- What a call answers: what the reading gives, or that memory ran out.
 abbrev pub Answers : {A B : Type 0} → (A → B) → Result A TextFault → Result B TextFault → Type 0

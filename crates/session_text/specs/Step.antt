@@ -13,7 +13,9 @@ use Rattle.session_text.specs.declared.step.Kind.{Kind}
 use Rattle.session_text.specs.declared.step.Kind.TheVariants as kind
 use Rattle.session_text.specs.declared.call.CallKind.{CallKind}
 use Rattle.session_text.specs.declared.call.CallKind.TheVariants as callkind
+use Rattle.session_text.specs.declared.format.Format.{Format}
 use Rattle.session_text.specs.Action.{action_at, action_number}
+use Rattle.session_text.specs.Format.{index_at, index_member}
 use Rattle.session_text.specs.Member.{object_at, number_at, text_at, flag_at, only_at}
 use Rattle.session_text.specs.Names.{TaskNames, number_of}
 use Rattle.session_text.specs.Outcome.{◌>>=◌, found}
@@ -52,49 +54,55 @@ kind_at at d = do
   found (kind_of word) (member_path at (codes "do"))
 
 -- the members of a notification: `value` is one where the action has a number
-abbrev pub note_members : Option ℕ → List (List ℕ)
-note_members None = codes "to" ∷ codes "action" ∷ []
-note_members (Some value) = codes "to" ∷ codes "action" ∷ codes "value" ∷ []
+abbrev pub note_members : Format → Option ℕ → List (List ℕ)
+note_members format None = codes "to" ∷ codes "action" ∷ index_member format
+note_members format (Some value) =
+    codes "to" ∷ codes "action" ∷ codes "value" ∷ index_member format
 
 -- the members of a call beside those that every call has
-abbrev pub arguments_of : Call → List (List ℕ)
-arguments_of call.Yield = []
-arguments_of (call.Delay ticks) = codes "ticks" ∷ []
-arguments_of (call.DelayUntil prev inc) = codes "prev" ∷ codes "inc" ∷ []
-arguments_of (call.PrioritySet task priority) = codes "to" ∷ codes "priority" ∷ []
-arguments_of (call.AffinitySet task mask) = codes "to" ∷ codes "mask" ∷ []
-arguments_of (call.PreemptOff task) = codes "to" ∷ []
-arguments_of (call.PreemptOn task) = codes "to" ∷ []
-arguments_of (call.Notify note) = note_members (action_number note.action)
-arguments_of (call.NotifyWait entry exit ticks) = codes "entry" ∷ codes "exit" ∷ codes "ticks" ∷ []
-arguments_of (call.NotifyTake clear ticks) = codes "clear" ∷ codes "ticks" ∷ []
-arguments_of (call.StateClear task) = codes "to" ∷ []
-arguments_of (call.ValueClear task bits) = codes "to" ∷ codes "bits" ∷ []
-arguments_of (call.MutexTake mutex ticks) = codes "mutex" ∷ codes "ticks" ∷ []
-arguments_of (call.MutexGive mutex) = codes "mutex" ∷ []
-arguments_of call.Finish = []
-arguments_of call.HoldOpen = []
-arguments_of call.HoldClose = []
+abbrev pub arguments_of : Format → Call → List (List ℕ)
+arguments_of format call.Yield = []
+arguments_of format (call.Delay ticks) = codes "ticks" ∷ []
+arguments_of format (call.DelayUntil prev inc) = codes "prev" ∷ codes "inc" ∷ []
+arguments_of format (call.PrioritySet task priority) = codes "to" ∷ codes "priority" ∷ []
+arguments_of format (call.AffinitySet task mask) = codes "to" ∷ codes "mask" ∷ []
+arguments_of format (call.PreemptOff task) = codes "to" ∷ []
+arguments_of format (call.PreemptOn task) = codes "to" ∷ []
+arguments_of format (call.Notify note) = note_members format (action_number note.action)
+arguments_of format (call.NotifyWait entry exit ticks index) =
+    codes "entry" ∷ codes "exit" ∷ codes "ticks" ∷ index_member format
+arguments_of format (call.NotifyTake clear ticks index) =
+    codes "clear" ∷ codes "ticks" ∷ index_member format
+arguments_of format (call.StateClear task index) = codes "to" ∷ index_member format
+arguments_of format (call.ValueClear task bits index) =
+    codes "to" ∷ codes "bits" ∷ index_member format
+arguments_of format (call.MutexTake mutex ticks) = codes "mutex" ∷ codes "ticks" ∷ []
+arguments_of format (call.MutexGive mutex) = codes "mutex" ∷ []
+arguments_of format call.Finish = []
+arguments_of format call.HoldOpen = []
+arguments_of format call.HoldClose = []
 
 -- the members of an action
-abbrev pub members_of_act : Act → List (List ℕ)
-members_of_act act.Tick = codes "do" ∷ []
-members_of_act act.Switch = codes "do" ∷ []
-members_of_act (act.Call made) = codes "do" ∷ arguments_of made
-members_of_act (act.Interrupt note) = codes "do" ∷ note_members (action_number note.action)
+abbrev pub members_of_act : Format → Act → List (List ℕ)
+members_of_act format act.Tick = codes "do" ∷ []
+members_of_act format act.Switch = codes "do" ∷ []
+members_of_act format (act.Call made) = codes "do" ∷ arguments_of format made
+members_of_act format (act.Interrupt note) =
+    codes "do" ∷ note_members format (action_number note.action)
 
 -- a step has `core` beside the members of its action, and a call has `by` too
-abbrev pub members_of_call : Call → List (List ℕ)
-members_of_call made = codes "core" ∷ codes "by" ∷ members_of_act (act.Call made)
+abbrev pub members_of_call : Format → Call → List (List ℕ)
+members_of_call format made =
+    codes "core" ∷ codes "by" ∷ members_of_act format (act.Call made)
 
-abbrev pub members_of_interrupt : Note → List (List ℕ)
-members_of_interrupt note = codes "core" ∷ members_of_act (act.Interrupt note)
+abbrev pub members_of_interrupt : Format → Note → List (List ℕ)
+members_of_interrupt format note = codes "core" ∷ members_of_act format (act.Interrupt note)
 
-abbrev pub members_of : Step → List (List ℕ)
-members_of step.Tick = members_of_act act.Tick
-members_of (step.Switch core) = codes "core" ∷ members_of_act act.Switch
-members_of (step.Call core task made) = members_of_call made
-members_of (step.Interrupt core note) = members_of_interrupt note
+abbrev pub members_of : Format → Step → List (List ℕ)
+members_of format step.Tick = members_of_act format act.Tick
+members_of format (step.Switch core) = codes "core" ∷ members_of_act format act.Switch
+members_of format (step.Call core task made) = members_of_call format made
+members_of format (step.Interrupt core note) = members_of_interrupt format note
 
 -- the number of the task that a member names
 unfoldable pub task_named_at : TaskNames → List ℕ → List ℕ → Data → Result ℕ TextFault
@@ -103,88 +111,95 @@ task_named_at names at name d = do
   Ok (number_of names text)
 
 -- `to` names the task that is notified
-unfoldable pub note_at : TaskNames → List ℕ → Data → Result Note TextFault
-note_at names at d = do
+unfoldable pub note_at : Format → TaskNames → List ℕ → Data → Result Note TextFault
+note_at format names at d = do
   task ← task_named_at names at (codes "to") d
   what ← action_at at d
-  Ok (record { task = task; action = what })
+  index ← index_at format at d
+  Ok (record { task = task; action = what; index = index })
 
-unfoldable pub wait_at : List ℕ → Data → Result Call TextFault
-wait_at at d = do
+unfoldable pub wait_at : Format → List ℕ → Data → Result Call TextFault
+wait_at format at d = do
   entry ← number_at at (codes "entry") d
   exit ← number_at at (codes "exit") d
   ticks ← number_at at (codes "ticks") d
-  Ok (call.NotifyWait entry exit ticks)
+  index ← index_at format at d
+  Ok (call.NotifyWait entry exit ticks index)
 
 -- `to` names the task that a call is for
-unfoldable pub call_at : TaskNames → CallKind → List ℕ → Data → Result Call TextFault
-call_at names callkind.Yield at d = Ok call.Yield
-call_at names callkind.Delay at d = do
+unfoldable pub call_at :
+    Format → TaskNames → CallKind → List ℕ → Data → Result Call TextFault
+call_at format names callkind.Yield at d = Ok call.Yield
+call_at format names callkind.Delay at d = do
   ticks ← number_at at (codes "ticks") d
   Ok (call.Delay ticks)
-call_at names callkind.DelayUntil at d = do
+call_at format names callkind.DelayUntil at d = do
   prev ← number_at at (codes "prev") d
   inc ← number_at at (codes "inc") d
   Ok (call.DelayUntil prev inc)
-call_at names callkind.PrioritySet at d = do
+call_at format names callkind.PrioritySet at d = do
   task ← task_named_at names at (codes "to") d
   priority ← number_at at (codes "priority") d
   Ok (call.PrioritySet task priority)
-call_at names callkind.AffinitySet at d = do
+call_at format names callkind.AffinitySet at d = do
   task ← task_named_at names at (codes "to") d
   mask ← number_at at (codes "mask") d
   Ok (call.AffinitySet task mask)
-call_at names callkind.PreemptOff at d = do
+call_at format names callkind.PreemptOff at d = do
   task ← task_named_at names at (codes "to") d
   Ok (call.PreemptOff task)
-call_at names callkind.PreemptOn at d = do
+call_at format names callkind.PreemptOn at d = do
   task ← task_named_at names at (codes "to") d
   Ok (call.PreemptOn task)
-call_at names callkind.Notify at d = do
-  note ← note_at names at d
+call_at format names callkind.Notify at d = do
+  note ← note_at format names at d
   Ok (call.Notify note)
-call_at names callkind.NotifyWait at d = wait_at at d
-call_at names callkind.NotifyTake at d = do
+call_at format names callkind.NotifyWait at d = wait_at format at d
+call_at format names callkind.NotifyTake at d = do
   clear ← flag_at at (codes "clear") d
   ticks ← number_at at (codes "ticks") d
-  Ok (call.NotifyTake clear ticks)
-call_at names callkind.StateClear at d = do
+  index ← index_at format at d
+  Ok (call.NotifyTake clear ticks index)
+call_at format names callkind.StateClear at d = do
   task ← task_named_at names at (codes "to") d
-  Ok (call.StateClear task)
-call_at names callkind.ValueClear at d = do
+  index ← index_at format at d
+  Ok (call.StateClear task index)
+call_at format names callkind.ValueClear at d = do
   task ← task_named_at names at (codes "to") d
   bits ← number_at at (codes "bits") d
-  Ok (call.ValueClear task bits)
-call_at names callkind.MutexTake at d = do
+  index ← index_at format at d
+  Ok (call.ValueClear task bits index)
+call_at format names callkind.MutexTake at d = do
   mutex ← number_at at (codes "mutex") d
   ticks ← number_at at (codes "ticks") d
   Ok (call.MutexTake mutex ticks)
-call_at names callkind.MutexGive at d = do
+call_at format names callkind.MutexGive at d = do
   mutex ← number_at at (codes "mutex") d
   Ok (call.MutexGive mutex)
-call_at names callkind.Finish at d = Ok call.Finish
-call_at names callkind.HoldOpen at d = Ok call.HoldOpen
-call_at names callkind.HoldClose at d = Ok call.HoldClose
+call_at format names callkind.Finish at d = Ok call.Finish
+call_at format names callkind.HoldOpen at d = Ok call.HoldOpen
+call_at format names callkind.HoldClose at d = Ok call.HoldClose
 
-unfoldable pub step_of_kind_at : TaskNames → Kind → List ℕ → Data → Result Step TextFault
-step_of_kind_at names kind.Tick at d = Ok step.Tick
-step_of_kind_at names kind.Switch at d = do
+unfoldable pub step_of_kind_at :
+    Format → TaskNames → Kind → List ℕ → Data → Result Step TextFault
+step_of_kind_at format names kind.Tick at d = Ok step.Tick
+step_of_kind_at format names kind.Switch at d = do
   core ← number_at at (codes "core") d
   Ok (step.Switch core)
-step_of_kind_at names (kind.Call which) at d = do
+step_of_kind_at format names (kind.Call which) at d = do
   core ← number_at at (codes "core") d
   task ← task_named_at names at (codes "by") d
-  made ← call_at names which at d
+  made ← call_at format names which at d
   Ok (step.Call core task made)
-step_of_kind_at names kind.Interrupt at d = do
+step_of_kind_at format names kind.Interrupt at d = do
   core ← number_at at (codes "core") d
-  note ← note_at names at d
+  note ← note_at format names at d
   Ok (step.Interrupt core note)
 
-unfoldable pub step_at : TaskNames → List ℕ → Data → Result Step TextFault
-step_at names at d = do
+unfoldable pub step_at : Format → TaskNames → List ℕ → Data → Result Step TextFault
+step_at format names at d = do
   members ← object_at at d
   which ← kind_at at d
-  made ← step_of_kind_at names which at d
-  only ← only_at at (members_of made) members
+  made ← step_of_kind_at format names which at d
+  only ← only_at at (members_of format made) members
   Ok made

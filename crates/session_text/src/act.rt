@@ -9,6 +9,7 @@ use crate::action::action_number;
 use crate::array::{ReadItem, each};
 use crate::call::{call_at, call_members, interrupt_members, note_at};
 use crate::fault::ReadFault;
+use crate::format::Format;
 use crate::names::Names;
 use crate::node::Node;
 use crate::step::{Kind, kind_at};
@@ -16,32 +17,38 @@ use bench_types::{Act, Fault, Header, Items};
 
 /// The members that an action like this one has: those of a step, but for its core and its task.
 #[tactic(auto, using(crate::proofs::Lists::map_drop))]
-fn known_members(act: Act) -> &'static [&'static str]
-    ensures { map (λ name. name.now) result.now ≡ members_of_act act }
+fn known_members(format: Format, act: Act) -> &'static [&'static str]
+    ensures { map (λ name. name.now) result.now ≡ members_of_act format act }
 {
     match act {
         Act::Tick | Act::Switch => &["do"],
-        Act::Call(call) => &call_members(call)[2..],
-        Act::Interrupt(note) => &interrupt_members(note)[1..],
+        Act::Call(call) => &call_members(format, call)[2..],
+        Act::Interrupt(note) => &interrupt_members(format, note)[1..],
     }
 }
 
 #[tactic(auto, unfolding(crate::specs::Act::act_of_kind_at))]
-fn act_of_kind_at(names: &Names<'_>, kind: Kind, node: &Node<'_, '_>) -> Result<Act, ReadFault>
+fn act_of_kind_at(
+    format: Format,
+    names: &Names<'_>,
+    kind: Kind,
+    node: &Node<'_, '_>,
+) -> Result<Act, ReadFault>
     ensures { Gives (λ act. act) result
-        (act_of_kind_at names.now kind (place_of node.now) (data_of node.now)) }
+        (act_of_kind_at format names.now kind (place_of node.now) (data_of node.now)) }
 {
     match kind {
         Kind::Tick => Ok(Act::Tick),
         Kind::Switch => Ok(Act::Switch),
-        Kind::Call(kind) => Ok(Act::Call(call_at(names, kind, node)?)),
-        Kind::Interrupt => Ok(Act::Interrupt(note_at(names, node)?)),
+        Kind::Call(kind) => Ok(Act::Call(call_at(format, names, kind, node)?)),
+        Kind::Interrupt => Ok(Act::Interrupt(note_at(format, names, node)?)),
     }
 }
 
-/// Reads actions, under the names of the tasks.
+/// Reads actions in a format, under the names of the tasks.
 #[derive(Clone, Copy)]
 struct ActReader<'n, 'a> {
+    format: Format,
     names: &'n Names<'a>,
 }
 
@@ -50,21 +57,22 @@ impl<'v> ReadItem<'v> for ActReader<'_, '_> {
 
     ghost use Rattle.session_text.specs.Act.{act_at};
 
-    ghost reading = { λ acts. act_at acts.names.now };
+    ghost reading = { λ acts. act_at acts.format acts.names.now };
 
     #[tactic(auto, unfolding(crate::specs::Act::act_at))]
     fn read(&self, node: &Node<'_, 'v>) -> Result<Act, ReadFault> {
         let members = node.object()?;
         let kind = kind_at(node)?;
-        let act = act_of_kind_at(self.names, kind, node)?;
-        node.only(known_members(act), &members)?;
+        let act = act_of_kind_at(self.format, self.names, kind, node)?;
+        node.only(known_members(self.format, act), &members)?;
         Ok(act)
     }
 }
 
-/// Reads scripts, each the actions of one core, under the names of the tasks.
+/// Reads scripts in a format, each the actions of one core, under the names of the tasks.
 #[derive(Clone, Copy)]
 pub(crate) struct ScriptReader<'n, 'a> {
+    pub(crate) format: Format,
     pub(crate) names: &'n Names<'a>,
 }
 
@@ -73,12 +81,15 @@ impl<'v> ReadItem<'v> for ScriptReader<'_, '_> {
 
     ghost use Rattle.session_text.specs.Act.{script_at};
 
-    ghost reading = { λ scripts. script_at scripts.names.now };
+    ghost reading = { λ scripts. script_at scripts.format scripts.names.now };
 
     #[tactic(auto, unfolding(crate::specs::Act::script_at))]
     fn read(&self, node: &Node<'_, 'v>) -> Result<Items<Act>, ReadFault> {
         let mut items = node.items()?;
-        let acts = ActReader { names: self.names };
+        let acts = ActReader {
+            format: self.format,
+            names: self.names,
+        };
         Ok(Items::new(each(node.alloc, &acts, node.place, &mut items)?))
     }
 }

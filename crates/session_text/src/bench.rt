@@ -73,7 +73,7 @@ fn unedited_at(node: &Node<'_, '_>) -> Result<Bench, ReadFault>
         (unedited_at (place_of node.now) (data_of node.now)) }
     ensures checked { IfOk result IsCheckedBench }
 {
-    let (header, steps) = session_at(node)?;
+    let (_format, header, steps) = session_at(node)?;
     let (header, steps) = session_accepted(node.alloc, node.place, header, steps)?;
     Ok(Bench {
         header,
@@ -104,13 +104,17 @@ fn shapes_at(
     ensures valid { IfOk result (λ read. IfOk read.0 IsCheckedHeader) }
 {
     let members = node.object()?;
-    let (header, steps) = session_at(&Node {
+    let (format, header, steps) = session_at(&Node {
         alloc: node.alloc,
         place: &Place::Member(node.place, "session"),
         value: session,
     })?;
     let names = known_names(node.alloc, &header)?;
-    let edits = list_at(&EditReader { names: &names }, node, "edits")?;
+    let reader = EditReader {
+        format,
+        names: &names,
+    };
+    let edits = list_at(&reader, node, "edits")?;
     drop(names);
     node.only(&["session", "edits"], &members)?;
     Ok((header, steps, edits))

@@ -1,10 +1,12 @@
 ghost use Rattle.std.specs.Prelude.{◌≡◌, map};
+ghost use Rattle.bench_types.specs.declared.step.Call.TheVariants as call;
 ghost use Rattle.session_text.specs.Node.{data_of, place_of};
 ghost use Rattle.session_text.specs.Outcome.{Gives};
 ghost use Rattle.session_text.specs.Step.{call_at, members_of_call, members_of_interrupt, note_at, wait_at};
 
 use crate::action::{action_at, action_number};
 use crate::fault::ReadFault;
+use crate::format::{Format, index_at};
 use crate::names::Names;
 use crate::node::Node;
 use bench_types::{Call, Note};
@@ -33,35 +35,43 @@ pub(crate) enum CallKind {
 
 /// The notification of a call or of an interrupt.
 #[tactic(auto, unfolding(crate::specs::Step::note_at))]
-pub(crate) fn note_at(names: &Names<'_>, node: &Node<'_, '_>) -> Result<Note, ReadFault>
+pub(crate) fn note_at(
+    format: Format,
+    names: &Names<'_>,
+    node: &Node<'_, '_>,
+) -> Result<Note, ReadFault>
     ensures { Gives (λ note. note) result
-        (note_at names.now (place_of node.now) (data_of node.now)) }
+        (note_at format names.now (place_of node.now) (data_of node.now)) }
 {
     Ok(Note {
         task: names.task_named_at(node, "to")?,
         action: action_at(node)?,
+        index: index_at(format, node)?,
     })
 }
 
 #[tactic(auto, unfolding(crate::specs::Step::wait_at))]
-fn wait_at(node: &Node<'_, '_>) -> Result<Call, ReadFault>
-    ensures { Gives (λ call. call) result (wait_at (place_of node.now) (data_of node.now)) }
+fn wait_at(format: Format, node: &Node<'_, '_>) -> Result<Call, ReadFault>
+    ensures { Gives (λ call. call) result
+        (wait_at format (place_of node.now) (data_of node.now)) }
 {
     Ok(Call::NotifyWait {
         entry: node.number("entry")?,
         exit: node.number("exit")?,
         ticks: node.number("ticks")?,
+        index: index_at(format, node)?,
     })
 }
 
 #[tactic(auto, unfolding(crate::specs::Step::call_at))]
 pub(crate) fn call_at(
+    format: Format,
     names: &Names<'_>,
     kind: CallKind,
     node: &Node<'_, '_>,
 ) -> Result<Call, ReadFault>
     ensures { Gives (λ call. call) result
-        (call_at names.now kind (place_of node.now) (data_of node.now)) }
+        (call_at format names.now kind (place_of node.now) (data_of node.now)) }
 {
     match kind {
         CallKind::Yield => Ok(Call::Yield),
@@ -80,16 +90,21 @@ pub(crate) fn call_at(
         }),
         CallKind::PreemptOff => Ok(Call::PreemptOff(names.task_named_at(node, "to")?)),
         CallKind::PreemptOn => Ok(Call::PreemptOn(names.task_named_at(node, "to")?)),
-        CallKind::Notify => Ok(Call::Notify(note_at(names, node)?)),
-        CallKind::NotifyWait => wait_at(node),
+        CallKind::Notify => Ok(Call::Notify(note_at(format, names, node)?)),
+        CallKind::NotifyWait => wait_at(format, node),
         CallKind::NotifyTake => Ok(Call::NotifyTake {
             clear: node.flag("clear")?,
             ticks: node.number("ticks")?,
+            index: index_at(format, node)?,
         }),
-        CallKind::StateClear => Ok(Call::StateClear(names.task_named_at(node, "to")?)),
+        CallKind::StateClear => Ok(Call::StateClear {
+            task: names.task_named_at(node, "to")?,
+            index: index_at(format, node)?,
+        }),
         CallKind::ValueClear => Ok(Call::ValueClear {
             task: names.task_named_at(node, "to")?,
             bits: node.number("bits")?,
+            index: index_at(format, node)?,
         }),
         CallKind::MutexTake => Ok(Call::MutexTake {
             mutex: node.number("mutex")?,
@@ -103,8 +118,8 @@ pub(crate) fn call_at(
 }
 
 /// The members that a step of a call like this one has, those that its action lacks first.
-pub(crate) fn call_members(call: Call) -> &'static [&'static str]
-    ensures { map (λ name. name.now) result.now ≡ members_of_call call }
+pub(crate) fn call_members(format: Format, call: Call) -> &'static [&'static str]
+    ensures { map (λ name. name.now) result.now ≡ members_of_call format call }
 {
     match call {
         Call::Yield | Call::Finish | Call::HoldOpen | Call::HoldClose => &["core", "by", "do"],
@@ -112,27 +127,57 @@ pub(crate) fn call_members(call: Call) -> &'static [&'static str]
         Call::DelayUntil { .. } => &["core", "by", "do", "prev", "inc"],
         Call::PrioritySet { .. } => &["core", "by", "do", "to", "priority"],
         Call::AffinitySet { .. } => &["core", "by", "do", "to", "mask"],
-        Call::PreemptOff(_) | Call::PreemptOn(_) | Call::StateClear(_) => {
-            &["core", "by", "do", "to"]
-        }
-        Call::Notify(note) => match action_number(note.action) {
-            None => &["core", "by", "do", "to", "action"],
-            Some(_) => &["core", "by", "do", "to", "action", "value"],
+        Call::PreemptOff(_) | Call::PreemptOn(_) => &["core", "by", "do", "to"],
+        Call::Notify(note) => notify_members(format, note),
+        Call::NotifyWait { .. } => match format {
+            Format::One => &["core", "by", "do", "entry", "exit", "ticks"],
+            Format::Two => &["core", "by", "do", "entry", "exit", "ticks", "index"],
         },
-        Call::NotifyWait { .. } => &["core", "by", "do", "entry", "exit", "ticks"],
-        Call::NotifyTake { .. } => &["core", "by", "do", "clear", "ticks"],
-        Call::ValueClear { .. } => &["core", "by", "do", "to", "bits"],
+        Call::NotifyTake { .. } => match format {
+            Format::One => &["core", "by", "do", "clear", "ticks"],
+            Format::Two => &["core", "by", "do", "clear", "ticks", "index"],
+        },
+        Call::StateClear { .. } => match format {
+            Format::One => &["core", "by", "do", "to"],
+            Format::Two => &["core", "by", "do", "to", "index"],
+        },
+        Call::ValueClear { .. } => match format {
+            Format::One => &["core", "by", "do", "to", "bits"],
+            Format::Two => &["core", "by", "do", "to", "bits", "index"],
+        },
         Call::MutexTake { .. } => &["core", "by", "do", "mutex", "ticks"],
         Call::MutexGive(_) => &["core", "by", "do", "mutex"],
     }
 }
 
-/// The same for an interrupt with a notification like this one.
-pub(crate) fn interrupt_members(note: Note) -> &'static [&'static str]
-    ensures { map (λ name. name.now) result.now ≡ members_of_interrupt note }
+/// The same for a call with a notification like this one.
+fn notify_members(format: Format, note: Note) -> &'static [&'static str]
+    ensures { map (λ name. name.now) result.now ≡ members_of_call format (call.Notify note) }
 {
     match action_number(note.action) {
-        None => &["core", "do", "to", "action"],
-        Some(_) => &["core", "do", "to", "action", "value"],
+        None => match format {
+            Format::One => &["core", "by", "do", "to", "action"],
+            Format::Two => &["core", "by", "do", "to", "action", "index"],
+        },
+        Some(_) => match format {
+            Format::One => &["core", "by", "do", "to", "action", "value"],
+            Format::Two => &["core", "by", "do", "to", "action", "value", "index"],
+        },
+    }
+}
+
+/// The same for an interrupt with a notification like this one.
+pub(crate) fn interrupt_members(format: Format, note: Note) -> &'static [&'static str]
+    ensures { map (λ name. name.now) result.now ≡ members_of_interrupt format note }
+{
+    match action_number(note.action) {
+        None => match format {
+            Format::One => &["core", "do", "to", "action"],
+            Format::Two => &["core", "do", "to", "action", "index"],
+        },
+        Some(_) => match format {
+            Format::One => &["core", "do", "to", "action", "value"],
+            Format::Two => &["core", "do", "to", "action", "value", "index"],
+        },
     }
 }

@@ -9,6 +9,7 @@ ghost use Rattle.session_text.specs.Session.{Answers};
 use crate::accepted::item_accepted;
 use crate::array::ReadItem;
 use crate::fault::{ReadFault, TextFault};
+use crate::format::Format;
 use crate::names::Names;
 use crate::node::Node;
 use crate::path::Place;
@@ -20,7 +21,8 @@ use std::alloc::Global;
 
 /// Reads an edit of a session with this header from a JSON text.
 ///
-/// The path of a fault begins at the edit, which is `top`.
+/// A step may have the index of a notification, whatever the format of the session's text is. The
+/// path of a fault begins at the edit, which is `top`.
 pub fn read_edit(alloc: Global, text: &[u8], header: &Header) -> Result<Edit, TextFault>
     requires { header_check header.now ≡ Ok tt }
     // The edit, or the first fault with its path, or that memory ran out.
@@ -40,7 +42,11 @@ fn edit_text(alloc: Global, text: &[u8], header: &Header) -> Result<Edit, ReadFa
     let mut scratch = Scratch::new(alloc);
     let document = document(alloc, text, &mut scratch)?;
     let names = Names::of(alloc, header)?;
-    let edit = EditReader { names: &names }.read(&Node {
+    let reader = EditReader {
+        format: Format::Two,
+        names: &names,
+    };
+    let edit = reader.read(&Node {
         alloc,
         place: &Place::Top,
         value: &document.root(),
@@ -92,12 +98,12 @@ fn edit_kind_at(node: &Node<'_, '_>) -> Result<EditKind, ReadFault>
 
 /// The step that the edit brings.
 #[tactic(auto, unfolding(crate::specs::Edit::new_step_at))]
-fn new_step_at(names: &Names<'_>, node: &Node<'_, '_>) -> Result<Step, ReadFault>
+fn new_step_at(format: Format, names: &Names<'_>, node: &Node<'_, '_>) -> Result<Step, ReadFault>
     ensures { Gives (λ step. step) result
-        (new_step_at names.now (place_of node.now) (data_of node.now)) }
+        (new_step_at format names.now (place_of node.now) (data_of node.now)) }
 {
     let step = node.member("step")?;
-    StepReader { names }.read(&Node {
+    StepReader { format, names }.read(&Node {
         alloc: node.alloc,
         place: &Place::Member(node.place, "step"),
         value: &step,
@@ -106,24 +112,25 @@ fn new_step_at(names: &Names<'_>, node: &Node<'_, '_>) -> Result<Step, ReadFault
 
 #[tactic(auto, unfolding(crate::specs::Edit::edit_of_kind_at))]
 fn edit_of_kind_at(
+    format: Format,
     names: &Names<'_>,
     kind: EditKind,
     node: &Node<'_, '_>,
 ) -> Result<Edit, ReadFault>
     ensures { Gives (λ edit. edit) result
-        (edit_of_kind_at names.now kind (place_of node.now) (data_of node.now)) }
+        (edit_of_kind_at format names.now kind (place_of node.now) (data_of node.now)) }
 {
     match kind {
         EditKind::Insert => Ok(Edit::Insert {
             at: node.number("at")?,
-            step: new_step_at(names, node)?,
+            step: new_step_at(format, names, node)?,
         }),
         EditKind::Remove => Ok(Edit::Remove {
             at: node.number("at")?,
         }),
         EditKind::Replace => Ok(Edit::Replace {
             at: node.number("at")?,
-            step: new_step_at(names, node)?,
+            step: new_step_at(format, names, node)?,
         }),
         EditKind::Change => Ok(Edit::ChangeTask {
             task: names.task_named_at(node, "task")?,
@@ -133,9 +140,10 @@ fn edit_of_kind_at(
     }
 }
 
-/// Reads edits, under the names of the tasks.
+/// Reads edits in a format, under the names of the tasks.
 #[derive(Clone, Copy)]
 pub(crate) struct EditReader<'n, 'a> {
+    pub(crate) format: Format,
     pub(crate) names: &'n Names<'a>,
 }
 
@@ -144,13 +152,13 @@ impl<'v> ReadItem<'v> for EditReader<'_, '_> {
 
     ghost use Rattle.session_text.specs.Edit.{edit_at};
 
-    ghost reading = { λ edits. edit_at edits.names.now };
+    ghost reading = { λ edits. edit_at edits.format edits.names.now };
 
     #[tactic(auto, unfolding(crate::specs::Edit::edit_at))]
     fn read(&self, node: &Node<'_, 'v>) -> Result<Edit, ReadFault> {
         let members = node.object()?;
         let kind = edit_kind_at(node)?;
-        let edit = edit_of_kind_at(self.names, kind, node)?;
+        let edit = edit_of_kind_at(self.format, self.names, kind, node)?;
         node.only(kind.members(), &members)?;
         Ok(edit)
     }

@@ -7,12 +7,14 @@ ghost use Rattle.session_text.specs.Outcome.{Gives};
 
 use crate::array::list_at;
 use crate::fault::ReadFault;
+use crate::format::format_at;
 use crate::header::{TaskReader, TaskShape, config_at};
 use crate::node::Node;
 use crate::path::Place;
 use crate::session::document;
 use bench_types::{
-    Config, MAX_CORES, MAX_MUTEXES, MAX_PRIORITIES, MAX_TASKS, MIN_CORES, Name, cores_of_mask,
+    Config, MAX_CORES, MAX_MUTEXES, MAX_NOTES, MAX_PRIORITIES, MAX_TASKS, MIN_CORES, Name,
+    cores_of_mask,
 };
 use json_data::Scratch;
 use std::alloc::{AllocError, Global};
@@ -26,6 +28,8 @@ pub enum HeaderFlaw {
     Priorities(u32),
     /// There may not be so many mutexes.
     Mutexes(u32),
+    /// There may not be so many notifications a task.
+    Notes(u32),
     /// There may not be so many user tasks.
     TaskCount(usize),
     /// The name of the task is none.
@@ -63,6 +67,7 @@ fn config_flaw(config: Config) -> Option<HeaderFlaw>
         slicing: _,
         tick: _,
         mutexes,
+        notes,
     } = config;
     limits_flaw(MIN_CORES, MAX_CORES, cores, HeaderFlaw::Cores(cores))
         .or(limits_flaw(
@@ -72,6 +77,7 @@ fn config_flaw(config: Config) -> Option<HeaderFlaw>
             HeaderFlaw::Priorities(priorities),
         ))
         .or(limits_flaw(0, MAX_MUTEXES, mutexes, HeaderFlaw::Mutexes(mutexes)))
+        .or(limits_flaw(1, MAX_NOTES, notes, HeaderFlaw::Notes(notes)))
 }
 
 fn spells_name(text: &str) -> bool
@@ -182,7 +188,7 @@ fn flaw_of(config: Config, tasks: &[TaskShape<'_>]) -> Option<HeaderFlaw>
 fn flaw_at(node: &Node<'_, '_>) -> Result<Option<HeaderFlaw>, ReadFault>
     ensures { Gives (λ flaw. flaw) result (flaw_at (place_of node.now) (data_of node.now)) }
 {
-    let config = config_at(node)?;
+    let config = config_at(format_at(node)?, node)?;
     let tasks = list_at(&TaskReader, node, "tasks")?;
     Ok(flaw_of(config, tasks.as_slice()))
 }

@@ -6,6 +6,7 @@ ghost use Rattle.session_text.specs.Outcome.{Gives};
 
 use crate::array::{ReadItem, list_at};
 use crate::fault::ReadFault;
+use crate::format::{Format, notes_at};
 use crate::node::Node;
 use bench_types::{Config, Fault, Header, Items, Name, TaskArgs};
 use std::alloc::{AllocError, Global};
@@ -42,8 +43,9 @@ impl TaskShape<'_> {
 }
 
 #[tactic(auto, unfolding(crate::specs::Header::config_at))]
-pub(crate) fn config_at(node: &Node<'_, '_>) -> Result<Config, ReadFault>
-    ensures { Gives (λ config. config) result (config_at (place_of node.now) (data_of node.now)) }
+pub(crate) fn config_at(format: Format, node: &Node<'_, '_>) -> Result<Config, ReadFault>
+    ensures { Gives (λ config. config) result
+        (config_at format (place_of node.now) (data_of node.now)) }
 {
     Ok(Config {
         cores: node.number("cores")?,
@@ -51,6 +53,7 @@ pub(crate) fn config_at(node: &Node<'_, '_>) -> Result<Config, ReadFault>
         slicing: node.flag("slicing")?,
         tick: node.number("tick")?,
         mutexes: node.number("mutexes")?,
+        notes: notes_at(format, node)?,
     })
 }
 
@@ -121,10 +124,13 @@ pub(crate) fn header_of(
 
 /// The header, accepted or not: its shape alone is judged.
 #[tactic(auto, unfolding(crate::specs::Header::header_at))]
-pub(crate) fn header_at(node: &Node<'_, '_>) -> Result<Result<Header, Fault>, ReadFault>
+pub(crate) fn header_at(
+    format: Format,
+    node: &Node<'_, '_>,
+) -> Result<Result<Header, Fault>, ReadFault>
     ensures reading { Gives (λ header. header) result
-        (header_at (place_of node.now) (data_of node.now)) }
+        (header_at format (place_of node.now) (data_of node.now)) }
     ensures valid { IfOk result (λ header. IfOk header IsCheckedHeader) }
 {
-    header_of(config_at(node)?, node)
+    header_of(config_at(format, node)?, node)
 }

@@ -1,7 +1,7 @@
 ghost use Rattle.std.specs.Prelude.{◌≡◌, map};
 ghost use Rattle.json_data.specs.ObjectView.{members_view};
 ghost use Rattle.json_data.specs.View.{items_view, view};
-ghost use Rattle.session_text.specs.Member.{array_at, as_u32, flag_at, items_at, member_at, number_at, object_at, only_at, text_at};
+ghost use Rattle.session_text.specs.Member.{array_at, as_u32, flag_at, items_at, member_at, number_at, number_or_at, object_at, only_at, text_at};
 ghost use Rattle.session_text.specs.Node.{data_of, place_of};
 ghost use Rattle.session_text.specs.Outcome.{Gives};
 
@@ -43,6 +43,18 @@ impl<'p, 'v> Node<'p, 'v> {
             (number_at (place_of self.now) name.now (data_of self.now)) }
     {
         self.found(name, as_u32(&self.member(name)?))
+    }
+
+    /// The number, or the other one where the member is left out.
+    #[tactic(auto, unfolding(crate::specs::Member::number_or_at))]
+    pub(crate) fn number_or(&self, name: &str, other: u32) -> Result<u32, ReadFault>
+        ensures { Gives (λ number. number) result
+            (number_or_at other (place_of self.now) name.now (data_of self.now)) }
+    {
+        match self.value.get(name) {
+            Some(value) => self.found(name, as_u32(&value)),
+            None => Ok(other),
+        }
     }
 
     #[tactic(auto, unfolding(crate::specs::Member::text_at))]

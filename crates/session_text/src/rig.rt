@@ -16,11 +16,12 @@ use crate::accepted::items_accepted;
 use crate::act::{OnCore, ScriptReader};
 use crate::array::list_at;
 use crate::fault::{ReadFault, TextFault, Why};
+use crate::format::{Format, format_at};
 use crate::header::{config_at, header_of};
 use crate::names::Names;
 use crate::node::Node;
 use crate::path::{Path, Place};
-use crate::session::{document, format_at, known_names, only_members};
+use crate::session::{document, known_names, only_members};
 use bench_types::{Act, Fault, Header, Items, MAX_STEPS};
 use json_data::Scratch;
 use std::alloc::Global;
@@ -84,35 +85,36 @@ fn rig_shapes_at(
         (λ read. IfOk read.0 (λ header. length read.2.items ≡ header.config.cores)) }
 {
     let members = node.object()?;
-    let (cores, header) = stepless_at(&Node {
+    let (format, cores, header) = stepless_at(&Node {
         alloc: node.alloc,
         place: &Place::Member(node.place, "session"),
         value: &node.member("session")?,
     })?;
     let limit = node.number("limit")?;
     let names = known_names(node.alloc, &header)?;
-    let scripts = scripts_at(cores, &names, node)?;
+    let scripts = scripts_at(format, cores, &names, node)?;
     drop(names);
     node.only(&["session", "limit", "scripts"], &members)?;
     Ok((header, limit, scripts))
 }
 
-/// The number of cores, and the header, accepted or not, of the session, which has no steps.
+/// The format, the number of cores, and the header, accepted or not, of the session, which has no
+/// steps.
 #[tactic(auto, unfolding(crate::specs::Rig::stepless_at))]
-fn stepless_at(node: &Node<'_, '_>) -> Result<(u32, Result<Header, Fault>), ReadFault>
+fn stepless_at(node: &Node<'_, '_>) -> Result<(Format, u32, Result<Header, Fault>), ReadFault>
     ensures reading { Gives (λ read. read) result
         (stepless_at (place_of node.now) (data_of node.now)) }
-    ensures valid { IfOk result (λ read. IfOk read.1 IsCheckedHeader) }
+    ensures valid { IfOk result (λ read. IfOk read.2 IsCheckedHeader) }
     ensures cores { IfOk result
-        (λ read. IfOk read.1 (λ header. read.0 ≡ header.config.cores)) }
+        (λ read. IfOk read.2 (λ header. read.1 ≡ header.config.cores)) }
 {
     let members = node.object()?;
-    format_at(node)?;
-    let config = config_at(node)?;
+    let format = format_at(node)?;
+    let config = config_at(format, node)?;
     let header = header_of(config, node)?;
     no_steps_at(node)?;
-    only_members(node, &members)?;
-    Ok((config.cores, header))
+    only_members(format, node, &members)?;
+    Ok((format, config.cores, header))
 }
 
 #[tactic(auto, unfolding(crate::specs::Rig::no_steps_at))]
@@ -142,18 +144,19 @@ fn has_arrays(count: u32, items: &mut json_data::Items<'_, '_>) -> bool
 /// One script per core.
 #[tactic(auto, unfolding(crate::specs::Rig::scripts_at))]
 fn scripts_at(
+    format: Format,
     cores: u32,
     names: &Names<'_>,
     node: &Node<'_, '_>,
 ) -> Result<Vec<Items<Act>>, ReadFault>
     ensures reading { Gives (λ scripts. scripts.items) result
-        (scripts_at cores names.now (place_of node.now) (data_of node.now)) }
+        (scripts_at format cores names.now (place_of node.now) (data_of node.now)) }
     ensures one_per_core { IfOk result (λ scripts. length scripts.items ≡ cores) }
 {
     if !has_arrays(cores, &mut node.array("scripts")?) {
         return Err(node.bad_member("scripts"));
     }
-    list_at(&ScriptReader { names }, node, "scripts")
+    list_at(&ScriptReader { format, names }, node, "scripts")
 }
 
 /// The rig, or the fault of its header, or of its limit, or else of its first action at fault.

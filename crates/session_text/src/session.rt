@@ -1,4 +1,4 @@
-ghost use Rattle.std.specs.Prelude.{◌≡◌, IfOk, Ok, codes};
+ghost use Rattle.std.specs.Prelude.{◌≡◌, IfOk, Ok, codes, map};
 ghost use Rattle.json_data.specs.ObjectView.{members_view};
 ghost use Rattle.json_data.specs.View.{document_view};
 ghost use Rattle.std.specs.Result.{ForOk};
@@ -11,11 +11,12 @@ ghost use Rattle.session_text.specs.Node.{data_of, place_of};
 ghost use Rattle.session_text.specs.Outcome.{Gives};
 ghost use Rattle.session_text.specs.Path.{path_of};
 ghost use Rattle.session_text.specs.Step.{step_at};
-ghost use Rattle.session_text.specs.Session.{document, format_at, session, session_accepted, session_at, session_members, Answers};
+ghost use Rattle.session_text.specs.Session.{document, session, session_accepted, session_at, session_members, Answers};
 
 use crate::accepted::items_accepted;
 use crate::array::list_at;
 use crate::fault::{ReadFault, TextFault, Why};
+use crate::format::{Format, format_at};
 use crate::header::header_at;
 use crate::names::Names;
 use crate::node::Node;
@@ -44,7 +45,7 @@ fn session(alloc: Global, text: &[u8]) -> Result<(Header, Vec<Step>), ReadFault>
 {
     let mut scratch = Scratch::new(alloc);
     let document = document(alloc, text, &mut scratch)?;
-    let (header, steps) = session_at(&Node {
+    let (_format, header, steps) = session_at(&Node {
         alloc,
         place: &Place::Top,
         value: &document.root(),
@@ -70,17 +71,6 @@ pub(crate) fn document<'a>(
     }
 }
 
-#[tactic(auto, unfolding(crate::specs::Session::format_at))]
-pub(crate) fn format_at(node: &Node<'_, '_>) -> Result<(), ReadFault>
-    ensures { Gives (λ done. done) result (format_at (place_of node.now) (data_of node.now)) }
-{
-    if node.number("format")? == 1 {
-        Ok(())
-    } else {
-        Err(node.bad_member("format"))
-    }
-}
-
 /// The names of the header's tasks, or none where it is not accepted.
 pub(crate) fn known_names(
     alloc: Global,
@@ -96,25 +86,25 @@ pub(crate) fn known_names(
 }
 
 /// The steps, under the names of the header.
-fn steps_at(header: &Result<Header, Fault>, node: &Node<'_, '_>) -> Result<Vec<Step>, ReadFault>
+fn steps_at(
+    format: Format,
+    header: &Result<Header, Fault>,
+    node: &Node<'_, '_>,
+) -> Result<Vec<Step>, ReadFault>
     requires { ForOk header.now IsCheckedHeader }
     ensures { Gives (λ steps. steps.items) result
-        (list_at (step_at (known_names header.now)) (place_of node.now) (codes "steps") (data_of node.now)) }
+        (list_at (step_at format (known_names header.now)) (place_of node.now) (codes "steps") (data_of node.now)) }
 {
-    let names = known_names(node.alloc, header)?;
-    list_at(&StepReader { names: &names }, node, "steps")
+    let names = &known_names(node.alloc, header)?;
+    list_at(&StepReader { format, names }, node, "steps")
 }
 
-/// H2 where the session has an unknown member.
-pub(crate) fn only_members(
-    node: &Node<'_, '_>,
-    members: &Object<'_, '_, '_>,
-) -> Result<(), ReadFault>
-    ensures { Gives (λ done. done) result
-        (only_at (place_of node.now) session_members (members_view members.now)) }
+/// The members of a session of the format.
+fn members_of(format: Format) -> &'static [&'static str]
+    ensures { map (λ name. name.now) result.now ≡ session_members format }
 {
-    node.only(
-        &[
+    match format {
+        Format::One => &[
             "format",
             "cores",
             "priorities",
@@ -124,25 +114,47 @@ pub(crate) fn only_members(
             "tasks",
             "steps",
         ],
-        members,
-    )
+        Format::Two => &[
+            "format",
+            "cores",
+            "priorities",
+            "slicing",
+            "tick",
+            "mutexes",
+            "tasks",
+            "steps",
+            "notes",
+        ],
+    }
 }
 
-/// The header, accepted or not, and the steps: shapes alone are judged.
+/// H2 where the session has an unknown member.
+pub(crate) fn only_members(
+    format: Format,
+    node: &Node<'_, '_>,
+    members: &Object<'_, '_, '_>,
+) -> Result<(), ReadFault>
+    ensures { Gives (λ done. done) result
+        (only_at (place_of node.now) (session_members format) (members_view members.now)) }
+{
+    node.only(members_of(format), members)
+}
+
+/// The format, the header, accepted or not, and the steps: shapes alone are judged.
 #[tactic(auto, unfolding(crate::specs::Session::session_at))]
 pub(crate) fn session_at(
     node: &Node<'_, '_>,
-) -> Result<(Result<Header, Fault>, Vec<Step>), ReadFault>
-    ensures reading { Gives (λ read. (read.0, read.1.items)) result
+) -> Result<(Format, Result<Header, Fault>, Vec<Step>), ReadFault>
+    ensures reading { Gives (λ read. (read.0, read.1, read.2.items)) result
         (session_at (place_of node.now) (data_of node.now)) }
-    ensures valid { IfOk result (λ read. IfOk read.0 IsCheckedHeader) }
+    ensures valid { IfOk result (λ read. IfOk read.1 IsCheckedHeader) }
 {
     let members = node.object()?;
-    format_at(node)?;
-    let header = header_at(node)?;
-    let steps = steps_at(&header, node)?;
-    only_members(node, &members)?;
-    Ok((header, steps))
+    let format = format_at(node)?;
+    let header = header_at(format, node)?;
+    let steps = steps_at(format, &header, node)?;
+    only_members(format, node, &members)?;
+    Ok((format, header, steps))
 }
 
 /// The session, or the fault of its header, or else of its first step at fault.

@@ -6,6 +6,7 @@ ghost use Rattle.session_text.specs.Step.{kind_at, kind_of, members_of, step_at,
 use crate::array::ReadItem;
 use crate::call::{CallKind, call_at, call_members, interrupt_members, note_at};
 use crate::fault::ReadFault;
+use crate::format::Format;
 use crate::names::Names;
 use crate::node::Node;
 use bench_types::Step;
@@ -50,14 +51,14 @@ impl Kind {
 }
 
 /// The members that a step like this one has.
-fn known_members(step: &Step) -> &'static [&'static str]
-    ensures { map (λ name. name.now) result.now ≡ members_of step.now }
+fn known_members(format: Format, step: &Step) -> &'static [&'static str]
+    ensures { map (λ name. name.now) result.now ≡ members_of format step.now }
 {
     match step {
         Step::Tick => &["do"],
         Step::Switch { .. } => &["core", "do"],
-        Step::Call { call, .. } => call_members(*call),
-        Step::Interrupt { note, .. } => interrupt_members(*note),
+        Step::Call { call, .. } => call_members(format, *call),
+        Step::Interrupt { note, .. } => interrupt_members(format, *note),
     }
 }
 
@@ -69,9 +70,14 @@ pub(crate) fn kind_at(node: &Node<'_, '_>) -> Result<Kind, ReadFault>
 }
 
 #[tactic(auto, unfolding(crate::specs::Step::step_of_kind_at))]
-fn step_of_kind_at(names: &Names<'_>, kind: Kind, node: &Node<'_, '_>) -> Result<Step, ReadFault>
+fn step_of_kind_at(
+    format: Format,
+    names: &Names<'_>,
+    kind: Kind,
+    node: &Node<'_, '_>,
+) -> Result<Step, ReadFault>
     ensures { Gives (λ step. step) result
-        (step_of_kind_at names.now kind (place_of node.now) (data_of node.now)) }
+        (step_of_kind_at format names.now kind (place_of node.now) (data_of node.now)) }
 {
     match kind {
         Kind::Tick => Ok(Step::Tick),
@@ -81,32 +87,33 @@ fn step_of_kind_at(names: &Names<'_>, kind: Kind, node: &Node<'_, '_>) -> Result
         Kind::Call(kind) => Ok(Step::Call {
             core: node.number("core")?,
             task: names.task_named_at(node, "by")?,
-            call: call_at(names, kind, node)?,
+            call: call_at(format, names, kind, node)?,
         }),
         Kind::Interrupt => Ok(Step::Interrupt {
             core: node.number("core")?,
-            note: note_at(names, node)?,
+            note: note_at(format, names, node)?,
         }),
     }
 }
 
-/// Reads steps, under the names of the tasks.
+/// Reads steps in a format, under the names of the tasks.
 #[derive(Clone, Copy)]
 pub(crate) struct StepReader<'n, 'a> {
+    pub(crate) format: Format,
     pub(crate) names: &'n Names<'a>,
 }
 
 impl<'v> ReadItem<'v> for StepReader<'_, '_> {
     type Item = Step;
 
-    ghost reading = { λ steps. step_at steps.names.now };
+    ghost reading = { λ steps. step_at steps.format steps.names.now };
 
     #[tactic(auto, unfolding(crate::specs::Step::step_at))]
     fn read(&self, node: &Node<'_, 'v>) -> Result<Step, ReadFault> {
         let members = node.object()?;
         let kind = kind_at(node)?;
-        let step = step_of_kind_at(self.names, kind, node)?;
-        node.only(known_members(&step), &members)?;
+        let step = step_of_kind_at(self.format, self.names, kind, node)?;
+        node.only(known_members(self.format, &step), &members)?;
         Ok(step)
     }
 }

@@ -119,9 +119,34 @@ fn check_header(rt: &impl Abort, alloc: Global, row: &HeaderRow) -> Result<(), F
         slicing,
         tick,
         mutexes,
+        notes: 1,
     };
     let header = header_of(alloc, config, tasks)?;
     check_answer(rt, &header, header.check(), answer(fits));
+    Ok(())
+}
+
+// How many notifications a task has, and whether it may have so many.
+const NOTES: &[(u32, bool)] = &[
+    (0, false),
+    (1, true),
+    (2, true),
+    (8, true),
+    (9, false),
+    (LAST, false),
+];
+
+fn check_notes(rt: &impl Abort, alloc: Global, notes: u32, fits: bool) -> Result<(), Fail> {
+    let header = header_of(alloc, Config { notes, ..PLAIN }, ONE)?;
+    check_answer(rt, &notes, header.check(), answer(fits));
+    Ok(())
+}
+
+#[test]
+fn numbers_of_notifications(rt: HostRuntime) -> Result<(), Fail> {
+    for (notes, fits) in NOTES {
+        check_notes(&rt, rt.alloc(), *notes, *fits)?;
+    }
     Ok(())
 }
 

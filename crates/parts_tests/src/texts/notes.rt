@@ -15,6 +15,7 @@ pub const EDITED: Edited = Edited {
             note: Note {
                 task: 3,
                 action: Action::Set(4),
+                index: 0,
             },
         },
     },
@@ -31,6 +32,7 @@ pub const ORDERS: Orders = Orders {
             call: Call::Notify(Note {
                 task: 3,
                 action: Action::Nothing,
+                index: 0,
             }),
         },
         Step::Call {
@@ -39,6 +41,7 @@ pub const ORDERS: Orders = Orders {
             call: Call::Notify(Note {
                 task: 3,
                 action: Action::SetBits(5),
+                index: 0,
             }),
         },
         Step::Call {
@@ -47,6 +50,7 @@ pub const ORDERS: Orders = Orders {
             call: Call::Notify(Note {
                 task: 3,
                 action: Action::Increment,
+                index: 0,
             }),
         },
         Step::Call {
@@ -55,6 +59,7 @@ pub const ORDERS: Orders = Orders {
             call: Call::Notify(Note {
                 task: 3,
                 action: Action::Set(7),
+                index: 0,
             }),
         },
         Step::Call {
@@ -63,6 +68,7 @@ pub const ORDERS: Orders = Orders {
             call: Call::Notify(Note {
                 task: 2,
                 action: Action::SetNew(4_294_967_295),
+                index: 0,
             }),
         },
         Step::Interrupt {
@@ -70,6 +76,7 @@ pub const ORDERS: Orders = Orders {
             note: Note {
                 task: 2,
                 action: Action::Nothing,
+                index: 0,
             },
         },
         Step::Interrupt {
@@ -77,6 +84,7 @@ pub const ORDERS: Orders = Orders {
             note: Note {
                 task: 3,
                 action: Action::SetBits(4_294_967_295),
+                index: 0,
             },
         },
         Step::Interrupt {
@@ -84,6 +92,7 @@ pub const ORDERS: Orders = Orders {
             note: Note {
                 task: 3,
                 action: Action::Increment,
+                index: 0,
             },
         },
         Step::Interrupt {
@@ -91,6 +100,7 @@ pub const ORDERS: Orders = Orders {
             note: Note {
                 task: 3,
                 action: Action::Set(0),
+                index: 0,
             },
         },
         Step::Interrupt {
@@ -98,6 +108,7 @@ pub const ORDERS: Orders = Orders {
             note: Note {
                 task: 3,
                 action: Action::SetNew(9),
+                index: 0,
             },
         },
         Step::Call {
@@ -107,6 +118,7 @@ pub const ORDERS: Orders = Orders {
                 entry: 1,
                 exit: 2,
                 ticks: 3,
+                index: 0,
             },
         },
         Step::Call {
@@ -115,6 +127,7 @@ pub const ORDERS: Orders = Orders {
             call: Call::NotifyTake {
                 clear: true,
                 ticks: 4_294_967_295,
+                index: 0,
             },
         },
         Step::Call {
@@ -123,17 +136,22 @@ pub const ORDERS: Orders = Orders {
             call: Call::NotifyTake {
                 clear: false,
                 ticks: 0,
+                index: 0,
             },
         },
         Step::Call {
             core: 0,
             task: 2,
-            call: Call::StateClear(3),
+            call: Call::StateClear { task: 3, index: 0 },
         },
         Step::Call {
             core: 0,
             task: 2,
-            call: Call::ValueClear { task: 3, bits: 6 },
+            call: Call::ValueClear {
+                task: 3,
+                bits: 6,
+                index: 0,
+            },
         },
     ],
 };

@@ -47,17 +47,19 @@ const EDITS: &[(&str, Why, &str)] = &[
 ];
 
 /// The text was refused for this, at this path.
-fn check_fault(rt: &impl Abort, fault: Option<&TextFault>, why: Why, path: &str) {
+pub fn check_fault(rt: &impl Abort, fault: Option<&TextFault>, why: Why, path: &str) {
     let told = fault.map(|fault| (fault.why, fault.path.as_str()));
     assert_eq!(rt; told, Some((why, path)));
 }
 
-fn check_session(rt: &impl Abort, alloc: Global, text: &[u8], why: Why, path: &str) {
+/// The text is refused as a session for this, at this path.
+pub fn check_session(rt: &impl Abort, alloc: Global, text: &[u8], why: Why, path: &str) {
     let fault = read_session(alloc, text).err();
     check_fault(rt, fault.as_ref(), why, path);
 }
 
-fn check_edit(rt: &impl Abort, alloc: Global, text: &str, header: &Header, why: Why, path: &str)
+/// The text is refused as an edit for this, at this path.
+pub fn check_edit(rt: &impl Abort, alloc: Global, text: &str, header: &Header, why: Why, path: &str)
     requires { header_check header.now ≡ Ok tt }
 {
     let fault = read_edit(alloc, text.as_bytes(), header).err();

@@ -32,6 +32,7 @@ const FIRST: &[Act] = &[
     Act::Interrupt(Note {
         task: 2,
         action: Action::Increment,
+        index: 0,
     }),
 ];
 

@@ -19,6 +19,13 @@ pub fn with_steps(alloc: Global, mutexes: u32, steps: &str) -> Result<String, Al
     )
 }
 
+/// A session of format 2 of so many notifications a task and these steps.
+pub fn with_notes(alloc: Global, notes: u32, steps: &str) -> Result<String, AllocError> {
+    format!(in alloc;
+        "{{\"format\":2,\"cores\":2,\"priorities\":5,\"slicing\":false,\"tick\":0,\"mutexes\":0,\"notes\":{notes},\"tasks\":[{{\"name\":\"A\",\"priority\":2,\"mask\":3}},{{\"name\":\"B\",\"priority\":1,\"mask\":3}}],\"steps\":[{steps}]}}"
+    )
+}
+
 /// The session that the text is.
 pub fn session_of(alloc: Global, text: &str) -> Result<(Header, Vec<Step>), Fail>
     ensures { IfOk result

@@ -36,6 +36,7 @@ const CALLS: &[CallRow] = &[
             entry: LAST,
             exit: 0,
             ticks: LAST,
+            index: 0,
         },
         Ok(()),
     ),
@@ -46,6 +47,7 @@ const CALLS: &[CallRow] = &[
         Call::NotifyTake {
             clear: true,
             ticks: 0,
+            index: 0,
         },
         Ok(()),
     ),
@@ -78,11 +80,28 @@ const CALLS: &[CallRow] = &[
         Call::Notify(Note {
             task: 1,
             action: Action::Set(LAST),
+            index: 0,
         }),
         Err(BadTask),
     ),
-    (3, 0, 2, Call::StateClear(1), Err(BadTask)),
-    (3, 0, 2, Call::ValueClear { task: 1, bits: 0 }, Err(BadTask)),
+    (
+        3,
+        0,
+        2,
+        Call::StateClear { task: 1, index: 0 },
+        Err(BadTask),
+    ),
+    (
+        3,
+        0,
+        2,
+        Call::ValueClear {
+            task: 1,
+            bits: 0,
+            index: 0,
+        },
+        Err(BadTask),
+    ),
     (
         3,
         0,
@@ -103,11 +122,22 @@ const CALLS: &[CallRow] = &[
         Call::Notify(Note {
             task: 2,
             action: Action::Set(LAST),
+            index: 0,
         }),
         Ok(()),
     ),
-    (3, 0, 2, Call::StateClear(2), Ok(())),
-    (3, 0, 2, Call::ValueClear { task: 2, bits: 0 }, Ok(())),
+    (3, 0, 2, Call::StateClear { task: 2, index: 0 }, Ok(())),
+    (
+        3,
+        0,
+        2,
+        Call::ValueClear {
+            task: 2,
+            bits: 0,
+            index: 0,
+        },
+        Ok(()),
+    ),
     (
         3,
         0,
@@ -128,11 +158,22 @@ const CALLS: &[CallRow] = &[
         Call::Notify(Note {
             task: 4,
             action: Action::Set(LAST),
+            index: 0,
         }),
         Ok(()),
     ),
-    (3, 0, 2, Call::StateClear(4), Ok(())),
-    (3, 0, 2, Call::ValueClear { task: 4, bits: 0 }, Ok(())),
+    (3, 0, 2, Call::StateClear { task: 4, index: 0 }, Ok(())),
+    (
+        3,
+        0,
+        2,
+        Call::ValueClear {
+            task: 4,
+            bits: 0,
+            index: 0,
+        },
+        Ok(()),
+    ),
     (
         3,
         0,
@@ -159,11 +200,28 @@ const CALLS: &[CallRow] = &[
         Call::Notify(Note {
             task: 5,
             action: Action::Set(LAST),
+            index: 0,
         }),
         Err(BadTask),
     ),
-    (3, 0, 2, Call::StateClear(5), Err(BadTask)),
-    (3, 0, 2, Call::ValueClear { task: 5, bits: 0 }, Err(BadTask)),
+    (
+        3,
+        0,
+        2,
+        Call::StateClear { task: 5, index: 0 },
+        Err(BadTask),
+    ),
+    (
+        3,
+        0,
+        2,
+        Call::ValueClear {
+            task: 5,
+            bits: 0,
+            index: 0,
+        },
+        Err(BadTask),
+    ),
     (
         1,
         0,
@@ -250,6 +308,7 @@ const STEPS: &[(Step, Answer)] = &[
             note: Note {
                 task: 1,
                 action: Action::Set(LAST),
+                index: 0,
             },
         },
         Err(BadTask),
@@ -260,6 +319,7 @@ const STEPS: &[(Step, Answer)] = &[
             note: Note {
                 task: 2,
                 action: Action::Set(LAST),
+                index: 0,
             },
         },
         Ok(()),
@@ -270,6 +330,7 @@ const STEPS: &[(Step, Answer)] = &[
             note: Note {
                 task: 4,
                 action: Action::Set(LAST),
+                index: 0,
             },
         },
         Ok(()),
@@ -280,6 +341,7 @@ const STEPS: &[(Step, Answer)] = &[
             note: Note {
                 task: 5,
                 action: Action::Set(LAST),
+                index: 0,
             },
         },
         Err(BadTask),
@@ -290,6 +352,7 @@ const STEPS: &[(Step, Answer)] = &[
             note: Note {
                 task: 4,
                 action: Action::Set(LAST),
+                index: 0,
             },
         },
         Err(BadCore),
@@ -300,11 +363,154 @@ const STEPS: &[(Step, Answer)] = &[
             note: Note {
                 task: 5,
                 action: Action::Set(LAST),
+                index: 0,
             },
         },
         Err(BadCore),
     ),
 ];
+
+// Calls that are for a notification, of which each task has two.
+const NOTED: &[(Call, Answer)] = &[
+    (
+        Call::Notify(Note {
+            task: 2,
+            action: Action::Increment,
+            index: 1,
+        }),
+        Ok(()),
+    ),
+    (
+        Call::Notify(Note {
+            task: 2,
+            action: Action::Increment,
+            index: 2,
+        }),
+        Err(BadArgument),
+    ),
+    (
+        Call::Notify(Note {
+            task: 4,
+            action: Action::Increment,
+            index: LAST,
+        }),
+        Err(BadArgument),
+    ),
+    (
+        Call::Notify(Note {
+            task: 5,
+            action: Action::Increment,
+            index: 2,
+        }),
+        Err(BadTask),
+    ),
+    (Call::StateClear { task: 2, index: 1 }, Ok(())),
+    (Call::StateClear { task: 2, index: 2 }, Err(BadArgument)),
+    (
+        Call::StateClear {
+            task: 4,
+            index: LAST,
+        },
+        Err(BadArgument),
+    ),
+    (Call::StateClear { task: 5, index: 2 }, Err(BadTask)),
+    (
+        Call::ValueClear {
+            task: 2,
+            bits: 0,
+            index: 1,
+        },
+        Ok(()),
+    ),
+    (
+        Call::ValueClear {
+            task: 2,
+            bits: 0,
+            index: 2,
+        },
+        Err(BadArgument),
+    ),
+    (
+        Call::ValueClear {
+            task: 4,
+            bits: 0,
+            index: LAST,
+        },
+        Err(BadArgument),
+    ),
+    (
+        Call::ValueClear {
+            task: 5,
+            bits: 0,
+            index: 2,
+        },
+        Err(BadTask),
+    ),
+    (
+        Call::NotifyWait {
+            entry: LAST,
+            exit: 0,
+            ticks: LAST,
+            index: 1,
+        },
+        Ok(()),
+    ),
+    (
+        Call::NotifyWait {
+            entry: LAST,
+            exit: 0,
+            ticks: LAST,
+            index: 2,
+        },
+        Err(BadArgument),
+    ),
+    (
+        Call::NotifyTake {
+            clear: true,
+            ticks: 0,
+            index: 1,
+        },
+        Ok(()),
+    ),
+    (
+        Call::NotifyTake {
+            clear: true,
+            ticks: 0,
+            index: 2,
+        },
+        Err(BadArgument),
+    ),
+];
+
+// Notifications by interrupts, under the same header.
+const INTERRUPTS: &[(Note, Answer)] = &[
+    (
+        Note {
+            task: 2,
+            action: Action::Increment,
+            index: 1,
+        },
+        Ok(()),
+    ),
+    (
+        Note {
+            task: 2,
+            action: Action::Increment,
+            index: 2,
+        },
+        Err(BadArgument),
+    ),
+    (
+        Note {
+            task: 5,
+            action: Action::Increment,
+            index: 2,
+        },
+        Err(BadTask),
+    ),
+];
+
+const TWO_NOTES: Config = Config { notes: 2, ..PLAIN };
 
 const TWO_MUTEXES: Config = Config {
     mutexes: 2,
@@ -339,6 +545,32 @@ fn steps_by_no_task(rt: HostRuntime) -> Result<(), Fail> {
     let header = crowd(rt.alloc(), PLAIN, 3)?;
     for (step, want) in STEPS {
         check_step(&rt, &header, *step, *want);
+    }
+    Ok(())
+}
+
+#[test]
+fn calls_for_a_notification(rt: HostRuntime) -> Result<(), Fail> {
+    let header = crowd(rt.alloc(), TWO_NOTES, 3)?;
+    for (call, want) in NOTED {
+        check_answer(&rt, call, call.check(&header), *want);
+    }
+    Ok(())
+}
+
+#[test]
+fn interrupts_for_a_notification(rt: HostRuntime) -> Result<(), Fail> {
+    let header = crowd(rt.alloc(), TWO_NOTES, 3)?;
+    for (note, want) in INTERRUPTS {
+        check_step(
+            &rt,
+            &header,
+            Step::Interrupt {
+                core: 1,
+                note: *note,
+            },
+            *want,
+        );
     }
     Ok(())
 }

@@ -38,6 +38,7 @@ const CONFIG: Config = Config {
     slicing: false,
     tick: 0,
     mutexes: 0,
+    notes: 1,
 };
 
 // Each task's name, priority and mask.

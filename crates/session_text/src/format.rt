@@ -1,0 +1,61 @@
+ghost use Rattle.std.specs.Prelude.{◌≡◌};
+ghost use Rattle.session_text.specs.Format.{format_at, format_of, index_at, notes_at};
+ghost use Rattle.session_text.specs.Node.{data_of, place_of};
+ghost use Rattle.session_text.specs.Outcome.{Gives};
+
+use crate::fault::ReadFault;
+use crate::node::Node;
+
+/// The format of a session's text.
+#[derive(Clone, Copy, Debug, PartialEq, Eq, Hash)]
+pub enum Format {
+    /// `format` is 1: each task has one notification.
+    One,
+    /// `format` is 2: `notes` says how many notifications each task has, and `index` which of them
+    /// a step means.
+    Two,
+}
+
+impl Format {
+    fn of(number: u32) -> Option<Format>
+        ensures { result ≡ format_of number }
+    {
+        match number {
+            1 => Some(Format::One),
+            2 => Some(Format::Two),
+            _ => None,
+        }
+    }
+}
+
+#[tactic(auto, unfolding(crate::specs::Format::format_at))]
+pub(crate) fn format_at(node: &Node<'_, '_>) -> Result<Format, ReadFault>
+    ensures { Gives (λ format. format) result
+        (format_at (place_of node.now) (data_of node.now)) }
+{
+    node.found("format", Format::of(node.number("format")?))
+}
+
+/// How many notifications each task has.
+#[tactic(auto, unfolding(crate::specs::Format::notes_at))]
+pub(crate) fn notes_at(format: Format, node: &Node<'_, '_>) -> Result<u32, ReadFault>
+    ensures { Gives (λ notes. notes) result
+        (notes_at format (place_of node.now) (data_of node.now)) }
+{
+    match format {
+        Format::One => Ok(1),
+        Format::Two => node.number("notes"),
+    }
+}
+
+/// The index of a notification, 0 where it is left out.
+#[tactic(auto, unfolding(crate::specs::Format::index_at))]
+pub(crate) fn index_at(format: Format, node: &Node<'_, '_>) -> Result<u32, ReadFault>
+    ensures { Gives (λ index. index) result
+        (index_at format (place_of node.now) (data_of node.now)) }
+{
+    match format {
+        Format::One => Ok(0),
+        Format::Two => node.number_or("index", 0),
+    }
+}

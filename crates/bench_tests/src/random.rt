@@ -42,8 +42,8 @@ pub enum Mix {
     Nothing,
     /// Some set something of a task.
     Sets,
-    /// Some set something of a task, and some notify a task, wait for that, or clear it. Each task has
-    /// so many notifications.
+    /// Some set something of a task, and some notify a task, wait for that, or clear it. Each task
+    /// has so many notifications.
     Notes(u32),
     /// Some set something of a task, and some take or give one of four mutexes.
     Mutexes,
@@ -117,8 +117,8 @@ impl Played {
     }
 }
 
-// A header of 8 cores and 64 tasks with time slicing and so many notifications a task, with the last
-// 96 ticks before the tick count wraps.
+// A header of 8 cores and 64 tasks with time slicing and so many notifications a task, with the
+// last 96 ticks before the tick count wraps.
 fn large_header(alloc: Global, notes: u32) -> Result<Header, Fail>
     ensures { IfOk result (λ header. (header.config.cores ≡ 8) × (header.config.mutexes ≡ 4)) }
 {

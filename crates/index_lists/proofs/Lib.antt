@@ -1,3 +1,4 @@
+mod Apart
 mod Fields
 pub mod Frees
 mod Looks

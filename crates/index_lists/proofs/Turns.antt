@@ -1,18 +1,15 @@
 -- What the fields stand for after an item went from its place in a list to the end of it.
-use Rattle.std.proofs.Common.{◌≡◌, ◌≢◌, ℕ, ◌+◌, ◌-◌, ◌<◌, false, eqb, List, [], ◌∷◌, ◌++◌, length, map, set, get_or, take, drop, Option, Some, None, unwrap_or, refl, sym, ap, subst, ◌∙◌, arith, get_or-set_other, get_or-set_same, length-set, inl, inr}
+use Rattle.std.proofs.Common.{◌≡◌, ℕ, ◌+◌, ◌-◌, ◌<◌, List, [], ◌∷◌, ◌++◌, length, map, set, get_or, drop, Option, Some, None, unwrap_or, refl, sym, ap, subst, ◌∙◌, arith, get_or-set_same}
 use Rattle.std.specs.List.{insert}
-use Rattle.std.proofs.lemmas.Bool.{cases_eq}
-use Rattle.std.proofs.lemmas.Bool.Decides.{nat_tests}
-use Rattle.std.proofs.lemmas.List.{ext_get_or, get_or-map, length-map, set-get_or, set-set, drop_all, take_all}
+use Rattle.std.proofs.lemmas.List.{get_or-map, length-map, set-get_or, set-set, drop_all, take_all}
 use Rattle.index_lists.specs.declared.links.Link.{Link}
 use Rattle.index_lists.specs.declared.links.Home.{Home}
-use Rattle.index_lists.specs.Listed.{Listed, items_of, has_item, without_item, list_of}
+use Rattle.index_lists.specs.Listed.{Listed, items_of, without_item, list_of}
 use Rattle.index_lists.specs.Rings.{nexts, prevs, nexts_without, prevs_without, first_or}
 use Rattle.index_lists.specs.Shape.{home_at, StandFor}
 use Rattle.index_lists.proofs.Fields.{row_at, lens_length}
 use Rattle.index_lists.proofs.Frees.{no_list, gone_from_all}
-use Rattle.index_lists.proofs.Looks.{came, went, holder_at, list_of_home, list_of_none}
-use Rattle.index_lists.proofs.Moves.{none_gone}
+use Rattle.index_lists.proofs.Looks.{came, went, list_of_home, list_of_none}
 
 -- taken out and counted again
 counted_twice : (lens : List ℕ) (l n : ℕ) → l < length lens → get_or lens l 0 ≡ n → 0 < n → set (set lens l (n - 1)) l (get_or (set lens l (n - 1)) l 0 + 1) ≡ lens

@@ -1,6 +1,6 @@
 -- Lists of items with keys, as the callers of `Lists` see them.
-use Rattle.std.specs.Prelude.{ℕ, List, [], ◌∷◌, Bool, not, ◌==◌, nat_le, Option, Some, None, map, filter, find, option_map, unwrap_or, replicate, slice_index_or, slice_set}
-use Rattle.std.specs.List.{list_any, position, after_first}
+use Rattle.std.specs.Prelude.{◌≡◌, ℕ, List, [], ◌∷◌, Bool, true, not, ◌==◌, nat_le, Option, Some, None, map, filter, find, option_map, unwrap_or, replicate, slice_index_or, slice_set}
+use Rattle.std.specs.List.{list_any, position, after_first, IsDistinct}
 
 -- an item in a list
 pub record Listed : Type 0 where
@@ -46,6 +46,12 @@ without_item item list = filter (λ entry. not (entry.item == item)) list
 -- the items of the list
 abbrev pub items_of : List Listed → List ℕ
 items_of list = map (λ entry. entry.item) list
+
+-- each item stands in at most one list, and there once
+pub record EachInOneList (view : ListsView) : Type 0 where
+  pub one_list : (item list other : ℕ) → has_item item (list_at view list) ≡ true
+      → has_item item (list_at view other) ≡ true → list ≡ other
+  pub once : (list : ℕ) → IsDistinct (λ a b. a == b) (items_of (list_at view list))
 
 -- the first item of the list
 abbrev pub first_of : List Listed → Option ℕ

@@ -1,7 +1,7 @@
 ghost use Rattle.std.specs.Prelude.{◌≡◌, ◌↔◌, ℕ, ◌+◌, ◌<◌, ◌≤◌, ◌^◌, ◌∷◌, ◌++◌, [], Some, None, is_some, true, nat_lt, if◌then◌else◌, length, map, drop, slice_index, IsTrue, IfOk, IfSome, nat_le};
 ghost use Rattle.std.specs.List.{prefix_len, insert};
 ghost use Rattle.list_orders.specs.Search.{placed, ranked};
-ghost use Rattle.index_lists.specs.Listed.{empty_lists, list_at, with_list, list_of, key_of, without_item, items_of, first_of, next_of, lowest_first};
+ghost use Rattle.index_lists.specs.Listed.{empty_lists, list_at, with_list, has_item, list_of, key_of, without_item, items_of, first_of, next_of, lowest_first, EachInOneList};
 ghost use Rattle.index_lists.specs.Rings.{first_or};
 
 use crate::links::{Home, Link, link_before, lone_nodes, move_before, no_homes, no_lens, unlink};
@@ -190,10 +190,13 @@ impl Lists {
         self.lens[list as usize]
     }
 
-    /// The list that the item is in; none where it is in none.
+    /// The list that the item is in, which is one at most; none where it is in none.
     pub fn list_of(&self, item: u32) -> Option<u32>
         requires { item < self.now.items }
-        ensures { result ≡ list_of item self.now }
+        ensures list { result ≡ list_of item self.now }
+        ensures only { (list : ℕ)
+            → IsTrue (has_item item (list_at self.now list)) ↔ (result ≡ Some list) }
+        ensures each { EachInOneList self.now }
     {
         match self.homes[item as usize] {
             Some(home) => Some(home.list),
@@ -204,7 +207,8 @@ impl Lists {
     /// The key of the item in its list; none where it is in none.
     pub fn key_of(&self, item: u32) -> Option<u32>
         requires { item < self.now.items }
-        ensures { result ≡ key_of item self.now }
+        ensures key { result ≡ key_of item self.now }
+        ensures each { EachInOneList self.now }
     {
         match self.homes[item as usize] {
             Some(home) => Some(home.key),

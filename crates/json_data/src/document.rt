@@ -2,7 +2,7 @@ ghost use Rattle.std.specs.Prelude.{◌≡◌, true, is_some, Some, None, Err, I
 ghost use Rattle.std.specs.Str.{IsUtf8};
 ghost use Rattle.serde_json.specs.Read.{read};
 ghost use Rattle.json_data.specs.Reading.{data_at};
-ghost use Rattle.json_data.specs.declared.document.Refused.TheVariants.{NotJson};
+ghost use Rattle.json_data.specs.declared.document.Refused.TheVariants.{NoMemory, NotJson};
 
 use crate::item::Item;
 use crate::range::are_in_range;
@@ -40,6 +40,7 @@ impl<'a> Document<'a> {
         ensures ok { IfOk result
             (λ document. IsUtf8 bytes.now × (read bytes.now ≡ Some (document_view document))) }
         ensures refused { result ≡ Err NotJson → IsUtf8 bytes.now → read bytes.now ≡ None }
+        ensures memory { result ≡ Err NoMemory → IsUtf8 bytes.now }
     {
         match simdutf8::compat::from_utf8(bytes) {
             Ok(text) => Document::of_text(alloc, text, scratch),

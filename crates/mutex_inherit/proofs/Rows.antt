@@ -1,6 +1,5 @@
 -- What lists of waiters show as a waiter comes and goes, and what is found in them.
-use Rattle.std.proofs.Common.{◌≡◌, ◌≢◌, ℕ, zero, suc, ◌+◌, ◌-◌, ◌<◌, ◌≤◌, Bool, true, false, cond, not, eqb, leb, ltb, ◌||◌, ◌&&◌, List, [], ◌∷◌, ◌++◌, length, map, set, get_or, replicate, Option, Some, None, option_map, unwrap_or, refl, sym, ap, ◌∙◌, append_assoc, get_or-set_same, get_or-set_other, arith, ◌⊎◌, inl, inr, zero-add}
-use Rattle.std.specs.Prelude.{is_some}
+use Rattle.std.proofs.Common.{◌≡◌, ◌≢◌, ℕ, zero, suc, ◌+◌, ◌-◌, ◌<◌, ◌≤◌, Bool, true, false, cond, not, eqb, leb, ltb, ◌||◌, ◌&&◌, List, [], ◌∷◌, ◌++◌, length, map, set, get_or, replicate, Option, Some, None, option_map, unwrap_or, refl, sym, ap, ◌∙◌, append_assoc, get_or-set_same, get_or-set_other, arith, inl, inr, zero-add}
 use Rattle.std.specs.List.{filter, find, list_any, position_or_len, AllByRecursion}
 use Rattle.std.proofs.Math.ListN.{get_or-map}
 use Rattle.std.proofs.lemmas.Bool.{cases_eq}
@@ -11,10 +10,9 @@ use Rattle.bench_types.specs.declared.kernel_data.MutexWait.{MutexWait}
 use Rattle.bench_types.specs.declared.kernel_data.Waiter.{Waiter}
 use Rattle.list_orders.specs.Search.{placed, ranked}
 use Rattle.list_orders.proofs.Filters.{filter_all, filter_none, filter_agrees, filter-map, find_filter, list_any-map, All-append, All-map, All-weaker, All_each, All-filter}
-use Rattle.list_orders.proofs.Ranks.{list_any-placed, All-placed, filter-ranked}
+use Rattle.list_orders.proofs.Ranks.{All-placed, filter-ranked}
 use Rattle.list_orders.proofs.Placements.{ranked-placed}
-use Rattle.index_lists.specs.Listed.{Listed, ListsView, items_of, has_item, without_item, list_of, key_of, lowest_first}
-use Rattle.index_lists.proofs.Frees.{some_list}
+use Rattle.index_lists.specs.Listed.{Listed, ListsView, items_of, has_item, without_item, list_of, key_of, lowest_first, EachInOneList}
 use Rattle.index_lists.proofs.Places.{lowest_first-IsRank}
 use Rattle.bench_model.specs.Lists.{waits_first, without_waiter, first_of}
 use Rattle.bench_model.specs.MutexParts.{wait_of}
@@ -221,16 +219,6 @@ module _ (n : ℕ) where
   same_rows xs ys wx wy same k = same_row k (row_at xs k) (row_at ys k) (wx.keys k) (wy.keys k) (sym (of_list k xs) ∙ ap (filter (waits_for k)) same ∙ of_list k ys)
 
 -- ---- what the lists keep
-any_row : (t k : ℕ) (rows : List (List Listed)) → list_any (has_item t) rows ≡ false → has_item t (row_at rows k) ≡ false
-any_row t zero [] none = refl
-any_row t (suc k) [] none = refl
-any_row t zero (row ∷ rows) none = grind (arith, none)
-any_row t (suc k) (row ∷ rows) none = any_row t k rows (grind (arith, none))
-
--- a task of no list is in none
-pub free_rows : (t : ℕ) (view : ListsView) → list_of t view ≡ None → (k : ℕ) → has_item t (row_at view.lists k) ≡ false
-free_rows t view none k = any_row t k view.lists (sym (some_list t view) ∙ ap is_some none)
-
 pub empty_row : (lists k : ℕ) → row_at (replicate lists []) k ≡ []
 empty_row zero zero = refl
 empty_row zero (suc k) = refl
@@ -246,22 +234,7 @@ unfolding ranked
 waiters_none n lists = record {
   keys = λ m. rw (empty_row lists m) tt;
   in_order = λ m. rw (empty_row lists m) refl;
-  once = λ t m k here there. absurd (cc (sym here ∙ ap (has_item t) (empty_row lists m)));
 }
-
-has_kept : (t u : ℕ) (row : List Listed) → has_item t (without_item u row) ≡ true → has_item t row ≡ true
-has_kept t u [] here = here
-has_kept t u (e ∷ row) here = at (eqb e.item u) (eqb e.item t) here (has_kept t u row)
-  where
-    at : (b c : Bool) → list_any (λ (e' : Listed). eqb e'.item t) (cond (not b) (e ∷ without_item u row) (without_item u row)) ≡ true → (has_item t (without_item u row) ≡ true → has_item t row ≡ true) → (eqb e.item t || has_item t row) ≡ true
-    at true c is rest = grind (arith, rest is)
-    at false c is rest = cases (eqb e.item t) refl is rest
-      where
-        cases : (d : Bool) → eqb e.item t ≡ d → (eqb e.item t || has_item t (without_item u row)) ≡ true → (has_item t (without_item u row) ≡ true → has_item t row ≡ true) → (eqb e.item t || has_item t row) ≡ true
-        cases true same is rest = grind (arith, same)
-        cases false other is rest =
-            let later : has_item t (without_item u row) ≡ true = grind (arith, is, other) in
-            grind (arith, rest later)
 
 pub waiters_gone : (n u : ℕ) (rows : List (List Listed)) → AreWaiters n rows → AreWaiters n (map (without_item u) rows)
 waiters_gone n u rows waiting =
@@ -270,10 +243,9 @@ waiters_gone n u rows waiting =
     record {
       keys = λ m. rw (row m) (All-filter (is_key n) stays (row_at rows m) (waiting.keys m));
       in_order = λ m. rw (row m) (sym (filter-ranked lowest_first lowest_first-IsRank stays (row_at rows m)) ∙ ap (filter stays) (waiting.in_order m));
-      once = λ t m k here there. waiting.once t m k (has_kept t u (row_at rows m) (ap (has_item t) (sym (row m)) ∙ here)) (has_kept t u (row_at rows k) (ap (has_item t) (sym (row k)) ∙ there));
     }
 
-module _ (n k : ℕ) (x : Listed) (rows : List (List Listed)) (low : k < length rows) (key : is_key n x) (free : (m : ℕ) → has_item x.item (row_at rows m) ≡ false) (waiting : AreWaiters n rows) where
+module _ (n k : ℕ) (x : Listed) (rows : List (List Listed)) (low : k < length rows) (key : is_key n x) (waiting : AreWaiters n rows) where
   abbrev more : List (List Listed)
   more = set rows k (placed lowest_first x (row_at rows k))
 
@@ -282,32 +254,6 @@ module _ (n k : ℕ) (x : Listed) (rows : List (List Listed)) (low : k < length 
 
   other_row : (m : ℕ) → m ≢ k → row_at more m ≡ row_at rows m
   other_row m away = get_or-set_other rows k m (placed lowest_first x (row_at rows k)) [] away
-
-  -- in which lists a task stands
-  has_more : (t m : ℕ) → has_item t (row_at more m) ≡ true → ((m ≡ k) × (t ≡ x.item)) ⊎ (has_item t (row_at rows m) ≡ true)
-  has_more t m here = elim (cases_eq m k) [
-    | inl same ↦ in_its_list same (eqb x.item t) refl
-    | inr away ↦ inr (ap (has_item t) (sym (other_row m away)) ∙ here)
-  ]
-    where
-      in_its_list : m ≡ k → (b : Bool) → eqb x.item t ≡ b → ((m ≡ k) × (t ≡ x.item)) ⊎ (has_item t (row_at rows m) ≡ true)
-      in_its_list same true is = inl (same, grind (arith, nat_tests, is))
-      in_its_list same false other =
-          let now : (eqb x.item t || has_item t (row_at rows k)) ≡ true = sym (ap (has_item t) its_row ∙ list_any-placed lowest_first (λ (e : Listed). eqb e.item t) x (row_at rows k)) ∙ ap (λ j. has_item t (row_at more j)) (sym same) ∙ here in
-          let old : has_item t (row_at rows k) ≡ true = grind (arith, now, other) in
-          inr (ap (λ j. has_item t (row_at rows j)) same ∙ old)
-
-  once_more : (t m j : ℕ) → has_item t (row_at more m) ≡ true → has_item t (row_at more j) ≡ true → m ≡ j
-  once_more t m j here there = elim (has_more t m here) [
-    | inl new ↦ elim (has_more t j there) [
-      | inl too ↦ new.0 ∙ sym too.0
-      | inr old ↦ absurd (cc (old, ap (λ u. has_item u (row_at rows j)) new.1, free j))
-    ]
-    | inr old ↦ elim (has_more t j there) [
-      | inl new ↦ absurd (cc (old, ap (λ u. has_item u (row_at rows m)) new.1, free m))
-      | inr too ↦ waiting.once t m j old too
-    ]
-  ]
 
   pub waiters_more : AreWaiters n more
   waiters_more = record {
@@ -319,7 +265,6 @@ module _ (n k : ℕ) (x : Listed) (rows : List (List Listed)) (low : k < length 
       | inl same ↦ rw (same, its_row) (ranked-placed lowest_first lowest_first-IsRank x (row_at rows k) (waiting.in_order k))
       | inr away ↦ rw (other_row m away) (waiting.in_order m)
     ];
-    once = once_more;
   }
 
 -- ---- the key of the first of a list
@@ -334,11 +279,11 @@ found_row t (suc k) (row ∷ rows) here sole = at (has_item t row) refl (found_r
     at false away later = later
 
 -- the first of a list, and its key
-pub first_key : (n k : ℕ) (view : ListsView) (e : Listed) (rest : List Listed) → AreWaiters n view.lists → row_at view.lists k ≡ e ∷ rest → key_of e.item view ≡ Some e.key
-first_key n k view e rest waiting is =
+pub first_key : (k : ℕ) (view : ListsView) (e : Listed) (rest : List Listed) → EachInOneList view → row_at view.lists k ≡ e ∷ rest → key_of e.item view ≡ Some e.key
+first_key k view e rest each is =
     let itself : eqb e.item e.item ≡ true = grind (arith, nat_tests) in
     let here : has_item e.item (row_at view.lists k) ≡ true = ap (has_item e.item) is ∙ ap (λ b. b || has_item e.item rest) itself in
-    let row = found_row e.item k view.lists here (λ j there. waiting.once e.item j k there here) in
+    let row = found_row e.item k view.lists here (λ j there. each.one_list e.item j k there here) in
     ap (λ o. option_map (λ (d : Listed). d.key) (find (λ (d : Listed). eqb d.item e.item) (unwrap_or o []))) row
     ∙ ap (λ r. option_map (λ (d : Listed). d.key) (find (λ (d : Listed). eqb d.item e.item) r)) is
     ∙ ap (λ b. option_map (λ (d : Listed). d.key) (cond b (Some e) (find (λ (d : Listed). eqb d.item e.item) rest))) itself

@@ -8,7 +8,7 @@ use Rattle.std.proofs.lemmas.Option.{same_Some}
 use Rattle.bench_types.specs.declared.kernel_data.MutexWait.{MutexWait}
 use Rattle.bench_types.specs.declared.kernel_data.Waiter.{Waiter}
 use Rattle.list_orders.specs.Search.{placed}
-use Rattle.index_lists.specs.Listed.{Listed, ListsView, empty_lists, with_list, items_of, list_of, key_of, without_item, lowest_first, first_of as first_item}
+use Rattle.index_lists.specs.Listed.{Listed, ListsView, empty_lists, with_list, items_of, list_of, key_of, without_item, lowest_first, first_of as first_item, EachInOneList}
 use Rattle.bench_model.specs.Lists.{without_waiter, first_of}
 use Rattle.bench_model.specs.MutexParts.{with_waiter, wait_of}
 use Rattle.mutex_inherit.specs.Parts.{MutexPart, waiter_at, waiters_from, tasks_for, seen_mutexes, free_mutexes}
@@ -83,7 +83,7 @@ module _ (t n : ℕ) (hs : List (Option ℕ)) (view : ListsView) (part : MutexPa
   pub first_none : (m : ℕ) → first_item (row_at view.lists m) ≡ None → None ≡ first_of m part.waiters
   first_none m none = no_head m (row_at view.lists m) none ∙ sym (first_waiting n m view.lists) ∙ ap (λ (p : MutexPart). first_of m p.waiters) is
 
-  module _ (waiting : AreWaiters n view.lists) (m task : ℕ) (some : first_item (row_at view.lists m) ≡ Some task) where
+  module _ (waiting : AreWaiters n view.lists) (each : EachInOneList view) (m task : ℕ) (some : first_item (row_at view.lists m) ≡ Some task) where
     abbrev its_key : ℕ → Type 0
     its_key below = (0 < below) × (below ≤ n) × (key_of task view ≡ Some below) × (Some (waiter_from task m (n - below)) ≡ first_of m part.waiters)
 
@@ -93,7 +93,7 @@ module _ (t n : ℕ) (hs : List (Option ℕ)) (view : ListsView) (part : MutexPa
         let item : e.item ≡ task = same_Some _ _ first in
         let keys : AreKeys n (e ∷ rest) = subst (AreKeys n) row (waiting.keys m) in
         let found = ap (λ r. find (λ _. true) (map (waiter_at n m) r)) row in
-        (e.key, (keys.0.0, keys.0.1, ap (λ i. key_of i view) (sym item) ∙ first_key n m view e rest waiting row, ap (λ i. Some (waiter_from i m (n - e.key))) (sym item) ∙ sym found ∙ sym (first_waiting n m view.lists) ∙ ap (λ (p : MutexPart). first_of m p.waiters) is))
+        (e.key, (keys.0.0, keys.0.1, ap (λ i. key_of i view) (sym item) ∙ first_key m view e rest each row, ap (λ i. Some (waiter_from i m (n - e.key))) (sym item) ∙ sym found ∙ sym (first_waiting n m view.lists) ∙ ap (λ (p : MutexPart). first_of m p.waiters) is))
 
     pub the_key : (below : ℕ) × its_key below
     the_key = of_head (row_at view.lists m) refl some

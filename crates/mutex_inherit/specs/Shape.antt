@@ -1,22 +1,19 @@
 -- What the fields of the mutexes keep, whatever they show.
-use Rattle.std.specs.Prelude.{◌≡◌, ℕ, ◌<◌, ◌≤◌, ◌^◌, List, [], length, All, Option, true, slice_index_or}
+use Rattle.std.specs.Prelude.{◌≡◌, ℕ, ◌<◌, ◌≤◌, ◌^◌, List, [], length, All, Option, slice_index_or}
 use Rattle.std.specs.List.{AllByRecursion}
 use Rattle.std.specs.Option.{ForSome}
 use Rattle.list_orders.specs.Search.{ranked}
-use Rattle.index_lists.specs.Listed.{Listed, ListsView, has_item, lowest_first}
+use Rattle.index_lists.specs.Listed.{Listed, ListsView, lowest_first}
 
 -- the keys are those of priorities that there are
 abbrev pub AreKeys : ℕ → List Listed → Type 0
 AreKeys priorities list = AllByRecursion (λ entry. (0 < entry.key) × (entry.key ≤ priorities)) list
 
--- Each list is in the order of its keys, which are those of priorities, and a task stands in one
--- list at most.
+-- Each list is in the order of its keys, which are those of priorities.
 pub record AreWaiters (priorities : ℕ) (lists : List (List Listed)) : Type 0 where
   pub keys : (m : ℕ) → AreKeys priorities (slice_index_or lists m [])
   pub in_order : (m : ℕ)
       → ranked lowest_first (slice_index_or lists m []) ≡ slice_index_or lists m []
-  pub once : (task m n : ℕ) → has_item task (slice_index_or lists m []) ≡ true
-      → has_item task (slice_index_or lists n []) ≡ true → m ≡ n
 
 -- each holder is a task, and there is a list of waiters for each mutex
 pub record IsMutexShape (tasks priorities : ℕ) (holders : List (Option ℕ)) (view : ListsView)

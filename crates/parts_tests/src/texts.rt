@@ -4,6 +4,7 @@ mod answers;
 mod codes;
 mod documents;
 mod edits;
+mod errors;
 mod headers;
 mod holds;
 mod largest;

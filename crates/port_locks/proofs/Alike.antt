@@ -52,6 +52,7 @@ module _ (p q : PairState) (N : ℕ → Type 0) (a : Alike p q N) where
         below = let less = f.below in let more = a.given in omega arith;
         terms = f.terms ∙ sym a.terms;
         interrupt = a.interrupt v.number n ∙ f.interrupt;
+        holds = f.holds;
         owner = λ own.
             let known = f.owner own in
             let same = a.owner v.number n (f.interrupt ∙ own) in
@@ -62,6 +63,7 @@ module _ (p q : PairState) (N : ℕ → Type 0) (a : Alike p q N) where
         hold = held seat v n f;
         first = λ z. f.first z ∙ sym (a.first (subst N z n));
         told = all_alike seat v.told (λ t is. numbers t.number false is.below is.place) f.told;
+        told_once = f.told_once;
       }
     where
       held : (seat : ℕ) (v : View) → N v.number → Fits p seat v

@@ -1,5 +1,5 @@
 -- What the seats of a pair know at its end, once all are joined into one.
-use Rattle.std.proofs.Common.{◌≡◌, ◌≢◌, ℕ, ◌+◌, ◌<◌, ◌==◌, ◌-◌, List, [], ◌∷◌, length, get_or, Bool, true, false, true≢false, Option, Some, refl, sym, ap, ◌∙◌, subst, ⊎_elim, arith, eq-eqb}
+use Rattle.std.proofs.Common.{◌≡◌, ℕ, ◌+◌, ◌<◌, ◌≤◌, ◌==◌, ◌-◌, List, [], ◌∷◌, length, get_or, Bool, true, false, true≢false, Option, Some, None, option_map, refl, sym, ap, ◌∙◌, subst, ⊎_elim, arith, eq-eqb}
 use Rattle.std.specs.List.{All}
 use mathlib.Core.Logic.{dite}
 use mathlib.Core.Option as maybe
@@ -7,12 +7,14 @@ use native.Mathlib.Decide.{ℕ_discrete}
 use lib.ListN.{get_elem?}
 use Rattle.atomic_table.specs.Table.{State, Final, Seen}
 use Rattle.bench_types.specs.declared.entry.Entry.{Entry}
+use Rattle.bench_types.specs.declared.kernel_data.Hold.{Hold}
 use Rattle.bench_model.specs.History.{made_by, StartsWith, IsLegal}
 use Rattle.port_locks.specs.declared.view.About.{About}
 use Rattle.port_locks.specs.declared.view.Handover.{Handover}
 use Rattle.port_locks.specs.declared.view.Terms.{Terms}
 use Rattle.port_locks.specs.declared.view.View.{View}
-use Rattle.port_locks.specs.Closing.{Knows, IsEnd, HasAllNumbers, IsEndOf}
+use Rattle.port_locks.specs.Closing.{Knows, IsEnd, HasAllNumbers, IsEndOf, HasNoOthers}
+use Rattle.port_locks.specs.Holds.{hold_after}
 use Rattle.port_locks.specs.Seats.{SeatView}
 use Rattle.port_locks.proofs.KnownSeats.{IsKnown}
 use Rattle.port_locks.specs.Locks.{PairState, IsTold, Fits, Locked}
@@ -39,21 +41,49 @@ knows_end p id v f number seen made =
           (λ i. (told.4 i, told.6 i)) is.made,
     ))
 
--- the interrupt word is not that of a number which is known
-not_owner : (p : PairState) (id : ℕ) (v : View) → Fits p id v → v.owns_interrupt ≡ false
+-- a word that names neither a seat nor any that it was told of names no number which is known
+not_named : (p : PairState) (id : ℕ) (v : View) → Fits p id v → (word : ℕ)
+    → (word == v.number + 1) ≡ false
+    → ((t : Handover) → IsTold p id t → (word == t.number + 1) ≡ false)
     → (number : ℕ) (seen made : List Entry) → Knows v number seen made
-    → (p.interrupt == number + 1) ≡ false
-not_owner p id v f free number seen made =
+    → (word == number + 1) ≡ false
+not_named p id v f word free frees number seen made =
     ⊎_elim
     (λ (own : (v.number ≡ number) × (v.seen ≡ seen) × (v.made ≡ made)).
-    subst (λ (n : ℕ). (p.interrupt == n + 1) ≡ false) own.0 (f.interrupt ∙ free))
+    subst (λ (n : ℕ). (word == n + 1) ≡ false) own.0 free)
     (λ (told : (k : ℕ) × (t : Handover) × (k < length v.told)
     × ((d : Handover) → get_or v.told k d ≡ t) × (t.number ≡ number) × (t.seen ≡ seen)
     × (t.made ≡ made)).
     let t : Handover = told.1 in
     let is : IsTold p id t =
     subst (IsTold p id) (told.3 t) (f.told told.0 t told.2) in
-    subst (λ (n : ℕ). (p.interrupt == n + 1) ≡ false) told.4 is.interrupt)
+    subst (λ (n : ℕ). (word == n + 1) ≡ false) told.4 (frees t is))
+
+-- and so it names nobody, where all numbers are known
+names_nobody : (p : PairState) (id : ℕ) (v : View) → Fits p id v → (cores word : ℕ)
+    → p.given ≤ cores → word ≤ p.given
+    → ((number : ℕ) → number < cores
+    → (seen : List Entry) × (made : List Entry) × Knows v number seen made)
+    → (word == v.number + 1) ≡ false
+    → ((t : Handover) → IsTold p id t → (word == t.number + 1) ≡ false) → word ≡ 0
+names_nobody p id v f cores word most few all free frees =
+    dite (ℕ_discrete word 0) (λ none. none)
+    (λ owned.
+    let number : ℕ = word - 1 in
+    let same : word ≡ number + 1 = omega arith in
+    let k = all number (omega arith) in
+    absurd
+    (true≢false
+    (sym (eq-eqb word (number + 1) same)
+    ∙ not_named p id v f word free frees number k.0 k.1 k.2)))
+
+-- no hold is open while nobody owns the task word
+none_open : (task : ℕ) (hold : Option Hold) → task ≡ 0
+    → ((core : ℕ) → option_map (λ (h : Hold). h.core) hold ≡ Some core → task ≡ core + 1)
+    → hold ≡ None
+none_open task None nobody all = refl
+none_open task (Some h) nobody all =
+    let is : task ≡ h.core + 1 = all h.core refl in absurd (omega arith)
 
 not_true : (b : Bool) → (b ≡ true → ⊥) → b ≡ false
 not_true true never = absurd (never refl)
@@ -79,20 +109,26 @@ module _ {V : Type 0} (terms_of : V → Terms) (list_of : V → List Entry) (key
 
   -- where all numbers are known and the one seat does not own the interrupt word, the value is home
   pub ends : (id : ℕ) (v : View) (words : List ℕ) (slots : List (Option V)) → v.spent ≡ false
-      → v.owns_interrupt ≡ false
+      → v.owns_interrupt ≡ false → v.owns_task ≡ false
       → ((number : ℕ) → number < key.cores
       → (seen : List Entry) × (made : List Entry) × Knows v number seen made)
       → Final (Seen Rule id v) words slots
       → (value : V) × (get_elem? slots 0 ≡ maybe.some (Some value))
       × (terms_of value ≡ terms_of key.first.value)
       × IsLegal (terms_of value).header (list_of value) × IsEnd v (list_of value)
-  ends id v words slots kept free all final =
+      × (hold_after (terms_of value).header (list_of value) ≡ None)
+      × HasNoOthers key.cores (list_of value)
+  ends id v words slots kept free free_task all final =
       let s = final.0 in
       let r : Rule s = final.1.0 in
       let f = r.views id v final.1.1 kept in
       let nobody : r.p.interrupt ≡ 0 =
-      dite (ℕ_discrete r.p.interrupt 0) (λ none. none)
-      (λ owned. absurd (owner s r f owned)) in
+      names_nobody r.p id v f key.cores r.p.interrupt r.few_given r.interrupt_given all
+      (f.interrupt ∙ free) (λ t is. is.interrupt) in
+      let no_task : r.p.task ≡ 0 =
+      names_nobody r.p id v f key.cores r.p.task r.few_given r.task_given all
+      (f.task ∙ free_task) (λ t is. is.task) in
+      let most = r.few_given in
       let home = r.home (not_true r.p.out (λ out. r.owned out nobody)) in (
         home.value,
         final.4 0 (Some home.value) (ap (λ hs. get_elem? hs 0) home.slot),
@@ -100,35 +136,34 @@ module _ {V : Type 0} (terms_of : V → Terms) (list_of : V → List Entry) (key
         subst (λ (x : Terms × List Entry). IsLegal x.0.header x.1)
             (λ i. (sym home.terms i, sym home.list i)) r.legal,
         subst (IsEnd v) (sym home.list) (λ number seen made. knows_end r.p id v f number seen made),
+        subst (λ (x : Terms × List Entry). hold_after x.0.header x.1 ≡ None)
+            (λ i. (sym home.terms i, sym home.list i))
+            (none_open r.p.task (hold_after r.p.terms.header r.p.history) no_task r.hold),
+        subst (HasNoOthers key.cores) (sym home.list)
+            (λ number over. r.not_given number (omega (arith, over))),
       )
-    where
-      owner : (s : State (Option V) View) (r : Rule s) → Fits r.p id v → r.p.interrupt ≢ 0 → ⊥
-      owner s r f owned =
-          let number : ℕ = r.p.interrupt - 1 in
-          let few = r.interrupt_given in
-          let most = r.few_given in
-          let k = all number (omega arith) in
-          let same : r.p.interrupt ≡ number + 1 = omega arith in
-          true≢false
-          (sym (eq-eqb r.p.interrupt (number + 1) same)
-          ∙ not_owner r.p id v f free number k.0 k.1 k.2)
 
   -- the same of what was taken out of the slot, and of seats that are known
   pub ends_as : (id : ℕ) (v : View) (words : List ℕ) (slots : List (Option V)) → v.spent ≡ false
-      → v.owns_interrupt ≡ false → (cores : ℕ) (seats : List (SeatView V)) → key.cores ≡ cores
+      → v.owns_interrupt ≡ false → v.owns_task ≡ false → (cores : ℕ) (seats : List (SeatView V))
+      → key.cores ≡ cores
       → HasAllNumbers cores seats → All (IsKnown v) seats
       → Final (Seen Rule id v) words slots → (taken : Option V)
       → get_elem? slots 0 ≡ maybe.some taken
       → (value : V) × (taken ≡ Some value) × (terms_of value ≡ terms_of key.first.value)
       × IsLegal (terms_of value).header (list_of value)
       × All (IsEndOf (list_of value)) seats
-  ends_as id v words slots kept free cores seats same has known final taken at =
+      × (hold_after (terms_of value).header (list_of value) ≡ None)
+      × HasNoOthers cores (list_of value)
+  ends_as id v words slots kept free free_task cores seats same has known final taken at =
       let e =
-      ends id v words slots kept free (all_known key.cores cores v seats same has known)
+      ends id v words slots kept free free_task (all_known key.cores cores v seats same has known)
       final in (
         e.0,
         maybe.some-injective taken (Some e.0) (sym at ∙ e.1),
         e.2,
         e.3,
-        λ k d l. e.4 _ _ _ (known k d l),
+        (λ k d l. e.4 _ _ _ (known k d l)),
+        e.5,
+        (λ number over. e.6 number (omega (arith, same, over))),
       )

@@ -1,4 +1,5 @@
 pub mod Alike
+pub mod Placed
 pub mod Steps
 pub mod Seats
 pub mod Hands

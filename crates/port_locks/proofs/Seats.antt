@@ -1,24 +1,29 @@
 -- Seats that are made and joined, and the pair at its start and its end, keep the rule.
-use Rattle.std.proofs.Common.{◌≡◌, ◌≢◌, ◌⊎◌, ℕ, zero, suc, ◌+◌, ◌<◌, ◌≤◌, ◌==◌, cond, List, [], ◌∷◌, ◌++◌, length, set, Bool, true, false, true≢false, Option, Some, None, option_map, refl, sym, ap, ◌∙◌, subst, ⊎_elim, inl, inr, arith, eq-eqb, ne_eqb}
-use Rattle.std.specs.List.{All}
+use Rattle.std.proofs.Common.{◌≡◌, ◌≢◌, ◌⊎◌, ℕ, zero, suc, ◌+◌, ◌<◌, ◌≤◌, ◌==◌, cond, List, [], ◌∷◌, ◌++◌, length, get_or, set, Bool, true, false, true≢false, Option, Some, None, option_map, refl, sym, ap, ◌∙◌, subst, ⊎_elim, inl, inr, arith, eq-eqb, ne_eqb}
+use Rattle.std.specs.List.{All, AllPairs}
 use Rattle.std.proofs.lemmas.List.Elements.{All-nil, All-cons, All-append}
+use Rattle.std.proofs.lemmas.List.Kept.{AllPairs-cons}
+use mathlib.Core.Logic.{dite}
+use native.Mathlib.Decide.{ℕ_discrete}
 use mathlib.Core.Option as maybe
 use lib.ListN.{get_elem?}
 use Rattle.atomic_table.specs.Table.{State, Splits, Joins, opening}
-use Rattle.atomic_table.proofs.Lists.{at_set, set_else}
+use Rattle.atomic_table.proofs.Lists.{at_set, set_else, at_last, at_longer}
 use Rattle.bench_types.specs.declared.entry.Entry.{Entry}
 use Rattle.bench_types.specs.declared.header.Header.{Header}
 use Rattle.bench_types.specs.declared.kernel_data.Hold.{Hold}
 use Rattle.port_locks.specs.declared.view.About.{About}
+use Rattle.port_locks.specs.declared.view.Handover.{Handover}
 use Rattle.port_locks.specs.declared.view.Terms.{Terms}
 use Rattle.port_locks.specs.declared.view.View.{View}
 use Rattle.port_locks.specs.Holds.{hold_after, own_hold}
-use Rattle.port_locks.specs.Locks.{PairState, IsTold, Fits, FitsIfKept, Locked}
+use Rattle.port_locks.specs.Locks.{PairState, IsTold, Fits, FitsIfKept, HasNumber, IsPlaced, AllFit, AllPlaced, Locked}
 use Rattle.port_locks.specs.Steps.{seated, nobody, one_more, newcomer, handover, gathered}
 use Rattle.port_locks.proofs.Alike.{Alike, all_alike, fits_alike, views_stay}
 use Rattle.history_laws.proofs.KeptOut.{start_free}
 use Rattle.history_laws.proofs.Legal.{end_empty, legal_empty}
 use Rattle.history_laws.proofs.Parts.{begins_with_all}
+use Rattle.port_locks.proofs.Placed.{set_there, same_there, pairs_append, still_placed, stay_placed, gathered_left, gathered_right, names_interrupt, names_task}
 use Rattle.port_locks.proofs.Steps.{elsewhere, not_told, same_home}
 
 at_end : (views : List View) (w u : View) (seat : ℕ)
@@ -69,6 +74,100 @@ own_hold_beyond task given number (Some h) few is all =
 no_hold : (header : Header) → hold_after header [] ≡ None
 no_hold header = ap (λ table. table.hold) (end_empty header) ∙ start_free header
 
+-- with one more number given out, to a new seat, each number is where it is said to be
+placed_more : (p : PairState) (views : List View) (id : ℕ) (v w new : View)
+    → get_elem? views id ≡ maybe.some v → w.spent ≡ false → w.number ≡ v.number
+    → w.told ≡ v.told → new.spent ≡ false → new.number ≡ p.given → AllPlaced p views
+    → AllPlaced
+    (record p {
+      given = p.given + 1;
+      place = placed p.given (length (set views id w)) p.place;
+    })
+    (set views id w ++ new ∷ [])
+placed_more p views id v w new at kept numbers told fresh given all number less =
+    let seats : ℕ = length (set views id w) in
+    let after : List View = set views id w ++ new ∷ [] in
+    dite (ℕ_discrete number p.given)
+    (λ same.
+    let last : IsPlaced (seats, true) after number = record {
+      view = new;
+      there = at_last (set views id w) new seats refl;
+      kept = fresh;
+      has = given ∙ sym same;
+    } in
+    subst (λ (place : ℕ × Bool). IsPlaced place after number)
+    (sym (ap (λ b. cond b (seats, true) (p.place number)) (eq-eqb number p.given same))) last)
+    (λ other.
+    let here = stay_placed p views id v w at kept numbers told all number (omega arith) in
+    let still : IsPlaced (p.place number) after number = record {
+      view = here.view;
+      there = at_longer (set views id w) (new ∷ []) (p.place number).0 here.view here.there;
+      kept = here.kept;
+      has = here.has;
+    } in
+    subst (λ (place : ℕ × Bool). IsPlaced place after number)
+    (sym (ap (λ b. cond b (seats, true) (p.place number)) (ne_eqb number p.given other))) still)
+
+-- the same of a seat that was joined into another
+placed_joined : (p : PairState) (views : List View) (id other : ℕ) (v w : View)
+    → get_elem? views id ≡ maybe.some v → get_elem? views other ≡ maybe.some w
+    → v.spent ≡ false → id ≢ other → AllPlaced p views
+    → AllPlaced (record p { place = joined id other p.place })
+    (set (set views id (gathered v w)) other nobody)
+placed_joined p views id other v w at at' kept off all number less =
+    let after : List View = set (set views id (gathered v w)) other nobody in
+    let here = all number less in
+    dite (ℕ_discrete (p.place number).0 other)
+    (λ same.
+    let told : IsPlaced (id, false) after number = record {
+      view = gathered v w;
+      there =
+          set_else (set views id (gathered v w)) other id nobody off
+          ∙ set_there views id v (gathered v w) at;
+      kept = kept;
+      has = gathered_right number (p.place number).1 v w
+          (subst (HasNumber number (p.place number).1)
+          (sym (same_there views other (p.place number).0 w here.view same at' here.there))
+          here.has);
+    } in
+    subst (λ (place : ℕ × Bool). IsPlaced place after number)
+    (sym (ap (λ b. cond b (id, false) (p.place number)) (eq-eqb (p.place number).0 other same)))
+    told)
+    (λ away.
+    let still = still_placed (p.place number) views id v (gathered v w) number at kept
+    (gathered_left number (p.place number).1 v w) here in
+    let there : IsPlaced (p.place number) after number = record {
+      view = still.view;
+      there =
+          set_else (set views id (gathered v w)) other (p.place number).0 nobody away
+          ∙ still.there;
+      kept = still.kept;
+      has = still.has;
+    } in
+    subst (λ (place : ℕ × Bool). IsPlaced place after number)
+    (sym (ap (λ b. cond b (id, false) (p.place number)) (ne_eqb (p.place number).0 other away)))
+    there)
+
+abbrev IsOther : Handover → Handover → Type 0
+IsOther t u = t.number ≢ u.number
+
+-- no two that a seat was told of have one number, also once it takes in another seat
+once_gathered : (p : PairState) (id other : ℕ) (v w : View) → Fits p id v → Fits p other w
+    → id ≢ other → AllPairs (λ t u. t.number ≢ u.number) (v.told ++ handover w ∷ w.told)
+once_gathered p id other v w f f' off =
+    pairs_append IsOther v.told (handover w ∷ w.told) f.told_once
+    (AllPairs-cons IsOther (handover w) w.told
+    (λ k d l same. not_told p other w.number (get_or w.told k d).number f'.place
+    (f'.told k d l).place (sym same))
+    f'.told_once)
+    (λ k d l.
+    All-cons (IsOther (get_or v.told k d)) (handover w) w.told
+    (elsewhere p other id w.number (get_or v.told k d).number true false f'.place
+    (f.told k d l).place off)
+    (λ k' d' l'.
+    elsewhere p other id (get_or w.told k' d').number (get_or v.told k d).number false false
+    (f'.told k' d' l').place (f.told k d l).place off))
+
 module _ {V : Type 0} (terms_of : V → Terms) (list_of : V → List Entry) (key : About V) where
   abbrev Rule : State (Option V) View → Type 0
   Rule = Locked terms_of list_of key
@@ -105,6 +204,7 @@ module _ {V : Type 0} (terms_of : V → Terms) (list_of : V → List Entry) (key
         below = let less = fits.below in omega arith;
         terms = fits.terms;
         interrupt = fits.interrupt;
+        holds = fits.holds;
         owner = fits.owner;
         task = fits.task;
         seen = fits.seen;
@@ -120,6 +220,7 @@ module _ {V : Type 0} (terms_of : V → Terms) (list_of : V → List Entry) (key
               λ same. (let less = is.below in omega arith),
             ))
             fits.told;
+        told_once = fits.told_once;
       } in
       let header = r.p.terms.header in
       let no_hold : own_hold v.given (hold_after header r.p.history) ≡ None =
@@ -131,6 +232,7 @@ module _ {V : Type 0} (terms_of : V → Terms) (list_of : V → List Entry) (key
         below = omega arith;
         terms = fits.terms;
         interrupt = let few = r.interrupt_given in ne_eqb r.p.interrupt (v.given + 1) (λ e. omega arith);
+        holds = λ _. refl;
         owner = λ own. absurd (true≢false (sym own));
         task = let few = r.task_given in ne_eqb r.p.task (v.given + 1) (λ e. omega arith);
         seen = refl;
@@ -138,38 +240,51 @@ module _ {V : Type 0} (terms_of : V → Terms) (list_of : V → List Entry) (key
         hold = ap (own_hold v.given) r.start ∙ sym no_hold;
         first = λ zero. omega arith;
         told = All-nil (IsTold q seats);
+        told_once = λ i j d before less. absurd (omega (arith, less));
       } in
+      let all : AllFit q (set s.views id (one_more v) ++ newcomer v ∷ []) =
+      λ seat u e.
+      ⊎_elim
+      (λ there.
+      views_stay (FitsIfKept q) s.views id (one_more v) (λ _. mine)
+      (λ seat u apart at kept.
+      fits_alike r.p q N a seat u
+      (λ n b less there. (
+        (λ zero. elsewhere r.p id seat v.number n true b fits.place there apart
+            (zero ∙ sym first)),
+        λ same. omega arith,
+      ))
+      (r.views seat u at kept))
+      seat u there)
+      (λ (t : (seat ≡ seats) × (newcomer v ≡ u)).
+      subst (λ (x : ℕ × View). FitsIfKept q x.0 x.1) (λ i. (sym t.0 i, t.1 i))
+      (λ _. new))
+      (at_end (set s.views id (one_more v)) (newcomer v) u seat e) in
+      let placed : AllPlaced q (set s.views id (one_more v) ++ newcomer v ∷ []) =
+      placed_more r.p s.views id v (one_more v) (newcomer v) at kept refl refl refl given r.placed in
+      let few = r.interrupt_given in
+      let few_tasks = r.task_given in
       record {
         p = q;
         terms = r.terms;
         words = r.words;
         home = λ out. same_home terms_of list_of key r.p q s.homes refl refl (r.home out);
+        away = r.away;
         owned = r.owned;
         legal = r.legal;
         start = r.start;
         hold = r.hold;
-        interrupt_given = let few = r.interrupt_given in omega arith;
-        task_given = let few = r.task_given in omega arith;
+        interrupt_given = omega arith;
+        task_given = omega arith;
         some_given = omega arith;
         few_given = omega arith;
         not_given = λ n over. r.not_given n (omega arith);
-        views = λ seat u e.
-            ⊎_elim
-            (λ there.
-            views_stay (FitsIfKept q) s.views id (one_more v) (λ _. mine)
-            (λ seat u apart at kept.
-            fits_alike r.p q N a seat u
-            (λ n b less there. (
-              (λ zero. elsewhere r.p id seat v.number n true b fits.place there apart
-                  (zero ∙ sym first)),
-              λ same. omega arith,
-            ))
-            (r.views seat u at kept))
-            seat u there)
-            (λ (t : (seat ≡ seats) × (newcomer v ≡ u)).
-            subst (λ (x : ℕ × View). FitsIfKept q x.0 x.1) (λ i. (sym t.0 i, t.1 i))
-            (λ _. new))
-            (at_end (set s.views id (one_more v)) (newcomer v) u seat e);
+        views = all;
+        placed = placed;
+        interrupt_owner = names_interrupt q
+            (set s.views id (one_more v) ++ newcomer v ∷ []) all placed (omega arith);
+        task_owner = names_task q (set s.views id (one_more v) ++ newcomer v ∷ []) all placed
+            (omega arith);
       }
 
   pub joins : (id : ℕ) (v : View) (other : ℕ) (w : View) → v.spent ≡ false → w.spent ≡ false
@@ -225,6 +340,7 @@ module _ {V : Type 0} (terms_of : V → Terms) (list_of : V → List Entry) (key
         below = fits.below;
         terms = fits.terms;
         interrupt = fits.interrupt;
+        holds = fits.holds;
         owner = fits.owner;
         task = fits.task;
         seen = fits.seen;
@@ -236,12 +352,25 @@ module _ {V : Type 0} (terms_of : V → Terms) (list_of : V → List Entry) (key
             (all_alike r.p q N a id v.told
             (λ t is. far id t.number false is.place off) fits.told)
             (All-cons (IsTold q id) (handover w) w.told hands theirs);
+        told_once = once_gathered r.p id other v w fits fits' off;
       } in
+      let after : List View = set (set s.views id (gathered v w)) other nobody in
+      let all : AllFit q after =
+      views_stay (FitsIfKept q) (set s.views id (gathered v w)) other nobody
+      (λ spent. absurd (true≢false spent))
+      (λ seat u away.
+      keep seat u away s.views (FitsIfKept q) id (gathered v w) (λ _. mine)
+      (λ e was kept.
+      fits_alike r.p q N a seat u (λ n b _ is. far seat n b is away)
+      (r.views seat u was kept))) in
+      let placed : AllPlaced q after =
+      placed_joined r.p s.views id other v w at at' kept off r.placed in
       record {
         p = q;
         terms = r.terms;
         words = r.words;
         home = λ out. same_home terms_of list_of key r.p q s.homes refl refl (r.home out);
+        away = r.away;
         owned = r.owned;
         legal = r.legal;
         start = r.start;
@@ -251,14 +380,10 @@ module _ {V : Type 0} (terms_of : V → Terms) (list_of : V → List Entry) (key
         some_given = r.some_given;
         few_given = r.few_given;
         not_given = r.not_given;
-        views =
-            views_stay (FitsIfKept q) (set s.views id (gathered v w)) other nobody
-            (λ spent. absurd (true≢false spent))
-            (λ seat u away.
-            keep seat u away s.views (FitsIfKept q) id (gathered v w) (λ _. mine)
-            (λ e was kept.
-            fits_alike r.p q N a seat u (λ n b _ is. far seat n b is away)
-            (r.views seat u was kept)));
+        views = all;
+        placed = placed;
+        interrupt_owner = names_interrupt q after all placed r.interrupt_given;
+        task_owner = names_task q after all placed r.task_given;
       }
 
   -- the pair as it is made
@@ -282,6 +407,7 @@ module _ {V : Type 0} (terms_of : V → Terms) (list_of : V → List Entry) (key
         below = omega arith;
         terms = sym same;
         interrupt = ne_eqb 0 1 (λ e. omega arith);
+        holds = λ _. refl;
         owner = λ own. absurd (true≢false (sym own));
         task = ne_eqb 0 1 (λ e. omega arith);
         seen = refl;
@@ -289,12 +415,23 @@ module _ {V : Type 0} (terms_of : V → Terms) (list_of : V → List Entry) (key
         hold = refl;
         first = λ _. refl;
         told = All-nil (IsTold q 0);
+        told_once = λ i j d before less. absurd (omega (arith, less));
+      } in
+      let all : AllFit q (seated (terms_of key.first.value) 0 1 ∷ []) =
+      λ seat u e. one (FitsIfKept q) (seated (terms_of key.first.value) 0 1) (λ _. mine) seat u e in
+      let placed : AllPlaced q (seated (terms_of key.first.value) 0 1 ∷ []) =
+      λ number less. record {
+        view = seated (terms_of key.first.value) 0 1;
+        there = refl;
+        kept = refl;
+        has = omega arith;
       } in
       record {
         p = q;
         terms = same;
         words = refl;
         home = λ _. record { value = value; slot = refl; terms = refl; list = empty };
+        away = λ out. absurd (true≢false (sym out));
         owned = λ out. absurd (true≢false (sym out));
         legal = legal_empty terms.header;
         start = start;
@@ -304,7 +441,12 @@ module _ {V : Type 0} (terms_of : V → Terms) (list_of : V → List Entry) (key
         some_given = omega arith;
         few_given = room;
         not_given = λ n _. refl;
-        views = λ seat u e. one (FitsIfKept q) (seated (terms_of key.first.value) 0 1) (λ _. mine) seat u e;
+        views = all;
+        placed = placed;
+        interrupt_owner = names_interrupt q (seated (terms_of key.first.value) 0 1 ∷ []) all
+            placed (omega arith);
+        task_owner = names_task q (seated (terms_of key.first.value) 0 1 ∷ []) all placed
+            (omega arith);
       }
 
   pub opens_as : (value : V) (slots : List (Option V)) → slots ≡ Some value ∷ []

@@ -18,9 +18,10 @@ use Rattle.port_locks.specs.declared.view.Terms.{Terms}
 use Rattle.port_locks.specs.declared.view.View.{View}
 use Rattle.bench_model.specs.History.{StartsWith, IsLegal, IsGrowthBy}
 use Rattle.port_locks.specs.Holds.{hold_after, holder_after, own_hold}
-use Rattle.port_locks.specs.Locks.{PairState, IsTold, Fits, FitsIfKept, IsHome, Locked}
+use Rattle.port_locks.specs.Locks.{PairState, IsTold, Fits, FitsIfKept, AllFit, AllPlaced, IsHome, Locked}
 use Rattle.port_locks.specs.Steps.{entered, noted, Finds, MayHold, MayFollow, took_interrupt, published, freed_interrupt, took_task, freed_task}
 use Rattle.port_locks.proofs.Alike.{Alike, all_alike, fits_alike, views_stay}
+use Rattle.port_locks.proofs.Placed.{stay_placed, names_interrupt, names_task}
 use Rattle.history_laws.proofs.Parts.{begins_with_all, growth_begins, others_stay}
 
 -- a number that lies elsewhere is another
@@ -233,6 +234,7 @@ module _ {V : Type 0} (terms_of : V → Terms) (list_of : V → List Entry) (key
         below = fits.below;
         terms = fits.terms;
         interrupt = eq-eqb (v.number + 1) (v.number + 1) refl;
+        holds = λ free. absurd (true≢false free);
         owner = λ _. (home.list, refl);
         task = fits.task;
         seen =
@@ -243,12 +245,18 @@ module _ {V : Type 0} (terms_of : V → Terms) (list_of : V → List Entry) (key
             ap (λ (es : List Entry). own_hold v.number (hold_after r.p.terms.header es)) home.list;
         first = fits.first;
         told = own_told r.p q id v fits a;
+        told_once = fits.told_once;
       } in
+      let views : AllFit q (set s.views id w) =
+      views_stay (FitsIfKept q) s.views id w (λ _. mine) (others s r id v fits q a) in
+      let placed : AllPlaced q (set s.views id w) =
+      stay_placed q s.views id v w at kept refl refl r.placed in
       let rule : Rule (stepped s 1 (v.number + 1) id [] w act) = record {
         p = q;
         terms = r.terms;
         words = ap (λ ws. set ws 1 (v.number + 1)) r.words;
         home = λ out. absurd (true≢false out);
+        away = λ _. ap (λ hs. set hs 0 maybe.none) home.slot;
         owned = λ _ e. absurd (omega arith);
         legal = r.legal;
         start = r.start;
@@ -258,7 +266,10 @@ module _ {V : Type 0} (terms_of : V → Terms) (list_of : V → List Entry) (key
         some_given = r.some_given;
         few_given = r.few_given;
         not_given = r.not_given;
-        views = views_stay (FitsIfKept q) s.views id w (λ _. mine) (others s r id v fits q a);
+        views = views;
+        placed = placed;
+        interrupt_owner = names_interrupt q (set s.views id w) views placed (let less = fits.below in omega arith);
+        task_owner = names_task q (set s.views id w) views placed (r.task_given);
       } in
       let found : Finds v.terms v.number v.owns_task v.seen v.made (list_of value) =
       subst
@@ -320,6 +331,7 @@ module _ {V : Type 0} (terms_of : V → Terms) (list_of : V → List Entry) (key
         below = fits.below;
         terms = fits.terms;
         interrupt = fits.interrupt;
+        holds = λ _. refl;
         owner = λ _. (refl, refl);
         task = fits.task;
         seen = begins_with_all new;
@@ -327,7 +339,12 @@ module _ {V : Type 0} (terms_of : V → Terms) (list_of : V → List Entry) (key
         hold = refl;
         first = fits.first;
         told = own_told r.p q id v fits a;
+        told_once = fits.told_once;
       } in
+      let views : AllFit q (set s.views id w) =
+      views_stay (FitsIfKept q) s.views id w (λ _. mine) (others s r id v fits q a) in
+      let placed : AllPlaced q (set s.views id w) =
+      stay_placed q s.views id v w at kept refl refl r.placed in
       let rule : Rule (stepped s 0 n id ((0, Some value) ∷ []) w gives) = record {
         p = q;
         terms = r.terms;
@@ -340,6 +357,7 @@ module _ {V : Type 0} (terms_of : V → Terms) (list_of : V → List Entry) (key
           terms = terms ∙ fits.terms;
           list = refl;
         };
+        away = λ out. absurd (true≢false (sym out));
         owned = λ out. absurd (true≢false (sym out));
         legal = subst (λ (t : Terms). IsLegal t.header new) fits.terms legal;
         start = r.start;
@@ -352,7 +370,10 @@ module _ {V : Type 0} (terms_of : V → Terms) (list_of : V → List Entry) (key
             others_stay v.number m r.p.history new growth
             (λ same. let less = fits.below in omega arith)
             ∙ r.not_given m over;
-        views = views_stay (FitsIfKept q) s.views id w (λ _. mine) (others s r id v fits q a);
+        views = views;
+        placed = placed;
+        interrupt_owner = names_interrupt q (set s.views id w) views placed (r.interrupt_given);
+        task_owner = names_task q (set s.views id w) views placed (r.task_given);
       } in (
         w,
         gives,
@@ -382,6 +403,7 @@ module _ {V : Type 0} (terms_of : V → Terms) (list_of : V → List Entry) (key
         below = fits.below;
         terms = fits.terms;
         interrupt = zero_succ v.number;
+        holds = λ _. back;
         owner = λ owns. absurd (true≢false (sym owns));
         task = fits.task;
         seen = fits.seen;
@@ -389,12 +411,18 @@ module _ {V : Type 0} (terms_of : V → Terms) (list_of : V → List Entry) (key
         hold = fits.hold;
         first = fits.first;
         told = own_told r.p q id v fits a;
+        told_once = fits.told_once;
       } in
+      let views : AllFit q (set s.views id w) =
+      views_stay (FitsIfKept q) s.views id w (λ _. mine) (others s r id v fits q a) in
+      let placed : AllPlaced q (set s.views id w) =
+      stay_placed q s.views id v w at kept refl refl r.placed in
       let rule : Rule (stepped s 1 0 id [] w keeps) = record {
         p = q;
         terms = r.terms;
         words = ap (λ ws. set ws 1 0) r.words;
         home = λ out. same_home r.p q s.homes refl refl (r.home out);
+        away = r.away;
         owned = λ out. absurd (true≢false (sym out ∙ home));
         legal = r.legal;
         start = r.start;
@@ -404,7 +432,10 @@ module _ {V : Type 0} (terms_of : V → Terms) (list_of : V → List Entry) (key
         some_given = r.some_given;
         few_given = r.few_given;
         not_given = r.not_given;
-        views = views_stay (FitsIfKept q) s.views id w (λ _. mine) (others s r id v fits q a);
+        views = views;
+        placed = placed;
+        interrupt_owner = names_interrupt q (set s.views id w) views placed (omega arith);
+        task_owner = names_task q (set s.views id w) views placed (r.task_given);
       } in
       (w, keeps, tt, rule, refl)
 
@@ -428,6 +459,7 @@ module _ {V : Type 0} (terms_of : V → Terms) (list_of : V → List Entry) (key
         below = fits.below;
         terms = fits.terms;
         interrupt = fits.interrupt;
+        holds = fits.holds;
         owner = fits.owner;
         task = eq-eqb (v.number + 1) (v.number + 1) refl;
         seen = fits.seen;
@@ -435,12 +467,18 @@ module _ {V : Type 0} (terms_of : V → Terms) (list_of : V → List Entry) (key
         hold = fits.hold;
         first = fits.first;
         told = own_told r.p q id v fits a;
+        told_once = fits.told_once;
       } in
+      let views : AllFit q (set s.views id w) =
+      views_stay (FitsIfKept q) s.views id w (λ _. mine) (others s r id v fits q a) in
+      let placed : AllPlaced q (set s.views id w) =
+      stay_placed q s.views id v w at kept refl refl r.placed in
       let rule : Rule (stepped s 2 (v.number + 1) id [] w keeps) = record {
         p = q;
         terms = r.terms;
         words = ap (λ ws. set ws 2 (v.number + 1)) r.words;
         home = λ out. same_home r.p q s.homes refl refl (r.home out);
+        away = r.away;
         owned = r.owned;
         legal = r.legal;
         start = r.start;
@@ -450,7 +488,10 @@ module _ {V : Type 0} (terms_of : V → Terms) (list_of : V → List Entry) (key
         some_given = r.some_given;
         few_given = r.few_given;
         not_given = r.not_given;
-        views = views_stay (FitsIfKept q) s.views id w (λ _. mine) (others s r id v fits q a);
+        views = views;
+        placed = placed;
+        interrupt_owner = names_interrupt q (set s.views id w) views placed (r.interrupt_given);
+        task_owner = names_task q (set s.views id w) views placed (let less = fits.below in omega arith);
       } in (
         w,
         keeps,
@@ -492,6 +533,7 @@ module _ {V : Type 0} (terms_of : V → Terms) (list_of : V → List Entry) (key
         below = fits.below;
         terms = fits.terms;
         interrupt = fits.interrupt;
+        holds = fits.holds;
         owner = fits.owner;
         task = zero_succ v.number;
         seen = fits.seen;
@@ -499,12 +541,18 @@ module _ {V : Type 0} (terms_of : V → Terms) (list_of : V → List Entry) (key
         hold = fits.hold;
         first = fits.first;
         told = own_told r.p q id v fits a;
+        told_once = fits.told_once;
       } in
+      let views : AllFit q (set s.views id w) =
+      views_stay (FitsIfKept q) s.views id w (λ _. mine) (others s r id v fits q a) in
+      let placed : AllPlaced q (set s.views id w) =
+      stay_placed q s.views id v w at kept refl refl r.placed in
       let rule : Rule (stepped s 2 0 id [] w keeps) = record {
         p = q;
         terms = r.terms;
         words = ap (λ ws. set ws 2 0) r.words;
         home = λ out. same_home r.p q s.homes refl refl (r.home out);
+        away = r.away;
         owned = r.owned;
         legal = r.legal;
         start = r.start;
@@ -519,7 +567,10 @@ module _ {V : Type 0} (terms_of : V → Terms) (list_of : V → List Entry) (key
         some_given = r.some_given;
         few_given = r.few_given;
         not_given = r.not_given;
-        views = views_stay (FitsIfKept q) s.views id w (λ _. mine) (others s r id v fits q a);
+        views = views;
+        placed = placed;
+        interrupt_owner = names_interrupt q (set s.views id w) views placed (r.interrupt_given);
+        task_owner = names_task q (set s.views id w) views placed (omega arith);
       } in
       (w, keeps, tt, rule, refl)
 

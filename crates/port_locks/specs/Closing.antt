@@ -1,5 +1,5 @@
 -- The end of a pair.
-use Rattle.std.specs.Prelude.{◌≡◌, ◌⊎◌, ℕ, ◌<◌, List, length, Bool, ◌&&◌, ◌==◌, Ok, Err, Result, ⊤, if◌then◌else◌, slice_index_or}
+use Rattle.std.specs.Prelude.{◌≡◌, ◌⊎◌, ℕ, ◌<◌, ◌≤◌, List, [], length, Bool, ◌&&◌, ◌==◌, Ok, Err, Result, ⊤, if◌then◌else◌, slice_index_or}
 use Rattle.std.specs.List.{count_by, list_all, list_any}
 use Rattle.list_orders.specs.Search.{numbers}
 use Rattle.bench_types.specs.declared.entry.Entry.{Entry}
@@ -23,6 +23,10 @@ abbrev pub IsEnd : View → List Entry → Type 0
 IsEnd v history =
     (number : ℕ) (seen made : List Entry) → Knows v number seen made
     → StartsWith history seen × (made_by number history ≡ made)
+
+-- only numbers below the number of cores have entries
+abbrev pub HasNoOthers : ℕ → List Entry → Type 0
+HasNoOthers cores history = (number : ℕ) → cores ≤ number → made_by number history ≡ []
 
 -- the seat owns neither word
 abbrev pub IsFree : {V : Type 0} → SeatView V → Type 0

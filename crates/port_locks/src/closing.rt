@@ -1,9 +1,10 @@
 //! Closing a lock pair.
 ghost use Rattle.std.specs.Prelude.{◌≡◌, ◌<◌, ◌↔◌, [], false, All, length, vec_len, Ok, Err, IfOk, IfErr, OnOk};
 ghost use Rattle.bench_model.specs.History.{IsLegal};
+ghost use Rattle.port_locks.specs.Holds.{hold_after};
 ghost use Rattle.port_locks.specs.Seats.{IsSeatOf};
 ghost use Rattle.port_locks.specs.declared.fault.CloseFault.{CloseFault};
-ghost use Rattle.port_locks.specs.Closing.{IsFree, Knows, HasAllNumbers, HasEachOnce, IsEndOf, has_number, has_all_numbers, are_free, close_check};
+ghost use Rattle.port_locks.specs.Closing.{IsFree, Knows, HasAllNumbers, HasEachOnce, IsEndOf, HasNoOthers, has_number, has_all_numbers, are_free, close_check};
 
 use crate::CloseFault;
 use crate::kept::Kept;
@@ -20,7 +21,8 @@ impl<V: Kept> LockPair<V> {
         requires free { All IsFree seats.items }
         requires some { 0 < vec_len seats }
         ensures own { result.table_id ≡ self.now.pair }
-        ensures free { (result.me.0.spent ≡ false) × (result.me.0.owns_interrupt ≡ false) }
+        ensures free { (result.me.0.spent ≡ false) × (result.me.0.owns_interrupt ≡ false)
+            × (result.me.0.owns_task ≡ false) }
         ensures all { All (λ seat. Knows result.me.0 seat.number seat.seen seat.made) seats.items }
     {
         let Some(last) = seats.pop() else {
@@ -43,6 +45,8 @@ impl<V: Kept> LockPair<V> {
         ensures terms { V.terms result ≡ self.terms }
         ensures legal { IsLegal self.terms.header (V.list result) }
         ensures seats { All (IsEndOf (V.list result)) seats.items }
+        ensures no_hold { hold_after self.terms.header (V.list result) ≡ None }
+        ensures no_others { HasNoOthers self.cores (V.list result) }
     {
         let all = self.join_all(seats);
         let mut closed = self.table.close_with(all);
@@ -54,7 +58,7 @@ impl<V: Kept> LockPair<V> {
     }
 
     /// Takes the pair apart, once each of its seats is back and owns neither word: what is left is
-    /// the value. L4 before L3; a refusal hands the pair and the seats back.
+    /// the value, with no hold open. L4 before L3; a refusal hands the pair and the seats back.
     pub fn close(self, seats: Vec<Seat<V>>) -> Result<V, PairRefused<V>>
         requires own { All (IsSeatOf self) seats.items }
         ensures refused { IfErr result (λ refused. (refused.pair ≡ self)
@@ -67,6 +71,9 @@ impl<V: Kept> LockPair<V> {
         ensures terms { IfOk result (λ value. V.terms value ≡ self.terms) }
         ensures legal { IfOk result (λ value. IsLegal self.terms.header (V.list value)) }
         ensures seats { IfOk result (λ value. All (IsEndOf (V.list value)) seats.items) }
+        ensures no_hold { IfOk result
+            (λ value. hold_after self.terms.header (V.list value) ≡ None) }
+        ensures no_others { IfOk result (λ value. HasNoOthers self.cores (V.list value)) }
     {
         match close_fault(self.cores, seats.as_slice()) {
             Ok(()) => Ok(self.end(seats)),

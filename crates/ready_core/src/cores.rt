@@ -300,7 +300,7 @@ impl Cores {
     /// The task goes to the end of the ready list of its priority in use, and a core of its mask is
     /// sought for it.
     #[tactic(auto, unfolding(bench_model::specs::Seek::wake, bench_model::specs::Lists::add_to_ready_list))]
-    pub fn wake(&mut self, acting: u32, task: u32)
+    pub fn make_ready(&mut self, acting: u32, task: u32)
         requires { task < length self.old.control.tasks }
         ensures { self.new ≡ cores_rule (wake list_queues acting task) self.old }
     {

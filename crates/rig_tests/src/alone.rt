@@ -3,13 +3,14 @@ ghost use Rattle.core_rig.specs.Seats.{IsSeatOf};
 
 use crate::checks::{
     ISR, assert_call, assert_counts, assert_depth, assert_interrupt, assert_made, assert_reply,
-    assert_same, assert_switch, assert_tried, at, one_more,
+    assert_same, assert_switch, assert_tick, assert_tried, at, one_more,
 };
 use crate::faults::check_arguments;
 use crate::rigs::{closed, one_missing, one_task, refused, rig_of, turn};
 use crate::scenes::{Scene, play_alone, recorded, recorded_over};
+use crate::stopped::make_call;
 use bench_samples::PLAIN;
-use bench_types::{Action, Call, Config, Fault, Note, Reply, Step};
+use bench_types::{Action, Call, Config, Fault, Note, Refusal, Reply, Step};
 use core_rig::{CloseFault, CoreSeat, Recorded, Rig, RigRefusal};
 use std::alloc::Global;
 use std::process::Abort;
@@ -37,6 +38,14 @@ pub enum Alone {
     Idle,
     /// Arguments that are at fault.
     Arguments,
+    /// Ticks and interrupts in the hold of the other core.
+    OtherHold,
+    /// An interrupt is tried in an own hold.
+    OwnHold,
+    /// Nothing finds room.
+    NoRoom,
+    /// A hold is opened as often as it may be.
+    Deepest,
 }
 
 /// The two cores do that.
@@ -62,6 +71,10 @@ pub fn act(
         Alone::Close => close_hold(rt, rig, zero),
         Alone::Idle => assert_call(rt, rig, one, Call::Yield, Err(RigRefusal::IdleHere)),
         Alone::Arguments => check_arguments(rt, rig, zero, one),
+        Alone::OtherHold => check_other_hold(rt, rig, zero, one),
+        Alone::OwnHold => check_own_hold(rt, rig, zero),
+        Alone::NoRoom => check_no_room(rt, rig, zero),
+        Alone::Deepest => check_deepest(rt, rig, zero),
     }
 }
 
@@ -239,4 +252,98 @@ fn an_idle_task_makes_no_call(rt: HostRuntime) -> Result<(), Fail> {
     let recorded = recorded_over(&rt, &rt, &header, 10, Scene::Alone(Alone::Idle))?;
     assert_same(&rt, "entries", &recorded.entries.as_slice().len(), &0);
     Ok(())
+}
+
+/// A tick or an interrupt that waited for the hold would never return.
+#[test]
+fn ticks_and_interrupts_wait_for_no_hold(rt: HostRuntime) -> Result<(), Fail> {
+    let recorded = recorded(&rt, &rt, 10, Scene::Alone(Alone::OtherHold))?;
+    assert_made(&rt, &recorded, &[3, 2]);
+    Ok(())
+}
+
+fn check_other_hold(rt: &(impl Wait + Abort), rig: &Rig, zero: &mut CoreSeat, one: &mut CoreSeat)
+    requires zero { IsSeatOf rig.now zero.old }
+    requires one { IsSeatOf rig.now one.old }
+    ensures zero { IsSeatOf rig.now zero.new }
+    ensures one { IsSeatOf rig.now one.new }
+{
+    assert_call(rt, rig, one, Call::HoldOpen, at(0, Reply::Done));
+    assert_tick(rt, rig, zero, at(1, Reply::Done));
+    assert_interrupt(rt, rig, zero, one_more(2), at(2, ISR));
+    assert_tried(rt, rig, zero, one_more(2), at(3, ISR));
+    assert_call(rt, rig, one, Call::HoldClose, at(4, Reply::Done));
+}
+
+#[test]
+fn an_interrupt_is_tried_in_an_own_hold(rt: HostRuntime) -> Result<(), Fail> {
+    let recorded = recorded(&rt, &rt, 10, Scene::Alone(Alone::OwnHold))?;
+    assert_made(&rt, &recorded, &[3, 0]);
+    Ok(())
+}
+
+fn check_own_hold(rt: &(impl Wait + Abort), rig: &Rig, zero: &mut CoreSeat)
+    requires { IsSeatOf rig.now zero.old }
+    ensures { IsSeatOf rig.now zero.new }
+{
+    open_hold(rt, rig, zero);
+    assert_tried(rt, rig, zero, one_more(2), at(1, ISR));
+    assert_call(rt, rig, zero, Call::HoldClose, at(2, Reply::Done));
+}
+
+#[test]
+fn a_rig_without_room_records_nothing(rt: HostRuntime) -> Result<(), Fail> {
+    let recorded = recorded(&rt, &rt, 0, Scene::Alone(Alone::NoRoom))?;
+    assert_made(&rt, &recorded, &[0, 0]);
+    assert_same(&rt, "entries", &recorded.entries.len(), &0);
+    Ok(())
+}
+
+fn check_no_room(rt: &(impl Wait + Abort), rig: &Rig, zero: &mut CoreSeat)
+    requires { IsSeatOf rig.now zero.old }
+    ensures { IsSeatOf rig.now zero.new }
+{
+    assert_call(rt, rig, zero, Call::Yield, Err(RigRefusal::Full));
+    assert_call(rt, rig, zero, Call::HoldOpen, Err(RigRefusal::Full));
+    assert_call(rt, rig, zero, Call::HoldClose, Err(RigRefusal::Full));
+    assert_switch(rt, rig, zero, Err(RigRefusal::Full));
+    assert_tick(rt, rig, zero, Err(RigRefusal::Full));
+    assert_interrupt(rt, rig, zero, one_more(2), Err(RigRefusal::Full));
+    assert_tried(rt, rig, zero, one_more(2), Err(RigRefusal::Full));
+    assert_counts(rt, zero, 0, 0);
+}
+
+/// The call that would open the hold once more is refused by the kernel, and recorded.
+#[test]
+fn a_hold_is_opened_255_times(rt: HostRuntime) -> Result<(), Fail> {
+    let recorded = recorded(&rt, &rt, 512, Scene::Alone(Alone::Deepest))?;
+    assert_made(&rt, &recorded, &[511, 0]);
+    assert_reply(
+        &rt,
+        &recorded.entries,
+        255,
+        0,
+        Reply::Refused(Refusal::HoldDeep),
+    );
+    assert_reply(&rt, &recorded.entries, 510, 0, Reply::Done);
+    Ok(())
+}
+
+fn check_deepest(rt: &(impl Wait + Abort), rig: &Rig, zero: &mut CoreSeat)
+    requires { IsSeatOf rig.now zero.old }
+    ensures { IsSeatOf rig.now zero.new }
+{
+    repeat(rt, rig, zero, Call::HoldOpen, 256);
+    assert_depth(rt, zero, 255);
+    repeat(rt, rig, zero, Call::HoldClose, 255);
+    assert_depth(rt, zero, 0);
+}
+
+fn repeat(rt: &(impl Wait + Abort), rig: &Rig, zero: &mut CoreSeat, call: Call, times: u32)
+    requires { IsSeatOf rig.now zero.old }
+    ensures { IsSeatOf rig.now zero.new }
+{
+    for _ in 0..times {
+        make_call(rt, rig, zero, call);
+    }
 }

@@ -8,8 +8,8 @@ use crate::checks::{
 };
 use crate::rigs::one_task;
 use crate::scenes::{Scene, recorded};
-use bench_samples::{PLAIN, three_tasks};
-use bench_types::{Call, Fault, Header, Reply};
+use bench_samples::{LARGEST, PLAIN, crowd, three_tasks};
+use bench_types::{Call, Fault, Header, MAX_STEPS, MAX_TASKS, Reply};
 use core_rig::{CoreSeat, Rig, RigFault, RigRefusal};
 use std::process::Abort;
 use std::sync::Wait;
@@ -22,6 +22,13 @@ fn headers_and_limits_are_tested(rt: HostRuntime) -> Result<(), Fail> {
     let header = three_tasks(rt.alloc(), false)?;
     check_rig(&rt, &rt, &header, 100_001, Some(RigFault::BadLimit));
     check_rig(&rt, &rt, &header, 100_000, None);
+    Ok(())
+}
+
+#[test]
+fn a_rig_of_the_most_tasks_is_made(rt: HostRuntime) -> Result<(), Fail> {
+    let header = crowd(rt.alloc(), LARGEST, MAX_TASKS as usize)?;
+    check_rig(&rt, &rt, &header, MAX_STEPS, None);
     Ok(())
 }
 

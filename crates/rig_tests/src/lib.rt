@@ -7,6 +7,8 @@ mod alone;
 #[cfg(test)]
 mod checks;
 #[cfg(test)]
+mod errors;
+#[cfg(test)]
 mod faults;
 #[cfg(test)]
 mod locks;

@@ -154,7 +154,7 @@ fn make_calls(rt: &(impl Wait + Abort), rig: &Rig, seat: &mut CoreSeat, calls: &
     assert_same(rt, "made", &seat.made(), &(calls.len() as u64));
 }
 
-fn make_call(rt: &(impl Wait + Abort), rig: &Rig, seat: &mut CoreSeat, call: Call)
+pub fn make_call(rt: &(impl Wait + Abort), rig: &Rig, seat: &mut CoreSeat, call: Call)
     requires { IsSeatOf rig.now seat.old }
     ensures { IsSeatOf rig.now seat.new }
 {

@@ -5,6 +5,7 @@ pub mod Escape
 pub mod Film
 pub mod Frame
 pub mod Ink
+pub mod Limits
 pub mod Marks
 pub mod Picture
 pub mod Same

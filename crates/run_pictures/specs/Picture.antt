@@ -9,12 +9,12 @@ use Rattle.run_views.specs.declared.places.Places.{Places}
 use Rattle.run_pictures.specs.declared.film.Film.{Film}
 use Rattle.run_pictures.specs.declared.frame.Frame.{Frame}
 use Rattle.run_pictures.specs.declared.picture.TooLong.{TooLong}
-use Rattle.run_pictures.specs.declared.picture.TheConstants.{MAX_PLACES}
 use Rattle.run_pictures.specs.declared.style.TheConstants.{LEGEND, OPENING, STYLE}
 use Rattle.run_pictures.specs.Axis.{axis_row}
 use Rattle.run_pictures.specs.CoreBands.{core_row}
 use Rattle.run_pictures.specs.Film.{film}
 use Rattle.run_pictures.specs.Frame.{pixels, scale_for}
+use Rattle.run_pictures.specs.Limits.{max_places}
 use Rattle.run_pictures.specs.Marks.{step_at}
 use Rattle.run_pictures.specs.Spans.{holder_spans}
 use Rattle.run_pictures.specs.TaskBands.{holder_bar, task_row}
@@ -120,5 +120,5 @@ pictures_text places header steps edited later =
 -- a picture of so many places, or that these are too many
 abbrev pub Answers : ℕ → List ℕ → Result (String Global) TooLong → Type 0
 Answers count picture answer = MatchResult answer
-    (λ text. (count ≤ MAX_PLACES) × (string_bytes text ≡ picture))
-    (λ why. (MAX_PLACES < count) × (why.places ≡ count))
+    (λ text. (count ≤ max_places) × (string_bytes text ≡ picture))
+    (λ why. (max_places < count) × (why.places ≡ count))

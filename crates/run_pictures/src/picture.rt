@@ -4,6 +4,7 @@ ghost use Rattle.list_orders.specs.Search.{numbers};
 ghost use Rattle.bench_types.specs.Header.{IsCheckedHeader};
 ghost use Rattle.bench_types.specs.Step.{settings_of, IsCheckedStep};
 ghost use Rattle.run_pictures.specs.CoreBands.{core_row};
+ghost use Rattle.run_pictures.specs.Limits.{max_places};
 ghost use Rattle.run_pictures.specs.Picture.{both_text, core_rows, count_of_both, frame_for, headed_text, heading_text, legend_text, opening_text, panel_height, mutex_bars, panel_text, picture_text, pictures_text, shown_count, size_text, task_rows, width_of, Answers};
 ghost use Rattle.run_pictures.specs.Theorem.{IsTiled};
 
@@ -21,6 +22,11 @@ use std::alloc::{AllocError, Global};
 
 /// How many places a picture shows at most.
 pub const MAX_PLACES: u64 = 4000;
+
+/// The limit of the code is that which contracts name. It does nothing: its contract is the law.
+pub fn law_of_places()
+    ensures { MAX_PLACES ≡ max_places }
+{}
 
 /// A picture would show so many places.
 #[derive(Clone, Copy, Debug, PartialEq, Eq)]

@@ -23,6 +23,7 @@ RecordedIsOpened =
 abbrev pub RecordedReplies : Type 0
 RecordedReplies =
     (header : Header) (entries : List Entry) (span place : ℕ) → IsLegal header entries →
-    let session = (first_kept span (record { header = header; steps = steps_of entries })).session in
+    let opened = record { header = header; steps = steps_of entries } in
+    let session = (first_kept span opened).session in
     reply_at session.header session.steps place
     ≡ option_map (λ entry. entry.reply) (slice_get entries place)

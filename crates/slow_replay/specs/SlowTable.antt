@@ -1,5 +1,5 @@
 -- What the slow table keeps of its sizes.
-use Rattle.std.specs.Prelude.{◌≡◌, ℕ, ◌<◌, ◌≤◌, length, false, Some, None, slice_index_or}
+use Rattle.std.specs.Prelude.{◌≡◌, ℕ, ◌*◌, ◌<◌, ◌≤◌, ◌^◌, length, false, Some, None, slice_index_or}
 use Rattle.bench_types.specs.Limits.{max_cores}
 use Rattle.slow_replay.specs.declared.slow.SlowTable.TheInside.{Inside}
 
@@ -8,7 +8,8 @@ pub record IsFit (table : Inside) : Type 0 where
   pub cores : length table.cores.items ≡ table.settings.cores
   pub controls : length table.tasks.items ≡ table.settings.tasks
   pub calls : length table.calls.items ≡ table.settings.tasks
-  pub notes : length table.notes.items ≡ table.settings.tasks
+  pub notes : length table.notes.items ≡ table.settings.tasks * table.settings.notes
+  pub few_notes : table.settings.tasks * table.settings.notes < 2 ^ 32
   pub holders : length table.holders.items ≡ table.settings.mutexes
   pub rows : length table.rows.items ≡ table.settings.tasks
   pub deadlines : length table.deadlines.items ≡ table.settings.tasks

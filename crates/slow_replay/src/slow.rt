@@ -10,7 +10,7 @@ ghost use Rattle.bench_model.specs.Steps.{ticked, delayed_until, called, perform
 ghost use Rattle.bench_model.specs.Sound.{IsConsistent, IsSound, StepFits};
 ghost use Rattle.bench_model.specs.Session.{step_of, outcome_at};
 ghost use Rattle.bench_types.specs.Reply.{shown};
-ghost use Rattle.bench_types.specs.Limits.{max_cores, max_tasks};
+ghost use Rattle.bench_types.specs.Limits.{max_cores, max_notes, max_tasks};
 ghost use Rattle.bench_model.specs.Table.{stamp_queues, advance, add_to_ready_list, is_ready, goes_before, pick, row_at, stamp_of, tasks_of, wakes_at};
 ghost use Rattle.list_orders.specs.Search.{is_best, numbers};
 ghost use Rattle.bench_model.specs.Start.{first_look, ready_row, idle_control, user_control, first_control, first_stamps, unstarted, start};
@@ -422,16 +422,19 @@ impl SlowTable {
             Call::HoldOpen => self.open_hold(core),
             Call::HoldClose => self.close_hold(core),
             Call::Notify(note) => return Reply::Flag(self.notify(core, note)),
-            Call::NotifyWait { entry, ticks, .. } => {
-                let begun = notes::wait_begun(entry, self.note(task));
-                return self.await_note(core, task, call, ticks, begun);
-            }
-            Call::NotifyTake { ticks, .. } => {
-                let begun = notes::take_begun(self.note(task));
-                return self.await_note(core, task, call, ticks, begun);
-            }
-            Call::StateClear(task) => return self.clear_state(task),
-            Call::ValueClear { task, bits } => return self.clear_value(task, bits),
+            Call::NotifyWait {
+                entry,
+                exit,
+                ticks,
+                index,
+            } => return self.wait(core, task, entry, exit, ticks, index),
+            Call::NotifyTake {
+                clear,
+                ticks,
+                index,
+            } => return self.take_note(core, task, clear, ticks, index),
+            Call::StateClear { task, index } => return self.clear_state(task, index),
+            Call::ValueClear { task, bits, index } => return self.clear_value(task, bits, index),
             Call::MutexTake { mutex, ticks } => return self.take(core, task, mutex, ticks),
             Call::MutexGive(mutex) => return self.give(core, task, mutex),
         }
@@ -532,14 +535,14 @@ fn no_calls(alloc: Global, tasks: u32) -> Result<Vec<Option<Unfinished>>, AllocE
     Ok(calls)
 }
 
-fn no_notes(alloc: Global, tasks: u32) -> Result<Vec<Notification>, AllocError>
-    ensures { IfOk result (λ notes. notes.items ≡ replicate tasks no_note) }
+fn no_notes(alloc: Global, many: u32) -> Result<Vec<Notification>, AllocError>
+    ensures { IfOk result (λ notes. notes.items ≡ replicate many no_note) }
 {
     let note = Notification {
         value: 0,
         state: NoteState::NotWaiting,
     };
-    vec![in alloc; note; tasks as usize]
+    vec![in alloc; note; many as usize]
 }
 
 fn no_holders(alloc: Global, mutexes: u32) -> Result<Vec<Option<u32>>, AllocError>
@@ -611,6 +614,7 @@ fn settings_of(header: &Header) -> Settings
         priorities: config.priorities,
         slicing: config.slicing,
         mutexes: config.mutexes,
+        notes: config.notes,
         tasks: config.cores + header.tasks.as_slice().len() as u32,
     }
 }
@@ -619,6 +623,7 @@ fn settings_of(header: &Header) -> Settings
 fn unstarted(alloc: Global, header: &Header) -> Result<SlowTable, AllocError>
     requires cores { header.now.config.cores ≤ max_cores }
     requires tasks { length header.now.tasks ≤ max_tasks }
+    requires notes { header.now.config.notes ≤ max_notes }
     ensures { IfOk result (λ table. table ≡ unstarted (first_stamps header.now) header.now) }
 {
     let settings = settings_of(header);
@@ -626,7 +631,7 @@ fn unstarted(alloc: Global, header: &Header) -> Result<SlowTable, AllocError>
     let cores = first_cores(alloc, settings.cores)?;
     let tasks = first_controls(alloc, header)?;
     let calls = no_calls(alloc, settings.tasks)?;
-    let notes = no_notes(alloc, settings.tasks)?;
+    let notes = no_notes(alloc, settings.tasks * settings.notes)?;
     let holders = no_holders(alloc, settings.mutexes)?;
     let rows = first_rows(alloc, settings.cores, users)?;
     let deadlines = no_deadlines(alloc, settings.tasks)?;

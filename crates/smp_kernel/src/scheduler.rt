@@ -327,7 +327,7 @@ impl Scheduler {
         requires { task < self.old.settings.tasks }
         ensures { self.new ≡ wake list_queues acting task self.old }
     {
-        self.cores.wake(acting, task);
+        self.cores.make_ready(acting, task);
         self.delays.cancel(task);
         self.mutexes.leave(task);
     }

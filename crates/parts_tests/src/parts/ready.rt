@@ -4,8 +4,8 @@ ghost use Rattle.std.specs.Prelude.{◌≡◌};
 use crate::expected::{expect_is, expect_same};
 use crate::parts::started::{need_core, need_priority, need_task, select, started};
 use Move::{
-    Ask, AskItsCore, Base, HasMask, InUse, IsUnready, List, Looks, Mask, Preempt, Priorities,
-    Select, Unready, Wake, YieldFor,
+    Ask, AskItsCore, Base, HasMask, InUse, IsUnready, List, Looks, MakeReady, Mask, Preempt,
+    Priorities, Select, Unready, YieldFor,
 };
 use ready_core::Cores;
 use std::alloc::Global;
@@ -20,7 +20,7 @@ type Look = (u32, bool, bool);
 enum Move {
     Unready(u32),
     IsUnready(u32),
-    Wake(u32),
+    MakeReady(u32),
     InUse(u32, u32),
     Base(u32, u32),
     Mask(u32, u32),
@@ -51,9 +51,9 @@ fn expect_unready(rt: &impl Abort, cores: &Cores, task: u32) {
     assert!(rt; !cores.ready(task));
 }
 
-fn wake(rt: &impl Abort, cores: &mut Cores, task: u32) {
+fn make_ready(rt: &impl Abort, cores: &mut Cores, task: u32) {
     need_task(rt, cores, task);
-    cores.wake(0, task);
+    cores.make_ready(0, task);
 }
 
 fn set_in_use(rt: &impl Abort, cores: &mut Cores, task: u32, priority: u32) {
@@ -131,7 +131,7 @@ fn make(rt: &impl Abort, cores: &mut Cores, made: Move) {
     match made {
         Unready(task) => unready(rt, cores, task),
         IsUnready(task) => expect_unready(rt, cores, task),
-        Wake(task) => wake(rt, cores, task),
+        MakeReady(task) => make_ready(rt, cores, task),
         InUse(task, priority) => set_in_use(rt, cores, task, priority),
         Base(task, priority) => set_base(rt, cores, task, priority),
         Mask(task, mask) => set_mask(rt, cores, task, mask),
@@ -263,7 +263,7 @@ fn woken_task_is_sought_a_core(rt: HostRuntime) -> Result<(), Fail> {
     play(
         &rt,
         &mut cores,
-        &[Wake(2), Looks((4, false, false), (3, false, true))],
+        &[MakeReady(2), Looks((4, false, false), (3, false, true))],
     );
     // The task there is not to be preempted.
     play(
@@ -271,7 +271,7 @@ fn woken_task_is_sought_a_core(rt: HostRuntime) -> Result<(), Fail> {
         &mut other,
         &[
             Preempt(3, false),
-            Wake(2),
+            MakeReady(2),
             Looks((4, true, false), (3, false, false)),
         ],
     );
@@ -288,7 +288,7 @@ fn idle_is_below_priority_0(rt: HostRuntime) -> Result<(), Fail> {
             Unready(3),
             Select(0),
             Looks((0, false, false), (2, false, false)),
-            Wake(3),
+            MakeReady(3),
             Looks((0, true, false), (2, false, false)),
         ],
     )
@@ -321,7 +321,7 @@ fn displaced_task_finds_another_core(rt: HostRuntime) -> Result<(), Fail> {
             Select(0),
             Mask(3, 0xFFFF_FFFF),
             HasMask(3, 3),
-            Wake(2),
+            MakeReady(2),
             Looks((3, true, false), (4, false, false)),
             Select(0),
             Looks((2, false, false), (4, false, true)),

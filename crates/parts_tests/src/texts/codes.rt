@@ -1,10 +1,8 @@
-//! Codes of faults and refusals, what errors say, and the cores of a mask.
+//! Codes of faults and refusals, and the cores of a mask.
 
 use crate::expected::expect_text;
 use bench_types::{EditFault, Fault, Refusal, cores_of_mask};
-use std::alloc::Global;
 use std::process::Abort;
-use std::test::Fail;
 
 const FAULTS: &[(Fault, &str)] = &[
     (Fault::BadHeader, "F1"),
@@ -46,32 +44,6 @@ fn codes(rt: HostRuntime) {
     check_refusals(&rt);
     expect_text(&rt, EditFault::NoPlace.code(), "J1");
     expect_text(&rt, EditFault::TooLong.code(), "J2");
-}
-
-fn check_fault(rt: &impl Abort, alloc: Global, fault: Fault, want: &str) -> Result<(), Fail> {
-    let said = format!(in alloc; "{fault}")?;
-    expect_text(rt, said.as_str(), want);
-    Ok(())
-}
-
-fn check_edit_fault(
-    rt: &impl Abort,
-    alloc: Global,
-    fault: EditFault,
-    want: &str,
-) -> Result<(), Fail> {
-    let said = format!(in alloc; "{fault}")?;
-    expect_text(rt, said.as_str(), want);
-    Ok(())
-}
-
-#[test]
-fn what_errors_say(rt: HostRuntime) -> Result<(), Fail> {
-    let no_core = "there is no such core";
-    check_fault(&rt, rt.alloc(), Fault::BadCore, no_core)?;
-    check_edit_fault(&rt, rt.alloc(), EditFault::Bench(Fault::BadCore), no_core)?;
-    let no_place = "the session has no such place";
-    check_edit_fault(&rt, rt.alloc(), EditFault::NoPlace, no_place)
 }
 
 #[test]

@@ -58,3 +58,67 @@ impl Gate for Together {
         }
     }
 }
+
+/// A gate of cores 0 and 1 that keeps what it is told, and holds both of them up: core 0 until core
+/// 1 has come, and core 1 until core 0 has come to its third action.
+#[derive(Drop)]
+pub struct InTurn {
+    zero: AtomicU32,
+    one: AtomicU32,
+    late: AtomicBool,
+}
+
+impl InTurn {
+    pub fn new() -> InTurn {
+        InTurn {
+            zero: AtomicU32::new(0),
+            one: AtomicU32::new(0),
+            late: AtomicBool::new(false),
+        }
+    }
+
+    /// What it was told of each core: 123 where none, one and two of its actions were done.
+    pub fn told(&self) -> (u32, u32) {
+        let zero = self.zero.load(Ordering::SeqCst);
+        (zero, self.one.load(Ordering::SeqCst))
+    }
+
+    /// Whether a core did not come within so many turns.
+    pub fn is_late(&self) -> bool {
+        self.late.load(Ordering::SeqCst)
+    }
+
+    fn may_pass(&self, core: u32) -> bool {
+        let (zero, one) = self.told();
+        if core == 0 { one > 0 } else { zero > 99 }
+    }
+
+    fn may_pass_in_time(&self, core: u32) -> bool {
+        for _ in 0..TURNS {
+            if self.may_pass(core) {
+                return true;
+            }
+            thread::yield_now();
+        }
+        false
+    }
+}
+
+fn keep(told: &AtomicU32, done: u32) {
+    let before = told.load(Ordering::SeqCst);
+    let after = before.wrapping_mul(10).wrapping_add(done).wrapping_add(1);
+    told.store(after, Ordering::SeqCst);
+}
+
+impl Gate for InTurn {
+    fn pass(&self, core: u32, done: u32) {
+        match core {
+            0 => keep(&self.zero, done),
+            1 => keep(&self.one, done),
+            _ => return,
+        }
+        if !self.may_pass_in_time(core) {
+            self.late.store(true, Ordering::SeqCst);
+        }
+    }
+}

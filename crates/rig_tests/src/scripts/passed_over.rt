@@ -1,7 +1,9 @@
 //! Which actions of a script are passed over, and what a thread closes at its end.
+use crate::checks::assert_made;
 use crate::scripts::gates::Open;
 use crate::scripts::played::{THREE, check_steps, document, played};
 use bench_types::{Call, Step};
+use core_rig::Recorded;
 use std::process::Abort;
 use std::sync::Wait;
 use std::test::Fail;
@@ -62,6 +64,24 @@ fn a_hold_that_fills_the_room_is_closed(rt: HostRuntime) -> Result<(), Fail> {
 fn a_hold_for_which_there_is_no_room_is_passed_over(rt: HostRuntime) -> Result<(), Fail> {
     let scripts = "[[{\"do\":\"hold_open\"},{\"do\":\"tick\"}],[]]";
     check(&rt, &rt, THREE, 1, scripts, &[Step::Tick])
+}
+
+/// There is one tick more than there is room for.
+#[test]
+fn the_most_actions_are_recorded(rt: HostRuntime) -> Result<(), Fail> {
+    let recorded = most_ticks(&rt, &rt)?;
+    assert_made(&rt, &recorded, &[100_000, 0]);
+    Ok(())
+}
+
+fn most_ticks<R: Threads + Wait + Abort + Sync>(
+    rt: &R,
+    host: &HostRuntime,
+) -> Result<Recorded, Fail> {
+    let ticks = "{\"do\":\"tick\"},".repeat(host.alloc(), 100_000)?;
+    let scripts = format!(in host.alloc(); "[[{ticks}{{\"do\":\"tick\"}}],[]]")?;
+    let text = document(host.alloc(), THREE, 100_000, scripts.as_str())?;
+    played(rt, host, text.as_str(), &Open)
 }
 
 #[test]

@@ -1,7 +1,10 @@
 //! Threads that play their scripts at one time.
-use crate::checks::{assert_made, assert_same};
-use crate::scripts::gates::Together;
+use crate::checks::{assert_made, assert_reply, assert_same};
+use crate::scripts::gates::{InTurn, Together};
 use crate::scripts::played::{THREE, document, played};
+use bench_types::Reply;
+use core_rig::Recorded;
+use std::process::Abort;
 use std::test::Fail;
 
 const YIELDS: &str = "[[{\"do\":\"yield\"}],[{\"do\":\"yield\"}]]";
@@ -15,4 +18,40 @@ fn both_cores_yield_at_one_time(rt: HostRuntime) -> Result<(), Fail> {
     assert_same(&rt, "entries", &recorded.entries.as_slice().len(), &2);
     assert_made(&rt, &recorded, &[1, 1]);
     Ok(())
+}
+
+/// A script for each of the most cores, of one interrupt.
+const EIGHT: &str =
+    "{\"session\":{\"format\":1,\"cores\":8,\"priorities\":5,\"slicing\":false,\"tick\":0,\"mutexes\":0,\"tasks\":[{\"name\":\"A\",\"priority\":1,\"mask\":255}],\"steps\":[]},\"limit\":8,\"scripts\":[[{\"do\":\"isr_notify\",\"to\":\"A\",\"action\":\"increment\"}],[{\"do\":\"isr_notify\",\"to\":\"A\",\"action\":\"increment\"}],[{\"do\":\"isr_notify\",\"to\":\"A\",\"action\":\"increment\"}],[{\"do\":\"isr_notify\",\"to\":\"A\",\"action\":\"increment\"}],[{\"do\":\"isr_notify\",\"to\":\"A\",\"action\":\"increment\"}],[{\"do\":\"isr_notify\",\"to\":\"A\",\"action\":\"increment\"}],[{\"do\":\"isr_notify\",\"to\":\"A\",\"action\":\"increment\"}],[{\"do\":\"isr_notify\",\"to\":\"A\",\"action\":\"increment\"}]]}";
+
+#[test]
+fn eight_scripts_are_played_at_one_time(rt: HostRuntime) -> Result<(), Fail> {
+    let gate = Together::of(8);
+    let recorded = played(&rt, &rt, EIGHT, &gate)?;
+    assert_same(&rt, "late", &gate.is_late(), &false);
+    assert_made(&rt, &recorded, &[1; 8]);
+    Ok(())
+}
+
+/// Three actions of core 0 and two of core 1.
+const FIVE: &str =
+    "[[{\"do\":\"tick\"},{\"do\":\"tick\"},{\"do\":\"tick\"}],[{\"do\":\"yield\"},{\"do\":\"yield\"}]]";
+
+/// Core 1 is held up before its first action until core 0 comes to its third, and core 0 before its
+/// first until core 1 has come: so two ticks are made before anything of core 1.
+#[test]
+fn each_action_passes_the_gate_first(rt: HostRuntime) -> Result<(), Fail> {
+    let gate = InTurn::new();
+    let text = document(rt.alloc(), THREE, 10, FIVE)?;
+    let recorded = played(&rt, &rt, text.as_str(), &gate)?;
+    assert_same(&rt, "told", &gate.told(), &(123, 12));
+    assert_same(&rt, "late", &gate.is_late(), &false);
+    check_two_ticks(&rt, &recorded);
+    Ok(())
+}
+
+fn check_two_ticks(rt: &impl Abort, recorded: &Recorded) {
+    assert_made(rt, recorded, &[3, 2]);
+    assert_reply(rt, &recorded.entries, 0, 0, Reply::Done);
+    assert_reply(rt, &recorded.entries, 1, 0, Reply::Done);
 }

@@ -80,10 +80,15 @@ impl SlowTable {
             Call::DelayUntil { prev, inc } => {
                 is_ahead(self.tick_count(), prev, next_wake(prev, inc))
             }
-            Call::NotifyWait { entry, ticks, .. } => {
-                notes::wait_begun(entry, self.note(task)).0 && 0 < ticks
+            Call::NotifyWait {
+                entry,
+                ticks,
+                index,
+                ..
+            } => { notes::wait_begun(entry, self.note(task, index)).0 && 0 < ticks }
+            Call::NotifyTake { ticks, index, .. } => {
+                notes::take_begun(self.note(task, index)).0 && 0 < ticks
             }
-            Call::NotifyTake { ticks, .. } => notes::take_begun(self.note(task)).0 && 0 < ticks,
             Call::MutexTake { mutex, ticks } => self.holder(mutex).is_some() && 0 < ticks,
             _ => false,
         }

@@ -1,7 +1,9 @@
 //! Notifying a task and waiting for that, each as it is defined.
-ghost use Rattle.std.specs.Prelude.{◌≡◌, ◌<◌, ◌+◌, ◌^◌, length, slice_set};
+ghost use Rattle.std.specs.Prelude.{◌≡◌, ◌<◌, ◌+◌, ◌^◌, length, slice_set, Ok};
+ghost use Rattle.bench_types.specs.declared.step.Call.TheVariants.{NotifyTake, NotifyWait};
+ghost use Rattle.bench_types.specs.Step.{call_check};
 ghost use Rattle.bench_model.specs.Control.{core_at};
-ghost use Rattle.bench_model.specs.Notes.{note_at, is_received, is_waiting, without_bits, passes, acted, notified, wait_begun, wait_ended, take_begun, take_ended, state_cleared, value_cleared};
+ghost use Rattle.bench_model.specs.Notes.{note_at, is_received, is_waiting, without_bits, passes, acted, notified, wait_begun, wait_ended, take_begun, take_ended, state_cleared, value_cleared, of_slot, slot_of};
 ghost use Rattle.bench_model.specs.Notifying.{timeout_of, is_passed, state_forgotten, bits_cleared, completed, notify, interrupted, awaited};
 ghost use Rattle.bench_model.specs.Table.{stamp_queues};
 
@@ -10,31 +12,49 @@ use bench_model::notes::{is_received, is_waiting, notified, passes, without_bits
 use bench_types::{Action, Call, Note, NoteState, Notification, Reply, Unfinished};
 
 impl SlowTable {
-    pub(super) fn note(&self, task: u32) -> Notification
-        requires { task < length self.now.orders.rows }
-        ensures { result ≡ note_at self.now.notes task }
+    // Where the notification stands.
+    #[tactic(auto, unfolding(bench_model::specs::Notes::slot_in))]
+    fn slot(&self, task: u32, index: u32) -> usize
+        requires task { task < length self.now.orders.rows }
+        requires index { index < self.now.settings.notes }
+        ensures slot { result ≡ slot_of self.now.settings task index }
+        ensures below { result < length self.now.notes }
     {
-        self.notes[task as usize]
+        (task * self.settings.notes + index) as usize
     }
 
-    fn set_note(&mut self, task: u32, note: Notification)
-        requires { task < length self.old.orders.rows }
-        ensures { self.new ≡ record self.old { notes = slice_set self.old.notes task note } }
+    pub(super) fn note(&self, task: u32, index: u32) -> Notification
+        requires task { task < length self.now.orders.rows }
+        requires index { index < self.now.settings.notes }
+        ensures { result ≡ note_at self.now.notes (slot_of self.now.settings task index) }
     {
-        self.notes[task as usize] = note;
+        self.notes[self.slot(task, index)]
+    }
+
+    fn set_note(&mut self, task: u32, index: u32, note: Notification)
+        requires task { task < length self.old.orders.rows }
+        requires index { index < self.old.settings.notes }
+        ensures { self.new ≡ record self.old {
+          notes
+              = slice_set self.old.notes (slot_of self.old.settings task index) note;
+        } }
+    {
+        let slot = self.slot(task, index);
+        self.notes[slot] = note;
     }
 
     // Returns whether the notification passed.
     #[tactic(auto, unfolding(bench_model::specs::Notifying::notify))]
     pub(super) fn notify(&mut self, acting: u32, note: Note) -> bool
         requires task { note.task < length self.old.orders.rows }
+        requires index { note.index < self.old.settings.notes }
         requires room { self.old.orders.next + 1 < 2 ^ 128 }
         ensures passed { result ≡ is_passed note self.old }
-        ensures told { self.new ≡ notify stamp_queues acting note.task note.action self.old }
+        ensures told { self.new ≡ notify stamp_queues acting note self.old }
         ensures settings { self.new.settings ≡ self.old.settings }
     {
-        let before = self.note(note.task);
-        self.set_note(note.task, notified(note.action, before));
+        let before = self.note(note.task, note.index);
+        self.set_note(note.task, note.index, notified(note.action, before));
         if is_waiting(before.state) {
             self.wake(acting, note.task);
         }
@@ -52,6 +72,7 @@ impl SlowTable {
     pub(super) fn interrupt(&mut self, core: u32, note: Note) -> Reply
         requires core { core < self.old.settings.cores }
         requires task { note.task < length self.old.orders.rows }
+        requires index { note.index < self.old.settings.notes }
         requires room { self.old.orders.next + 1 < 2 ^ 128 }
         ensures { (result, self.new) ≡ interrupted stamp_queues core note self.old }
     {
@@ -63,40 +84,43 @@ impl SlowTable {
     }
 
     #[tactic(auto, unfolding(bench_model::specs::Notifying::state_forgotten))]
-    pub(super) fn clear_state(&mut self, task: u32) -> Reply
-        requires { task < length self.old.orders.rows }
-        ensures { (result, self.new) ≡ state_forgotten task self.old }
+    pub(super) fn clear_state(&mut self, task: u32, index: u32) -> Reply
+        requires task { task < length self.old.orders.rows }
+        requires index { index < self.old.settings.notes }
+        ensures { (result, self.new) ≡ state_forgotten task index self.old }
     {
-        let (had, note) = state_cleared(self.note(task));
-        self.set_note(task, note);
+        let (had, note) = state_cleared(self.note(task, index));
+        self.set_note(task, index, note);
         Reply::Flag(had)
     }
 
     #[tactic(auto, unfolding(bench_model::specs::Notifying::bits_cleared))]
-    pub(super) fn clear_value(&mut self, task: u32, bits: u32) -> Reply
-        requires { task < length self.old.orders.rows }
-        ensures { (result, self.new) ≡ bits_cleared task bits self.old }
+    pub(super) fn clear_value(&mut self, task: u32, bits: u32, index: u32) -> Reply
+        requires task { task < length self.old.orders.rows }
+        requires index { index < self.old.settings.notes }
+        ensures { (result, self.new) ≡ bits_cleared task bits index self.old }
     {
-        let (value, note) = value_cleared(bits, self.note(task));
-        self.set_note(task, note);
+        let (value, note) = value_cleared(bits, self.note(task, index));
+        self.set_note(task, index, note);
         Reply::Value(value)
     }
 
     // A call that waited for a notification answers with that.
     #[tactic(auto, unfolding(bench_model::specs::Notifying::completed))]
     pub(super) fn complete(&mut self, task: u32, call: Call) -> Reply
-        requires { task < length self.old.orders.rows }
+        requires task { task < length self.old.orders.rows }
+        requires checked { call_check self.old.settings call ≡ Ok tt }
         ensures { (result, self.new) ≡ completed task call self.old }
     {
         match call {
-            Call::NotifyWait { exit, .. } => {
-                let ((ok, value), note) = wait_ended(exit, self.note(task));
-                self.set_note(task, note);
+            Call::NotifyWait { exit, index, .. } => {
+                let ((ok, value), note) = wait_ended(exit, self.note(task, index));
+                self.set_note(task, index, note);
                 Reply::Waited { ok, value }
             }
-            Call::NotifyTake { clear, .. } => {
-                let (value, note) = take_ended(clear, self.note(task));
-                self.set_note(task, note);
+            Call::NotifyTake { clear, index, .. } => {
+                let (value, note) = take_ended(clear, self.note(task, index));
+                self.set_note(task, index, note);
                 Reply::Value(value)
             }
             _ => Reply::Done,
@@ -105,29 +129,79 @@ impl SlowTable {
 
     // Blocks a call that has nothing to complete with and some ticks to wait.
     #[tactic(auto, unfolding(bench_model::specs::Notifying::awaited))]
-    pub(super) fn await_note(
-        &mut self,
-        core: u32,
-        task: u32,
-        call: Call,
-        ticks: u32,
-        begun: (bool, Notification),
-    ) -> Reply
+    fn await_note(&mut self, core: u32, task: u32, call: Call, ticks: u32, waits: bool) -> Reply
         requires core { core < length self.old.control.cores }
         requires task { task < length self.old.orders.rows }
+        requires checked { call_check self.old.settings call ≡ Ok tt }
         requires room { self.old.orders.next + 1 < 2 ^ 128 }
         requires time { self.old.orders.tick + 2 ^ 32 < 2 ^ 128 }
         ensures { (result, self.new)
-            ≡ awaited stamp_queues core task call ticks
-            (begun.0, slice_set self.old.notes task begun.1) self.old }
+            ≡ awaited stamp_queues core task call ticks (waits, self.old.notes) self.old }
     {
-        let (waits, note) = begun;
-        self.set_note(task, note);
         if waits && 0 < ticks {
             self.block(core, task, Unfinished::Made(call), timeout_of(ticks), None);
             return Reply::Blocked;
         }
         self.complete(task, call)
+    }
+
+    #[tactic(auto, unfolding(bench_model::specs::Notifying::awaited))]
+    pub(super) fn wait(
+        &mut self,
+        core: u32,
+        task: u32,
+        entry: u32,
+        exit: u32,
+        ticks: u32,
+        index: u32,
+    ) -> Reply
+        requires core { core < length self.old.control.cores }
+        requires task { task < length self.old.orders.rows }
+        requires index { index < self.old.settings.notes }
+        requires room { self.old.orders.next + 1 < 2 ^ 128 }
+        requires time { self.old.orders.tick + 2 ^ 32 < 2 ^ 128 }
+        ensures { (result, self.new)
+            ≡ awaited stamp_queues core task (NotifyWait entry exit ticks index) ticks
+            (of_slot (slot_of self.old.settings task index) (wait_begun entry) self.old.notes)
+            self.old }
+    {
+        let (waits, note) = wait_begun(entry, self.note(task, index));
+        self.set_note(task, index, note);
+        let call = Call::NotifyWait {
+            entry,
+            exit,
+            ticks,
+            index,
+        };
+        self.await_note(core, task, call, ticks, waits)
+    }
+
+    #[tactic(auto, unfolding(bench_model::specs::Notifying::awaited))]
+    pub(super) fn take_note(
+        &mut self,
+        core: u32,
+        task: u32,
+        clear: bool,
+        ticks: u32,
+        index: u32,
+    ) -> Reply
+        requires core { core < length self.old.control.cores }
+        requires task { task < length self.old.orders.rows }
+        requires index { index < self.old.settings.notes }
+        requires room { self.old.orders.next + 1 < 2 ^ 128 }
+        requires time { self.old.orders.tick + 2 ^ 32 < 2 ^ 128 }
+        ensures { (result, self.new)
+            ≡ awaited stamp_queues core task (NotifyTake clear ticks index) ticks
+            (of_slot (slot_of self.old.settings task index) take_begun self.old.notes) self.old }
+    {
+        let (waits, note) = take_begun(self.note(task, index));
+        self.set_note(task, index, note);
+        let call = Call::NotifyTake {
+            clear,
+            ticks,
+            index,
+        };
+        self.await_note(core, task, call, ticks, waits)
     }
 }
 

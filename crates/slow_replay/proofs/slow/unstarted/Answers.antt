@@ -1,7 +1,11 @@
-use Rattle.std.proofs.Common.{◌≡◌, ℕ, zero, suc, ◌+◌, ◌-◌, false, List, ◌++◌, length, map, replicate, Option, Some, None, refl, ap, sym, ◌∙◌, arith}
+use Rattle.std.proofs.Common.{◌≡◌, ℕ, zero, suc, ◌+◌, ◌-◌, ◌*◌, ◌<◌, ◌≤◌, ◌^◌, false, List, ◌++◌, length, map, replicate, Option, Some, None, refl, ap, sym, ◌∙◌, arith}
 use Rattle.std.specs.Prelude.{slice_index_or}
 use Rattle.std.proofs.lemmas.List.{length-replicate}
 use Rattle.std.proofs.lemmas.List.FromFn.{length-map-range_with_len, get_or-map-range_with_len}
+use Rattle.std.proofs.Math.Nat.{mul-le-mul}
+use Rattle.bench_types.specs.Limits.{max_cores, max_notes, max_tasks}
+use Rattle.bench_types.specs.Step.{settings_of}
+use Rattle.bench_types.specs.declared.header.Header.{Header}
 use Rattle.bench_types.specs.declared.kernel_data.CoreLook.{CoreLook}
 use Rattle.bench_types.specs.declared.kernel_data.Settings.{Settings}
 use Rattle.bench_types.specs.declared.kernel_data.TaskControl.{TaskControl}
@@ -27,6 +31,13 @@ none_at (suc n) (suc mutex) = none_at n mutex
 none_held : (n mutex task : ℕ) → slice_index_or {A = Option ℕ} (replicate n None) mutex None ≡ Some task → ⊥
 none_held n mutex task held = cc (none_at n mutex, held)
 
+-- a checked header has not too many notifications to be named
+few_notes : (header : Header) (settings : Settings) → settings ≡ settings_of header → header.config.cores ≤ max_cores → length header.tasks ≤ max_tasks → header.config.notes ≤ max_notes → settings.tasks * settings.notes < 2 ^ 32
+few_notes header settings same cores users notes =
+    let most = mul-le-mul (let few : header.config.cores + length header.tasks ≤ 72 = omega (arith, cores, users) in few) notes in
+    let whole = ap (λ (s : Settings). s.tasks * s.notes) same in
+    omega (arith, most, whole)
+
 pub invariant_of-result : goal.invariant_of-result
 invariant_of-result c =
     let settings = c.settings_of-settings.result in
@@ -38,7 +49,8 @@ invariant_of-result c =
       cores = ap length c.in_ok-cores.ensures ∙ length-map-range_with_len _ 0 settings.cores;
       controls = ap length c.in_ok-tasks.ensures ∙ first_tasks c.args.header.now ∙ omega (arith, tasks);
       calls = ap length c.in_ok-calls.ensures ∙ length-replicate settings.tasks _;
-      notes = ap length c.in_ok-notes.ensures ∙ length-replicate settings.tasks _;
+      notes = ap length c.in_ok-notes.ensures ∙ length-replicate (settings.tasks * settings.notes) _;
+      few_notes = few_notes c.args.header.now settings c.settings_of-settings.ensures c.requires.cores c.requires.tasks c.requires.notes;
       holders = ap length c.in_ok-holders.ensures ∙ length-replicate settings.mutexes _;
       rows = ap length c.in_ok-rows.ensures ∙ length_ranges _ _ settings.cores (settings.tasks - settings.cores) ∙ sum;
       deadlines = ap length c.in_ok-deadlines.ensures ∙ length-replicate settings.tasks _;
@@ -76,7 +88,7 @@ returns c =
     let users : settings.tasks - settings.cores ≡ length header.tasks = omega (arith, cores, tasks) in
     same_table same (c.in_ok-cores.ensures ∙ ap (λ n. map first_look (numbers n)) cores) c.in_ok-tasks.ensures
     (c.in_ok-calls.ensures ∙ ap (λ n. replicate n None) tasks)
-    (c.in_ok-notes.ensures ∙ ap (λ n. replicate n no_note) tasks)
+    (c.in_ok-notes.ensures ∙ ap (λ (s : Settings). replicate (s.tasks * s.notes) no_note) same)
     (c.in_ok-holders.ensures ∙ ap (λ n. replicate n None) (ap (λ (s : Settings). s.mutexes) same))
     (c.in_ok-rows.ensures ∙ ap (λ n. rows_for n (settings.tasks - settings.cores)) cores ∙ ap (rows_for header.config.cores) users)
     (c.in_ok-deadlines.ensures ∙ ap (λ n. replicate n None) tasks)

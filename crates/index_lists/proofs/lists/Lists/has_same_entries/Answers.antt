@@ -77,7 +77,7 @@ returns-then-ne c =
     let item_too = c.loop-step.invariant.theirs ∙ node_here _ _ _ _ _ _ stand_too o i c.requires.other within_too in
     let key = ap (λ (n : ℕ). key_of n c.args.self.now) item ∙ key_here _ _ _ _ _ _ stand l i c.requires.one within in
     let key_too = ap (λ (n : ℕ). key_of n c.args.other.now) item_too ∙ key_here _ _ _ _ _ _ stand_too o i c.requires.other within_too in
-    let compared = same_keys _ _ _ _ (c.key_of.ensures ∙ key) (c.key_of-in-loop-step.ensures ∙ key_too) in
+    let compared = same_keys _ _ _ _ (c.key_of.ensures.key ∙ key) (c.key_of-in-loop-step.ensures.key ∙ key_too) in
     (λ no. absurd (cc (no)), λ same. absurd (let tied : (get_or mine i none).key ≡ (get_or theirs i none).key = ap (λ (es : List Listed). (get_or es i none).key) same in grind (arith, nat_tests, compared, tied, c.ne.ensures, c.if-ne.true)))
 
 pub index-requires-in-loop-step : goal.index-requires-in-loop-step
@@ -135,7 +135,7 @@ loop-step-preserved c =
     let low_too = node_low _ _ _ _ _ _ stand_too o i c.requires.other within_too in
     let key = ap (λ (n : ℕ). key_of n c.args.self.now) item ∙ key_here _ _ _ _ _ _ stand l i c.requires.one within in
     let key_too = ap (λ (n : ℕ). key_of n c.args.other.now) item_too ∙ key_here _ _ _ _ _ _ stand_too o i c.requires.other within_too in
-    let compared = same_keys _ _ _ _ (c.key_of.ensures ∙ key) (c.key_of-in-loop-step.ensures ∙ key_too) in
+    let compared = same_keys _ _ _ _ (c.key_of.ensures.key ∙ key) (c.key_of-in-loop-step.ensures.key ∙ key_too) in
     let linked : c.loop-step.mine < length links = omega (arith, item, low, nodes_are _ links _ _ _ stand) in
     let linked_too : c.loop-step.theirs < length others = omega (arith, item_too, low_too, nodes_are _ others _ _ _ stand_too) in
     let here = same_entry _ _ (sym item ∙ sym c.if-theirs-mine.false ∙ item_too) (let tied : (get_or mine i none).key ≡ (get_or theirs i none).key = grind (arith, nat_tests, compared, c.ne.ensures, c.if-ne.false) in ap Some tied) in

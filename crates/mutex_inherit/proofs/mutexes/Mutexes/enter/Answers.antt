@@ -1,6 +1,6 @@
 use Rattle.std.proofs.Common.{◌<◌, ◌-◌, length, ◌∙◌, ap, length-set, arith}
 use Rattle.mutex_inherit.specs.Parts.{MutexPart}
-use Rattle.mutex_inherit.proofs.Rows.{free_rows, waiters_more}
+use Rattle.mutex_inherit.proofs.Rows.{waiters_more}
 use Rattle.mutex_inherit.proofs.Waits.{free_seen, seen_enter}
 use Rattle.mutex_inherit.proofs.mutexes.Mutexes.enter.Goals as goal
 
@@ -11,13 +11,12 @@ pub invariant_of-self : goal.invariant_of-self
 invariant_of-self c =
     let low : c.args.mutex < length c.self.inside.lists.lists = omega (arith, c.requires.mutex, c.self.invariant.each, ap (λ (view : MutexPart). length view.holders) c.self.view_is) in
     let below : c.args.priority < c.self.inside.priorities = omega (arith, c.requires.priority, ap (λ (view : MutexPart). view.priorities) c.self.view_is) in
-    let free = free_rows c.args.task c.self.inside.lists (free_seen _ _ _ c.self.inside.lists _ c.self.view_is c.args.task c.requires.free) in
     rw c.insert_sorted.ensures (record {
       few_mutexes = c.self.invariant.few_mutexes;
       held_by_tasks = c.self.invariant.held_by_tasks;
       items = c.self.invariant.items;
       each = length-set c.self.inside.lists.lists c.args.mutex _ ∙ c.self.invariant.each;
-      waiting = waiters_more c.self.inside.priorities c.args.mutex (record { item = c.args.task; key = c.self.inside.priorities - c.args.priority }) c.self.inside.lists.lists low (omega (arith, below), omega arith) free c.self.invariant.waiting;
+      waiting = waiters_more c.self.inside.priorities c.args.mutex (record { item = c.args.task; key = c.self.inside.priorities - c.args.priority }) c.self.inside.lists.lists low (omega (arith, below), omega arith) c.self.invariant.waiting;
     })
 
 pub returns : goal.returns

@@ -16,6 +16,7 @@ loop-seat-init g c =
       f.0,
       c.last.invariant.kept,
       f.1,
+      f.2,
       c.in-Some.last ∷ [],
       split,
       All-cons (IsKnown c.last.inside.inner.me.0) c.in-Some.last []
@@ -28,7 +29,7 @@ join_seat-requires g c =
     let i = c.loop-seat.invariant in
     let split : c.loop-seat.seats.items ≡ c.pop-in-loop-seat.new.self.items ++ c.in-Some-pop.seat ∷ [] =
     search rules in
-    let whole = moved_over _ _ _ _ _ i.5 split in
+    let whole = moved_over _ _ _ _ _ i.6 split in
     let own = all_there (IsSeatOf c.args.self.now) _ _ _ _ whole c.requires.own in
     let free = all_there IsFree _ _ _ _ whole c.requires.free in
     let f = free_seat _ _ _ _ _ _ _ _ c.seat.invariant _ c.seat.view_is free in
@@ -45,7 +46,7 @@ loop-seat-preserved-in-Some-pop g c =
     let i = c.loop-seat.invariant in
     let split : c.loop-seat.seats.items ≡ c.pop-in-loop-seat.new.self.items ++ c.in-Some-pop.seat ∷ [] =
     search rules in
-    let whole = moved_over _ _ _ _ _ i.5 split in
+    let whole = moved_over _ _ _ _ _ i.6 split in
     let free = all_there IsFree _ _ _ _ whole c.requires.free in
     let f = free_seat _ _ _ _ _ _ _ _ c.seat.invariant _ c.seat.view_is free in
     let e = c.join_seat.ensures in (
@@ -53,10 +54,11 @@ loop-seat-preserved-in-Some-pop g c =
       ap (λ m. m.1) e.2 ∙ i.1,
       ap (λ m. m.0.spent) e.2 ∙ i.2,
       ap (λ m. m.0.owns_interrupt) e.2 ∙ i.3,
-      c.in-Some-pop.seat ∷ i.4,
+      ap (λ m. m.0.owns_task) e.2 ∙ i.4,
+      c.in-Some-pop.seat ∷ i.5,
       whole,
-      one_more_known c.loop-seat.all.me.0 c.seat.inside.inner.me.0 _ c.in-Some-pop.seat i.4
-          (ap (λ m. m.0) e.2) f.3 f.4 f.5 i.6,
+      one_more_known c.loop-seat.all.me.0 c.seat.inside.inner.me.0 _ c.in-Some-pop.seat i.5
+          (ap (λ m. m.0) e.2) f.3 f.4 f.5 i.7,
     )
 
 pub loop-seat-preserved : goal.loop-seat-preserved
@@ -64,7 +66,7 @@ loop-seat-preserved g c =
     let i = c.loop-seat.invariant in
     let split : c.loop-seat.seats.items ≡ c.pop-in-loop-seat.new.self.items ++ c.in-Some-pop.seat ∷ [] =
     search rules in
-    let whole = moved_over _ _ _ _ _ i.5 split in
+    let whole = moved_over _ _ _ _ _ i.6 split in
     let free = all_there IsFree _ _ _ _ whole c.requires.free in
     let f = free_seat _ _ _ _ _ _ _ _ c.seat.invariant _ c.seat.view_is free in
     let e = c.join_seat.ensures in (
@@ -72,14 +74,15 @@ loop-seat-preserved g c =
       ap (λ m. m.1) e.2 ∙ i.1,
       ap (λ m. m.0.spent) e.2 ∙ i.2,
       ap (λ m. m.0.owns_interrupt) e.2 ∙ i.3,
-      c.in-Some-pop.seat ∷ i.4,
+      ap (λ m. m.0.owns_task) e.2 ∙ i.4,
+      c.in-Some-pop.seat ∷ i.5,
       whole,
-      one_more_known c.loop-seat.all.me.0 c.seat.inside.inner.me.0 _ c.in-Some-pop.seat i.4
-          (ap (λ m. m.0) e.2) f.3 f.4 f.5 i.6,
+      one_more_known c.loop-seat.all.me.0 c.seat.inside.inner.me.0 _ c.in-Some-pop.seat i.5
+          (ap (λ m. m.0) e.2) f.3 f.4 f.5 i.7,
     )
 
 pub returns-clause-all : goal.returns-clause-all
 returns-clause-all g c =
     let i = c.loop-seat.invariant in
     let none : c.loop-seat.seats.items ≡ [] = search rules in
-    subst (All (IsKnown c.loop-seat.all.me.0)) (sym (i.5 ∙ ap (λ l. l ++ i.4) none)) i.6
+    subst (All (IsKnown c.loop-seat.all.me.0)) (sym (i.6 ∙ ap (λ l. l ++ i.5) none)) i.7

@@ -8,7 +8,7 @@ use Rattle.port_locks.proofs.pair.LockPair.join_all.Given as goal
 abbrev pub invariant-loop-seat : goal.invariant-loop-seat
 invariant-loop-seat g l =
     (l.all.table_id ≡ l.self.pair) × (l.all.me.1 ≡ []) × (l.all.me.0.spent ≡ false)
-    × (l.all.me.0.owns_interrupt ≡ false)
+    × (l.all.me.0.owns_interrupt ≡ false) × (l.all.me.0.owns_task ≡ false)
     × (rest : List (SeatView g.row.V.Denot)) × (l.fn.seats.items ≡ l.seats.items ++ rest)
     × All (IsKnown l.all.me.0) rest
 

@@ -295,7 +295,7 @@ fn check_own_hold(rt: &(impl Wait + Abort), rig: &Rig, zero: &mut CoreSeat)
 fn a_rig_without_room_records_nothing(rt: HostRuntime) -> Result<(), Fail> {
     let recorded = recorded(&rt, &rt, 0, Scene::Alone(Alone::NoRoom))?;
     assert_made(&rt, &recorded, &[0, 0]);
-    assert_same(&rt, "entries", &recorded.entries.len(), &0);
+    assert_same(&rt, "entries", &recorded.entries.as_slice().len(), &0);
     Ok(())
 }
 
@@ -320,12 +320,12 @@ fn a_hold_is_opened_255_times(rt: HostRuntime) -> Result<(), Fail> {
     assert_made(&rt, &recorded, &[511, 0]);
     assert_reply(
         &rt,
-        &recorded.entries,
+        recorded.entries.as_slice(),
         255,
         0,
         Reply::Refused(Refusal::HoldDeep),
     );
-    assert_reply(&rt, &recorded.entries, 510, 0, Reply::Done);
+    assert_reply(&rt, recorded.entries.as_slice(), 510, 0, Reply::Done);
     Ok(())
 }
 

@@ -237,6 +237,11 @@ row 'the same with `"action": "increment"` and a `value`' "$(first "$isr \"incre
 until='{"do": "delay_until", "core": 0, "by": "A", "inc": 10, "ticks": 10}'
 row "with \`$until\` as the first step" "$(first "$until")"
 row 'with a member `note` beside `steps`' "$(with 's/"steps"/"note": 0, &/')"
+row 'with `"notes": 2` beside `steps`' "$(with 's/"steps"/"notes": 2, &/')"
+row 'with `"format": 2`' "$(with 's/"format": 1/"format": 2/')"
+index='{"do": "isr_notify", "core": 0, "to": "A", "action": "none", "index": "1"}'
+row "with \`\"format\": 2\`, \`\"notes\": 2\` and \`$index\` as the first step" \
+    "$(with "s/{\"do\": \"delay\".*}/$index/; s/\"format\": 1/\"format\": 2, \"notes\": 2/")"
 row '`{"session": {}, "edits": []}`' '{"session": {}, "edits": []}'
 row 'the example as `session`, and no `edits`' "$(edits '' | sed 's/, "edits": \[\]//')"
 row 'with `{"edit": "remove"}` as the only edit' "$(edits '{"edit": "remove"}')"

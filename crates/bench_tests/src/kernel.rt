@@ -38,6 +38,7 @@ fn check_start(rt: &impl Abort, kernel: &Kernel) {
         priorities: 5,
         slicing: true,
         mutexes: 0,
+        notes: 1,
         tasks: 5,
     };
     assert_same(rt, "settings", &kernel.settings(), &settings);

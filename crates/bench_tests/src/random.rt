@@ -42,12 +42,23 @@ pub enum Mix {
     Nothing,
     /// Some set something of a task.
     Sets,
-    /// Some set something of a task, and some notify a task, wait for that, or clear it.
-    Notes,
+    /// Some set something of a task, and some notify a task, wait for that, or clear it. Each task
+    /// has so many notifications.
+    Notes(u32),
     /// Some set something of a task, and some take or give one of four mutexes.
     Mutexes,
     /// Some set something of a task, and some delay until a tick count, or open or close a hold.
     Holds,
+}
+
+impl Mix {
+    // How many notifications each task has.
+    fn notes(self) -> u32 {
+        match self {
+            Mix::Notes(notes) => notes,
+            _ => 1,
+        }
+    }
 }
 
 /// A session of so many steps, of which most are not refused.
@@ -57,7 +68,7 @@ pub fn random_session(
     count: usize,
     mix: Mix,
 ) -> Result<Played, Fail> {
-    let mut played = Played::new(host)?;
+    let mut played = Played::new(host, mix)?;
     for _ in 0..count {
         let step = played.some_step(mix);
         played.make(rt, step)?;
@@ -66,8 +77,8 @@ pub fn random_session(
 }
 
 impl Played {
-    fn new(host: &HostRuntime) -> Result<Self, Fail> {
-        let header = large_header(host.alloc())?;
+    fn new(host: &HostRuntime, mix: Mix) -> Result<Self, Fail> {
+        let header = large_header(host.alloc(), mix.notes())?;
         let kernel = Kernel::start(host.alloc(), &header)?;
         Ok(Played {
             header,
@@ -88,7 +99,10 @@ impl Played {
         let step = with_set(kernel, step, number(&mut self.seed));
         match mix {
             Mix::Nothing | Mix::Sets => step,
-            Mix::Notes => with_note(step, number(&mut self.seed)),
+            Mix::Notes(notes) => {
+                let choice = number(&mut self.seed);
+                with_note(step, choice, some_index(&mut self.seed, notes))
+            }
             Mix::Mutexes => with_mutex(kernel, step, number(&mut self.seed)),
             Mix::Holds => with_hold(kernel, step, number(&mut self.seed)),
         }
@@ -103,9 +117,9 @@ impl Played {
     }
 }
 
-// A header of 8 cores and 64 tasks with time slicing, with the last 96 ticks before the tick count
-// wraps.
-fn large_header(alloc: Global) -> Result<Header, Fail>
+// A header of 8 cores and 64 tasks with time slicing and so many notifications a task, with the
+// last 96 ticks before the tick count wraps.
+fn large_header(alloc: Global, notes: u32) -> Result<Header, Fail>
     ensures { IfOk result (λ header. (header.config.cores ≡ 8) × (header.config.mutexes ≡ 4)) }
 {
     let config = Config {
@@ -114,6 +128,7 @@ fn large_header(alloc: Global) -> Result<Header, Fail>
         slicing: true,
         tick: 4_294_967_200,
         mutexes: 4,
+        notes,
     };
     let mut tasks = [(0, 0); 64];
     for task in 0..64 {
@@ -202,14 +217,14 @@ fn with_set(kernel: &Kernel, step: Step, choice: u32) -> Step
 
 // The step, or an interrupt in place of a yield and of some switches, and of most calls that set
 // something a call that notifies a task, waits for that or clears it, chosen by a number of 16
-// bits.
-fn with_note(step: Step, choice: u32) -> Step
+// bits. Each is for the index.
+fn with_note(step: Step, choice: u32, index: u32) -> Step
     requires { choice < 2 ^ 16 }
 {
     match step {
-        Step::Switch { core } if choice > 60_000 => interrupt(core, choice),
-        Step::Call { core, call, .. } if is_yield(call) => interrupt(core, choice),
-        _ => in_place_of(step, choice, some_note_call(choice)),
+        Step::Switch { core } if choice > 60_000 => interrupt(core, choice, index),
+        Step::Call { core, call, .. } if is_yield(call) => interrupt(core, choice, index),
+        _ => in_place_of(step, choice, some_note_call(choice, index)),
     }
 }
 
@@ -310,15 +325,20 @@ fn some_hold_call(kernel: &Kernel, choice: u32) -> Call
     }
 }
 
-fn interrupt(core: u32, choice: u32) -> Step
+fn interrupt(core: u32, choice: u32, index: u32) -> Step
     requires { choice < 2 ^ 16 }
 {
-    let note = some_note(choice);
+    let note = some_note(choice, index);
     Step::Interrupt { core, note }
 }
 
+// Some index below the number of notifications, chosen by a number of 16 bits where there are some.
+fn some_index(seed: &mut u32, notes: u32) -> u32 {
+    if notes > 1 { number(seed) % notes } else { 0 }
+}
+
 // A notification of some task. Some of the values wrap at the next increment.
-fn some_note(choice: u32) -> Note
+fn some_note(choice: u32, index: u32) -> Note
     requires { choice < 2 ^ 16 }
 {
     let number = choice / 1024 % 8;
@@ -333,11 +353,12 @@ fn some_note(choice: u32) -> Note
     Note {
         task: 8 + choice % 64,
         action,
+        index,
     }
 }
 
 // Waits are for 0 ticks, for some, or without end.
-fn some_note_call(choice: u32) -> Call
+fn some_note_call(choice: u32, index: u32) -> Call
     requires { choice < 2 ^ 16 }
 {
     let task = 8 + choice / 16 % 64;
@@ -347,18 +368,20 @@ fn some_note_call(choice: u32) -> Call
         ticks => ticks - 1,
     };
     match choice % 16 {
-        0..=2 => Call::Notify(some_note(choice / 16)),
+        0..=2 => Call::Notify(some_note(choice / 16, index)),
         3..=5 => Call::NotifyWait {
             entry: bits,
             exit: 7 - bits,
             ticks,
+            index,
         },
         6..=8 => Call::NotifyTake {
             clear: bits < 2,
             ticks,
+            index,
         },
-        9..=10 => Call::StateClear(task),
-        _ => Call::ValueClear { task, bits },
+        9..=10 => Call::StateClear { task, index },
+        _ => Call::ValueClear { task, bits, index },
     }
 }
 

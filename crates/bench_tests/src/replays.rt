@@ -4,7 +4,7 @@ ghost use Rattle.bench_types.specs.Step.{settings_of, step_check};
 
 use crate::random::{Mix, Played, random_session};
 use crate::samples::{Opened, assert_at, assert_is, assert_same};
-use bench_types::{Edit, Header, Reply, Row, Step};
+use bench_types::{Edit, Header, MAX_NOTES, Reply, Row, Step};
 use session_store::Store;
 use slow_replay::replay_slow;
 use std::alloc::Global;
@@ -77,7 +77,15 @@ fn as_the_definitions_replay_sets(rt: HostRuntime) -> Result<(), Fail> {
 
 #[test]
 fn as_the_definitions_replay_notifications(rt: HostRuntime) -> Result<(), Fail> {
-    check_random(&rt, &rt, Mix::Notes)
+    check_random(&rt, &rt, Mix::Notes(1))
+}
+
+#[test]
+fn as_the_definitions_replay_notification_arrays(rt: HostRuntime) -> Result<(), Fail> {
+    for notes in 2..=MAX_NOTES {
+        check_random(&rt, &rt, Mix::Notes(notes))?;
+    }
+    Ok(())
 }
 
 #[test]
@@ -127,7 +135,7 @@ fn has_row(store: &Store, step: u32, row: &Row) -> bool {
 
 #[test]
 fn an_edited_store_is_as_the_definitions_replay_it(rt: HostRuntime) -> Result<(), Fail> {
-    let played = random_session(&rt, &rt, 200, Mix::Notes)?;
+    let played = random_session(&rt, &rt, 200, Mix::Notes(3))?;
     check_edited(&rt, &rt, &played)
 }
 

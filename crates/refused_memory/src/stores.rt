@@ -13,7 +13,7 @@ const SPAN: u32 = 2;
 const A_CLEARS: Step = Step::Call {
     core: 0,
     task: 2,
-    call: Call::StateClear(2),
+    call: Call::StateClear { task: 2, index: 0 },
 };
 
 /// How each task fared in the session before its edits.

@@ -10,7 +10,7 @@ use crate::rigs::{closed, one_missing, one_task, refused, rig_of, turn};
 use crate::scenes::{Scene, play_alone, recorded, recorded_over};
 use crate::stopped::make_call;
 use bench_samples::PLAIN;
-use bench_types::{Action, Call, Note, Refusal, Reply, Step};
+use bench_types::{Action, Call, Config, Fault, Note, Refusal, Reply, Step};
 use core_rig::{CloseFault, CoreSeat, Recorded, Rig, RigRefusal};
 use std::alloc::Global;
 use std::process::Abort;
@@ -24,6 +24,8 @@ pub enum Alone {
     Tries,
     /// A call takes the value that an interrupt set.
     Value,
+    /// A call takes the value that an interrupt of the other core set at index 1.
+    SecondIndex,
     /// A hold keeps the last place for its close.
     KeptPlace,
     /// A hold is opened where there is one place.
@@ -62,6 +64,7 @@ pub fn act(
     match alone {
         Alone::Tries => check_tries(rt, rig, one),
         Alone::Value => check_value(rt, rig, zero),
+        Alone::SecondIndex => check_second_index(rt, rig, zero, one),
         Alone::KeptPlace => check_kept(rt, rig, zero, one),
         Alone::OnePlace => check_one_place(rt, rig, zero),
         Alone::Open => check_open(rt, rig, zero),
@@ -117,15 +120,50 @@ fn check_value(rt: &(impl Wait + Abort), rig: &Rig, zero: &mut CoreSeat)
     requires { IsSeatOf rig.now zero.old }
     ensures { IsSeatOf rig.now zero.new }
 {
-    let seven = Note {
-        task: 2,
-        action: Action::Set(7),
-    };
-    let clear = Call::ValueClear { task: 2, bits: 0 };
-    assert_interrupt(rt, rig, zero, seven, at(0, ISR));
-    assert_call(rt, rig, zero, clear, at(1, Reply::Value(7)));
+    assert_interrupt(rt, rig, zero, seven_at(0), at(0, ISR));
+    assert_call(rt, rig, zero, value_at(0), at(1, Reply::Value(7)));
     assert_switch(rt, rig, zero, Ok(2));
     assert_counts(rt, zero, 3, 3);
+}
+
+// A is notified at the index: its value becomes 7.
+fn seven_at(index: u32) -> Note {
+    Note {
+        task: 2,
+        action: Action::Set(7),
+        index,
+    }
+}
+
+// Asks for A's value at the index.
+fn value_at(index: u32) -> Call {
+    Call::ValueClear {
+        task: 2,
+        bits: 0,
+        index,
+    }
+}
+
+#[test]
+fn an_interrupt_names_an_index(rt: HostRuntime) -> Result<(), Fail> {
+    let config = Config { notes: 2, ..PLAIN };
+    let header = one_task(rt.alloc(), config, 2, 3)?;
+    let recorded = recorded_over(&rt, &rt, &header, 10, Scene::Alone(Alone::SecondIndex))?;
+    assert_made(&rt, &recorded, &[2, 1]);
+    Ok(())
+}
+
+fn check_second_index(rt: &(impl Wait + Abort), rig: &Rig, zero: &mut CoreSeat, one: &mut CoreSeat)
+    requires zero { IsSeatOf rig.now zero.old }
+    requires one { IsSeatOf rig.now one.old }
+    ensures zero { IsSeatOf rig.now zero.new }
+    ensures one { IsSeatOf rig.now one.new }
+{
+    let bad_index = RigRefusal::Fault(Fault::BadArgument);
+    assert_interrupt(rt, rig, one, seven_at(2), Err(bad_index));
+    assert_interrupt(rt, rig, one, seven_at(1), at(0, ISR));
+    assert_call(rt, rig, zero, value_at(0), at(1, Reply::Value(0)));
+    assert_call(rt, rig, zero, value_at(1), at(2, Reply::Value(7)));
 }
 
 #[test]
@@ -257,7 +295,7 @@ fn check_own_hold(rt: &(impl Wait + Abort), rig: &Rig, zero: &mut CoreSeat)
 fn a_rig_without_room_records_nothing(rt: HostRuntime) -> Result<(), Fail> {
     let recorded = recorded(&rt, &rt, 0, Scene::Alone(Alone::NoRoom))?;
     assert_made(&rt, &recorded, &[0, 0]);
-    assert_same(&rt, "entries", &recorded.entries.len(), &0);
+    assert_same(&rt, "entries", &recorded.entries.as_slice().len(), &0);
     Ok(())
 }
 
@@ -282,12 +320,12 @@ fn a_hold_is_opened_255_times(rt: HostRuntime) -> Result<(), Fail> {
     assert_made(&rt, &recorded, &[511, 0]);
     assert_reply(
         &rt,
-        &recorded.entries,
+        recorded.entries.as_slice(),
         255,
         0,
         Reply::Refused(Refusal::HoldDeep),
     );
-    assert_reply(&rt, &recorded.entries, 510, 0, Reply::Done);
+    assert_reply(&rt, recorded.entries.as_slice(), 510, 0, Reply::Done);
     Ok(())
 }
 

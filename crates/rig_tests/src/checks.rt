@@ -19,6 +19,7 @@ pub fn one_more(task: u32) -> Note {
     Note {
         task,
         action: Action::Increment,
+        index: 0,
     }
 }
 

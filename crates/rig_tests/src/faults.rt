@@ -79,8 +79,11 @@ fn check_calls(rt: &(impl Wait + Abort), rig: &Rig, zero: &mut CoreSeat)
     requires { IsSeatOf rig.now zero.old }
     ensures { IsSeatOf rig.now zero.new }
 {
-    refuse_call(rt, rig, zero, Call::StateClear(0), Fault::BadTask);
+    let nobody = Call::StateClear { task: 0, index: 0 };
+    refuse_call(rt, rig, zero, nobody, Fault::BadTask);
     refuse_call(rt, rig, zero, Call::MutexGive(0), Fault::BadMutex);
+    let no_index = Call::StateClear { task: 2, index: 1 };
+    refuse_call(rt, rig, zero, no_index, Fault::BadArgument);
     let nowhere = Call::AffinitySet { task: 2, mask: 4 };
     refuse_call(rt, rig, zero, nowhere, Fault::BadArgument);
     assert_counts(rt, zero, 0, 0);

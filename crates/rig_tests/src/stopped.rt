@@ -15,12 +15,12 @@ use std::thread::{self, Threads};
 const CALLS: [Call; 8] = [
     Call::HoldOpen,
     Call::HoldOpen,
-    Call::StateClear(2),
+    Call::StateClear { task: 2, index: 0 },
     Call::HoldClose,
     Call::HoldClose,
-    Call::StateClear(2),
+    Call::StateClear { task: 2, index: 0 },
     Call::HoldOpen,
-    Call::StateClear(2),
+    Call::StateClear { task: 2, index: 0 },
 ];
 
 /// How deep the hold is that is open after none, one, two and more of them.

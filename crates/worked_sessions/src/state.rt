@@ -1,4 +1,6 @@
 //! All that can be seen of a kernel, as indented lines.
+ghost use Rattle.std.specs.Prelude.{◌<◌};
+
 use crate::lines::push_task;
 use bench_types::{CoreLook, Header, NoteState, TaskLook};
 use smp_kernel::Kernel;
@@ -53,15 +55,19 @@ fn push_tasks(text: &mut String, header: &Header, kernel: &Kernel) -> Result<(),
     for task in settings.cores..settings.tasks {
         text.push_str("  task")?;
         push_task(text, header, task)?;
-        push_look(text, &kernel.look(task))?;
+        push_look(text, kernel, task)?;
     }
     Ok(())
 }
 
-fn push_look(text: &mut String, look: &TaskLook) -> Result<(), AllocError> {
-    push_settings(text, look)?;
-    push_wait(text, look)?;
-    push_note(text, look)?;
+fn push_look(text: &mut String, kernel: &Kernel, task: u32) -> Result<(), AllocError>
+    requires { task < kernel.now.settings.tasks }
+{
+    let look = kernel.look(task);
+    push_settings(text, &look)?;
+    push_wait(text, &look)?;
+    push_note(text, look.value, look.state)?;
+    push_later_notes(text, kernel, task)?;
     push_number(text, " held", look.held)?;
     push_if(text, look.in_call, " in_call")?;
     text.push_str("\n")
@@ -81,9 +87,23 @@ fn push_wait(text: &mut String, look: &TaskLook) -> Result<(), AllocError> {
     }
 }
 
-fn push_note(text: &mut String, look: &TaskLook) -> Result<(), AllocError> {
-    push_number(text, " value", look.value)?;
-    text.push_str(note_text(look.state))
+fn push_note(text: &mut String, value: u32, state: NoteState) -> Result<(), AllocError> {
+    push_number(text, " value", value)?;
+    text.push_str(note_text(state))
+}
+
+/// The notifications of the indexes above 0 that are not as they were at the start.
+fn push_later_notes(text: &mut String, kernel: &Kernel, task: u32) -> Result<(), AllocError>
+    requires { task < kernel.now.settings.tasks }
+{
+    for index in 1..kernel.settings().notes {
+        let (value, state) = kernel.note_look(task, index);
+        if value != 0 || state != NoteState::NotWaiting {
+            write!(text, " index {index}")?;
+            push_note(text, value, state)?;
+        }
+    }
+    Ok(())
 }
 
 fn note_text(state: NoteState) -> &'static str {

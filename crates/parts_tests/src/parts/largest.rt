@@ -1,4 +1,5 @@
-//! The kernel's parts, each of the most tasks on the most cores, with the most mutexes.
+//! The kernel's parts, each of the most tasks on the most cores, with the most mutexes and
+//! notifications.
 ghost use Rattle.std.specs.Prelude.{◌≡◌, ◌<◌, Ok, length};
 ghost use Rattle.bench_types.specs.Header.{header_check};
 
@@ -6,7 +7,9 @@ use crate::expected::{expect_is, expect_same};
 use crate::parts::ready::{expect_mask, expect_priorities};
 use crate::parts::started::is_checked;
 use bench_samples::{LARGEST, crowd};
-use bench_types::{Action, Header, MAX_CORES, MAX_MUTEXES, MAX_PRIORITIES, MAX_TASKS, NoteState};
+use bench_types::{
+    Action, Header, MAX_CORES, MAX_MUTEXES, MAX_NOTES, MAX_PRIORITIES, MAX_TASKS, NoteState,
+};
 use mutex_inherit::Mutexes;
 use notify_core::Notes;
 use ready_core::Cores;
@@ -56,33 +59,39 @@ fn cores(rt: HostRuntime) -> Result<(), Fail> {
     copy_cores(&rt, rt.alloc(), &header)
 }
 
-fn notify(rt: &impl Abort, notes: &mut Notes, task: u32, action: Action)
-    requires { task < length notes.old }
-    ensures { length notes.new ≡ length notes.old }
+// The last task, at its last index.
+fn notify(rt: &impl Abort, notes: &mut Notes, action: Action)
+    requires tasks { notes.old.tasks ≡ TASKS }
+    requires entries { notes.old.entries ≡ MAX_NOTES }
+    ensures tasks { notes.new.tasks ≡ TASKS }
+    ensures entries { notes.new.entries ≡ MAX_NOTES }
 {
-    let (passed, waited) = notes.notify(task, action);
+    let (passed, waited) = notes.notify(LAST, MAX_NOTES - 1, action);
     expect_same(rt, (passed, waited), (true, false));
 }
 
-fn expect_note(rt: &impl Abort, notes: &Notes, task: u32, value: u32, state: NoteState)
-    requires { task < length notes.now }
+fn expect_note(rt: &impl Abort, notes: &Notes, task: u32, index: u32, value: u32, state: NoteState)
+    requires task { task < notes.now.tasks }
+    requires index { index < notes.now.entries }
 {
-    expect_same(rt, notes.value(task), value);
-    expect_same(rt, notes.state(task), state);
+    expect_same(rt, notes.value(task, index), value);
+    expect_same(rt, notes.state(task, index), state);
 }
 
 fn check_notes(rt: &impl Abort, notes: &Notes, copy: &Notes)
-    requires { length copy.now ≡ TASKS }
+    requires tasks { copy.now.tasks ≡ TASKS }
+    requires entries { copy.now.entries ≡ MAX_NOTES }
 {
     expect_is(rt, copy.same(notes));
-    expect_note(rt, copy, LAST, 7, NoteState::Received);
-    expect_note(rt, copy, 0, 0, NoteState::NotWaiting);
+    expect_note(rt, copy, LAST, MAX_NOTES - 1, 7, NoteState::Received);
+    expect_note(rt, copy, LAST, MAX_NOTES - 2, 0, NoteState::NotWaiting);
+    expect_note(rt, copy, 0, MAX_NOTES - 1, 0, NoteState::NotWaiting);
 }
 
 #[test]
 fn notes(rt: HostRuntime) -> Result<(), Fail> {
-    let mut notes = Notes::new(rt.alloc(), TASKS)?;
-    notify(&rt, &mut notes, LAST, Action::Set(7));
+    let mut notes = Notes::new(rt.alloc(), TASKS, MAX_NOTES)?;
+    notify(&rt, &mut notes, Action::Set(7));
     let copy = notes.copy(rt.alloc())?;
     check_notes(&rt, &notes, &copy);
     Ok(())

@@ -3,6 +3,7 @@ ghost use Rattle.std.specs.Prelude.{◌≡◌, ◌<◌, Ok};
 ghost use Rattle.bench_types.specs.Step.{settings_of, step_check};
 ghost use Rattle.bench_model.specs.Control.{current};
 ghost use Rattle.bench_model.specs.Equal.{StandsFor};
+ghost use Rattle.bench_model.specs.Looks.{note_look};
 ghost use Rattle.bench_model.specs.Session.{step_of};
 ghost use Rattle.bench_model.specs.Table.{Table};
 
@@ -32,6 +33,17 @@ fn running(kernel: &Kernel, core: u32) -> u32
     kernel.running(core)
 }
 
+/// The task's notification value at the index.
+fn note_value(kernel: &Kernel, task: u32, index: u32) -> u32
+    requires task { task < kernel.now.settings.tasks }
+    requires index { index < kernel.now.settings.notes }
+    ensures { (table : Table) → StandsFor kernel.now table
+        → result ≡ (note_look table task index).value }
+{
+    let (value, _state) = kernel.note_look(task, index);
+    value
+}
+
 fn check_steps(
     rt: &impl Abort,
     kernel: &mut Kernel,
@@ -55,8 +67,11 @@ fn a_kernel_is_stepped(rt: HostRuntime) -> Result<(), Fail> {
     let mut meter = Meter::new(&rt);
     check_steps(&rt, &mut kernel, &mut meter, &header, steps.as_slice());
     assert_eq!(rt; meter.count(), 4);
-    assert!(rt; kernel.settings().cores == 2);
+    let settings = kernel.settings();
+    assert!(rt; settings.cores == 2 && settings.tasks == 4 && settings.notes == 1);
     // The idle tasks are 0 and 1, A is 2.
     assert_eq!(rt; running(&kernel, 0), 2);
+    // Nobody notified it at index 0, the only one.
+    assert_eq!(rt; note_value(&kernel, 2, 0), 0);
     Ok(())
 }

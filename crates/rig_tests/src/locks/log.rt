@@ -16,6 +16,7 @@ use std::test::Fail;
 const NOTE: Note = Note {
     task: 8,
     action: Action::Increment,
+    index: 0,
 };
 
 #[derive(Drop)]

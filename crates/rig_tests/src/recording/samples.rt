@@ -49,6 +49,7 @@ pub fn interrupt(
     let settings = recording.settings();
     assert!(rt; core < settings.cores);
     assert!(rt; settings.cores <= note.task && note.task < settings.tasks);
+    assert!(rt; note.index < settings.notes);
     let Ok(()) = Act::Interrupt(note).check(core, recording.header()) else {
         panic!(rt; "the interrupt is at fault");
     };

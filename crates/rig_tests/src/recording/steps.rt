@@ -29,6 +29,7 @@ fn check_steps(rt: &impl Abort, recording: &mut Recording) {
     let note_to_a = Note {
         task: 2,
         action: Action::Increment,
+        index: 0,
     };
     let noted = interrupt(rt, recording, 1, note_to_a);
     assert_answer(rt, "interrupt", noted, at(0, isr));

@@ -52,6 +52,6 @@ fn each_action_passes_the_gate_first(rt: HostRuntime) -> Result<(), Fail> {
 
 fn check_two_ticks(rt: &impl Abort, recorded: &Recorded) {
     assert_made(rt, recorded, &[3, 2]);
-    assert_reply(rt, &recorded.entries, 0, 0, Reply::Done);
-    assert_reply(rt, &recorded.entries, 1, 0, Reply::Done);
+    assert_reply(rt, recorded.entries.as_slice(), 0, 0, Reply::Done);
+    assert_reply(rt, recorded.entries.as_slice(), 1, 0, Reply::Done);
 }

@@ -116,7 +116,8 @@ IsOfWords (call.AffinitySet task mask) = mask < 2 ^ 32
 IsOfWords (call.PreemptOff task) = ⊤
 IsOfWords (call.PreemptOn task) = ⊤
 IsOfWords (call.Notify note) = IsActionOfWord note.action
-IsOfWords (call.NotifyWait entry exit ticks index) = (entry < 2 ^ 32) × (exit < 2 ^ 32) × (ticks < 2 ^ 32)
+IsOfWords (call.NotifyWait entry exit ticks index) =
+    (entry < 2 ^ 32) × (exit < 2 ^ 32) × (ticks < 2 ^ 32)
 IsOfWords (call.NotifyTake clear ticks index) = ticks < 2 ^ 32
 IsOfWords (call.StateClear task index) = ⊤
 IsOfWords (call.ValueClear task bits index) = bits < 2 ^ 32

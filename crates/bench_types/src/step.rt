@@ -46,16 +46,17 @@ pub enum Call {
     PreemptOn(u32),
     /// `xTaskNotifyIndexed`.
     Notify(Note),
-    /// `xTaskNotifyWaitIndexed`, for so many ticks; 4294967295 is without end (`portMAX_DELAY`). The bits
-    /// of `entry` are cleared before the task waits, those of `exit` once a notification has come.
+    /// `xTaskNotifyWaitIndexed`, for so many ticks; 4294967295 is without end (`portMAX_DELAY`).
+    /// The bits of `entry` are cleared before the task waits, those of `exit` once a notification
+    /// has come.
     NotifyWait {
         entry: u32,
         exit: u32,
         ticks: u32,
         index: u32,
     },
-    /// `ulTaskNotifyTakeIndexed`, for so many ticks; 4294967295 is without end. It clears the value, or
-    /// counts it down.
+    /// `ulTaskNotifyTakeIndexed`, for so many ticks; 4294967295 is without end. It clears the
+    /// value, or counts it down.
     NotifyTake {
         clear: bool,
         ticks: u32,

@@ -23,7 +23,11 @@ impl Model for Notes {
 
     ghost Value = { NotesPart };
 
-    ghost view = { λ of. record { tasks = of.tasks; entries = of.entries; notes = of.notes.items } };
+    ghost view = { λ of. record {
+      tasks = of.tasks;
+      entries = of.entries;
+      notes = of.notes.items;
+    } };
 
     ghost invariant = { λ of. AreNotes of.tasks of.entries of.notes.items };
 }

@@ -12,7 +12,14 @@ use Rattle.port_locks.specs.Holds.{hold_after, holder_after, own_hold}
 abbrev pub no_terms : Terms
 no_terms = record {
   header = record {
-    config = record { cores = 0; priorities = 0; slicing = false; tick = 0; mutexes = 0; notes = 0 };
+    config = record {
+      cores = 0;
+      priorities = 0;
+      slicing = false;
+      tick = 0;
+      mutexes = 0;
+      notes = 0;
+    };
     tasks = [];
   };
   limit = 0;

@@ -125,7 +125,8 @@ item_changed (suc number) f (x ∷ xs) = x ∷ item_changed number f xs
 abbrev pub further_after :
     ℕ → ℕ → NoteChange → List (List Notification) → List (List Notification)
 further_after zero task change notes = notes
-further_after (suc k) task change notes = item_changed k (item_changed task (note_after change)) notes
+further_after (suc k) task change notes =
+    item_changed k (item_changed task (note_after change)) notes
 
 abbrev pub look_after : Change → Look → Look
 look_after (Tick from to) look = record look { tick = to }

@@ -32,7 +32,14 @@ task name priority = record { name = name; priority = priority; mask = 3 }
 abbrev pub session_of : List TaskArgs → Header
 session_of tasks =
     record {
-      config = record { cores = 2; priorities = 5; slicing = false; tick = 0; mutexes = 0; notes = 1 };
+      config = record {
+        cores = 2;
+        priorities = 5;
+        slicing = false;
+        tick = 0;
+        mutexes = 0;
+        notes = 1;
+      };
       tasks = tasks;
     }
 

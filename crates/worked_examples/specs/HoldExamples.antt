@@ -44,7 +44,8 @@ pub record WorkedHolds : Type 0 where
       ≡ Done ∷ Isr true false ∷ Done ∷ []
   pub due_goes_on :
       replies three_tasks
-      (Call 0 2 HoldOpen ∷ Call 0 2 Yield ∷ Call 0 2 (StateClear 2 0) ∷ Switch 0 ∷ Call 0 2 HoldClose
+      (Call 0 2 HoldOpen ∷ Call 0 2 Yield ∷ Call 0 2 (StateClear 2 0) ∷ Switch 0
+      ∷ Call 0 2 HoldClose
       ∷ Call 0 2 Yield ∷ [])
       ≡ Done ∷ Done ∷ Flag false ∷ Refused Held ∷ Done ∷ Refused SwitchDue ∷ []
   pub nests :

@@ -106,7 +106,8 @@ pub record WorkedNotifies : Type 0 where
       (view_of (notify stamp_queues 0 (told 3 Increment) (late (start three_tasks)))).orders.ready
       ≡ 2 ∷ 4 ∷ 3 ∷ 0 ∷ 1 ∷ []
   pub ready_keeps_its_place :
-      (notify stamp_queues 0 (told 3 Increment) (start three_tasks)).orders ≡ (start three_tasks).orders
+      (notify stamp_queues 0 (told 3 Increment) (start three_tasks)).orders
+      ≡ (start three_tasks).orders
 
 abbrev pub replies : Header → List Step → List Reply
 replies header steps = map (λ outcome. outcome.0) (trace (start header) steps)
@@ -140,12 +141,14 @@ pub record WorkedCalls : Type 0 where
       ≡ Blocked ∷ Done ∷ Done ∷ Waited false 0 ∷ []
   pub entry_bits_cleared :
       replies three_tasks
-      (Call 1 3 (Notify (told 2 (Set 7))) ∷ Call 1 3 (StateClear 2 0) ∷ Call 0 2 (NotifyWait 5 0 0 0)
-      ∷ Call 1 3 (ValueClear 2 6 0) ∷ Call 1 3 (ValueClear 2 0 0) ∷ [])
+      (Call 1 3 (Notify (told 2 (Set 7))) ∷ Call 1 3 (StateClear 2 0)
+      ∷ Call 0 2 (NotifyWait 5 0 0 0) ∷ Call 1 3 (ValueClear 2 6 0)
+      ∷ Call 1 3 (ValueClear 2 0 0) ∷ [])
       ≡ Flag true ∷ Flag true ∷ Waited false 2 ∷ Value 2 ∷ Value 0 ∷ []
   pub without_end :
       ticks_left 2
-      (state_after (start three_tasks) (Call 0 2 (NotifyWait 0 0 (2 ^ 32 - 1) 0) ∷ [])).orders ≡ None
+      (state_after (start three_tasks) (Call 0 2 (NotifyWait 0 0 (2 ^ 32 - 1) 0) ∷ [])).orders
+      ≡ None
   pub delay_has_an_end :
       ticks_left 2 (state_after (start three_tasks) (Call 0 2 (Delay (2 ^ 32 - 1)) ∷ [])).orders
       ≡ Some (2 ^ 32 - 1)

@@ -1,5 +1,5 @@
 -- How the program ends, and what it has read and written then.
-use Rattle.std.specs.Prelude.{◌≡◌, ◌⊎◌, ℕ, List, ◌++◌, Bool, true, false, Option, Some, None, Ok, Err, codes, map, string_bytes}
+use Rattle.std.specs.Prelude.{◌≡◌, ◌⊎◌, ℕ, List, ◌++◌, Bool, true, false, Option, Some, None, Ok, Err, codes, decimal, map, string_bytes}
 use Rattle.std.specs.Vec.Iter.{into_iter_items}
 use Rattle.std.specs.IoError.{error_kind}
 use Rattle.std.specs.declared.io.ErrorKind.{ErrorKind}
@@ -11,6 +11,7 @@ use Rattle.bench_commands.specs.declared.program.Ending.TheVariants.{Ran, Refuse
 use Rattle.bench_commands.specs.Device.{failures_after}
 use Rattle.bench_commands.specs.Program.{DeviceState, Shows, Tells, Untouched, Words}
 use Rattle.bench_commands.specs.Program as bench
+use Rattle.run_pictures.specs.Limits.{max_places}
 use Rattle.view_commands.specs.declared.program.ViewEnding.{ViewEnding}
 use Rattle.view_commands.specs.declared.program.ViewEnding.TheVariants.{AsBench, NotOpened}
 use Rattle.view_commands.specs.declared.words.Command.{Command}
@@ -71,9 +72,11 @@ help =
     ++ codes "  compare   the run before the edits beside the run after them, and what each\n"
     ++ codes "            task gained and lost\n"
     ++ codes "  timeline  the run before the edits and that after them as a picture (SVG), at\n"
-    ++ codes "            all places or at those from the one to the other, 4000 at most\n\n"
+    ++ codes "            all places or at those from the one to the other, "
+    ++ decimal max_places ++ codes " at most\n\n"
     ++ codes "exit status: 0 it was shown; 1 the document is refused, or a task or core that it\n"
-    ++ codes "has not, or a picture of more than 4000 places (standard output says which); 2 a\n"
+    ++ codes "has not, or a picture of more than " ++ decimal max_places
+    ++ codes " places (standard output says which); 2 a\n"
     ++ codes "bad command line; 3 memory or a device failed, or the file can't be opened\n\n"
     ++ codes "example: smp_view trace --from 2 --to 3 examples/first-run.json\n"
 

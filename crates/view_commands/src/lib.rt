@@ -11,5 +11,5 @@ mod words;
 
 pub use execution::run;
 pub use program::{ViewEnding, carry_out, run_program};
-pub use source::{HostSource, Source};
+pub use source::{DocumentSource, Folder, Source};
 pub use words::{Command, FileName, Request, Selection, request_in};

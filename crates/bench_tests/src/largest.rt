@@ -3,13 +3,16 @@
 
 use crate::replays::check_store;
 use crate::samples::{
-    Opened, SWITCH_0, Started, assert_is, assert_same, assert_text, make_edit, tick_at, ticks,
+    Opened, SWITCH_0, Started, assert_is, assert_same, assert_tallies, assert_text, between,
+    make_edit, three_tasks, tick_at, ticks,
 };
+use crate::store_edits::{change, insert};
+use crate::trials::tried;
 use bench_samples::{LARGEST, crowd};
-use bench_types::{Edit, Header, MAX_CORES, MAX_MUTEXES, MAX_SPAN, MAX_STEPS, MAX_TASKS};
+use bench_types::{Edit, Header, MAX_CORES, MAX_MUTEXES, MAX_SPAN, MAX_STEPS, MAX_TASKS, Step};
 use session_store::Store;
 use smp_kernel::Kernel;
-use std::alloc::Global;
+use std::alloc::{AllocError, Global};
 use std::process::Abort;
 use std::test::Fail;
 
@@ -101,4 +104,80 @@ fn check_ticks(rt: &impl Abort, host: &HostRuntime, store: &Store) -> Result<(),
 fn the_most_steps_by_the_definitions(rt: HostRuntime) -> Result<(), Fail> {
     let opened = opened(&rt)?;
     check_ticks(&rt, &rt, &opened.store)
+}
+
+/// The last segment of a store, with one step fewer than would be cut in two.
+const LONGEST: u32 = 2 * MAX_SPAN - 1;
+
+#[test]
+fn a_state_far_from_its_checkpoint(rt: HostRuntime) -> Result<(), Fail> {
+    let steps = ticks(rt.alloc(), MAX_SPAN - 1)?;
+    let mut opened = Opened::of(&rt, three_tasks(rt.alloc(), 2, false)?, steps, MAX_SPAN)?;
+    check_far(&rt, rt.alloc(), &mut opened)
+}
+
+fn check_far(rt: &impl Abort, alloc: Global, opened: &mut Opened) -> Result<(), Fail> {
+    for at in MAX_SPAN - 1..LONGEST {
+        make_edit(rt, alloc, opened, &(insert(at, Step::Tick), 0, at + 1));
+    }
+    let counted = opened.meter.count().saturating_add(u64::from(LONGEST));
+    let tick = tick_at(alloc, opened, LONGEST)?;
+    assert_same(rt, "last tick", &tick, &Some(LONGEST));
+    assert_same(rt, "steps", &opened.meter.count(), &counted);
+    Ok(())
+}
+
+/// The lines of the most tasks after the most ticks, at which each core has the task that it began
+/// with. The last task has the priority. A program that was written apart from this one computed
+/// the numbers.
+fn lines_of_crowd(alloc: Global, last: u32) -> Result<String, AllocError> {
+    let mut text = String::new(alloc);
+    for number in 0..MAX_CORES {
+        push_line(&mut text, ("IDLE", number, 0), number + 2)?;
+    }
+    for number in 0..MAX_TASKS {
+        let core = if number < 2 { number } else { MAX_CORES };
+        let priority = if number == MAX_TASKS - 1 { last } else { 1 };
+        push_line(&mut text, ("T", number, priority), core)?;
+    }
+    Ok(text)
+}
+
+/// The line of a task of that name and priority, which ran on the core, or waited if there is no
+/// such core.
+fn push_line(text: &mut String, task: (&str, u32, u32), on: u32) -> Result<(), AllocError> {
+    let (name, number, priority) = task;
+    write!(text, "task {name}{number} run")?;
+    for core in 0..MAX_CORES {
+        let run = if core == on { MAX_STEPS } else { 0 };
+        write!(text, " {run}")?;
+    }
+    let wait = if on < MAX_CORES { 0 } else { MAX_STEPS };
+    write!(
+        text,
+        " wait {wait} inverted 0 in 0 displaced 0 timeouts 0 top {priority}\n"
+    )
+}
+
+#[test]
+fn tallies_of_the_most_steps_and_tasks(rt: HostRuntime) -> Result<(), Fail> {
+    let opened = opened(&rt)?;
+    let lines = lines_of_crowd(rt.alloc(), 1)?;
+    assert_tallies(&rt, rt.alloc(), &opened.store, lines.as_str())
+}
+
+/// The last task is created with another priority, so that all of the session is replayed.
+#[test]
+fn a_trial_of_the_most_steps_and_tasks(rt: HostRuntime) -> Result<(), Fail> {
+    let mut opened = opened(&rt)?;
+    check_trial(&rt, rt.alloc(), &mut opened)
+}
+
+fn check_trial(rt: &impl Abort, alloc: Global, opened: &mut Opened) -> Result<(), Fail> {
+    let last = MAX_CORES + MAX_TASKS - 1;
+    let (outcome, text) = tried(alloc, opened, change!(last, 0))?;
+    assert_same(rt, "outcome", &outcome, &between(0, MAX_STEPS));
+    let lines = lines_of_crowd(alloc, 0)?;
+    assert_text(rt, text.as_str(), lines.as_str());
+    Ok(())
 }

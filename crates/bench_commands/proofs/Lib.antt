@@ -5,6 +5,7 @@ mod KnownOutput
 mod OptionsRead
 mod Labelled
 mod Replays
+mod Prompted
 pub mod RefusedTexts
 pub mod Opened
 mod SpanTexts

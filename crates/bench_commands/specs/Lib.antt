@@ -5,6 +5,7 @@ pub mod Device
 pub mod Hint
 pub mod Lines
 pub mod Program
+pub mod Prompt
 pub mod Record
 pub mod Run
 pub mod TrialLaws

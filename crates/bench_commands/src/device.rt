@@ -68,7 +68,12 @@ impl<D> Counted<D> {
 impl<D: Read> Read for Counted<D> {
     ghost remaining = { λ device. D.remaining device.device };
 
-    fn read(&mut self, buf: &mut [u8]) -> io::Result<usize> {
+    fn read(&mut self, buf: &mut [u8]) -> io::Result<usize>
+        ensures bound { ReadsAtMost result buf.new }
+        ensures bytes { ReadConsumes (D.remaining self.old.device)
+            (D.remaining self.new.device) result buf.new }
+        ensures count { self.new.failures ≡ failures_after (is_ok result) self.old.failures }
+    {
         self.read_counted(buf)
     }
 }
@@ -92,7 +97,12 @@ impl<D: Read> CountedRead for Counted<D> {
 impl<D: Write> Write for Counted<D> {
     ghost contents = { λ device. D.contents device.device };
 
-    fn write(&mut self, buf: &[u8]) -> io::Result<usize> {
+    fn write(&mut self, buf: &[u8]) -> io::Result<usize>
+        ensures bound { WritesAtMost result buf.now }
+        ensures bytes { WriteAppends (D.contents self.old.device)
+            (D.contents self.new.device) result buf.now }
+        ensures count { self.new.failures ≡ failures_after (took_some result) self.old.failures }
+    {
         self.write_counted(buf)
     }
 

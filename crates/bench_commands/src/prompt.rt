@@ -1,6 +1,12 @@
 //! A reader that may be a terminal.
-ghost use Rattle.std.specs.Prelude.{◌≡◌};
+ghost use Rattle.std.specs.Prelude.{◌≡◌, false};
+ghost use Rattle.std.specs.Io.{ReadsAtMost};
+ghost use Rattle.std.specs.Io.KnownBytes.{ReadConsumes};
+ghost use Rattle.bench_commands.specs.Program.{device};
+ghost use Rattle.bench_commands.specs.Prompt.{Prompts};
 
+use crate::device::Counted;
+use crate::writing::write_text;
 use std::io;
 use std::io::{Read, Write};
 
@@ -11,7 +17,7 @@ const PROMPT: &str = "Reading a JSON document from the terminal, to the end of i
 #[derive(Drop)]
 pub struct Prompting<R, W> {
     pub(crate) device: R,
-    errors: W,
+    errors: Counted<W>,
     is_due: bool,
 }
 
@@ -19,25 +25,47 @@ impl<R, W> Prompting<R, W> {
     /// The reader, and where its first read is to be told of if it is a terminal.
     pub fn new(device: R, errors: W, is_terminal: bool) -> Self
         ensures device { result.device ≡ device }
-        ensures errors { result.errors ≡ errors }
+        ensures errors { result.errors.device ≡ errors }
         ensures terminal { result.is_due ≡ is_terminal }
     {
         Prompting {
             device,
-            errors,
+            errors: Counted::new(errors),
             is_due: is_terminal,
         }
+    }
+}
+
+impl<R, W: Write> Prompting<R, W> {
+    // Tells of the read that begins, where that is due.
+    fn tell(&mut self)
+        ensures device { self.new.device ≡ self.old.device }
+        ensures told { Prompts self.old.is_due
+            (device (W.contents self.old.errors.device) self.old.errors.failures)
+            (device (W.contents self.new.errors.device) self.new.errors.failures) }
+        ensures once { self.new.is_due ≡ false }
+    {
+        if !self.is_due {
+            return;
+        }
+        self.is_due = false;
+        let _ = write_text(&mut self.errors, PROMPT.as_bytes());
     }
 }
 
 impl<R: Read, W: Write> Read for Prompting<R, W> {
     ghost remaining = { λ it. R.remaining it.device };
 
-    fn read(&mut self, buf: &mut [u8]) -> io::Result<usize> {
-        if self.is_due {
-            self.is_due = false;
-            let _ = self.errors.write(PROMPT.as_bytes());
-        }
+    fn read(&mut self, buf: &mut [u8]) -> io::Result<usize>
+        ensures bound { ReadsAtMost result buf.new }
+        ensures bytes { ReadConsumes (R.remaining self.old.device)
+            (R.remaining self.new.device) result buf.new }
+        ensures told { Prompts self.old.is_due
+            (device (W.contents self.old.errors.device) self.old.errors.failures)
+            (device (W.contents self.new.errors.device) self.new.errors.failures) }
+        ensures once { self.new.is_due ≡ false }
+    {
+        self.tell();
         self.device.read(buf)
     }
 }

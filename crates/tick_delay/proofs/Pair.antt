@@ -9,10 +9,10 @@ use Rattle.bench_types.specs.declared.kernel_data.Delayed.{Delayed}
 use Rattle.list_orders.proofs.Filters.{list_any-append}
 use Rattle.list_orders.specs.Search.{placed, ranked}
 use Rattle.index_lists.specs.Listed.{Listed, ListsView, empty_lists, list_at, with_list, list_of, key_of, items_of, has_item, without_item, lowest_first}
-use Rattle.bench_model.specs.Lists.{without_delay, due_tasks}
+use Rattle.bench_model.specs.Lists.{without_delay, one_tick_less, due_tasks}
 use Rattle.bench_model.specs.Looks.{left_in}
 use Rattle.bench_model.specs.Until.{ticks_to}
-use Rattle.tick_delay.specs.Parts.{is_waiting, delayed_for, from_list, advanced}
+use Rattle.tick_delay.specs.Parts.{DelayView, is_waiting, delayed_for, from_list, advanced}
 use Rattle.tick_delay.specs.Shape.{delayed_at, seen_delays, IsTwoTurns, IsDelayShape}
 use Rattle.tick_delay.proofs.Turns.{came_this, came_next, seen_this, seen_next, turns_without, seen_without, turns_on, turns_wrap, seen_aged, seen_wrap, same_turns}
 
@@ -199,8 +199,8 @@ module _ (tasks tick turn : ℕ) (lists : ListsView) (shape : IsDelayShape tasks
       none_place task turn lists.lists lists.items shape.both shape.turn_low (grind (arith, away)) (grind (arith, away))
 
 -- ---- what is seen after a call
-pub seen_pair : (tasks tick turn : ℕ) (lists : ListsView) (xs : List Listed) → from_list turn lists ≡ xs → seen_delays tasks tick turn lists ≡ record { tasks = tasks; tick = tick; delayed = map (delayed_at tick) xs }
-seen_pair tasks tick turn lists xs is = ap (λ es. record { tasks = tasks; tick = tick; delayed = map (delayed_at tick) es }) is
+pub seen_pair : (tasks tick turn : ℕ) (lists : ListsView) (xs : List Listed) → from_list turn lists ≡ xs → seen_delays tasks tick turn lists ≡ record { tasks = tasks; tick = tick; turn = turn; delayed = map (delayed_at tick) xs }
+seen_pair tasks tick turn lists xs is = ap (λ es. record { tasks = tasks; tick = tick; turn = turn; delayed = map (delayed_at tick) es }) is
 
 pub turned_back : (turn : ℕ) → turn < 2 → 1 - (1 - turn) ≡ turn
 turned_back turn low = omega (arith, low)
@@ -230,15 +230,24 @@ module _ (tasks tick turn : ℕ) (lists : ListsView) (shape : IsDelayShape tasks
     turns = rw (went_on more).1 (turns_on tasks tick (list_at lists turn) (list_at lists (1 - turn)) shape.tick_low shape.turns none (went_on more).0);
   }
 
-  pub seen_goes_on : seen_delays tasks ((tick + 1) % 2 ^ 32) turn lists ≡ advanced (seen_delays tasks tick turn lists)
+  -- the delays one tick later, whichever list is that turn's
+  abbrev aged_at : ℕ → DelayView
+  aged_at list = record { tasks = tasks; tick = (tick + 1) % 2 ^ 32; turn = list; delayed = map (delayed_at ((tick + 1) % 2 ^ 32)) (from_list turn lists) }
+
+  seen_later : (b : Bool) → eqb ((tick + 1) % 2 ^ 32) 0 ≡ b → aged_at (cond b (1 - turn) turn) ≡ advanced (seen_delays tasks tick turn lists)
   unfolding advanced
-  seen_goes_on = ap (λ ds. record { tasks = tasks; tick = (tick + 1) % 2 ^ 32; delayed = ds }) (sym (seen_aged tasks tick (list_at lists turn) (list_at lists (1 - turn)) shape.tick_low shape.turns none))
+  seen_later b is =
+      ap (λ ds. record { tasks = tasks; tick = (tick + 1) % 2 ^ 32; turn = cond b (1 - turn) turn; delayed = ds }) (sym (seen_aged tasks tick (list_at lists turn) (list_at lists (1 - turn)) shape.tick_low shape.turns none))
+      ∙ ap (λ c. record { tasks = tasks; tick = (tick + 1) % 2 ^ 32; turn = cond c (1 - turn) turn; delayed = map one_tick_less (map (delayed_at tick) (from_list turn lists)) }) (sym is)
+
+  pub seen_goes_on : (tick + 1) % 2 ^ 32 ≢ 0 → seen_delays tasks ((tick + 1) % 2 ^ 32) turn lists ≡ advanced (seen_delays tasks tick turn lists)
+  seen_goes_on more = seen_later false (grind (arith, nat_tests, more))
 
   pub seen_wraps : (tick + 1) % 2 ^ 32 ≡ 0 → seen_delays tasks ((tick + 1) % 2 ^ 32) (1 - turn) lists ≡ advanced (seen_delays tasks tick turn lists)
   seen_wraps ends =
-      ap (λ n. record { tasks = tasks; tick = (tick + 1) % 2 ^ 32; delayed = map (delayed_at ((tick + 1) % 2 ^ 32)) (list_at lists (1 - turn) ++ list_at lists n) }) (turned_back turn shape.turn_low)
-      ∙ ap (λ ds. record { tasks = tasks; tick = (tick + 1) % 2 ^ 32; delayed = ds }) (seen_wrap tasks tick (list_at lists turn) (list_at lists (1 - turn)) shape.tick_low shape.turns ((tick + 1) % 2 ^ 32) none (wrapped ends))
-      ∙ seen_goes_on
+      ap (λ n. record { tasks = tasks; tick = (tick + 1) % 2 ^ 32; turn = 1 - turn; delayed = map (delayed_at ((tick + 1) % 2 ^ 32)) (list_at lists (1 - turn) ++ list_at lists n) }) (turned_back turn shape.turn_low)
+      ∙ ap (λ ds. record { tasks = tasks; tick = (tick + 1) % 2 ^ 32; turn = 1 - turn; delayed = ds }) (seen_wrap tasks tick (list_at lists turn) (list_at lists (1 - turn)) shape.tick_low shape.turns ((tick + 1) % 2 ^ 32) none (wrapped ends))
+      ∙ seen_later true (grind (arith, nat_tests, ends))
 
 pub empty_shape : (tasks tick : ℕ) → tick < 2 ^ 32 → IsDelayShape tasks tick 0 (empty_lists tasks 2)
 unfolding IsDistinct ranked
@@ -283,11 +292,11 @@ module _ (tasks tick turn : ℕ) (lists : ListsView) (shape : IsDelayShape tasks
   pub seen_late : wake < tick → seen_delays tasks tick turn (with_list (1 - turn) (placed lowest_first entry (list_at lists (1 - turn))) lists) ≡ delayed_for task ticks (seen_delays tasks tick turn lists)
   seen_late passed =
       seen_pair tasks tick turn (with_list (1 - turn) (placed lowest_first entry (list_at lists (1 - turn))) lists) (list_at lists turn ++ placed lowest_first entry (list_at lists (1 - turn))) (seen_next_row tasks tick turn lists shape (placed lowest_first entry (list_at lists (1 - turn))))
-      ∙ ap (λ ds. record { tasks = tasks; tick = tick; delayed = ds })
+      ∙ ap (λ ds. record { tasks = tasks; tick = tick; turn = turn; delayed = ds })
       (ap (λ n. map (delayed_at tick) (list_at lists turn ++ placed lowest_first (record { item = task; key = n }) (list_at lists (1 - turn)))) (late passed).1 ∙ seen_next tasks tick (list_at lists turn) (list_at lists (1 - turn)) shape.tick_low shape.turns task ticks few (late passed).0)
 
   pub seen_soon : tick ≤ wake → seen_delays tasks tick turn (with_list turn (placed lowest_first entry (list_at lists turn)) lists) ≡ delayed_for task ticks (seen_delays tasks tick turn lists)
   seen_soon ahead =
       seen_pair tasks tick turn (with_list turn (placed lowest_first entry (list_at lists turn)) lists) (placed lowest_first entry (list_at lists turn) ++ list_at lists (1 - turn)) (seen_this_row tasks tick turn lists shape (placed lowest_first entry (list_at lists turn)))
-      ∙ ap (λ ds. record { tasks = tasks; tick = tick; delayed = ds })
+      ∙ ap (λ ds. record { tasks = tasks; tick = tick; turn = turn; delayed = ds })
       (ap (λ n. map (delayed_at tick) (placed lowest_first (record { item = task; key = n }) (list_at lists turn) ++ list_at lists (1 - turn))) (soon ahead).1 ∙ seen_this tasks tick (list_at lists turn) (list_at lists (1 - turn)) shape.tick_low shape.turns task ticks (soon ahead).0)

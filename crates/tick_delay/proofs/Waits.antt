@@ -1,5 +1,5 @@
 -- What a list of waiting tasks in the order of their wakes keeps when one comes, one goes, or a tick passes, and who is due.
-use Rattle.std.proofs.Common.{◌≡◌, ℕ, ◌+◌, ◌<◌, ◌%◌, ◌^◌, Bool, true, false, cond, not, eqb, List, [], ◌∷◌, map, refl, sym, arith}
+use Rattle.std.proofs.Common.{◌≡◌, ℕ, ◌<◌, Bool, true, false, cond, not, eqb, List, [], ◌∷◌, map, refl, sym, arith}
 use Rattle.std.specs.List.{filter, IsDistinct, AllByRecursion}
 use Rattle.std.specs.List.Sorted.{IsPermutation}
 use Rattle.std.proofs.lemmas.List.Elements.{All-cons}
@@ -8,9 +8,9 @@ use Rattle.std.proofs.lemmas.Map.Keys.{IsDistinct-head, IsDistinct-cons, IsDisti
 use Rattle.std.proofs.lemmas.Bool.Decides.{nat_tests}
 use Rattle.bench_types.specs.declared.kernel_data.Delayed.{Delayed}
 use Rattle.list_orders.specs.Search.{without, has}
-use Rattle.bench_model.specs.Lists.{without_delay, one_tick_less, due_tasks}
+use Rattle.bench_model.specs.Lists.{without_delay, due_tasks}
 use Rattle.list_orders.proofs.Filters.{filter-map}
-use Rattle.tick_delay.specs.Parts.{DelayView, is_waiting, advanced}
+use Rattle.tick_delay.specs.Parts.{is_waiting}
 use Rattle.list_orders.specs.Listings.{IsListing}
 
 abbrev task_of : Delayed → ℕ
@@ -35,10 +35,6 @@ none_elapsed (entry ∷ waiting) none = at (eqb entry.left 0) refl none (none_el
     at : (b : Bool) → eqb entry.left 0 ≡ b → map task_of (cond b (entry ∷ filter elapsed waiting) (filter elapsed waiting)) ≡ [] → (map task_of (filter elapsed waiting) ≡ [] → AllByRecursion (λ entry. 0 < entry.left) waiting) → (0 < entry.left) × AllByRecursion (λ entry. 0 < entry.left) waiting
     at true ends some rest = absurd (cc (some))
     at false left none rest = (grind (arith, nat_tests, left), rest none)
-
-pub seen_advanced : (view : DelayView) → record { tasks = view.tasks; tick = (view.tick + 1) % 2 ^ 32; delayed = map one_tick_less view.delayed } ≡ advanced view
-unfolding advanced
-seen_advanced view = refl
 
 apart_from : (task : ℕ) (tasks : List ℕ) → has task tasks ≡ false → AllByRecursion (λ other. eqb task other ≡ false) tasks
 apart_from task [] free = tt

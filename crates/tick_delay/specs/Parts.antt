@@ -11,13 +11,19 @@ pub record DelayView : Type 0 where
   pub tasks : ℕ
   -- the tick count
   pub tick : ℕ
+  -- the number of the list that is this turn's of the tick count, 0 or 1
+  pub turn : ℕ
   -- the blocked tasks with ticks left: the fewest first, those of one number in the order in which
   -- they began to wait
   pub delayed : List Delayed
 
--- no task waits
+-- no task waits, and list 0 is this turn's
 abbrev pub no_delays : ℕ → ℕ → DelayView
-no_delays tick tasks = record { tasks = tasks; tick = tick; delayed = [] }
+no_delays tick tasks = record { tasks = tasks; tick = tick; turn = 0; delayed = [] }
+
+-- what is seen of the delays but for which list is this turn's
+abbrev pub but_for_turn : DelayView → DelayView
+but_for_turn view = record view { turn = 0 }
 
 -- some entry is the task's
 abbrev pub is_waiting : ℕ → List Delayed → Bool
@@ -34,9 +40,17 @@ until_delayed task prev inc view = let wake = next_wake prev inc in
     if is_ahead view.tick prev wake
     then ((true, wake), delayed_for task (ticks_to view.tick wake) view) else ((false, wake), view)
 
--- one tick later
+-- the number of the other list
+abbrev pub other_list : ℕ → ℕ
+other_list list = 1 - list
+
+-- One tick later. Where the tick count wraps, the other list is this turn's.
 unfoldable pub advanced : DelayView → DelayView
-advanced view = record view { tick = next_tick view.tick; delayed = map one_tick_less view.delayed }
+advanced view = let tick = next_tick view.tick in record view {
+  tick = tick;
+  turn = if tick == 0 then other_list view.turn else view.turn;
+  delayed = map one_tick_less view.delayed;
+}
 
 -- a task that waits, and its wake, a tick count
 abbrev pub listed_at : ℕ → Delayed → Listed
@@ -46,17 +60,17 @@ listed_at tick entry = record { item = entry.task; key = (tick + entry.left) % 2
 abbrev pub wakes_this_turn : ℕ → Delayed → Bool
 wakes_this_turn tick entry = nat_lt (tick + entry.left) (2 ^ 32)
 
--- what stands in one of two lists, and after it what stands in the other
+-- what stands in this list of two, and after it what stands in the other
 abbrev pub from_list : ℕ → ListsView → List Listed
-from_list turn lists = list_at lists turn ++ list_at lists (1 - turn)
+from_list list lists = list_at lists list ++ list_at lists (other_list list)
 
--- The list is that of this turn: it has the tasks that wake before the tick count wraps, each with
--- its wake. With the other list after it, all stand by ticks left and then in the order in which
--- they began to wait.
-pub record IsInTurn (turn : ℕ) (lists : ListsView) (view : DelayView) : Type 0 where
-  pub first_or_second : turn < 2
+-- The list of this turn has the tasks that wake before the tick count wraps, each with its wake.
+-- With the other list after it, all stand by ticks left and then in the order in which they began
+-- to wait.
+pub record AreInTurn (lists : ListsView) (view : DelayView) : Type 0 where
+  pub first_or_second : view.turn < 2
   pub both : length lists.lists ≡ 2
   pub items : lists.items ≡ view.tasks
-  pub this_turn : list_at lists turn
+  pub this_turn : list_at lists view.turn
       ≡ map (listed_at view.tick) (filter (wakes_this_turn view.tick) view.delayed)
-  pub in_order : from_list turn lists ≡ map (listed_at view.tick) view.delayed
+  pub in_order : from_list view.turn lists ≡ map (listed_at view.tick) view.delayed

@@ -1,7 +1,7 @@
-ghost use Rattle.std.specs.Prelude.{◌≡◌, ◌↔◌, ℕ, ◌+◌, ◌^◌, ◌<◌, [], ◌∷◌, false, MatchOption, IfSome, IfOk, IsTrue};
+ghost use Rattle.std.specs.Prelude.{◌≡◌, ◌↔◌, ◌+◌, ◌^◌, ◌<◌, [], ◌∷◌, false, MatchOption, IfSome, IfOk, IsTrue};
 ghost use Rattle.bench_model.specs.Lists.{without_delay, due_tasks};
 ghost use Rattle.bench_model.specs.Looks.{left_in};
-ghost use Rattle.tick_delay.specs.Parts.{no_delays, is_waiting, delayed_for, until_delayed, advanced, IsInTurn};
+ghost use Rattle.tick_delay.specs.Parts.{no_delays, but_for_turn, is_waiting, delayed_for, until_delayed, advanced, AreInTurn};
 
 use bench_model::until::{is_ahead, next_wake};
 use index_lists::Lists;
@@ -70,9 +70,9 @@ impl Delays {
         self.lists.copy_from(&other.lists);
     }
 
-    /// Whether all that can be seen of the two is equal.
+    /// Whether all that can be seen of the two is equal, whichever list is this turn's.
     pub fn same(&self, other: &Self) -> bool
-        ensures { IsTrue result ↔ (self.now ≡ other.now) }
+        ensures { IsTrue result ↔ (but_for_turn self.now ≡ but_for_turn other.now) }
     {
         // Nested, so that each test is proved where those before it hold.
         self.tasks == other.tasks && (self.tick == other.tick && self.has_same_entries(other))
@@ -85,28 +85,21 @@ impl Delays {
         self.tick
     }
 
-    /// The list of this turn of the tick count, 0 or 1: that of `in_turn`.
+    /// Which of the two lists is this turn's of the tick count: 0 or 1.
     pub fn turn(&self) -> u32
-        ensures { result < 2 }
+        ensures turn { result ≡ self.now.turn }
+        ensures below { result < 2 }
     {
-        self.in_turn().0
+        self.turn
     }
 
-    /// The waiting tasks in two lists by wakes, those of `in_turn`.
+    /// The waiting tasks in two lists, each task with its wake as its key. The list of the number
+    /// `turn` has those that wake before the tick count wraps; with the other one after it, all
+    /// stand by ticks left and then in the order in which they began to wait.
     pub fn lists(&self) -> &Lists
-        ensures { (turn : ℕ) × IsInTurn turn result.now self.now }
+        ensures { AreInTurn result.now self.now }
     {
-        self.in_turn().1
-    }
-
-    /// The list of this turn of the tick count, 0 or 1, and the waiting tasks in two lists, each
-    /// task with its wake as its key. The list of this turn has those that wake before the tick
-    /// count wraps; with the other one after it, all stand by ticks left and then in the order in
-    /// which they began to wait.
-    pub fn in_turn(&self) -> (u32, &Lists)
-        ensures { IsInTurn result.0 result.1.now self.now }
-    {
-        (self.turn, &self.lists)
+        &self.lists
     }
 
     /// The ticks that are left to the wake of the task; none where it doesn't wait.

@@ -14,7 +14,6 @@ use Rattle.bench_types.specs.declared.step.Call.{Call as KernelCall}
 use Rattle.bench_types.specs.declared.step.Call.TheVariants as call
 use Rattle.bench_types.specs.declared.step.Step.{Step}
 use Rattle.bench_types.specs.declared.step.Step.TheVariants as step
-use Rattle.bench_types.specs.declared.kernel_data.Settings.{Settings}
 use Rattle.list_orders.specs.Search.{numbers}
 use Rattle.bench_model.specs.Control.{Control, current}
 use Rattle.bench_model.specs.Lists.{View, Lists, list_queues}
@@ -262,14 +261,14 @@ room_after_found before step tallies room task d low =
     subst HasEventRoom (sym (each_at f (length tallies) task d below)) (record { switched = old.switched; displaced = old.displaced; timeouts = old.timeouts })
 
 -- what is left to one who counts in parts: the task that a switch finds, what the step finds, its event, and the rest
-pub counted_whole : (before after : View) (step : Step) (reply : Reply) (old mid new : List TaskTally) (left : Option (ℕ × ℕ)) (event : Option Event) → StandsForSome before → StandsForSome after → after.settings ≡ before.settings
+pub counted_whole : (before after : View) (step : Step) (reply : Reply) (old mid new : List TaskTally) (left : Option (ℕ × ℕ)) (event : Option Event) → StandsForSome before → StandsForSome after → after.settings.cores ≡ before.settings.cores
     → left ≡ left_by before step → mid ≡ found before step old → event ≡ event_of left step reply after.control → new ≡ topped after.control (with_event event mid)
     → new ≡ tallied list_queues (record { before = before; step = step; reply = reply; after = after }) old
 counted_whole before after step reply old mid new left event some other same left_is mid_is event_is new_is =
     let control = after.control in
     new_is ∙ ap (λ e. topped control (with_event e mid)) (event_is ∙ ap (λ l. event_of l step reply control) left_is)
     ∙ ap (λ ts. topped control (with_event (event_of (left_by before step) step reply control) ts)) mid_is
-    ∙ counted_in_parts before after step reply old (cores_stand before some) (cores_stand after other ∙ ap (λ (s : Settings). s.cores) same)
+    ∙ counted_in_parts before after step reply old (cores_stand before some) (cores_stand after other ∙ same)
 
 pub no_tick : (made : Step) → (made ≡ step.Tick → ⊥) → is_tick made ≡ false
 no_tick step.Tick other = absurd (other refl)

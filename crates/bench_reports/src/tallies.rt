@@ -68,10 +68,11 @@ impl Tallies {
     }
 
     /// Counts a step, which the kernel `before` answered with this reply, and after which it is
-    /// `after`.
+    /// `after`. The two have as many cores and as many tasks.
     pub fn step(&mut self, before: &Kernel, step: &Step, reply: Reply, after: &Kernel)
         requires shape { shape self.old ≡ shape_of before.now.settings }
-        requires settings { after.now.settings ≡ before.now.settings }
+        requires cores { after.now.settings.cores ≡ before.now.settings.cores }
+        requires tasks { after.now.settings.tasks ≡ before.now.settings.tasks }
         requires room { AllCountsBelow (2 ^ 32 - 1) self.old }
         ensures counted { self.new ≡ tallied list_queues (record {
           before = before.now;

@@ -22,7 +22,7 @@ leave-requires-clause-room c = subst (λ ts. All HasEventRoom ts) (sym c.find.en
 pub returns-clause-counted : goal.returns-clause-counted
 returns-clause-counted c =
     counted_whole c.args.kernel.now c.step-reply.new.self c.args.step.now c.step-reply.result c.args.self.now c.find.new.self c.leave.new.self c.left_by-left.result c.event_of.result
-    c.left_by-left.ensures.sound c.leave.ensures.sound c.step-reply.ensures.shape c.left_by-left.ensures.left c.find.ensures c.event_of.ensures c.leave.ensures.left
+    c.left_by-left.ensures.sound c.leave.ensures.sound (ap (λ (s : Settings). s.cores) c.step-reply.ensures.shape) c.left_by-left.ensures.left c.find.ensures c.event_of.ensures c.leave.ensures.left
 
 pub returns-clause-kept : goal.returns-clause-kept
 returns-clause-kept c =

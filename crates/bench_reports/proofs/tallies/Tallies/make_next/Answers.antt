@@ -46,7 +46,7 @@ pub returns-clause-counted : goal.returns-clause-counted
 returns-clause-counted c =
     let some = c.left_by-left.ensures.sound in
     counted_whole c.args.kernel.now c.step-reply.new.self c.args.step.now c.step-reply.result c.args.self.now c.find.new.self c.leave_next.new.self c.left_by-left.result c.event_of.result
-    some ((step_of c.args.step.now some.0).1, c.step-reply.ensures.state some.0 some.1) c.step-reply.ensures.shape c.left_by-left.ensures.left c.find.ensures c.event_of.ensures c.leave_next.ensures
+    some ((step_of c.args.step.now some.0).1, c.step-reply.ensures.state some.0 some.1) (ap (λ (s : Settings). s.cores) c.step-reply.ensures.shape) c.left_by-left.ensures.left c.find.ensures c.event_of.ensures c.leave_next.ensures
 
 pub returns-clause-kept : goal.returns-clause-kept
 returns-clause-kept c =

@@ -1,5 +1,4 @@
 use Rattle.std.proofs.Common.{suc, All, List, length, ap, sym, subst, ◌∙◌}
-use Rattle.bench_types.specs.declared.kernel_data.Settings.{Settings}
 use Rattle.bench_model.specs.Lists.{list_queues}
 use Rattle.bench_model.specs.Tally.{TaskTally}
 use Rattle.bench_model.specs.Tallied.{shape, AllCountsBelow}
@@ -14,7 +13,7 @@ pub leave-requires-clause-tasks : goal.leave-requires-clause-tasks
 leave-requires-clause-tasks c =
     let before = c.args.before.now in
     let old = c.args.self.now in
-    ap (λ (ts : List TaskTally). length ts) c.find.ensures ∙ length_found before c.args.step.now old ∙ shape_length old before.settings c.requires.shape ∙ ap (λ (s : Settings). s.tasks) (sym c.requires.settings)
+    ap (λ (ts : List TaskTally). length ts) c.find.ensures ∙ length_found before c.args.step.now old ∙ shape_length old before.settings c.requires.shape ∙ sym c.requires.tasks
 
 pub leave-requires-clause-room : goal.leave-requires-clause-room
 leave-requires-clause-room c = subst (λ ts. All HasEventRoom ts) (sym c.find.ensures) (room_after_found c.args.before.now c.args.step.now c.args.self.now c.requires.room)
@@ -22,7 +21,7 @@ leave-requires-clause-room c = subst (λ ts. All HasEventRoom ts) (sym c.find.en
 pub returns-clause-counted : goal.returns-clause-counted
 returns-clause-counted c =
     counted_whole c.args.before.now c.args.after.now c.args.step.now c.args.reply c.args.self.now c.find.new.self c.leave.new.self c.left_by-left.result c.event_of.result
-    c.left_by-left.ensures.sound c.leave.ensures.sound c.requires.settings c.left_by-left.ensures.left c.find.ensures c.event_of.ensures c.leave.ensures.left
+    c.left_by-left.ensures.sound c.leave.ensures.sound c.requires.cores c.left_by-left.ensures.left c.find.ensures c.event_of.ensures c.leave.ensures.left
 
 pub returns-clause-kept : goal.returns-clause-kept
 returns-clause-kept c =

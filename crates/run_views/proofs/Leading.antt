@@ -4,15 +4,18 @@ use Rattle.std.specs.Prelude.{fold, nat_eq}
 use Rattle.std.proofs.lemmas.Bool.Decides.{Decides-eqb}
 use Rattle.std.proofs.lemmas.List.Sums.{fold-append}
 use Rattle.bench_types.specs.declared.kernel_data.CoreLook.{CoreLook}
+use Rattle.bench_types.specs.declared.note.Notification.{Notification}
 use Rattle.bench_model.specs.SameTest.{are_same_bools, are_same_options, are_same_states, are_same_holds}
 use Rattle.run_views.specs.declared.change.Change.{Change}
-use Rattle.run_views.specs.declared.change.Change.TheVariants.{Tick, Hold, Core, Task, Mutex}
+use Rattle.run_views.specs.declared.change.Change.TheVariants.{Tick, Hold, Core, Task, Further, Mutex}
 use Rattle.run_views.specs.declared.change.CoreChange.TheVariants.{Current, Pend, Asked}
 use Rattle.run_views.specs.declared.change.MutexChange.TheVariants.{Holder}
-use Rattle.run_views.specs.declared.change.TaskChange.TheVariants.{Stands, InUse, Base, Mask, Preempt, InCall, Value, State}
+use Rattle.run_views.specs.declared.change.NoteChange.{NoteChange}
+use Rattle.run_views.specs.declared.change.NoteChange.TheVariants.{Value, State}
+use Rattle.run_views.specs.declared.change.TaskChange.TheVariants.{Stands, InUse, Base, Mask, Preempt, InCall, Note}
 use Rattle.run_views.specs.declared.look.Look.{Look}
 use Rattle.run_views.specs.declared.look.TaskStatus.{TaskStatus}
-use Rattle.run_views.specs.Changes.{applied, are_same_numbers, are_same_standings, changes, changes_each, core_after, core_changes, HasSameShape, holder_after, item_changed, look_after, mutex_changes, task_after, task_changes, unless}
+use Rattle.run_views.specs.Changes.{applied, are_same_numbers, are_same_standings, changes, changes_each, core_after, core_changes, further_after, further_changes, HasSameShape, holder_after, item_changed, look_after, mutex_changes, note_after, note_changes, task_after, task_changes, unless}
 use Rattle.run_views.proofs.Tests.{Tells, bools_told, holds_told, numbers_told, standings_told, states_told}
 
 -- the changes, made one after another, lead from the one to the other
@@ -53,8 +56,8 @@ task_leads old new =
     (set are_same_bools bools_told (λ b. record four { preempt = b }) old.preempt new.preempt (Preempt new.preempt) refl))
     (both (both
     (set are_same_bools bools_told (λ b. record five { in_call = b }) old.in_call new.in_call (InCall new.in_call) refl)
-    (set nat_eq Decides-eqb (λ n. record six { value = n }) old.value new.value (Value old.value new.value) refl))
-    (set are_same_states states_told (λ s. record new { state = s }) old.state new.state (State old.state new.state) refl))
+    (set nat_eq Decides-eqb (λ n. record six { value = n }) old.value new.value (Note (Value old.value new.value)) refl))
+    (set are_same_states states_told (λ s. record new { state = s }) old.state new.state (Note (State old.state new.state)) refl))
   where
     one : TaskStatus
     one = record old { standing = new.standing }
@@ -73,6 +76,12 @@ task_leads old new =
 
     six : TaskStatus
     six = record five { in_call = new.in_call }
+
+note_leads : (old new : Notification) → Leads note_after old (note_changes old new) new
+note_leads old new =
+    both
+    (set nat_eq Decides-eqb (λ n. record { value = n; state = old.state }) old.value new.value (Value old.value new.value) refl)
+    (set are_same_states states_told (λ s. record { value = new.value; state = s }) old.state new.state (State old.state new.state) refl)
 
 holder_leads : (old new : Option ℕ) → Leads holder_after old (mutex_changes old new) new
 holder_leads old new = set are_same_numbers numbers_told (λ h. h) old new (Holder old new) refl
@@ -100,14 +109,31 @@ module _ {X C : Type 0} (of_item : ℕ → C → Change) (changes_of : X → X �
       (record { made = item_leads front old olds (changes_of old new) ∙ ap (λ x. put (front ++ x ∷ olds)) (leads old new).made })
       (along (ap put (append_assoc front (new ∷ []) olds)) (ap (λ n. changes_each of_item changes_of n olds news) next) (ap put (append_assoc front (new ∷ []) news)) (items_lead (front ++ new ∷ []) olds news shorter))
 
+-- the changes of the further notifications that come after those in front
+further_lead : (put : List (List Notification) → Look) → ((index task : ℕ) (change : NoteChange) (xs : List (List Notification)) → look_after (Further index task change) (put xs) ≡ put (further_after index task change xs)) → (front olds news : List (List Notification)) → map length olds ≡ map length news
+    → Leads look_after (put (front ++ olds)) (further_changes (suc (length front)) olds news) (put (front ++ news))
+further_lead put puts front [] [] same = record { made = refl }
+further_lead put puts front [] (new ∷ news) same = absurd (cc same)
+further_lead put puts front (old ∷ olds) [] same = absurd (cc same)
+further_lead put puts front (old ∷ olds) (new ∷ news) same =
+    let index = suc (length front) in
+    let here : length old ≡ length new = cc same in
+    let shorter : map length olds ≡ map length news = cc same in
+    let next : length (front ++ new ∷ []) ≡ suc (length front) = omega (arith, length-append front (new ∷ [])) in
+    both
+    (items_lead (Further index) note_changes note_after note_leads (λ xs. put (front ++ xs ∷ olds))
+    (λ task change xs. puts index task change (front ++ xs ∷ olds) ∙ ap put (item_at (item_changed task (note_after change)) front xs olds)) [] old new here)
+    (along (ap put (append_assoc front (new ∷ []) olds)) (ap (λ n. further_changes (suc n) olds news) next) (ap put (append_assoc front (new ∷ []) news)) (further_lead put puts (front ++ new ∷ []) olds news shorter))
+
 pub changes_lead : (before after : Look) → HasSameShape before after → applied (changes before after) before ≡ after
 unfolding changes applied
 changes_lead before after shape =
-    (both (both (both (both
+    (both (both (both (both (both
     (set nat_eq Decides-eqb (λ n. record before { tick = n }) before.tick after.tick (Tick before.tick after.tick) refl)
     (set (are_same_options are_same_holds) holds_told (λ h. record one { hold = h }) before.hold after.hold (Hold before.hold after.hold) refl))
     (items_lead Core core_changes core_after core_leads (λ cores. record two { cores = cores }) (λ core change cores. refl) [] before.cores after.cores shape.cores))
     (items_lead Task task_changes task_after task_leads (λ tasks. record three { tasks = tasks }) (λ task change tasks. refl) [] before.tasks after.tasks shape.tasks))
+    (further_lead (λ further. record four { further = further }) (λ index task change further. refl) [] before.further after.further shape.further))
     (items_lead Mutex mutex_changes holder_after holder_leads (λ holders. record after { holders = holders }) (λ mutex change holders. refl) [] before.holders after.holders shape.mutexes)).made
   where
     one : Look
@@ -118,3 +144,6 @@ changes_lead before after shape =
 
     three : Look
     three = record two { cores = after.cores }
+
+    four : Look
+    four = record three { tasks = after.tasks }

@@ -5,17 +5,20 @@ use Rattle.std.specs.List.{AllByRecursion}
 use Rattle.std.proofs.lemmas.Bool.Decides.{Decides-eqb}
 use Rattle.std.proofs.lemmas.List.Elements.{All-from_recursion}
 use Rattle.bench_types.specs.declared.kernel_data.CoreLook.{CoreLook}
+use Rattle.bench_types.specs.declared.note.Notification.{Notification}
 use Rattle.bench_model.specs.SameTest.{are_same_bools, are_same_options, are_same_states, are_same_holds}
 use Rattle.run_views.specs.declared.change.Change.{Change}
-use Rattle.run_views.specs.declared.change.Change.TheVariants.{Tick, Hold, Core, Task, Mutex}
+use Rattle.run_views.specs.declared.change.Change.TheVariants.{Tick, Hold, Core, Task, Further, Mutex}
 use Rattle.run_views.specs.declared.change.CoreChange.{CoreChange}
 use Rattle.run_views.specs.declared.change.CoreChange.TheVariants.{Current, Pend, Asked}
 use Rattle.run_views.specs.declared.change.MutexChange.TheVariants.{Holder}
+use Rattle.run_views.specs.declared.change.NoteChange.{NoteChange}
+use Rattle.run_views.specs.declared.change.NoteChange.TheVariants.{Value, State}
 use Rattle.run_views.specs.declared.change.TaskChange.{TaskChange}
-use Rattle.run_views.specs.declared.change.TaskChange.TheVariants.{Stands, InUse, Base, Mask, Preempt, InCall, Value, State}
+use Rattle.run_views.specs.declared.change.TaskChange.TheVariants.{Stands, InUse, Base, Mask, Preempt, InCall, Note}
 use Rattle.run_views.specs.declared.look.Look.{Look}
 use Rattle.run_views.specs.declared.look.TaskStatus.{TaskStatus}
-use Rattle.run_views.specs.Changes.{are_same_numbers, are_same_standings, changes, changes_each, core_changes, mutex_changes, task_changes, TellsOf, TellsOfCore, TellsOfMutex, TellsOfTask, unless}
+use Rattle.run_views.specs.Changes.{are_same_numbers, are_same_standings, changes, changes_each, core_changes, further_changes, mutex_changes, note_changes, task_changes, TellsOf, TellsOfCore, TellsOfItem, TellsOfMutex, TellsOfNote, TellsOfTask, unless}
 use Rattle.run_views.proofs.Tests.{Tells, bools_told, holds_told, numbers_told, standings_told, states_told}
 
 joined : {X : Type 0} (P : X → Type 0) (xs ys : List X) → AllByRecursion P xs → AllByRecursion P ys → AllByRecursion P (xs ++ ys)
@@ -50,8 +53,14 @@ task_told old new =
     (one_told P are_same_bools bools_told old.preempt new.preempt (Preempt new.preempt) (λ differ. (refl, differ))))
     (joined P _ _ (joined P _ _
     (one_told P are_same_bools bools_told old.in_call new.in_call (InCall new.in_call) (λ differ. (refl, differ)))
-    (one_told P nat_eq Decides-eqb old.value new.value (Value old.value new.value) (λ differ. (refl, refl, differ))))
-    (one_told P are_same_states states_told old.state new.state (State old.state new.state) (λ differ. (refl, refl, differ))))
+    (one_told P nat_eq Decides-eqb old.value new.value (Note (Value old.value new.value)) (λ differ. (refl, refl, differ))))
+    (one_told P are_same_states states_told old.state new.state (Note (State old.state new.state)) (λ differ. (refl, refl, differ))))
+
+note_told : (old new : Notification) → AllByRecursion (λ change. TellsOfNote change old new) (note_changes old new)
+note_told old new =
+    joined (λ change. TellsOfNote change old new) _ _
+    (one_told (λ change. TellsOfNote change old new) nat_eq Decides-eqb old.value new.value (Value old.value new.value) (λ differ. (refl, refl, differ)))
+    (one_told (λ change. TellsOfNote change old new) are_same_states states_told old.state new.state (State old.state new.state) (λ differ. (refl, refl, differ)))
 
 holder_told : (old new : Option ℕ) → AllByRecursion (λ change. TellsOfMutex change old new) (mutex_changes old new)
 holder_told old new = one_told (λ change. TellsOfMutex change old new) are_same_numbers numbers_told old new (Holder old new) (λ differ. (refl, refl, differ))
@@ -69,17 +78,27 @@ module _ {X C : Type 0} (of_item : ℕ → C → Change) (changes_of : X → X �
       (item_told number (changes_of old new) old new (λ change tells. subst (λ n. P (of_item n change)) (let n : 0 + number ≡ number = omega arith in n) (are 0 old new change refl refl tells)) (told old new))
       (items_told (suc number) olds news (λ k old new change was is tells. subst (λ n. P (of_item n change)) (let n : suc k + number ≡ k + suc number = omega arith in n) (are (suc k) old new change was is tells)))
 
+at_zero : (k : ℕ) → k ≡ k + 0
+at_zero k = omega arith
+
+further_told : (P : Change → Type 0) (index : ℕ) (olds news : List (List Notification)) → ((k : ℕ) (old new : List Notification) (task : ℕ) (change : NoteChange) → slice_get olds k ≡ Some old → slice_get news k ≡ Some new → TellsOfItem (TellsOfNote change) task old new → P (Further (k + index) task change)) → AllByRecursion P (further_changes index olds news)
+further_told P index [] news are = tt
+further_told P index (old ∷ olds) [] are = tt
+further_told P index (old ∷ olds) (new ∷ news) are =
+    joined P _ _
+    (items_told (Further index) note_changes TellsOfNote note_told P 0 old new (λ task a b change was is tells.
+    subst (λ n. P (Further index n change)) (at_zero task) (subst (λ n. P (Further n task change)) (let n : 0 + index ≡ index = omega arith in n) (are 0 old new task change refl refl (record { old = a; new = b; was = was; is = is; told = tells })))))
+    (further_told P (suc index) olds news (λ k a b task change was is tells. subst (λ n. P (Further n task change)) (let n : suc k + index ≡ k + suc index = omega arith in n) (are (suc k) a b task change was is tells)))
+
 pub changes_told : (before after : Look) → All (TellsOf before after) (changes before after)
 unfolding changes
 changes_told before after =
     let P = TellsOf before after in
     All-from_recursion P (changes before after)
-    (joined P _ _ (joined P _ _ (joined P _ _ (joined P _ _
+    (joined P _ _ (joined P _ _ (joined P _ _ (joined P _ _ (joined P _ _
     (one_told P nat_eq Decides-eqb before.tick after.tick (Tick before.tick after.tick) (λ differ. (refl, refl, differ)))
     (one_told P (are_same_options are_same_holds) holds_told before.hold after.hold (Hold before.hold after.hold) (λ differ. (refl, refl, differ))))
     (items_told Core core_changes TellsOfCore core_told P 0 before.cores after.cores (λ k old new change was is tells. subst (λ n. P (Core n change)) (at_zero k) (record { old = old; new = new; was = was; is = is; told = tells }))))
     (items_told Task task_changes TellsOfTask task_told P 0 before.tasks after.tasks (λ k old new change was is tells. subst (λ n. P (Task n change)) (at_zero k) (record { old = old; new = new; was = was; is = is; told = tells }))))
+    (further_told P 1 before.further after.further (λ k old new task change was is told. subst (λ n. P (Further n task change)) (let n : suc k ≡ k + 1 = omega arith in n) (record { old = old; new = new; was = was; is = is; told = told }))))
     (items_told Mutex mutex_changes TellsOfMutex holder_told P 0 before.holders after.holders (λ k old new change was is tells. subst (λ n. P (Mutex n change)) (at_zero k) (record { old = old; new = new; was = was; is = is; told = tells }))))
-  where
-    at_zero : (k : ℕ) → k ≡ k + 0
-    at_zero k = omega arith

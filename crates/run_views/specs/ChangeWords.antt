@@ -11,10 +11,13 @@ use Rattle.run_views.specs.declared.change.CoreChange.{CoreChange}
 use Rattle.run_views.specs.declared.change.CoreChange.TheVariants.{Current, Pend, Asked}
 use Rattle.run_views.specs.declared.change.MutexChange.{MutexChange}
 use Rattle.run_views.specs.declared.change.MutexChange.TheVariants.{Holder}
+use Rattle.run_views.specs.declared.change.NoteChange.{NoteChange}
+use Rattle.run_views.specs.declared.change.NoteChange.TheVariants.{Value, State}
 use Rattle.run_views.specs.declared.change.TaskChange.{TaskChange}
-use Rattle.run_views.specs.declared.change.TaskChange.TheVariants.{Stands, InUse, Base, Mask, Preempt, InCall, Value, State}
+use Rattle.run_views.specs.declared.change.TaskChange.TheVariants.{Stands, InUse, Base, Mask, Preempt, InCall, Note}
 use Rattle.run_views.specs.declared.look.Standing.{Standing}
 use Rattle.run_views.specs.declared.look.Standing.TheVariants.{Ready, Blocked}
+use Rattle.run_views.specs.StepWords.{index_text}
 
 -- what it was, and what it is
 abbrev pub from_to : List ℕ → ℕ → ℕ → List ℕ
@@ -50,16 +53,22 @@ state_text NotWaiting = codes "none"
 state_text Waiting = codes "waiting"
 state_text Received = codes "received"
 
-abbrev pub task_change : TaskChange → List ℕ
-task_change (Stands from to) = standing_text to
-task_change (InUse from to) = from_to (codes " priority in use") from to
-task_change (Base from to) = from_to (codes " base priority") from to
-task_change (Mask from to) = from_to (codes " mask") from to
-task_change (Preempt now) = if now then codes " preemption on" else codes " preemption off"
-task_change (InCall now) = if now then codes " call begun" else codes " call ended"
-task_change (Value from to) = from_to (codes " notification value") from to
-task_change (State from to) =
+-- a notification, and its index where there are more than one
+abbrev pub note_change : Header → ℕ → NoteChange → List ℕ
+note_change header index (Value from to) =
+    from_to (codes " notification value") from to ++ index_text header index
+note_change header index (State from to) =
     codes " notification " ++ state_text from ++ codes " to " ++ state_text to
+    ++ index_text header index
+
+abbrev pub task_change : Header → TaskChange → List ℕ
+task_change header (Stands from to) = standing_text to
+task_change header (InUse from to) = from_to (codes " priority in use") from to
+task_change header (Base from to) = from_to (codes " base priority") from to
+task_change header (Mask from to) = from_to (codes " mask") from to
+task_change header (Preempt now) = if now then codes " preemption on" else codes " preemption off"
+task_change header (InCall now) = if now then codes " call begun" else codes " call ended"
+task_change header (Note change) = note_change header 0 change
 
 abbrev pub holder_change : Header → Option ℕ → Option ℕ → List ℕ
 holder_change header None None = codes " free"
@@ -77,6 +86,8 @@ change_text header (changes.Tick from to) = from_to (codes "tick") from to
 change_text header (changes.Hold from to) = hold_change from to
 change_text header (changes.Core core change) =
     codes "core " ++ decimal core ++ core_change header change
-change_text header (changes.Task task change) = name_of header task ++ task_change change
+change_text header (changes.Task task change) = name_of header task ++ task_change header change
+change_text header (changes.Further index task change) =
+    name_of header task ++ note_change header index change
 change_text header (changes.Mutex mutex change) =
     codes "mutex " ++ decimal mutex ++ mutex_change header change

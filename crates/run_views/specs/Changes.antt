@@ -1,15 +1,18 @@
 -- What changed from one look to another, and a look with changes made.
-use Rattle.std.specs.Prelude.{◌≡◌, ◌≢◌, ◌<◌, ◌^◌, ℕ, zero, suc, List, [], ◌∷◌, ◌++◌, length, map, fold, Bool, true, false, ◌==◌, Option, Some, if◌then◌else◌, slice_get}
+use Rattle.std.specs.Prelude.{◌≡◌, ◌≢◌, ◌+◌, ◌<◌, ◌^◌, ℕ, zero, suc, All, List, [], ◌∷◌, ◌++◌, length, map, fold, Bool, true, false, ◌==◌, Option, Some, if◌then◌else◌, slice_get}
 use Rattle.bench_types.specs.declared.kernel_data.CoreLook.{CoreLook}
+use Rattle.bench_types.specs.declared.note.Notification.{Notification}
 use Rattle.bench_model.specs.SameTest.{are_same_bools, are_same_options, are_same_holds, are_same_states}
 use Rattle.run_views.specs.declared.change.Change.{Change}
-use Rattle.run_views.specs.declared.change.Change.TheVariants.{Tick, Hold, Core, Task, Mutex}
+use Rattle.run_views.specs.declared.change.Change.TheVariants.{Tick, Hold, Core, Task, Further, Mutex}
 use Rattle.run_views.specs.declared.change.CoreChange.{CoreChange}
 use Rattle.run_views.specs.declared.change.CoreChange.TheVariants.{Current, Pend, Asked}
 use Rattle.run_views.specs.declared.change.MutexChange.{MutexChange}
 use Rattle.run_views.specs.declared.change.MutexChange.TheVariants.{Holder}
+use Rattle.run_views.specs.declared.change.NoteChange.{NoteChange}
+use Rattle.run_views.specs.declared.change.NoteChange.TheVariants.{Value, State}
 use Rattle.run_views.specs.declared.change.TaskChange.{TaskChange}
-use Rattle.run_views.specs.declared.change.TaskChange.TheVariants.{Stands, InUse, Base, Mask, Preempt, InCall, Value, State}
+use Rattle.run_views.specs.declared.change.TaskChange.TheVariants.{Stands, InUse, Base, Mask, Preempt, InCall, Note}
 use Rattle.run_views.specs.declared.look.Look.{Look}
 use Rattle.run_views.specs.declared.look.Standing.{Standing}
 use Rattle.run_views.specs.declared.look.Standing.TheVariants.{Ready, Blocked}
@@ -44,15 +47,20 @@ schedule_changes old new =
     ++ unless (old.mask == new.mask) (Mask old.mask new.mask)
     ++ unless (are_same_bools old.preempt new.preempt) (Preempt new.preempt)
 
--- of its call and its notification
+-- of its call and its notification of index 0
 abbrev pub call_changes : TaskStatus → TaskStatus → List TaskChange
 call_changes old new =
     unless (are_same_bools old.in_call new.in_call) (InCall new.in_call)
-    ++ unless (old.value == new.value) (Value old.value new.value)
-    ++ unless (are_same_states old.state new.state) (State old.state new.state)
+    ++ unless (old.value == new.value) (Note (Value old.value new.value))
+    ++ unless (are_same_states old.state new.state) (Note (State old.state new.state))
 
 abbrev pub task_changes : TaskStatus → TaskStatus → List TaskChange
 task_changes old new = schedule_changes old new ++ call_changes old new
+
+abbrev pub note_changes : Notification → Notification → List NoteChange
+note_changes old new =
+    unless (old.value == new.value) (Value old.value new.value)
+    ++ unless (are_same_states old.state new.state) (State old.state new.state)
 
 abbrev pub mutex_changes : Option ℕ → Option ℕ → List MutexChange
 mutex_changes old new = unless (are_same_numbers old new) (Holder old new)
@@ -64,7 +72,15 @@ changes_each of_item changes number (old ∷ olds) (new ∷ news) =
     map (of_item number) (changes old new) ++ changes_each of_item changes (suc number) olds news
 changes_each of_item changes number olds news = []
 
--- the tick count, the hold, the cores, the tasks and the mutexes
+-- the changes of all tasks' notifications of an index, and of those of the indices above it
+abbrev pub further_changes :
+    ℕ → List (List Notification) → List (List Notification) → List Change
+further_changes index (old ∷ olds) (new ∷ news) =
+    changes_each (Further index) note_changes 0 old new ++ further_changes (suc index) olds news
+further_changes index olds news = []
+
+-- the tick count, the hold, the cores, the tasks, their notifications of further indices and the
+-- mutexes
 unfoldable pub changes : Look → Look → List Change
 changes before after =
     unless (before.tick == after.tick) (Tick before.tick after.tick)
@@ -72,6 +88,7 @@ changes before after =
     (Hold before.hold after.hold)
     ++ changes_each Core core_changes 0 before.cores after.cores
     ++ changes_each Task task_changes 0 before.tasks after.tasks
+    ++ further_changes 1 before.further after.further
     ++ changes_each Mutex mutex_changes 0 before.holders after.holders
 
 -- ---- what changes lead to
@@ -88,8 +105,12 @@ task_after (Base from to) task = record task { base = to }
 task_after (Mask from to) task = record task { mask = to }
 task_after (Preempt now) task = record task { preempt = now }
 task_after (InCall now) task = record task { in_call = now }
-task_after (Value from to) task = record task { value = to }
-task_after (State from to) task = record task { state = to }
+task_after (Note (Value from to)) task = record task { value = to }
+task_after (Note (State from to)) task = record task { state = to }
+
+abbrev pub note_after : NoteChange → Notification → Notification
+note_after (Value from to) note = record note { value = to }
+note_after (State from to) note = record note { state = to }
 
 abbrev pub holder_after : MutexChange → Option ℕ → Option ℕ
 holder_after (Holder from to) holder = to
@@ -100,6 +121,12 @@ item_changed number f [] = []
 item_changed zero f (x ∷ xs) = f x ∷ xs
 item_changed (suc number) f (x ∷ xs) = x ∷ item_changed number f xs
 
+-- the notifications of the indices above 0, of which the task's of the index changed
+abbrev pub further_after :
+    ℕ → ℕ → NoteChange → List (List Notification) → List (List Notification)
+further_after zero task change notes = notes
+further_after (suc k) task change notes = item_changed k (item_changed task (note_after change)) notes
+
 abbrev pub look_after : Change → Look → Look
 look_after (Tick from to) look = record look { tick = to }
 look_after (Hold from to) look = record look { hold = to }
@@ -107,6 +134,8 @@ look_after (Core core change) look =
     record look { cores = item_changed core (core_after change) look.cores }
 look_after (Task task change) look =
     record look { tasks = item_changed task (task_after change) look.tasks }
+look_after (Further index task change) look =
+    record look { further = further_after index task change look.further }
 look_after (Mutex mutex change) look =
     record look { holders = item_changed mutex (holder_after change) look.holders }
 
@@ -114,10 +143,11 @@ look_after (Mutex mutex change) look =
 unfoldable pub applied : List Change → Look → Look
 applied changes look = fold (λ look change. look_after change look) look changes
 
--- as many cores, tasks and mutexes
+-- as many cores, tasks, notifications of each further index and mutexes
 pub record HasSameShape (one other : Look) : Type 0 where
   pub cores : length one.cores ≡ length other.cores
   pub tasks : length one.tasks ≡ length other.tasks
+  pub further : map length one.further ≡ map length other.further
   pub mutexes : length one.holders ≡ length other.holders
 
 -- ---- what a change says of both looks
@@ -138,8 +168,12 @@ TellsOfTask (Base from to) old new = Differs old.base new.base from to
 TellsOfTask (Mask from to) old new = Differs old.mask new.mask from to
 TellsOfTask (Preempt now) old new = (new.preempt ≡ now) × (old.preempt ≢ now)
 TellsOfTask (InCall now) old new = (new.in_call ≡ now) × (old.in_call ≢ now)
-TellsOfTask (Value from to) old new = Differs old.value new.value from to
-TellsOfTask (State from to) old new = Differs old.state new.state from to
+TellsOfTask (Note (Value from to)) old new = Differs old.value new.value from to
+TellsOfTask (Note (State from to)) old new = Differs old.state new.state from to
+
+abbrev pub TellsOfNote : NoteChange → Notification → Notification → Type 0
+TellsOfNote (Value from to) old new = Differs old.value new.value from to
+TellsOfNote (State from to) old new = Differs old.state new.state from to
 
 abbrev pub TellsOfMutex : MutexChange → Option ℕ → Option ℕ → Type 0
 TellsOfMutex (Holder from to) old new = Differs old new from to
@@ -153,6 +187,13 @@ pub record TellsOfItem {X : Type 0} (tells : X → X → Type 0) (number : ℕ)
   pub is : slice_get news number ≡ Some new
   pub told : tells old new
 
+-- the change tells of the task's notifications of the index, which is above 0
+abbrev pub TellsOfFurther :
+    ℕ → ℕ → NoteChange → List (List Notification) → List (List Notification) → Type 0
+TellsOfFurther zero task change olds news = ⊥
+TellsOfFurther (suc k) task change olds news =
+    TellsOfItem (TellsOfItem (TellsOfNote change) task) k olds news
+
 -- the change names what it was before and is after, which differ
 abbrev pub TellsOf : Look → Look → Change → Type 0
 TellsOf before after (Tick from to) = Differs before.tick after.tick from to
@@ -161,6 +202,8 @@ TellsOf before after (Core core change) =
     TellsOfItem (TellsOfCore change) core before.cores after.cores
 TellsOf before after (Task task change) =
     TellsOfItem (TellsOfTask change) task before.tasks after.tasks
+TellsOf before after (Further index task change) =
+    TellsOfFurther index task change before.further after.further
 TellsOf before after (Mutex mutex change) =
     TellsOfItem (TellsOfMutex change) mutex before.holders after.holders
 
@@ -168,4 +211,6 @@ TellsOf before after (Mutex mutex change) =
 pub record IsNumbered (look : Look) : Type 0 where
   pub cores : length look.cores < 2 ^ 32
   pub tasks : length look.tasks < 2 ^ 32
+  pub further : length look.further + 1 < 2 ^ 32
+  pub notes : All (λ notes. length notes < 2 ^ 32) look.further
   pub mutexes : length look.holders < 2 ^ 32

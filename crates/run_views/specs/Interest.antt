@@ -38,8 +38,8 @@ call_task (AffinitySet task mask) = Some task
 call_task (PreemptOff task) = Some task
 call_task (PreemptOn task) = Some task
 call_task (Notify note) = Some note.task
-call_task (StateClear task) = Some task
-call_task (ValueClear task bits) = Some task
+call_task (StateClear task index) = Some task
+call_task (ValueClear task bits index) = Some task
 call_task call = None
 
 -- a step of a core or a task that is named, or one that names such a task
@@ -72,6 +72,7 @@ change_concerns interest (changes.Hold from to) =
 change_concerns interest (changes.Core core change) =
     names_core interest core || core_change_concerns interest change
 change_concerns interest (changes.Task task change) = names_task interest task
+change_concerns interest (changes.Further index task change) = names_task interest task
 change_concerns interest (changes.Mutex mutex change) = holder_concerns interest change
 
 -- whether a step that made these changes is told; all are where nobody is named

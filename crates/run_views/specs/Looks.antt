@@ -1,10 +1,11 @@
 -- What can be seen of a table.
-use Rattle.std.specs.Prelude.{◌≡◌, ℕ, length, ◌+◌, ◌%◌, ◌^◌, map, option_map, if◌then◌else◌}
+use Rattle.std.specs.Prelude.{◌≡◌, ℕ, All, List, length, ◌+◌, ◌-◌, ◌%◌, ◌^◌, map, option_map, if◌then◌else◌}
 use Rattle.bench_types.specs.declared.kernel_data.Settings.{Settings}
 use Rattle.bench_types.specs.declared.kernel_data.TaskLook.{TaskLook}
+use Rattle.bench_types.specs.declared.note.Notification.{Notification}
 use Rattle.list_orders.specs.Search.{numbers}
 use Rattle.bench_model.specs.Control.{core_at}
-use Rattle.bench_model.specs.Looks.{task_look}
+use Rattle.bench_model.specs.Looks.{note_look, task_look}
 use Rattle.bench_model.specs.State.{holder_at}
 use Rattle.bench_model.specs.Table.{Table, tick_count}
 use Rattle.run_views.specs.declared.look.Look.{Look}
@@ -33,6 +34,15 @@ status_in tick look = record {
 abbrev pub status_of : Table → ℕ → TaskStatus
 status_of table task = status_in (tick_count table.orders) (task_look table task)
 
+-- the notifications of an index, of all tasks
+abbrev pub notes_of : Table → ℕ → List Notification
+notes_of table index =
+    map (λ task. note_look table task index) (numbers table.settings.tasks)
+
+-- those of the indices above 0
+abbrev pub further_of : Table → List (List Notification)
+further_of table = map (λ k. notes_of table (k + 1)) (numbers (table.settings.notes - 1))
+
 -- what can be seen of a table
 unfoldable pub look_of : Table → Look
 look_of table = record {
@@ -40,11 +50,14 @@ look_of table = record {
   hold = table.hold;
   cores = map (core_at table.control) (numbers table.settings.cores);
   tasks = map (status_of table) (numbers table.settings.tasks);
+  further = further_of table;
   holders = map (holder_at table.holders) (numbers table.settings.mutexes);
 }
 
--- as many cores, tasks and mutexes as the settings say
+-- as many cores, tasks, notifications of further indices and mutexes as the settings say
 pub record HasShape (settings : Settings) (look : Look) : Type 0 where
   pub cores : length look.cores ≡ settings.cores
   pub tasks : length look.tasks ≡ settings.tasks
+  pub further : length look.further ≡ settings.notes - 1
+  pub notes : All (λ notes. length notes ≡ settings.tasks) look.further
   pub mutexes : length look.holders ≡ settings.mutexes

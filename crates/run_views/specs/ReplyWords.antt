@@ -70,7 +70,7 @@ flag_text flag = if flag then codes "true" else codes "false"
 abbrev pub flag_meaning : Call → Bool → List ℕ
 flag_meaning (Notify note) flag =
     if flag then codes "the notification passed" else codes "the notification did not pass"
-flag_meaning (StateClear task) flag =
+flag_meaning (StateClear task index) flag =
     if flag then codes "a notification had come" else codes "no notification had come"
 flag_meaning (MutexTake mutex ticks) flag =
     if flag then codes "the mutex was taken" else codes "the mutex was not taken"

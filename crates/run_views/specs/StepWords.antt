@@ -1,5 +1,5 @@
 -- A step in the words of a document: what it does, and its members in their order.
-use Rattle.std.specs.Prelude.{ℕ, List, [], ◌++◌, codes, decimal, Bool, if◌then◌else◌}
+use Rattle.std.specs.Prelude.{ℕ, List, [], ◌++◌, ◌==◌, codes, decimal, Bool, if◌then◌else◌}
 use Rattle.bench_types.specs.declared.header.Header.{Header}
 use Rattle.bench_types.specs.declared.note.Action.{Action}
 use Rattle.bench_types.specs.declared.note.Action.TheVariants.{Nothing, SetBits, Increment, Set, SetNew}
@@ -20,6 +20,11 @@ task_text header member task = codes " " ++ member ++ codes " " ++ name_of heade
 abbrev pub to_text : Header → ℕ → List ℕ
 to_text header task = task_text header (codes "to") task
 
+-- an index, where each task has more than one notification
+abbrev pub index_text : Header → ℕ → List ℕ
+index_text header index =
+    if header.config.notes == 1 then [] else number_text (codes "index") index
+
 abbrev pub clear_text : Bool → List ℕ
 clear_text clear = codes " clear " ++ (if clear then codes "true" else codes "false")
 
@@ -31,7 +36,8 @@ action_text (Set value) = codes " action set" ++ number_text (codes "value") val
 action_text (SetNew value) = codes " action set_new" ++ number_text (codes "value") value
 
 abbrev pub note_text : Header → Note → List ℕ
-note_text header note = to_text header note.task ++ action_text note.action
+note_text header note =
+    to_text header note.task ++ action_text note.action ++ index_text header note.index
 
 -- the word of a call
 abbrev pub call_word : Call → List ℕ
@@ -43,10 +49,10 @@ call_word (AffinitySet task mask) = codes "affinity_set"
 call_word (PreemptOff task) = codes "preempt_off"
 call_word (PreemptOn task) = codes "preempt_on"
 call_word (Notify note) = codes "notify"
-call_word (NotifyWait entry exit ticks) = codes "notify_wait"
-call_word (NotifyTake clear ticks) = codes "notify_take"
-call_word (StateClear task) = codes "state_clear"
-call_word (ValueClear task bits) = codes "value_clear"
+call_word (NotifyWait entry exit ticks index) = codes "notify_wait"
+call_word (NotifyTake clear ticks index) = codes "notify_take"
+call_word (StateClear task index) = codes "state_clear"
+call_word (ValueClear task bits index) = codes "value_clear"
 call_word (MutexTake mutex ticks) = codes "mutex_take"
 call_word (MutexGive mutex) = codes "mutex_give"
 call_word Finish = codes "finish"
@@ -66,14 +72,14 @@ call_members header (AffinitySet task mask) =
 call_members header (PreemptOff task) = to_text header task
 call_members header (PreemptOn task) = to_text header task
 call_members header (Notify note) = note_text header note
-call_members header (NotifyWait entry exit ticks) =
+call_members header (NotifyWait entry exit ticks index) =
     number_text (codes "entry") entry ++ number_text (codes "exit") exit
-    ++ number_text (codes "ticks") ticks
-call_members header (NotifyTake clear ticks) =
-    clear_text clear ++ number_text (codes "ticks") ticks
-call_members header (StateClear task) = to_text header task
-call_members header (ValueClear task bits) =
-    to_text header task ++ number_text (codes "bits") bits
+    ++ number_text (codes "ticks") ticks ++ index_text header index
+call_members header (NotifyTake clear ticks index) =
+    clear_text clear ++ number_text (codes "ticks") ticks ++ index_text header index
+call_members header (StateClear task index) = to_text header task ++ index_text header index
+call_members header (ValueClear task bits index) =
+    to_text header task ++ number_text (codes "bits") bits ++ index_text header index
 call_members header (MutexTake mutex ticks) =
     number_text (codes "mutex") mutex ++ number_text (codes "ticks") ticks
 call_members header (MutexGive mutex) = number_text (codes "mutex") mutex

@@ -1,10 +1,10 @@
-ghost use Rattle.std.specs.Prelude.{◌≡◌, ◌==◌, ◌++◌, ◌<◌, ◌^◌, All, IfOk, OnOk, length, map};
+ghost use Rattle.std.specs.Prelude.{◌≡◌, ◌==◌, ◌+◌, ◌++◌, ◌<◌, ◌^◌, All, IfOk, OnOk, length, map};
 ghost use Rattle.bench_model.specs.SameTest.{are_same_options, are_same_holds};
-ghost use Rattle.run_views.specs.Changes.{applied, changes, changes_each, core_changes, mutex_changes, schedule_changes, call_changes, task_changes, unless, HasSameShape, IsNumbered, TellsOf};
+ghost use Rattle.run_views.specs.Changes.{applied, changes, changes_each, core_changes, further_changes, mutex_changes, note_changes, schedule_changes, call_changes, task_changes, unless, HasSameShape, IsNumbered, TellsOf};
 
 use crate::same::{is_same_flag, is_same_hold, is_same_number, is_same_standing, is_same_state};
 use crate::{Look, Standing, TaskStatus};
-use bench_types::{CoreLook, Hold, NoteState};
+use bench_types::{CoreLook, Hold, Items, NoteState, Notification};
 use std::alloc::{AllocError, Global};
 
 /// One thing that a step changed.
@@ -27,6 +27,12 @@ pub enum Change {
     Task {
         task: u32,
         change: TaskChange,
+    },
+    /// A notification of a task, of an index above 0.
+    Further {
+        index: u32,
+        task: u32,
+        change: NoteChange,
     },
     Mutex {
         mutex: u32,
@@ -60,9 +66,16 @@ pub enum TaskChange {
     Preempt(bool),
     /// Whether it made a call that has not returned.
     InCall(bool),
-    /// The notification value.
+    /// Its notification of index 0.
+    Note(NoteChange),
+}
+
+/// What changed of a notification.
+#[derive(Clone, Copy, Debug, PartialEq, Eq)]
+pub enum NoteChange {
+    /// Its value.
     Value { from: u32, to: u32 },
-    /// The state of its notification.
+    /// Its state.
     State { from: NoteState, to: NoteState },
 }
 
@@ -75,8 +88,8 @@ pub enum MutexChange {
 
 impl Look {
     /// What changed from this look to the later one: all of it, and nothing else. It is in the
-    /// order of the fields: the tick count, the hold, then core by core, task by task and mutex by
-    /// mutex.
+    /// order of the fields: the tick count, the hold, then core by core, task by task, each further
+    /// index of the notifications task by task, and mutex by mutex.
     pub fn changes_to(&self, alloc: Global, after: &Look) -> Result<Vec<Change>, AllocError>
         requires { IsNumbered self.now }
         ensures changes { IfOk result (λ found. found.items ≡ changes self.now after.now) }
@@ -109,6 +122,11 @@ fn found_changes(alloc: Global, before: &Look, after: &Look) -> Result<Vec<Chang
         &mut changes,
         before.tasks.as_slice(),
         after.tasks.as_slice(),
+    )?;
+    push_further(
+        &mut changes,
+        before.further.as_slice(),
+        after.further.as_slice(),
     )?;
     push_mutexes(
         &mut changes,
@@ -243,7 +261,7 @@ fn push_schedule(
     )
 }
 
-// The changes of one task's call and of its notification.
+// The changes of one task's call and of its notification of index 0.
 fn push_call(
     changes: &mut Vec<Change>,
     task: u32,
@@ -261,15 +279,15 @@ fn push_call(
         is_same_flag(old.in_call, new.in_call),
         in_call,
     )?;
-    let value = TaskChange::Value {
+    let value = TaskChange::Note(NoteChange::Value {
         from: old.value,
         to: new.value,
-    };
+    });
     push_task_change(changes, task, old.value == new.value, value)?;
-    let state = TaskChange::State {
+    let state = TaskChange::Note(NoteChange::State {
         from: old.state,
         to: new.state,
-    };
+    });
     push_task_change(changes, task, is_same_state(old.state, new.state), state)
 }
 
@@ -286,6 +304,53 @@ fn push_task(
 {
     push_schedule(changes, task, old, new)?;
     push_call(changes, task, old, new)
+}
+
+fn push_note_change(
+    changes: &mut Vec<Change>,
+    index: u32,
+    task: u32,
+    same: bool,
+    change: NoteChange,
+) -> Result<(), AllocError>
+    ensures { OnOk result
+        (changes.new.items
+        ≡ changes.old.items ++ map (Change.Further index task) (unless same change)) }
+{
+    push_unless(
+        changes,
+        same,
+        Change::Further {
+            index,
+            task,
+            change,
+        },
+    )
+}
+
+// The changes of one task's notification of the index.
+fn push_note(
+    changes: &mut Vec<Change>,
+    index: u32,
+    task: u32,
+    old: Notification,
+    new: Notification,
+) -> Result<(), AllocError>
+    ensures { OnOk result
+        (changes.new.items
+        ≡ changes.old.items ++ map (Change.Further index task) (note_changes old new)) }
+{
+    let value = NoteChange::Value {
+        from: old.value,
+        to: new.value,
+    };
+    push_note_change(changes, index, task, old.value == new.value, value)?;
+    let state = NoteChange::State {
+        from: old.state,
+        to: new.state,
+    };
+    let same = is_same_state(old.state, new.state);
+    push_note_change(changes, index, task, same, state)
 }
 
 // The changes of one mutex.
@@ -338,6 +403,47 @@ fn push_tasks(
     for (task, old) in olds.iter().enumerate() {
         if task < news.len() {
             push_task(changes, task as u32, *old, news[task])?;
+        }
+    }
+    Ok(())
+}
+
+// The changes of all tasks' notifications of the index.
+fn push_notes(
+    changes: &mut Vec<Change>,
+    index: u32,
+    olds: &[Notification],
+    news: &[Notification],
+) -> Result<(), AllocError>
+    requires { length olds.now < 2 ^ 32 }
+    ensures { OnOk result
+        (changes.new.items
+        ≡ changes.old.items
+        ++ changes_each (Change.Further index) note_changes 0 olds.now news.now) }
+{
+    for (task, old) in olds.iter().enumerate() {
+        if task < news.len() {
+            push_note(changes, index, task as u32, *old, news[task])?;
+        }
+    }
+    Ok(())
+}
+
+// The changes of the notifications of index 1 and above.
+fn push_further(
+    changes: &mut Vec<Change>,
+    olds: &[Items<Notification>],
+    news: &[Items<Notification>],
+) -> Result<(), AllocError>
+    requires few { length olds.now + 1 < 2 ^ 32 }
+    requires notes { All (λ notes. length notes < 2 ^ 32) olds.now }
+    ensures { OnOk result
+        (changes.new.items ≡ changes.old.items ++ further_changes 1 olds.now news.now) }
+{
+    for (above, old) in olds.iter().enumerate() {
+        if above < news.len() {
+            let index = above as u32 + 1;
+            push_notes(changes, index, old.as_slice(), news[above].as_slice())?;
         }
     }
     Ok(())

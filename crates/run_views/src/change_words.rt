@@ -1,8 +1,9 @@
 //! A change in words.
 ghost use Rattle.std.specs.Prelude.{◌≡◌, ◌++◌, OnOk, codes, string_bytes};
-ghost use Rattle.run_views.specs.ChangeWords.{change_text, core_change, from_to, hold_change, hold_text, holder_change, mutex_change, set_text, standing_text, state_text, task_change};
+ghost use Rattle.run_views.specs.ChangeWords.{change_text, core_change, from_to, hold_change, hold_text, holder_change, mutex_change, note_change, set_text, standing_text, state_text, task_change};
 
-use crate::{Change, CoreChange, MutexChange, Standing, TaskChange};
+use crate::step_words::push_index;
+use crate::{Change, CoreChange, MutexChange, NoteChange, Standing, TaskChange};
 use bench_types::{Header, Hold, NoteState};
 use std::alloc::AllocError;
 
@@ -113,8 +114,29 @@ fn push_state_change(text: &mut String, from: NoteState, to: NoteState) -> Resul
     text.push_str(state_text(to))
 }
 
-fn push_task_change(text: &mut String, change: TaskChange) -> Result<(), AllocError>
-    ensures { OnOk result (string_bytes text.new ≡ string_bytes text.old ++ task_change change) }
+fn push_note_change(
+    text: &mut String,
+    header: &Header,
+    index: u32,
+    change: NoteChange,
+) -> Result<(), AllocError>
+    ensures { OnOk result
+        (string_bytes text.new ≡ string_bytes text.old ++ note_change header.now index change) }
+{
+    match change {
+        NoteChange::Value { from, to } => push_from_to(text, " notification value", from, to)?,
+        NoteChange::State { from, to } => push_state_change(text, from, to)?,
+    }
+    push_index(text, header, index)
+}
+
+fn push_task_change(
+    text: &mut String,
+    header: &Header,
+    change: TaskChange,
+) -> Result<(), AllocError>
+    ensures { OnOk result
+        (string_bytes text.new ≡ string_bytes text.old ++ task_change header.now change) }
 {
     match change {
         TaskChange::Stands { from: _, to } => push_standing(text, to),
@@ -125,8 +147,7 @@ fn push_task_change(text: &mut String, change: TaskChange) -> Result<(), AllocEr
         TaskChange::Preempt(false) => text.push_str(" preemption off"),
         TaskChange::InCall(true) => text.push_str(" call begun"),
         TaskChange::InCall(false) => text.push_str(" call ended"),
-        TaskChange::Value { from, to } => push_from_to(text, " notification value", from, to),
-        TaskChange::State { from, to } => push_state_change(text, from, to),
+        TaskChange::Note(change) => push_note_change(text, header, 0, change),
     }
 }
 
@@ -177,7 +198,15 @@ pub(crate) fn push_change(
         }
         Change::Task { task, change } => {
             header.push_name(text, task)?;
-            push_task_change(text, change)
+            push_task_change(text, header, change)
+        }
+        Change::Further {
+            index,
+            task,
+            change,
+        } => {
+            header.push_name(text, task)?;
+            push_note_change(text, header, index, change)
         }
         Change::Mutex {
             mutex,

@@ -28,7 +28,7 @@ fn call_task(call: Call) -> Option<u32>
         | Call::AffinitySet { task, .. }
         | Call::PreemptOff(task)
         | Call::PreemptOn(task)
-        | Call::StateClear(task)
+        | Call::StateClear { task, .. }
         | Call::ValueClear { task, .. } => Some(task),
         Call::Notify(note) => Some(note.task),
         _ => None,
@@ -112,7 +112,7 @@ impl Interest {
             Change::Core { core, change } => {
                 self.names_core(core) || self.concerns_core_change(change)
             }
-            Change::Task { task, change: _ } => self.names_task(task),
+            Change::Task { task, .. } | Change::Further { task, .. } => self.names_task(task),
             Change::Mutex { mutex: _, change } => self.concerns_holder(change),
         }
     }

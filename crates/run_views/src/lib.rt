@@ -13,7 +13,7 @@ mod step_words;
 mod trace_lines;
 mod watch;
 
-pub use change::{Change, CoreChange, MutexChange, TaskChange};
+pub use change::{Change, CoreChange, MutexChange, NoteChange, TaskChange};
 pub use change_words::{push_hold, push_standing};
 pub use interest::Interest;
 pub use look::{Look, Standing, TaskStatus};

@@ -1,13 +1,14 @@
-ghost use Rattle.std.specs.Prelude.{◌≡◌, ◌<◌, ◌^◌, IfOk, length, map};
+ghost use Rattle.std.specs.Prelude.{◌≡◌, ◌+◌, ◌-◌, ◌<◌, ◌^◌, All, IfOk, length, map};
 ghost use Rattle.list_orders.specs.Search.{numbers};
 ghost use Rattle.bench_model.specs.Control.{core_at};
 ghost use Rattle.bench_model.specs.Equal.{StandsFor};
+ghost use Rattle.bench_model.specs.Looks.{note_look};
 ghost use Rattle.bench_model.specs.State.{holder_at};
 ghost use Rattle.bench_model.specs.Table.{Table, tick_count};
 ghost use Rattle.run_views.specs.Changes.{IsNumbered};
-ghost use Rattle.run_views.specs.Looks.{look_of, standing_in, status_in, status_of, HasShape};
+ghost use Rattle.run_views.specs.Looks.{further_of, look_of, notes_of, standing_in, status_in, status_of, HasShape};
 
-use bench_types::{CoreLook, Hold, Items, NoteState, TaskLook};
+use bench_types::{CoreLook, Hold, Items, NoteState, Notification, TaskLook};
 use smp_kernel::Kernel;
 use std::alloc::{AllocError, Global};
 
@@ -34,9 +35,9 @@ pub struct TaskStatus {
     pub preempt: bool,
     /// Whether it made a call that has not returned.
     pub in_call: bool,
-    /// The notification value (`ulNotifiedValue`).
+    /// The value of its notification of index 0 (`ulNotifiedValue[0]`).
     pub value: u32,
-    /// The state of its notification (`ucNotifyState`).
+    /// The state of that notification (`ucNotifyState[0]`).
     pub state: NoteState,
 }
 
@@ -54,6 +55,9 @@ pub struct Look {
     pub cores: Items<CoreLook>,
     /// The tasks, task 0 first.
     pub tasks: Items<TaskStatus>,
+    /// The notifications of the indices above 0, index 1 first; of each index those of all tasks,
+    /// task 0 first.
+    pub further: Items<Items<Notification>>,
     /// Per mutex the task that holds it, if there is one.
     pub holders: Items<Option<u32>>,
 }
@@ -72,6 +76,7 @@ impl Look {
             hold: hold_of(kernel),
             cores: Items::new(cores_of(alloc, kernel)?),
             tasks: Items::new(statuses_of(alloc, kernel)?),
+            further: Items::new(further_of(alloc, kernel)?),
             holders: Items::new(holders_of(alloc, kernel)?),
         })
     }
@@ -148,6 +153,55 @@ fn statuses_of(alloc: Global, kernel: &Kernel) -> Result<Vec<TaskStatus>, AllocE
         tasks.push(status_of(kernel, task))?;
     }
     Ok(tasks)
+}
+
+// The task's notification of the index.
+fn note_of(kernel: &Kernel, task: u32, index: u32) -> Notification
+    requires task { task < kernel.now.settings.tasks }
+    requires index { index < kernel.now.settings.notes }
+    ensures { (table : Table) → StandsFor kernel.now table → result ≡ note_look table task index }
+{
+    let (value, state) = kernel.note_look(task, index);
+    Notification { value, state }
+}
+
+// The notifications of the index, of all tasks.
+fn notes_of(alloc: Global, kernel: &Kernel, index: u32) -> Result<Vec<Notification>, AllocError>
+    requires { index < kernel.now.settings.notes }
+    ensures notes { IfOk result
+        (λ notes. (table : Table) → StandsFor kernel.now table
+        → notes.items ≡ notes_of table index) }
+    ensures count { IfOk result (λ notes. length notes.items ≡ kernel.now.settings.tasks) }
+    ensures few { IfOk result (λ notes. length notes.items < 2 ^ 32) }
+{
+    let count = kernel.settings().tasks;
+    let mut notes = Vec::with_capacity(alloc, count as usize)?;
+    for task in 0..count {
+        notes.push(note_of(kernel, task, index))?;
+    }
+    Ok(notes)
+}
+
+// Those of the indices above 0.
+fn further_of(alloc: Global, kernel: &Kernel) -> Result<Vec<Items<Notification>>, AllocError>
+    ensures further { IfOk result
+        (λ further. (table : Table) → StandsFor kernel.now table
+        → further.items ≡ further_of table) }
+    ensures count { IfOk result
+        (λ further. length further.items ≡ kernel.now.settings.notes - 1) }
+    ensures notes { IfOk result
+        (λ further. All (λ notes. length notes ≡ kernel.now.settings.tasks) further.items) }
+    ensures few { IfOk result (λ further. length further.items + 1 < 2 ^ 32) }
+    ensures few_notes { IfOk result
+        (λ further. All (λ notes. length notes < 2 ^ 32) further.items) }
+{
+    let count = kernel.settings().notes.saturating_sub(1);
+    let mut further = Vec::with_capacity(alloc, count as usize)?;
+    for above in 0..count {
+        let notes = notes_of(alloc, kernel, above + 1)?;
+        further.push(Items::new(notes))?;
+    }
+    Ok(further)
 }
 
 fn holders_of(alloc: Global, kernel: &Kernel) -> Result<Vec<Option<u32>>, AllocError>

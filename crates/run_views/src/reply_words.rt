@@ -115,7 +115,11 @@ fn flag_meaning(call: Call, flag: bool) -> &'static str
             "the notification passed",
             "the notification did not pass",
         ),
-        Call::StateClear(_) => either(flag, "a notification had come", "no notification had come"),
+        Call::StateClear { .. } => either(
+            flag,
+            "a notification had come",
+            "no notification had come",
+        ),
         Call::MutexTake { .. } => either(flag, "the mutex was taken", "the mutex was not taken"),
         Call::MutexGive(_) => either(flag, "the mutex was given", "nobody held the mutex"),
         Call::Finish => either(

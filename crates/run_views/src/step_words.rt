@@ -1,6 +1,6 @@
 //! A step in the words of a document.
 ghost use Rattle.std.specs.Prelude.{◌≡◌, ◌++◌, OnOk, codes, string_bytes};
-ghost use Rattle.run_views.specs.StepWords.{action_text, call_members, call_word, clear_text, core_text, note_text, number_text, step_text, task_text, to_text};
+ghost use Rattle.run_views.specs.StepWords.{action_text, call_members, call_word, clear_text, core_text, index_text, note_text, number_text, step_text, task_text, to_text};
 
 use bench_types::{Action, Call, Header, Note, Step};
 use std::alloc::AllocError;
@@ -27,6 +27,18 @@ fn push_to(text: &mut String, header: &Header, task: u32) -> Result<(), AllocErr
     push_task(text, header, "to", task)
 }
 
+/// Writes the index of a notification, where each task has more than one.
+pub(crate) fn push_index(text: &mut String, header: &Header, index: u32) -> Result<(), AllocError>
+    ensures { OnOk result
+        (string_bytes text.new ≡ string_bytes text.old ++ index_text header.now index) }
+{
+    if header.config.notes == 1 {
+        Ok(())
+    } else {
+        push_number(text, "index", index)
+    }
+}
+
 fn push_clear(text: &mut String, clear: bool) -> Result<(), AllocError>
     ensures { OnOk result (string_bytes text.new ≡ string_bytes text.old ++ clear_text clear) }
 {
@@ -50,7 +62,8 @@ fn push_note(text: &mut String, header: &Header, note: Note) -> Result<(), Alloc
         (string_bytes text.new ≡ string_bytes text.old ++ note_text header.now note) }
 {
     push_to(text, header, note.task)?;
-    push_action(text, note.action)
+    push_action(text, note.action)?;
+    push_index(text, header, note.index)
 }
 
 fn call_word(call: Call) -> &'static str
@@ -67,7 +80,7 @@ fn call_word(call: Call) -> &'static str
         Call::Notify(_) => "notify",
         Call::NotifyWait { .. } => "notify_wait",
         Call::NotifyTake { .. } => "notify_take",
-        Call::StateClear(_) => "state_clear",
+        Call::StateClear { .. } => "state_clear",
         Call::ValueClear { .. } => "value_clear",
         Call::MutexTake { .. } => "mutex_take",
         Call::MutexGive(_) => "mutex_give",
@@ -93,20 +106,34 @@ fn push_members(text: &mut String, header: &Header, call: Call) -> Result<(), Al
             push_to(text, header, task)?;
             push_number(text, "mask", mask)
         }
-        Call::PreemptOff(task) | Call::PreemptOn(task) | Call::StateClear(task) => {
-            push_to(text, header, task)
+        Call::PreemptOff(task) | Call::PreemptOn(task) => push_to(text, header, task),
+        Call::StateClear { task, index } => {
+            push_to(text, header, task)?;
+            push_index(text, header, index)
         }
         Call::Notify(note) => push_note(text, header, note),
-        Call::NotifyWait { entry, exit, ticks } => {
-            write!(text, " entry {entry} exit {exit} ticks {ticks}")
+        Call::NotifyWait {
+            entry,
+            exit,
+            ticks,
+            index,
+        } => {
+            write!(text, " entry {entry} exit {exit} ticks {ticks}")?;
+            push_index(text, header, index)
         }
-        Call::NotifyTake { clear, ticks } => {
+        Call::NotifyTake {
+            clear,
+            ticks,
+            index,
+        } => {
             push_clear(text, clear)?;
-            push_number(text, "ticks", ticks)
+            push_number(text, "ticks", ticks)?;
+            push_index(text, header, index)
         }
-        Call::ValueClear { task, bits } => {
+        Call::ValueClear { task, bits, index } => {
             push_to(text, header, task)?;
-            push_number(text, "bits", bits)
+            push_number(text, "bits", bits)?;
+            push_index(text, header, index)
         }
         Call::MutexTake { mutex, ticks } => write!(text, " mutex {mutex} ticks {ticks}"),
         Call::MutexGive(mutex) => push_number(text, "mutex", mutex),

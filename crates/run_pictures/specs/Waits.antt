@@ -17,8 +17,8 @@ use Rattle.run_pictures.specs.declared.waits.Wait.TheVariants.{Delay, Notificati
 abbrev pub wait_of : Call → Option Wait
 wait_of (call.Delay ticks) = Some Delay
 wait_of (call.DelayUntil prev inc) = Some Delay
-wait_of (call.NotifyWait entry exit ticks) = Some Notification
-wait_of (call.NotifyTake clear ticks) = Some Notification
+wait_of (call.NotifyWait entry exit ticks index) = Some Notification
+wait_of (call.NotifyTake clear ticks index) = Some Notification
 wait_of (call.MutexTake mutex ticks) = Some (Mutex mutex)
 wait_of other = None
 

@@ -23,3 +23,14 @@ pub const SHARED_MUTEX: &str = "{\"session\": {\"format\": 1, \"cores\": 2, \"pr
     {\"edit\": \"remove\", \"at\": 3}, \
     {\"edit\": \"replace\", \"at\": 4, \"step\": {\"do\": \"yield\", \"core\": 1, \"by\": \"logger\"}}, \
     {\"edit\": \"remove\", \"at\": 9}]}";
+
+/// A waits at index 1; interrupts notify it at index 0 and then at index 1, and it runs on.
+pub const TWO_NOTES: &str = "{\"format\": 2, \"cores\": 2, \"priorities\": 5, \"slicing\": false, \
+    \"tick\": 0, \"mutexes\": 0, \"notes\": 2, \"tasks\": [\
+    {\"name\": \"A\", \"priority\": 2, \"mask\": 3}, \
+    {\"name\": \"B\", \"priority\": 1, \"mask\": 3}, {\"name\": \"C\", \"priority\": 1, \"mask\": 3}], \
+    \"steps\": [{\"do\": \"notify_wait\", \"core\": 0, \"by\": \"A\", \"entry\": 0, \"exit\": 0, \
+    \"ticks\": 10, \"index\": 1}, {\"do\": \"isr_notify\", \"core\": 1, \"to\": \"A\", \
+    \"action\": \"increment\", \"index\": 0}, {\"do\": \"isr_notify\", \"core\": 1, \"to\": \"A\", \
+    \"action\": \"set\", \"value\": 9, \"index\": 1}, {\"do\": \"switch\", \"core\": 0}, \
+    {\"do\": \"finish\", \"core\": 0, \"by\": \"A\"}]}";

@@ -1,6 +1,6 @@
 //! The text of a trace.
 
-use crate::view::samples::FIRST_RUN;
+use crate::view::samples::{FIRST_RUN, TWO_NOTES};
 use bench_types::Items;
 use run_views::{Interest, Places, trace};
 use session_text::read_session;
@@ -34,10 +34,47 @@ step 4: switch core 0
 place 5, tick 1; core 0 C; core 1 B
 ";
 
+const INDEXED: &str = "place 0, tick 0; core 0 A; core 1 B
+step 0: notify_wait core 0 by A entry 0 exit 0 ticks 10 index 1
+  blocked: the call was made, and its task waits
+  core 0 pend set
+  A blocked until tick 10
+  A call begun
+  A notification none to waiting index 1
+place 1, tick 0; core 0 A, due by pend; core 1 B
+step 1: isr_notify core 1 to A action increment index 0
+  isr true false: the notification passed
+  A notification value 0 to 1 index 0
+  A notification none to received index 0
+place 2, tick 0; core 0 A, due by pend; core 1 B
+step 2: isr_notify core 1 to A action set value 9 index 1
+  isr true false: the notification passed
+  A woken
+  A notification value 0 to 9 index 1
+  A notification waiting to received index 1
+place 3, tick 0; core 0 A, due by pend; core 1 B
+step 3: switch core 0
+  done: the step was made
+  core 0 pend cleared
+place 4, tick 0; core 0 A; core 1 B
+step 4: finish core 0 by A
+  waited true 9: a notification had come
+  A call ended
+  A notification received to none index 1
+place 5, tick 0; core 0 A; core 1 B
+";
+
 #[test]
 fn a_whole_run(rt: HostRuntime) -> Result<(), Fail> {
     let text = trace_of(&rt, &rt, FIRST_RUN, 0, u32::MAX)?;
     expect_text(&rt, text.as_str(), WHOLE);
+    Ok(())
+}
+
+#[test]
+fn a_run_with_two_notifications(rt: HostRuntime) -> Result<(), Fail> {
+    let text = trace_of(&rt, &rt, TWO_NOTES, 0, u32::MAX)?;
+    expect_text(&rt, text.as_str(), INDEXED);
     Ok(())
 }
 

@@ -1,6 +1,6 @@
 //! What each command shows of a document.
 
-use crate::view::samples::{FIRST_RUN, SHARED_MUTEX};
+use crate::view::samples::{FIRST_RUN, SHARED_MUTEX, TWO_NOTES};
 use bench_commands::{Counted, Status};
 use run_views::Places;
 use std::alloc::{AllocError, Global};
@@ -31,6 +31,26 @@ const UNEDITED: &str = "  0 0 delay core 0 by A ticks 2: blocked; A B
 the runs do not differ
 ";
 
+const INDEXED: &str = "  0 0 notify_wait core 0 by A entry 0 exit 0 ticks 10 index 1: blocked; A B
+  1 1 isr_notify core 1 to A action increment index 0: \
+    isr true false: the notification passed; A B
+  2 2 isr_notify core 1 to A action set value 9 index 1: \
+    isr true false: the notification passed; A B
+  3 3 switch core 0: done; A B
+  4 4 finish core 0 by A: waited true 9: a notification had come; A B
+the runs do not differ
+";
+
+/// `TWO_NOTES`, written.
+const INDEXED_KEPT: &str =
+    "{\"cores\":2,\"format\":2,\"mutexes\":0,\"notes\":2,\"priorities\":5,\"slicing\":false,\
+    \"steps\":[{\"by\":\"A\",\"core\":0,\"do\":\"notify_wait\",\"entry\":0,\"exit\":0,\"index\":1,\
+    \"ticks\":10},{\"action\":\"increment\",\"core\":1,\"do\":\"isr_notify\",\"index\":0,\
+    \"to\":\"A\"},{\"action\":\"set\",\"core\":1,\"do\":\"isr_notify\",\"index\":1,\"to\":\"A\",\
+    \"value\":9},{\"core\":0,\"do\":\"switch\"},{\"by\":\"A\",\"core\":0,\"do\":\"finish\"}],\
+    \"tasks\":[{\"mask\":3,\"name\":\"A\",\"priority\":2},{\"mask\":3,\"name\":\"B\",\
+    \"priority\":1},{\"mask\":3,\"name\":\"C\",\"priority\":1}],\"tick\":0}\n";
+
 /// The session of `SHARED_MUTEX` with its edits made.
 pub(crate) const KEPT: &str =
     "{\"cores\":2,\"format\":1,\"mutexes\":1,\"priorities\":4,\"slicing\":false,\"steps\":[\
@@ -47,6 +67,13 @@ fn views(rt: HostRuntime) -> Result<(), Fail> {
     expect(&rt, &rt, Command::Compare, FIRST_RUN, UNEDITED);
     expect(&rt, &rt, Command::Session, SHARED_MUTEX, KEPT);
     expect_traces(&rt, &rt)?;
+    Ok(())
+}
+
+#[test]
+fn views_of_two_notifications(rt: HostRuntime) -> Result<(), Fail> {
+    expect(&rt, &rt, Command::Compare, TWO_NOTES, INDEXED);
+    expect(&rt, &rt, Command::Session, TWO_NOTES, INDEXED_KEPT);
     Ok(())
 }
 

@@ -567,7 +567,7 @@ run 'long words, with memory' 2 '' "error: unrecognized subcommand 'aaa" "${word
 
 program="$PWD/crates/smp_view/out/smp_view"
 first=examples/first-run.json
-traced="$(cat crates/smp_view/stdout)
+traced="$(cat examples/first-run.trace)
 "
 
 # The output is to be the file WANTED.

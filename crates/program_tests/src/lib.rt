@@ -23,6 +23,8 @@ mod rigs;
 #[cfg(test)]
 mod side_by_side;
 #[cfg(test)]
+mod sizes;
+#[cfg(test)]
 mod trials;
 #[cfg(test)]
 mod view;

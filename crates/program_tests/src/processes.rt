@@ -20,7 +20,7 @@ struct End<'a> {
 }
 
 /// The words of the line, as the system hands them over.
-fn args_of(alloc: Global, line: &str) -> Result<Args, AllocError> {
+pub(crate) fn args_of(alloc: Global, line: &str) -> Result<Args, AllocError> {
     let mut words = Vec::new(alloc);
     for word in line.split(' ') {
         words.push(String::from_str(alloc, word)?)?;

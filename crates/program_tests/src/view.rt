@@ -2,6 +2,7 @@
 mod command_lines;
 mod files;
 mod pictures;
+mod processes;
 mod samples;
 mod traces;
 mod views;

@@ -3,13 +3,13 @@
 
 use bench_commands::Counted;
 use std::process::ExitCode;
-use view_commands::{HostSource, run_program};
+use view_commands::{DocumentSource, run_program};
 
 fn main(rt: HostRuntime) -> ExitCode {
     run_program(
         &rt,
         std::env::args(&rt),
-        &mut HostSource::new(&rt),
+        &mut DocumentSource::new(rt.stdin(), &rt),
         &mut Counted::new(rt.stdout()),
         &mut Counted::new(rt.stderr()),
     )

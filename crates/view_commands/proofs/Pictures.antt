@@ -2,12 +2,12 @@
 use Rattle.std.proofs.Common.{◌≡◌, ℕ, List, Bool, true, false, Result, Ok, Err, IfOk, Global, length, nat_lt, arith, sym, ap, subst, ◌∙◌}
 use Rattle.std.specs.Prelude.{String, if◌then◌else◌}
 use Rattle.std.proofs.lemmas.Bool.Decides.{nat_tests}
-use Rattle.run_pictures.specs.declared.picture.TheConstants.{MAX_PLACES}
 use Rattle.run_pictures.specs.declared.picture.TooLong.{TooLong}
 use Rattle.bench_types.specs.declared.header.Header.{Header}
 use Rattle.bench_types.specs.declared.step.Step.{Step}
 use Rattle.bench_types.specs.Session.{Session}
 use Rattle.run_views.specs.declared.places.Places.{Places}
+use Rattle.run_pictures.specs.Limits.{max_places}
 use Rattle.run_pictures.specs.Picture.{count_of_both, picture_text, pictures_text, shown_count, Answers}
 use Rattle.bench_commands.specs.Answer.{Output}
 use Rattle.view_commands.specs.Views.{answer_output, picture_of_both, picture_of_run, picture_or, fine, refused_long}
@@ -15,10 +15,10 @@ use Rattle.view_commands.specs.Views.{answer_output, picture_of_both, picture_of
 -- an answer is the picture, or that it would be too long
 answered : (count : ℕ) (picture : List ℕ) (answer : Result (String Global) TooLong) → Answers count picture answer → answer_output answer ≡ picture_or count picture
 answered count picture (Ok text) told =
-    let few : nat_lt MAX_PLACES count ≡ false = grind (arith, nat_tests, told.0) in
+    let few : nat_lt max_places count ≡ false = grind (arith, nat_tests, told.0) in
     ap fine told.1 ∙ sym (ap (λ (many : Bool). if many then refused_long count else fine picture) few)
 answered count picture (Err why) told =
-    let many : nat_lt MAX_PLACES count ≡ true = grind (arith, nat_tests, told.0) in
+    let many : nat_lt max_places count ≡ true = grind (arith, nat_tests, told.0) in
     ap refused_long told.1 ∙ sym (ap (λ (many : Bool). if many then refused_long count else fine picture) many)
 
 -- the bytes of an answer

@@ -11,8 +11,8 @@ use Rattle.session_write.specs.Written.{written}
 use Rattle.run_views.specs.Trace.{trace_text}
 use Rattle.std.specs.declared.alloc.Global.{Global}
 use Rattle.run_pictures.specs.declared.picture.TooLong.{TooLong}
-use Rattle.run_pictures.specs.declared.picture.TheConstants.{MAX_PLACES}
 use Rattle.run_views.specs.declared.places.Places.{Places}
+use Rattle.run_pictures.specs.Limits.{max_places}
 use Rattle.run_pictures.specs.Picture.{count_of_both, picture_text, pictures_text, shown_count}
 use Rattle.run_comparisons.specs.Comparison.{compare_text}
 use Rattle.bench_commands.specs.Answer.{Output, refused, why_text}
@@ -51,12 +51,17 @@ trace_output selected session =
 abbrev pub document_of : Session → List ℕ
 document_of session = written session.header session.steps ++ codes "\n"
 
+-- how many places a picture shows at most, as texts tell it
+abbrev pub most_places : List ℕ
+most_places = codes "4000"
+
 -- a picture would show more places than it may
 abbrev pub refused_long : ℕ → Output
 refused_long count = record {
   is_refused = true;
   text = codes "refused range of " ++ decimal count ++ codes " places"
-      ++ codes ", and a picture shows at most 4000" ++ codes ": name fewer by --from and --to\n";
+      ++ codes ", and a picture shows at most " ++ most_places
+      ++ codes ": name fewer by --from and --to\n";
 }
 
 abbrev pub answer_output : Result (String Global) TooLong → Output
@@ -66,7 +71,7 @@ answer_output (Err why) = refused_long why.places
 -- a picture of so many places, or that these are too many
 abbrev pub picture_or : ℕ → List ℕ → Output
 picture_or count picture =
-    if nat_lt MAX_PLACES count then refused_long count else fine picture
+    if nat_lt max_places count then refused_long count else fine picture
 
 abbrev pub picture_of_run : Places → Session → Output
 picture_of_run places session =

@@ -9,7 +9,8 @@ mod program;
 mod source;
 mod words;
 
+pub use edited::law_of_texts;
 pub use execution::run;
 pub use program::{ViewEnding, carry_out, run_program};
-pub use source::{HostSource, Source};
+pub use source::{DocumentSource, Folder, Source};
 pub use words::{Command, FileName, Request, Selection, request_in};

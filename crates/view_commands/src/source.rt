@@ -1,11 +1,14 @@
 //! Where documents are read from.
-ghost use Rattle.std.specs.Prelude.{◌≡◌, ℕ, List, Option, None, OnErr, OnOk, is_ok};
+ghost use Rattle.std.specs.Prelude.{◌≡◌, ℕ, List, Option, None, IfOk, OnErr, OnOk, is_ok};
+ghost use Rattle.std.specs.Io.{ReadsAtMost};
+ghost use Rattle.std.specs.Io.KnownBytes.{ReadConsumes};
 ghost use Rattle.bench_commands.specs.Device.{failures_after};
+ghost use Rattle.view_commands.specs.Source.{remaining_of};
 
 use bench_commands::CountedRead;
 use std::fs::File;
 use std::io;
-use std::io::{Read, Stdin};
+use std::io::Read;
 
 /// Standard input, or a file that is read in its place.
 pub trait Source: CountedRead {
@@ -21,14 +24,40 @@ pub trait Source: CountedRead {
             ≡ failures_after (is_ok result) (Self.failures self.old) };
 }
 
-// What the process reads.
-#[derive(Drop)]
-enum Device {
-    Standard(Stdin),
-    Named(File),
+/// Where files are opened, each by its name.
+pub trait Folder {
+    type File: Read + Drop;
+
+    // What the file of each name holds, where that is known.
+    ghost held: { Self → List ℕ → Option (List ℕ) };
+
+    /// The file of this name, to be read from its first byte on.
+    fn open_file(&self, name: &str) -> io::Result<Self::File>
+        ensures { IfOk result
+            (λ file. Self.File.remaining file ≡ held self.now name.now) };
 }
 
-impl Read for Device {
+// What the system's files hold, no contract says.
+impl Folder for HostRuntime {
+    type File = File;
+
+    ghost held = { λ _ _. None };
+
+    fn open_file(&self, name: &str) -> io::Result<File> {
+        File::open(self, name)
+    }
+}
+
+/// What is read.
+#[derive(Drop)]
+enum Device<S, F> {
+    Standard(S),
+    Named(F),
+}
+
+impl<S: Read, F: Read> Read for Device<S, F> {
+    ghost remaining = { remaining_of S.remaining F.remaining };
+
     fn read(&mut self, buf: &mut [u8]) -> io::Result<usize> {
         match self {
             Device::Standard(input) => input.read(buf),
@@ -37,22 +66,25 @@ impl Read for Device {
     }
 }
 
-/// Standard input of the process, or a file of the system that is read in its place.
+/// Standard input, or a file of a folder that is read in its place.
 #[derive(Drop)]
-pub struct HostSource<'a> {
-    host: &'a HostRuntime,
-    device: Device,
+pub struct DocumentSource<'a, S, D: Folder> {
+    folder: &'a D,
+    device: Device<S, D::File>,
     failures: u64,
 }
 
-impl<'a> HostSource<'a> {
-    /// Standard input, of which no read has failed.
-    pub fn new(host: &'a HostRuntime) -> Self
-        ensures { result.failures ≡ 0 }
+impl<'a, S: Read + Drop, D: Folder> DocumentSource<'a, S, D> {
+    /// Standard input, of which no read has failed, and where files are opened.
+    pub fn new(standard: S, folder: &'a D) -> Self
+        ensures folder { result.folder.now ≡ folder.now }
+        ensures remaining { remaining_of S.remaining D.File.remaining result.device
+            ≡ S.remaining standard }
+        ensures failures { result.failures ≡ 0 }
     {
-        HostSource {
-            host,
-            device: Device::Standard(host.stdin()),
+        DocumentSource {
+            folder,
+            device: Device::Standard(standard),
             failures: 0,
         }
     }
@@ -65,13 +97,21 @@ impl<'a> HostSource<'a> {
     }
 }
 
-impl Read for HostSource<'_> {
-    fn read(&mut self, buf: &mut [u8]) -> io::Result<usize> {
+impl<S: Read + Drop, D: Folder> Read for DocumentSource<'_, S, D> {
+    ghost remaining = { λ source. remaining_of S.remaining D.File.remaining source.device };
+
+    fn read(&mut self, buf: &mut [u8]) -> io::Result<usize>
+        ensures bound { ReadsAtMost result buf.new }
+        ensures bytes { ReadConsumes
+            (remaining_of S.remaining D.File.remaining self.old.device)
+            (remaining_of S.remaining D.File.remaining self.new.device) result buf.new }
+        ensures count { self.new.failures ≡ failures_after (is_ok result) self.old.failures }
+    {
         self.read_counted(buf)
     }
 }
 
-impl CountedRead for HostSource<'_> {
+impl<S: Read + Drop, D: Folder> CountedRead for DocumentSource<'_, S, D> {
     ghost failures = { λ source. source.failures };
 
     fn failures(&self) -> u64 {
@@ -87,12 +127,11 @@ impl CountedRead for HostSource<'_> {
     }
 }
 
-// What the system's files hold, no contract says.
-impl Source for HostSource<'_> {
-    ghost file = { λ _ _. None };
+impl<S: Read + Drop, D: Folder> Source for DocumentSource<'_, S, D> {
+    ghost file = { λ source. D.held source.folder.now };
 
     fn open(&mut self, name: &str) -> io::Result<()> {
-        match File::open(self.host, name) {
+        match self.folder.open_file(name) {
             Ok(file) => {
                 self.device = Device::Named(file);
                 Ok(())

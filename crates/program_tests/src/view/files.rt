@@ -3,57 +3,31 @@ ghost use Rattle.std.specs.Prelude.{Some};
 
 use crate::view::samples::SHARED_MUTEX;
 use crate::view::views::KEPT;
-use bench_commands::{Counted, CountedRead};
+use bench_commands::Counted;
 use std::alloc::AllocError;
 use std::io;
-use std::io::{ErrorKind, Read};
+use std::io::ErrorKind;
 use std::process::Abort;
 use std::test::Fail;
-use view_commands::{Command, FileName, Request, Source, carry_out};
+use view_commands::{Command, DocumentSource, FileName, Folder, Request, carry_out};
 
-/// Standard input, and one file that can be read in its place.
+/// A folder with one file.
 #[derive(Drop)]
-struct Shelf<'a> {
-    rest: &'a [u8],
-    name: &'a str,
-    file: &'a [u8],
-    failures: u64,
+pub(crate) struct Shelf<'a> {
+    pub(crate) name: &'a str,
+    pub(crate) text: &'a [u8],
 }
 
-impl Read for Shelf<'_> {
-    ghost remaining = { λ shelf. Some shelf.rest.now };
+impl<'a> Folder for Shelf<'a> {
+    type File = &'a [u8];
 
-    fn read(&mut self, buf: &mut [u8]) -> io::Result<usize> {
-        self.read_counted(buf)
-    }
-}
+    ghost held = { λ shelf _. Some shelf.text.now };
 
-impl CountedRead for Shelf<'_> {
-    ghost failures = { λ shelf. shelf.failures };
-
-    fn failures(&self) -> u64 {
-        self.failures
-    }
-
-    fn read_counted(&mut self, buf: &mut [u8]) -> io::Result<usize> {
-        let result = self.rest.read(buf);
-        if result.is_err() {
-            self.failures = self.failures.saturating_add(1);
-        }
-        result
-    }
-}
-
-impl Source for Shelf<'_> {
-    ghost file = { λ shelf _. Some shelf.file.now };
-
-    fn open(&mut self, name: &str) -> io::Result<()> {
+    fn open_file(&self, name: &str) -> io::Result<&'a [u8]> {
         if name != self.name {
-            self.failures = self.failures.saturating_add(1);
             return Err(io::Error::from(ErrorKind::NotFound));
         }
-        self.rest = self.file;
-        Ok(())
+        Ok(self.text)
     }
 }
 
@@ -76,17 +50,16 @@ fn expect(
     wanted: &str,
 ) -> Result<(), AllocError> {
     let document = SHARED_MUTEX.as_bytes();
-    let (rest, file) = if name.is_none() {
+    let (standard, text) = if name.is_none() {
         (document, "".as_bytes())
     } else {
         ("".as_bytes(), document)
     };
-    let mut reader = Shelf {
-        rest,
+    let shelf = Shelf {
         name: "run.json",
-        file,
-        failures: 0,
+        text,
     };
+    let mut reader = DocumentSource::new(standard, &shelf);
     let mut shown = Vec::new(host.alloc());
     let mut writer = Counted::new(&mut shown);
     let request = Request::Show(Command::Session, file_named(host, name)?);

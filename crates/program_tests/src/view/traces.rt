@@ -8,7 +8,7 @@ use smp_kernel::Meter;
 use std::process::Abort;
 use std::test::Fail;
 
-const WHOLE: &str = "place 0, tick 0; core 0 A; core 1 B
+pub(crate) const WHOLE: &str = "place 0, tick 0; core 0 A; core 1 B
 step 0: delay core 0 by A ticks 2
   blocked: the call was made, and its task waits
   core 0 pend set

@@ -1,0 +1,243 @@
+//! Runs of more steps, and trials of more edits, than small examples have: the whole of what is
+//! written, against lines that are made here.
+use crate::devices::{expect, expect_same};
+use bench_commands::{Counted, Ending, Status, carry_out};
+use run_views::Places;
+use std::alloc::{AllocError, Global};
+use std::process::Abort;
+use std::sync::Wait;
+use std::test::Fail;
+use std::thread::Threads;
+use view_commands::{Command, Selection};
+
+/// More than a thousand.
+const TICKS: u32 = 1_500;
+
+/// Where a tick is put in.
+const AT: u32 = 1_234;
+
+/// More than two hundred.
+const EDITS: u32 = 250;
+
+/// The members of a header: A runs on core 0 and B on core 1, and C waits.
+const HEADER: &str = r#""format":1,"cores":2,"priorities":5,"slicing":false,"tick":0,"mutexes":0,
+"tasks":[{"name":"A","priority":2,"mask":3},{"name":"B","priority":1,"mask":3},
+{"name":"C","priority":1,"mask":3}]"#;
+
+const TICK: &str = r#"{"do":"tick"}"#;
+
+/// A session of so many ticks.
+fn session_of(alloc: Global, ticks: u32) -> Result<String, AllocError> {
+    let mut text = format!(in alloc; "{{{HEADER},\"steps\":[{TICK}")?;
+    for _ in 1..ticks {
+        write!(text, ",{TICK}")?;
+    }
+    text.push_str("]}")?;
+    Ok(text)
+}
+
+/// A bench document of a session and edits.
+fn document_of(alloc: Global, session: &str, edits: &str) -> Result<String, AllocError> {
+    format!(in alloc; "{{\"session\":{session},\"edits\":[{edits}]}}")
+}
+
+/// What the command shows of a document.
+fn check_view(
+    rt: &impl Abort,
+    host: &HostRuntime,
+    command: &Command,
+    document: &str,
+    wanted: &str,
+) {
+    let mut shown = Vec::new(host.alloc());
+    let mut reader = Counted::new(document.as_bytes());
+    let mut writer = Counted::new(&mut shown);
+    let status = view_commands::run(host, host.alloc(), &mut reader, &mut writer, command);
+    expect_same(rt, "status", status, Status::Fine);
+    expect_same(rt, "bytes", shown.len(), wanted.len());
+    expect(rt, "the whole text", shown.as_slice() == wanted.as_bytes());
+}
+
+/// The trace of so many ticks.
+fn trace_lines(alloc: Global, ticks: u32) -> Result<String, AllocError> {
+    let mut text = String::new(alloc);
+    for at in 0..ticks {
+        push_tick(&mut text, at)?;
+    }
+    write!(text, "place {ticks}, tick {ticks}; core 0 A; core 1 B\n")?;
+    Ok(text)
+}
+
+fn push_tick(text: &mut String, at: u32) -> Result<(), AllocError> {
+    let next = at.saturating_add(1);
+    write!(
+        text,
+        "place {at}, tick {at}; core 0 A; core 1 B\nstep {at}: tick\n"
+    )?;
+    write!(text, "  done: the step was made\n  tick {at} to {next}\n")
+}
+
+fn whole_trace(alloc: Global) -> Command {
+    Command::Trace(Selection {
+        places: Places {
+            from: 0,
+            to: u32::MAX,
+        },
+        tasks: Vec::new(alloc),
+        cores: Vec::new(alloc),
+    })
+}
+
+#[test]
+fn a_trace_of_many_steps(rt: HostRuntime) -> Result<(), Fail> {
+    let session = session_of(rt.alloc(), TICKS)?;
+    let lines = trace_lines(rt.alloc(), TICKS)?;
+    check_view(&rt, &rt, &whole_trace(rt.alloc()), &session, &lines);
+    Ok(())
+}
+
+/// The comparison of so many ticks with one tick more, which is put in there.
+fn comparison_lines(alloc: Global, ticks: u32, at: u32) -> Result<String, AllocError> {
+    let mut text = String::new(alloc);
+    for before in 0..ticks {
+        push_row(&mut text, before, at)?;
+    }
+    write!(text, "the runs differ first at - {at} and last at - {at}\n")?;
+    text.push_str(GAINED)?;
+    Ok(text)
+}
+
+/// What each task gains by one tick more.
+const GAINED: &str = "\
+task IDLE0 wait +1
+task IDLE1 wait +1
+task A run on core 0 +1
+task B run on core 1 +1
+task C wait +1
+";
+
+/// The row of a step, and before it that of the step that is put in there.
+fn push_row(text: &mut String, before: u32, at: u32) -> Result<(), AllocError> {
+    if before < at {
+        return write!(text, "  {before} {before} tick: done; A B\n");
+    }
+    if before == at {
+        write!(text, "+ - {at} tick: done; A B\n")?;
+    }
+    let after = before.saturating_add(1);
+    write!(text, "  {before} {after} tick: done; A B\n")
+}
+
+/// A session of so many ticks, and an edit that puts a tick in there.
+fn compared_document(alloc: Global, ticks: u32, at: u32) -> Result<String, AllocError> {
+    let session = session_of(alloc, ticks)?;
+    let edit = format!(in alloc; r#"{{"edit":"insert","at":{at},"step":{TICK}}}"#)?;
+    document_of(alloc, &session, &edit)
+}
+
+#[test]
+fn a_comparison_of_many_steps(rt: HostRuntime) -> Result<(), Fail> {
+    let document = compared_document(rt.alloc(), TICKS, AT)?;
+    let lines = comparison_lines(rt.alloc(), TICKS, AT)?;
+    check_view(&rt, &rt, &Command::Compare, &document, &lines);
+    Ok(())
+}
+
+/// So many edits of a session of one tick: in turn it is removed, a tick is put after it, and one
+/// where there is no place.
+fn edits_of(alloc: Global, edits: u32) -> Result<String, AllocError> {
+    let mut text = String::new(alloc);
+    for index in 0..edits {
+        if index > 0 {
+            text.push_str(",")?;
+        }
+        push_edit(&mut text, index)?;
+    }
+    Ok(text)
+}
+
+fn push_edit(text: &mut String, index: u32) -> Result<(), AllocError> {
+    match index % 3 {
+        0 => text.push_str(r#"{"edit":"remove","at":0}"#),
+        1 => write!(text, r#"{{"edit":"insert","at":1,"step":{TICK}}}"#),
+        _ => write!(text, r#"{{"edit":"insert","at":3,"step":{TICK}}}"#),
+    }
+}
+
+/// The lines of these trials.
+fn trial_lines(alloc: Global, edits: u32) -> Result<String, AllocError> {
+    let mut text = String::new(alloc);
+    for index in 0..edits {
+        push_trial(&mut text, index)?;
+    }
+    Ok(text)
+}
+
+fn push_trial(text: &mut String, index: u32) -> Result<(), AllocError> {
+    match index % 3 {
+        0 => {
+            write!(text, "edit {index} from 0 met 0 replayed 0\n")?;
+            push_fares(text, 0)
+        }
+        1 => {
+            write!(text, "edit {index} from 0 met 2 replayed 2\n")?;
+            push_fares(text, 2)
+        }
+        _ => write!(text, "edit {index} refused J1\n"),
+    }
+}
+
+/// How each task fares over so many ticks.
+fn push_fares(text: &mut String, ticks: u32) -> Result<(), AllocError> {
+    let rest = "inverted 0 in 0 displaced 0 timeouts 0 top";
+    write!(text, "task IDLE0 run 0 0 wait {ticks} {rest} 0\n")?;
+    write!(text, "task IDLE1 run 0 0 wait {ticks} {rest} 0\n")?;
+    write!(text, "task A run {ticks} 0 wait 0 {rest} 2\n")?;
+    write!(text, "task B run 0 {ticks} wait 0 {rest} 1\n")?;
+    write!(text, "task C run 0 0 wait {ticks} {rest} 1\n")
+}
+
+/// A session of one tick, and so many edits.
+fn tried_document(alloc: Global, edits: u32) -> Result<String, AllocError> {
+    let session = session_of(alloc, 1)?;
+    let edits = edits_of(alloc, edits)?;
+    document_of(alloc, &session, &edits)
+}
+
+#[test]
+fn trials_of_many_edits(rt: HostRuntime) -> Result<(), Fail> {
+    let document = tried_document(rt.alloc(), EDITS)?;
+    let lines = trial_lines(rt.alloc(), EDITS)?;
+    check_trials(&rt, &rt, &document, &lines);
+    Ok(())
+}
+
+/// What the program writes of trials.
+fn check_trials<R: Threads + Wait + Abort + Sync>(
+    rt: &R,
+    host: &HostRuntime,
+    document: &str,
+    wanted: &str,
+) {
+    let mut written = Vec::new(host.alloc());
+    let ending = tried(rt, host, document, &mut written);
+    expect_same(rt, "status", ending.code(), 0);
+    expect_same(rt, "bytes", written.len(), wanted.len());
+    expect(
+        rt,
+        "the whole text",
+        written.as_slice() == wanted.as_bytes(),
+    );
+}
+
+fn tried<R: Threads + Wait + Sync>(
+    rt: &R,
+    host: &HostRuntime,
+    document: &str,
+    written: &mut Vec<u8>,
+) -> Ending {
+    let mut reader = Counted::new(document.as_bytes());
+    let mut writer = Counted::new(written);
+    let words: Option<&[&str]> = Some(&["smp_bench", "whatif"]);
+    carry_out(rt, host, host.alloc(), words, &mut reader, &mut writer)
+}

@@ -1,0 +1,63 @@
+//! The whole program: words, standard input or a file in its place, standard output and error, and
+//! the exit status.
+use crate::devices::{Sink, expect_same};
+use crate::processes::args_of;
+use crate::view::files::Shelf;
+use crate::view::samples::FIRST_RUN;
+use crate::view::traces::WHOLE;
+use bench_commands::Counted;
+use std::env::Args;
+use std::io;
+use std::process::{Abort, ExitCode};
+use std::test::Fail;
+use view_commands::{DocumentSource, run_program};
+
+/// A trace of the first run, which standard input or a file has.
+#[test]
+fn a_trace_by_the_program(rt: HostRuntime) -> Result<(), Fail> {
+    for (line, standard, file) in [
+        ("smp_view trace", FIRST_RUN, ""),
+        ("smp_view trace run.json", "", FIRST_RUN),
+    ] {
+        let words = Ok(args_of(rt.alloc(), line)?);
+        check_trace(&rt, &rt, words, standard, file);
+    }
+    Ok(())
+}
+
+fn check_trace(
+    rt: &impl Abort,
+    host: &HostRuntime,
+    words: io::Result<Args>,
+    standard: &str,
+    file: &str,
+) {
+    let mut output = Sink::wide();
+    let mut errors = Sink::wide();
+    let shelf = Shelf {
+        name: "run.json",
+        text: file.as_bytes(),
+    };
+    let mut reader = DocumentSource::new(standard.as_bytes(), &shelf);
+    let status = status_of(host, words, &mut reader, &mut output, &mut errors);
+    expect_same(rt, file, status, ExitCode::from(0));
+    output.expect(rt, WHOLE);
+    errors.expect(rt, "");
+}
+
+/// The exit status of the program with these words.
+fn status_of(
+    host: &HostRuntime,
+    words: io::Result<Args>,
+    reader: &mut DocumentSource<'_, &[u8], Shelf<'_>>,
+    output: &mut Sink,
+    errors: &mut Sink,
+) -> ExitCode {
+    run_program(
+        host,
+        words,
+        reader,
+        &mut Counted::new(output),
+        &mut Counted::new(errors),
+    )
+}

@@ -18,6 +18,7 @@ use Rattle.view_commands.specs.declared.words.Command.{Command}
 use Rattle.view_commands.specs.declared.words.Request.{Request}
 use Rattle.view_commands.specs.declared.words.Request.TheVariants.{Show, Help, Bad}
 use Rattle.view_commands.specs.ViewRun.{Viewed}
+use Rattle.view_commands.specs.Views.{most_places}
 use Rattle.view_commands.specs.Words.{Word, asked}
 
 -- what a device has left or holds, where that is known
@@ -73,9 +74,9 @@ help =
     ++ codes "            task gained and lost\n"
     ++ codes "  timeline  the run before the edits and that after them as a picture (SVG), at\n"
     ++ codes "            all places or at those from the one to the other, "
-    ++ decimal max_places ++ codes " at most\n\n"
+    ++ most_places ++ codes " at most\n\n"
     ++ codes "exit status: 0 it was shown; 1 the document is refused, or a task or core that it\n"
-    ++ codes "has not, or a picture of more than " ++ decimal max_places
+    ++ codes "has not, or a picture of more than " ++ most_places
     ++ codes " places (standard output says which); 2 a\n"
     ++ codes "bad command line; 3 memory or a device failed, or the file can't be opened\n\n"
     ++ codes "example: smp_view trace --from 2 --to 3 examples/first-run.json\n"

@@ -51,12 +51,16 @@ trace_output selected session =
 abbrev pub document_of : Session → List ℕ
 document_of session = written session.header session.steps ++ codes "\n"
 
+-- how many places a picture shows at most, as texts tell it
+abbrev pub most_places : List ℕ
+most_places = codes "4000"
+
 -- a picture would show more places than it may
 abbrev pub refused_long : ℕ → Output
 refused_long count = record {
   is_refused = true;
   text = codes "refused range of " ++ decimal count ++ codes " places"
-      ++ codes ", and a picture shows at most " ++ decimal max_places
+      ++ codes ", and a picture shows at most " ++ most_places
       ++ codes ": name fewer by --from and --to\n";
 }
 

@@ -1,12 +1,13 @@
 //! What is shown of the session of a store and of edits of it.
-ghost use Rattle.std.specs.Prelude.{◌≡◌, ◌+◌, ◌≤◌, ◌<◌, ◌^◌, [], All, IfOk, OnOk, length, map, slice_index_or, string_bytes};
+ghost use Rattle.std.specs.Prelude.{◌≡◌, ◌+◌, ◌≤◌, ◌<◌, ◌^◌, [], All, IfOk, OnOk, decimal, length, map, slice_index_or, string_bytes};
 ghost use Rattle.bench_types.specs.Limits.{max_steps};
 ghost use Rattle.bench_model.specs.Edits.{after_edits};
 ghost use Rattle.session_store.specs.Outcomes.{after_edit};
 ghost use Rattle.bench_types.specs.Header.{IsCheckedHeader};
 ghost use Rattle.bench_types.specs.Step.{settings_of, IsCheckedStep};
 ghost use Rattle.run_comparisons.specs.Comparison.{compare_text};
-ghost use Rattle.view_commands.specs.Views.{answer_output, document_of, fine, picture_of, picture_of_both, picture_of_run, refused_long, refused_core, refused_task, shown, trace_of, trace_output};
+ghost use Rattle.run_pictures.specs.Limits.{max_places};
+ghost use Rattle.view_commands.specs.Views.{answer_output, document_of, fine, most_places, picture_of, picture_of_both, picture_of_run, refused_long, refused_core, refused_task, shown, trace_of, trace_output};
 
 use crate::answer::Shown;
 use crate::interest::{interest_of, unknown_core, unknown_task};
@@ -175,6 +176,11 @@ fn comparison_of(
     let text = compare(alloc, meter, &before, store, edits)?;
     Ok(text.into_bytes())
 }
+
+/// The number of places that texts tell is the limit. It does nothing: its contract is the law.
+pub fn law_of_texts()
+    ensures { most_places ≡ decimal max_places }
+{}
 
 fn refused_long(alloc: Global, count: u64) -> Result<Shown, AllocError>
     ensures { IfOk result (λ shown. shown ≡ refused_long count) }

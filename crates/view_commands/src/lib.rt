@@ -9,6 +9,7 @@ mod program;
 mod source;
 mod words;
 
+pub use edited::law_of_texts;
 pub use execution::run;
 pub use program::{ViewEnding, carry_out, run_program};
 pub use source::{DocumentSource, Folder, Source};

@@ -6,15 +6,20 @@ use Rattle.bench_types.specs.declared.step.Step.{Step}
 use Rattle.bench_types.specs.declared.step.Step.TheVariants as step
 use Rattle.bench_types.specs.declared.step.Call.{Call}
 use Rattle.bench_types.specs.declared.step.Call.TheVariants as call
-use Rattle.bench_types.proofs.Passes.{both_pass, checked_core, checked_mutex, checked_task}
-use Rattle.bench_types.specs.Step.{settings_of, core_check, task_check, mask_check, call_check, ◌>>◌}
+use Rattle.bench_types.proofs.Passes.{both_pass, checked_core, checked_index, checked_mutex, checked_task}
+use Rattle.bench_types.specs.Step.{settings_of, core_check, index_check, task_check, mask_check, note_check, call_check, ◌>>◌}
 use Rattle.session_text.specs.Session.{step_fault}
 
 -- the number of a user task
 abbrev pub IsUserTask : Header → ℕ → Type 0
 IsUserTask header task = (header.config.cores ≤ task) × (task < header.config.cores + length header.tasks)
 
--- the task or the mutex that a call is for is there
+-- the task of a notification is there, and the notification of the index
+pub record IsNoteThere (header : Header) (task index : ℕ) : Type 0 where
+  pub owner : IsUserTask header task
+  pub index_there : index < header.config.notes
+
+-- the task, the mutex or the notification that a call is for is there
 abbrev pub HasTarget : Header → Call → Type 0
 HasTarget header call.Yield = ⊤
 HasTarget header (call.Delay ticks) = ⊤
@@ -23,11 +28,11 @@ HasTarget header (call.PrioritySet task priority) = IsUserTask header task
 HasTarget header (call.AffinitySet task mask) = IsUserTask header task
 HasTarget header (call.PreemptOff task) = IsUserTask header task
 HasTarget header (call.PreemptOn task) = IsUserTask header task
-HasTarget header (call.Notify note) = IsUserTask header note.task
-HasTarget header (call.NotifyWait entry exit ticks) = ⊤
-HasTarget header (call.NotifyTake clear ticks) = ⊤
-HasTarget header (call.StateClear task) = IsUserTask header task
-HasTarget header (call.ValueClear task bits) = IsUserTask header task
+HasTarget header (call.Notify note) = IsNoteThere header note.task note.index
+HasTarget header (call.NotifyWait entry exit ticks index) = index < header.config.notes
+HasTarget header (call.NotifyTake clear ticks index) = index < header.config.notes
+HasTarget header (call.StateClear task index) = IsNoteThere header task index
+HasTarget header (call.ValueClear task bits index) = IsNoteThere header task index
 HasTarget header (call.MutexTake mutex ticks) = mutex < header.config.mutexes
 HasTarget header (call.MutexGive mutex) = mutex < header.config.mutexes
 HasTarget header call.Finish = ⊤
@@ -40,17 +45,23 @@ pub record IsCallInPlace (header : Header) (core task : ℕ) (made : Call) : Typ
   pub caller : IsUserTask header task
   pub target : HasTarget header made
 
--- the core of an interrupt is there, and the task that it notifies
-pub record IsInterruptInPlace (header : Header) (core task : ℕ) : Type 0 where
+-- the core of an interrupt is there, and the notification that it is for
+pub record IsInterruptInPlace (header : Header) (core task index : ℕ) : Type 0 where
   pub core_there : core < header.config.cores
-  pub target : IsUserTask header task
+  pub target : IsNoteThere header task index
 
 -- the same of a step
 abbrev pub StepFits : Header → Step → Type 0
 StepFits header step.Tick = ⊤
 StepFits header (step.Switch core) = core < header.config.cores
 StepFits header (step.Call core task made) = IsCallInPlace header core task made
-StepFits header (step.Interrupt core note) = IsInterruptInPlace header core note.task
+StepFits header (step.Interrupt core note) = IsInterruptInPlace header core note.task note.index
+
+note_there : (header : Header) (task index : ℕ) → (task_check (settings_of header) task >> index_check (settings_of header) index) ≡ Ok tt → IsNoteThere header task index
+note_there header task index passes =
+    let settings = settings_of header in
+    let both = both_pass (task_check settings task) (index_check settings index) passes in
+    record { owner = checked_task settings task both.0; index_there = checked_index settings index both.1 }
 
 has_target : (header : Header) (made : Call) → call_check (settings_of header) made ≡ Ok tt → HasTarget header made
 has_target header call.Yield passes = tt
@@ -62,11 +73,11 @@ has_target header (call.AffinitySet task mask) passes =
     checked_task settings task (both_pass (task_check settings task) (mask_check settings mask) passes).0
 has_target header (call.PreemptOff task) passes = checked_task (settings_of header) task passes
 has_target header (call.PreemptOn task) passes = checked_task (settings_of header) task passes
-has_target header (call.Notify note) passes = checked_task (settings_of header) note.task passes
-has_target header (call.NotifyWait entry exit ticks) passes = tt
-has_target header (call.NotifyTake clear ticks) passes = tt
-has_target header (call.StateClear task) passes = checked_task (settings_of header) task passes
-has_target header (call.ValueClear task bits) passes = checked_task (settings_of header) task passes
+has_target header (call.Notify note) passes = note_there header note.task note.index passes
+has_target header (call.NotifyWait entry exit ticks index) passes = checked_index (settings_of header) index passes
+has_target header (call.NotifyTake clear ticks index) passes = checked_index (settings_of header) index passes
+has_target header (call.StateClear task index) passes = note_there header task index passes
+has_target header (call.ValueClear task bits index) passes = note_there header task index passes
 has_target header (call.MutexTake mutex ticks) passes = checked_mutex (settings_of header) mutex passes
 has_target header (call.MutexGive mutex) passes = checked_mutex (settings_of header) mutex passes
 has_target header call.Finish passes = tt
@@ -87,8 +98,8 @@ in_place header (step.Call core task made) passes =
     }
 in_place header (step.Interrupt core note) passes =
     let settings = settings_of header in
-    let both = both_pass (core_check settings core) (task_check settings note.task) passes in
+    let both = both_pass (core_check settings core) (note_check settings note) passes in
     record {
       core_there = checked_core settings core both.0;
-      target = checked_task settings note.task both.1;
+      target = note_there header note.task note.index both.1;
     }

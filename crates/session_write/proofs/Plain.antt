@@ -1,5 +1,5 @@
 -- The value of a session is plain, and nests three deep.
-use Rattle.std.proofs.Common.{◌≡◌, ℕ, ◌+◌, ◌^◌, ◌<◌, ◌≤◌, true, ◌&&◌, List, [], ◌∷◌, length, map, refl, arith, IsUtf8}
+use Rattle.std.proofs.Common.{◌≡◌, ℕ, Bool, ◌+◌, ◌^◌, ◌<◌, ◌≤◌, true, ◌&&◌, List, [], ◌∷◌, length, map, refl, arith, IsUtf8}
 use Rattle.std.specs.Prelude.{IsTrue}
 use Rattle.std.specs.List.{list_all, AllByRecursion}
 use Rattle.std.proofs.lemmas.Bool.{and_parts, and_from}
@@ -21,7 +21,9 @@ use Rattle.bench_types.specs.declared.step.Call.TheVariants as call
 use Rattle.bench_types.specs.Name.{is_name, is_name_byte, is_within}
 use Rattle.bench_types.specs.Step.{IsActionOfWord, IsOfWords, IsStepOfWords}
 use Rattle.bench_types.specs.Limits.{max_priorities}
-use Rattle.session_write.specs.Written.{task_data, task_name, bare_call, call_for, notify_data, interrupt_data, call_data, step_data, session_data}
+use Rattle.session_text.specs.declared.format.Format.{Format}
+use Rattle.session_text.specs.declared.format.Format.TheVariants.{One, Two}
+use Rattle.session_write.specs.Written.{task_data, task_name, bare_call, call_for, notify_data, interrupt_data, wait_data, take_data, state_clear_data, value_clear_data, call_data, step_data, format_for, data_in, session_data}
 use Rattle.bench_types.proofs.Passes.{IsWithinLimits}
 use Rattle.session_write.proofs.Limits.{StepFits, HasTarget}
 use Rattle.session_write.proofs.ReadBack.{IsPlain, ArePlain}
@@ -51,48 +53,78 @@ bare_plain by core word utf8 small word_utf8 = (refl, refl, utf8, (refl, refl, s
 for_plain : (by : List ℕ) (core : ℕ) (word to : List ℕ) → IsUtf8 by → core < 2 ^ 64 → IsUtf8 word → IsUtf8 to → IsPlain (call_for by core word to)
 for_plain by core word to utf8 small word_utf8 to_utf8 = (refl, refl, utf8, (refl, refl, small, (refl, refl, word_utf8, (refl, refl, to_utf8, tt))))
 
-notify_plain : (by : List ℕ) (core : ℕ) (to : List ℕ) (what : Action) → IsUtf8 by → core < 2 ^ 64 → IsUtf8 to → IsActionOfWord what → IsPlain (notify_data by core to what)
-notify_plain by core to action.Nothing utf8 small to_utf8 word = (refl, refl, IsUtf8-are_ascii _ refl, (refl, refl, utf8, (refl, refl, small, (refl, refl, IsUtf8-are_ascii _ refl, (refl, refl, to_utf8, tt)))))
-notify_plain by core to (action.SetBits bits) utf8 small to_utf8 word = (refl, refl, IsUtf8-are_ascii _ refl, (refl, refl, utf8, (refl, refl, small, (refl, refl, IsUtf8-are_ascii _ refl, (refl, refl, to_utf8, (refl, refl, omega arith, tt))))))
-notify_plain by core to action.Increment utf8 small to_utf8 word = (refl, refl, IsUtf8-are_ascii _ refl, (refl, refl, utf8, (refl, refl, small, (refl, refl, IsUtf8-are_ascii _ refl, (refl, refl, to_utf8, tt)))))
-notify_plain by core to (action.Set value) utf8 small to_utf8 word = (refl, refl, IsUtf8-are_ascii _ refl, (refl, refl, utf8, (refl, refl, small, (refl, refl, IsUtf8-are_ascii _ refl, (refl, refl, to_utf8, (refl, refl, omega arith, tt))))))
-notify_plain by core to (action.SetNew value) utf8 small to_utf8 word = (refl, refl, IsUtf8-are_ascii _ refl, (refl, refl, utf8, (refl, refl, small, (refl, refl, IsUtf8-are_ascii _ refl, (refl, refl, to_utf8, (refl, refl, omega arith, tt))))))
+notify_plain : (format : Format) (by : List ℕ) (core : ℕ) (to : List ℕ) (what : Action) (index : ℕ) → IsUtf8 by → core < 2 ^ 64 → IsUtf8 to → index < 2 ^ 64 → IsActionOfWord what → IsPlain (notify_data format by core to what index)
+notify_plain One by core to action.Nothing index utf8 small to_utf8 few word = (refl, refl, IsUtf8-are_ascii _ refl, (refl, refl, utf8, (refl, refl, small, (refl, refl, IsUtf8-are_ascii _ refl, (refl, refl, to_utf8, tt)))))
+notify_plain One by core to (action.SetBits bits) index utf8 small to_utf8 few word = (refl, refl, IsUtf8-are_ascii _ refl, (refl, refl, utf8, (refl, refl, small, (refl, refl, IsUtf8-are_ascii _ refl, (refl, refl, to_utf8, (refl, refl, omega arith, tt))))))
+notify_plain One by core to action.Increment index utf8 small to_utf8 few word = (refl, refl, IsUtf8-are_ascii _ refl, (refl, refl, utf8, (refl, refl, small, (refl, refl, IsUtf8-are_ascii _ refl, (refl, refl, to_utf8, tt)))))
+notify_plain One by core to (action.Set value) index utf8 small to_utf8 few word = (refl, refl, IsUtf8-are_ascii _ refl, (refl, refl, utf8, (refl, refl, small, (refl, refl, IsUtf8-are_ascii _ refl, (refl, refl, to_utf8, (refl, refl, omega arith, tt))))))
+notify_plain One by core to (action.SetNew value) index utf8 small to_utf8 few word = (refl, refl, IsUtf8-are_ascii _ refl, (refl, refl, utf8, (refl, refl, small, (refl, refl, IsUtf8-are_ascii _ refl, (refl, refl, to_utf8, (refl, refl, omega arith, tt))))))
+notify_plain Two by core to action.Nothing index utf8 small to_utf8 few word = (refl, refl, IsUtf8-are_ascii _ refl, (refl, refl, utf8, (refl, refl, small, (refl, refl, IsUtf8-are_ascii _ refl, (refl, refl, few, (refl, refl, to_utf8, tt))))))
+notify_plain Two by core to (action.SetBits bits) index utf8 small to_utf8 few word = (refl, refl, IsUtf8-are_ascii _ refl, (refl, refl, utf8, (refl, refl, small, (refl, refl, IsUtf8-are_ascii _ refl, (refl, refl, few, (refl, refl, to_utf8, (refl, refl, omega arith, tt)))))))
+notify_plain Two by core to action.Increment index utf8 small to_utf8 few word = (refl, refl, IsUtf8-are_ascii _ refl, (refl, refl, utf8, (refl, refl, small, (refl, refl, IsUtf8-are_ascii _ refl, (refl, refl, few, (refl, refl, to_utf8, tt))))))
+notify_plain Two by core to (action.Set value) index utf8 small to_utf8 few word = (refl, refl, IsUtf8-are_ascii _ refl, (refl, refl, utf8, (refl, refl, small, (refl, refl, IsUtf8-are_ascii _ refl, (refl, refl, few, (refl, refl, to_utf8, (refl, refl, omega arith, tt)))))))
+notify_plain Two by core to (action.SetNew value) index utf8 small to_utf8 few word = (refl, refl, IsUtf8-are_ascii _ refl, (refl, refl, utf8, (refl, refl, small, (refl, refl, IsUtf8-are_ascii _ refl, (refl, refl, few, (refl, refl, to_utf8, (refl, refl, omega arith, tt)))))))
 
-interrupt_plain : (core : ℕ) (to : List ℕ) (what : Action) → core < 2 ^ 64 → IsUtf8 to → IsActionOfWord what → IsPlain (interrupt_data core to what)
-interrupt_plain core to action.Nothing small to_utf8 word = (refl, refl, IsUtf8-are_ascii _ refl, (refl, refl, small, (refl, refl, IsUtf8-are_ascii _ refl, (refl, refl, to_utf8, tt))))
-interrupt_plain core to (action.SetBits bits) small to_utf8 word = (refl, refl, IsUtf8-are_ascii _ refl, (refl, refl, small, (refl, refl, IsUtf8-are_ascii _ refl, (refl, refl, to_utf8, (refl, refl, omega arith, tt)))))
-interrupt_plain core to action.Increment small to_utf8 word = (refl, refl, IsUtf8-are_ascii _ refl, (refl, refl, small, (refl, refl, IsUtf8-are_ascii _ refl, (refl, refl, to_utf8, tt))))
-interrupt_plain core to (action.Set value) small to_utf8 word = (refl, refl, IsUtf8-are_ascii _ refl, (refl, refl, small, (refl, refl, IsUtf8-are_ascii _ refl, (refl, refl, to_utf8, (refl, refl, omega arith, tt)))))
-interrupt_plain core to (action.SetNew value) small to_utf8 word = (refl, refl, IsUtf8-are_ascii _ refl, (refl, refl, small, (refl, refl, IsUtf8-are_ascii _ refl, (refl, refl, to_utf8, (refl, refl, omega arith, tt)))))
+interrupt_plain : (format : Format) (core : ℕ) (to : List ℕ) (what : Action) (index : ℕ) → core < 2 ^ 64 → IsUtf8 to → index < 2 ^ 64 → IsActionOfWord what → IsPlain (interrupt_data format core to what index)
+interrupt_plain One core to action.Nothing index small to_utf8 few word = (refl, refl, IsUtf8-are_ascii _ refl, (refl, refl, small, (refl, refl, IsUtf8-are_ascii _ refl, (refl, refl, to_utf8, tt))))
+interrupt_plain One core to (action.SetBits bits) index small to_utf8 few word = (refl, refl, IsUtf8-are_ascii _ refl, (refl, refl, small, (refl, refl, IsUtf8-are_ascii _ refl, (refl, refl, to_utf8, (refl, refl, omega arith, tt)))))
+interrupt_plain One core to action.Increment index small to_utf8 few word = (refl, refl, IsUtf8-are_ascii _ refl, (refl, refl, small, (refl, refl, IsUtf8-are_ascii _ refl, (refl, refl, to_utf8, tt))))
+interrupt_plain One core to (action.Set value) index small to_utf8 few word = (refl, refl, IsUtf8-are_ascii _ refl, (refl, refl, small, (refl, refl, IsUtf8-are_ascii _ refl, (refl, refl, to_utf8, (refl, refl, omega arith, tt)))))
+interrupt_plain One core to (action.SetNew value) index small to_utf8 few word = (refl, refl, IsUtf8-are_ascii _ refl, (refl, refl, small, (refl, refl, IsUtf8-are_ascii _ refl, (refl, refl, to_utf8, (refl, refl, omega arith, tt)))))
+interrupt_plain Two core to action.Nothing index small to_utf8 few word = (refl, refl, IsUtf8-are_ascii _ refl, (refl, refl, small, (refl, refl, IsUtf8-are_ascii _ refl, (refl, refl, few, (refl, refl, to_utf8, tt)))))
+interrupt_plain Two core to (action.SetBits bits) index small to_utf8 few word = (refl, refl, IsUtf8-are_ascii _ refl, (refl, refl, small, (refl, refl, IsUtf8-are_ascii _ refl, (refl, refl, few, (refl, refl, to_utf8, (refl, refl, omega arith, tt))))))
+interrupt_plain Two core to action.Increment index small to_utf8 few word = (refl, refl, IsUtf8-are_ascii _ refl, (refl, refl, small, (refl, refl, IsUtf8-are_ascii _ refl, (refl, refl, few, (refl, refl, to_utf8, tt)))))
+interrupt_plain Two core to (action.Set value) index small to_utf8 few word = (refl, refl, IsUtf8-are_ascii _ refl, (refl, refl, small, (refl, refl, IsUtf8-are_ascii _ refl, (refl, refl, few, (refl, refl, to_utf8, (refl, refl, omega arith, tt))))))
+interrupt_plain Two core to (action.SetNew value) index small to_utf8 few word = (refl, refl, IsUtf8-are_ascii _ refl, (refl, refl, small, (refl, refl, IsUtf8-are_ascii _ refl, (refl, refl, few, (refl, refl, to_utf8, (refl, refl, omega arith, tt))))))
 
-pub call_plain : (header : Header) (by : List ℕ) (core : ℕ) (made : Call) → IsWithinLimits header → AreNames header → HasTarget header made → IsUtf8 by → core < 2 ^ 64 → IsOfWords made → IsPlain (call_data header by core made)
-call_plain header by core call.Yield h names target utf8 small words = bare_plain by core _ utf8 small (IsUtf8-are_ascii _ refl)
-call_plain header by core (call.Delay ticks) h names target utf8 small words = (refl, refl, utf8, (refl, refl, small, (refl, refl, IsUtf8-are_ascii _ refl, (refl, refl, omega arith, tt))))
-call_plain header by core (call.DelayUntil prev inc) h names target utf8 small words = (refl, refl, utf8, (refl, refl, small, (refl, refl, IsUtf8-are_ascii _ refl, (refl, refl, omega (arith, words.1), (refl, refl, omega (arith, words.0), tt)))))
-call_plain header by core (call.PrioritySet task priority) h names target utf8 small words = (refl, refl, utf8, (refl, refl, small, (refl, refl, IsUtf8-are_ascii _ refl, (refl, refl, omega arith, (refl, refl, names task target.1 target.0, tt)))))
-call_plain header by core (call.AffinitySet task mask) h names target utf8 small words = (refl, refl, utf8, (refl, refl, small, (refl, refl, IsUtf8-are_ascii _ refl, (refl, refl, omega arith, (refl, refl, names task target.1 target.0, tt)))))
-call_plain header by core (call.PreemptOff task) h names target utf8 small words = for_plain by core _ _ utf8 small (IsUtf8-are_ascii _ refl) (names task target.1 target.0)
-call_plain header by core (call.PreemptOn task) h names target utf8 small words = for_plain by core _ _ utf8 small (IsUtf8-are_ascii _ refl) (names task target.1 target.0)
-call_plain header by core (call.Notify note) h names target utf8 small words = notify_plain by core _ note.action utf8 small (names note.task target.1 target.0) words
-call_plain header by core (call.NotifyWait entry exit ticks) h names target utf8 small words = (refl, refl, utf8, (refl, refl, small, (refl, refl, IsUtf8-are_ascii _ refl, (refl, refl, omega (arith, words.0), (refl, refl, omega (arith, words.1), (refl, refl, omega (arith, words.2), tt))))))
-call_plain header by core (call.NotifyTake clear ticks) h names target utf8 small words = (refl, refl, utf8, (refl, refl, tt, (refl, refl, small, (refl, refl, IsUtf8-are_ascii _ refl, (refl, refl, omega arith, tt)))))
-call_plain header by core (call.StateClear task) h names target utf8 small words = for_plain by core _ _ utf8 small (IsUtf8-are_ascii _ refl) (names task target.1 target.0)
-call_plain header by core (call.ValueClear task bits) h names target utf8 small words = (refl, refl, omega arith, (refl, refl, utf8, (refl, refl, small, (refl, refl, IsUtf8-are_ascii _ refl, (refl, refl, names task target.1 target.0, tt)))))
-call_plain header by core (call.MutexTake mutex ticks) h names target utf8 small words = (refl, refl, utf8, (refl, refl, small, (refl, refl, IsUtf8-are_ascii _ refl, (refl, refl, omega (arith, h.few_mutexes), (refl, refl, omega arith, tt)))))
-call_plain header by core (call.MutexGive mutex) h names target utf8 small words = (refl, refl, utf8, (refl, refl, small, (refl, refl, IsUtf8-are_ascii _ refl, (refl, refl, omega (arith, h.few_mutexes), tt))))
-call_plain header by core call.Finish h names target utf8 small words = bare_plain by core _ utf8 small (IsUtf8-are_ascii _ refl)
-call_plain header by core call.HoldOpen h names target utf8 small words = bare_plain by core _ utf8 small (IsUtf8-are_ascii _ refl)
-call_plain header by core call.HoldClose h names target utf8 small words = bare_plain by core _ utf8 small (IsUtf8-are_ascii _ refl)
+wait_plain : (format : Format) (by : List ℕ) (core entry exit ticks index : ℕ) → IsUtf8 by → core < 2 ^ 64 → index < 2 ^ 64 → entry < 2 ^ 32 → exit < 2 ^ 32 → ticks < 2 ^ 32 → IsPlain (wait_data format by core entry exit ticks index)
+wait_plain One by core entry exit ticks index utf8 small few entry_word exit_word ticks_word = (refl, refl, utf8, (refl, refl, small, (refl, refl, IsUtf8-are_ascii _ refl, (refl, refl, omega (arith, entry_word), (refl, refl, omega (arith, exit_word), (refl, refl, omega (arith, ticks_word), tt))))))
+wait_plain Two by core entry exit ticks index utf8 small few entry_word exit_word ticks_word = (refl, refl, utf8, (refl, refl, small, (refl, refl, IsUtf8-are_ascii _ refl, (refl, refl, omega (arith, entry_word), (refl, refl, omega (arith, exit_word), (refl, refl, few, (refl, refl, omega (arith, ticks_word), tt)))))))
 
-step_plain : (header : Header) (made : Step) → IsWithinLimits header → AreNames header → StepFits header made → IsStepOfWords made → IsPlain (step_data header made)
-step_plain header step.Tick h names place words = (refl, refl, IsUtf8-are_ascii _ refl, tt)
-step_plain header (step.Switch core) h names place words = (refl, refl, omega (arith, h.few_cores), (refl, refl, IsUtf8-are_ascii _ refl, tt))
-step_plain header (step.Call core task made) h names place words = call_plain header (task_name header task) core made h names place.target (names task place.caller.1 place.caller.0) (omega (arith, h.few_cores, place.core_there)) words
-step_plain header (step.Interrupt core note) h names place words = interrupt_plain core _ note.action (omega (arith, h.few_cores, place.core_there)) (names note.task place.target.1 place.target.0) words
+take_plain : (format : Format) (by : List ℕ) (core : ℕ) (clear : Bool) (ticks index : ℕ) → IsUtf8 by → core < 2 ^ 64 → index < 2 ^ 64 → ticks < 2 ^ 32 → IsPlain (take_data format by core clear ticks index)
+take_plain One by core clear ticks index utf8 small few word = (refl, refl, utf8, (refl, refl, tt, (refl, refl, small, (refl, refl, IsUtf8-are_ascii _ refl, (refl, refl, omega (arith, word), tt)))))
+take_plain Two by core clear ticks index utf8 small few word = (refl, refl, utf8, (refl, refl, tt, (refl, refl, small, (refl, refl, IsUtf8-are_ascii _ refl, (refl, refl, few, (refl, refl, omega (arith, word), tt))))))
 
-steps_plain : (header : Header) (steps : List Step) → IsWithinLimits header → AreNames header → AllByRecursion (λ made. StepFits header made × IsStepOfWords made) steps → ArePlain (items_of (map (step_data header) steps))
-steps_plain header [] h names each = tt
-steps_plain header (made ∷ steps) h names each = (step_plain header made h names each.0.0 each.0.1, steps_plain header steps h names each.1)
+state_clear_plain : (format : Format) (by : List ℕ) (core : ℕ) (to : List ℕ) (index : ℕ) → IsUtf8 by → core < 2 ^ 64 → IsUtf8 to → index < 2 ^ 64 → IsPlain (state_clear_data format by core to index)
+state_clear_plain One by core to index utf8 small to_utf8 few = (refl, refl, utf8, (refl, refl, small, (refl, refl, IsUtf8-are_ascii _ refl, (refl, refl, to_utf8, tt))))
+state_clear_plain Two by core to index utf8 small to_utf8 few = (refl, refl, utf8, (refl, refl, small, (refl, refl, IsUtf8-are_ascii _ refl, (refl, refl, few, (refl, refl, to_utf8, tt)))))
+
+value_clear_plain : (format : Format) (by : List ℕ) (core : ℕ) (to : List ℕ) (bits index : ℕ) → IsUtf8 by → core < 2 ^ 64 → IsUtf8 to → index < 2 ^ 64 → bits < 2 ^ 32 → IsPlain (value_clear_data format by core to bits index)
+value_clear_plain One by core to bits index utf8 small to_utf8 few word = (refl, refl, omega (arith, word), (refl, refl, utf8, (refl, refl, small, (refl, refl, IsUtf8-are_ascii _ refl, (refl, refl, to_utf8, tt)))))
+value_clear_plain Two by core to bits index utf8 small to_utf8 few word = (refl, refl, omega (arith, word), (refl, refl, utf8, (refl, refl, small, (refl, refl, IsUtf8-are_ascii _ refl, (refl, refl, few, (refl, refl, to_utf8, tt))))))
+
+-- an index is a small number
+few_index : (header : Header) (index : ℕ) → IsWithinLimits header → index < header.config.notes → index < 2 ^ 64
+few_index header index h there = omega (arith, h.few_notes, there)
+
+pub call_plain : (format : Format) (header : Header) (by : List ℕ) (core : ℕ) (made : Call) → IsWithinLimits header → AreNames header → HasTarget header made → IsUtf8 by → core < 2 ^ 64 → IsOfWords made → IsPlain (call_data format header by core made)
+call_plain format header by core call.Yield h names target utf8 small words = bare_plain by core _ utf8 small (IsUtf8-are_ascii _ refl)
+call_plain format header by core (call.Delay ticks) h names target utf8 small words = (refl, refl, utf8, (refl, refl, small, (refl, refl, IsUtf8-are_ascii _ refl, (refl, refl, omega arith, tt))))
+call_plain format header by core (call.DelayUntil prev inc) h names target utf8 small words = (refl, refl, utf8, (refl, refl, small, (refl, refl, IsUtf8-are_ascii _ refl, (refl, refl, omega (arith, words.1), (refl, refl, omega (arith, words.0), tt)))))
+call_plain format header by core (call.PrioritySet task priority) h names target utf8 small words = (refl, refl, utf8, (refl, refl, small, (refl, refl, IsUtf8-are_ascii _ refl, (refl, refl, omega arith, (refl, refl, names task target.1 target.0, tt)))))
+call_plain format header by core (call.AffinitySet task mask) h names target utf8 small words = (refl, refl, utf8, (refl, refl, small, (refl, refl, IsUtf8-are_ascii _ refl, (refl, refl, omega arith, (refl, refl, names task target.1 target.0, tt)))))
+call_plain format header by core (call.PreemptOff task) h names target utf8 small words = for_plain by core _ _ utf8 small (IsUtf8-are_ascii _ refl) (names task target.1 target.0)
+call_plain format header by core (call.PreemptOn task) h names target utf8 small words = for_plain by core _ _ utf8 small (IsUtf8-are_ascii _ refl) (names task target.1 target.0)
+call_plain format header by core (call.Notify note) h names target utf8 small words = notify_plain format by core _ note.action note.index utf8 small (names note.task target.owner.1 target.owner.0) (few_index header note.index h target.index_there) words
+call_plain format header by core (call.NotifyWait entry exit ticks index) h names target utf8 small words = wait_plain format by core entry exit ticks index utf8 small (few_index header index h target) words.0 words.1 words.2
+call_plain format header by core (call.NotifyTake clear ticks index) h names target utf8 small words = take_plain format by core clear ticks index utf8 small (few_index header index h target) words
+call_plain format header by core (call.StateClear task index) h names target utf8 small words = state_clear_plain format by core _ index utf8 small (names task target.owner.1 target.owner.0) (few_index header index h target.index_there)
+call_plain format header by core (call.ValueClear task bits index) h names target utf8 small words = value_clear_plain format by core _ bits index utf8 small (names task target.owner.1 target.owner.0) (few_index header index h target.index_there) words
+call_plain format header by core (call.MutexTake mutex ticks) h names target utf8 small words = (refl, refl, utf8, (refl, refl, small, (refl, refl, IsUtf8-are_ascii _ refl, (refl, refl, omega (arith, h.few_mutexes), (refl, refl, omega arith, tt)))))
+call_plain format header by core (call.MutexGive mutex) h names target utf8 small words = (refl, refl, utf8, (refl, refl, small, (refl, refl, IsUtf8-are_ascii _ refl, (refl, refl, omega (arith, h.few_mutexes), tt))))
+call_plain format header by core call.Finish h names target utf8 small words = bare_plain by core _ utf8 small (IsUtf8-are_ascii _ refl)
+call_plain format header by core call.HoldOpen h names target utf8 small words = bare_plain by core _ utf8 small (IsUtf8-are_ascii _ refl)
+call_plain format header by core call.HoldClose h names target utf8 small words = bare_plain by core _ utf8 small (IsUtf8-are_ascii _ refl)
+
+step_plain : (format : Format) (header : Header) (made : Step) → IsWithinLimits header → AreNames header → StepFits header made → IsStepOfWords made → IsPlain (step_data format header made)
+step_plain format header step.Tick h names place words = (refl, refl, IsUtf8-are_ascii _ refl, tt)
+step_plain format header (step.Switch core) h names place words = (refl, refl, omega (arith, h.few_cores), (refl, refl, IsUtf8-are_ascii _ refl, tt))
+step_plain format header (step.Call core task made) h names place words = call_plain format header (task_name header task) core made h names place.target (names task place.caller.1 place.caller.0) (omega (arith, h.few_cores, place.core_there)) words
+step_plain format header (step.Interrupt core note) h names place words = interrupt_plain format core _ note.action note.index (omega (arith, h.few_cores, place.core_there)) (names note.task place.target.owner.1 place.target.owner.0) (few_index header note.index h place.target.index_there) words
+
+steps_plain : (format : Format) (header : Header) (steps : List Step) → IsWithinLimits header → AreNames header → AllByRecursion (λ made. StepFits header made × IsStepOfWords made) steps → ArePlain (items_of (map (step_data format header) steps))
+steps_plain format header [] h names each = tt
+steps_plain format header (made ∷ steps) h names each = (step_plain format header made h names each.0.0 each.0.1, steps_plain format header steps h names each.1)
 
 -- a task of a header with these settings
 pub record IsTask (config : Config) (task : TaskArgs) : Type 0 where
@@ -114,90 +146,81 @@ pub record IsWritable (header : Header) (steps : List Step) : Type 0 where
   pub names : AreNames header
   pub each_step : AllByRecursion (λ made. StepFits header made × IsStepOfWords made) steps
 
+data_plain : (format : Format) (header : Header) (steps : List Step) → IsWritable header steps → IsPlain (data_in format header steps)
+unfolding data_in
+data_plain One header steps h =
+    let limits = h.limits in
+    (refl, refl, omega (arith, limits.few_cores), (refl, refl, omega arith, (refl, refl, omega (arith, limits.few_mutexes), (refl, refl, omega (arith, limits.few_priorities), (refl, refl, tt, (refl, refl, steps_plain One header steps limits h.names h.each_step, (refl, refl, tasks_plain header.config header.tasks limits.few_priorities h.each_task, (refl, refl, omega (arith, h.tick), tt))))))))
+data_plain Two header steps h =
+    let limits = h.limits in
+    (refl, refl, omega (arith, limits.few_cores), (refl, refl, omega arith, (refl, refl, omega (arith, limits.few_mutexes), (refl, refl, omega (arith, limits.few_notes), (refl, refl, omega (arith, limits.few_priorities), (refl, refl, tt, (refl, refl, steps_plain Two header steps limits h.names h.each_step, (refl, refl, tasks_plain header.config header.tasks limits.few_priorities h.each_task, (refl, refl, omega (arith, h.tick), tt)))))))))
+
 pub session_plain : (header : Header) (steps : List Step) → IsWritable header steps → IsPlain (session_data header steps)
-unfolding session_data
-session_plain header steps h =
-    let limits = h.limits in (
-      refl,
-      refl,
-      omega (arith, limits.few_cores),
-      (
-        refl,
-        refl,
-        omega arith,
-        (
-          refl,
-          refl,
-          omega (arith, limits.few_mutexes),
-          (
-            refl,
-            refl,
-            omega (arith, limits.few_priorities),
-            (
-              refl,
-              refl,
-              tt,
-              (
-                refl,
-                refl,
-                steps_plain header steps limits h.names h.each_step,
-                (
-                  refl,
-                  refl,
-                  tasks_plain header.config header.tasks limits.few_priorities h.each_task,
-                  (refl, refl, omega (arith, h.tick), tt),
-                ),
-              ),
-            ),
-          ),
-        ),
-      ),
-    )
+session_plain header steps h = data_plain (format_for header.config) header steps h
 
 items_within : {A : Type 0} (data_of : A → Data) (n : ℕ) → ((x : A) → depth (data_of x) ≤ n) → (xs : List A) → items_depth (items_of (map data_of xs)) ≤ n
 items_within data_of n each [] = omega arith
 items_within data_of n each (x ∷ xs) = omega (arith, each x, items_within data_of n each xs)
 
-notify_depth : (by : List ℕ) (core : ℕ) (to : List ℕ) (what : Action) → depth (notify_data by core to what) ≤ 1
-notify_depth by core to action.Nothing = omega arith
-notify_depth by core to (action.SetBits bits) = omega arith
-notify_depth by core to action.Increment = omega arith
-notify_depth by core to (action.Set value) = omega arith
-notify_depth by core to (action.SetNew value) = omega arith
+notify_depth : (format : Format) (by : List ℕ) (core : ℕ) (to : List ℕ) (what : Action) (index : ℕ) → depth (notify_data format by core to what index) ≤ 1
+notify_depth One by core to action.Nothing index = omega arith
+notify_depth One by core to (action.SetBits bits) index = omega arith
+notify_depth One by core to action.Increment index = omega arith
+notify_depth One by core to (action.Set value) index = omega arith
+notify_depth One by core to (action.SetNew value) index = omega arith
+notify_depth Two by core to action.Nothing index = omega arith
+notify_depth Two by core to (action.SetBits bits) index = omega arith
+notify_depth Two by core to action.Increment index = omega arith
+notify_depth Two by core to (action.Set value) index = omega arith
+notify_depth Two by core to (action.SetNew value) index = omega arith
 
-interrupt_depth : (core : ℕ) (to : List ℕ) (what : Action) → depth (interrupt_data core to what) ≤ 1
-interrupt_depth core to action.Nothing = omega arith
-interrupt_depth core to (action.SetBits bits) = omega arith
-interrupt_depth core to action.Increment = omega arith
-interrupt_depth core to (action.Set value) = omega arith
-interrupt_depth core to (action.SetNew value) = omega arith
+interrupt_depth : (format : Format) (core : ℕ) (to : List ℕ) (what : Action) (index : ℕ) → depth (interrupt_data format core to what index) ≤ 1
+interrupt_depth One core to action.Nothing index = omega arith
+interrupt_depth One core to (action.SetBits bits) index = omega arith
+interrupt_depth One core to action.Increment index = omega arith
+interrupt_depth One core to (action.Set value) index = omega arith
+interrupt_depth One core to (action.SetNew value) index = omega arith
+interrupt_depth Two core to action.Nothing index = omega arith
+interrupt_depth Two core to (action.SetBits bits) index = omega arith
+interrupt_depth Two core to action.Increment index = omega arith
+interrupt_depth Two core to (action.Set value) index = omega arith
+interrupt_depth Two core to (action.SetNew value) index = omega arith
 
-call_depth : (header : Header) (by : List ℕ) (core : ℕ) (made : Call) → depth (call_data header by core made) ≤ 1
-call_depth header by core call.Yield = omega arith
-call_depth header by core (call.Delay ticks) = omega arith
-call_depth header by core (call.DelayUntil prev inc) = omega arith
-call_depth header by core (call.PrioritySet task priority) = omega arith
-call_depth header by core (call.AffinitySet task mask) = omega arith
-call_depth header by core (call.PreemptOff task) = omega arith
-call_depth header by core (call.PreemptOn task) = omega arith
-call_depth header by core (call.Notify note) = notify_depth by core (task_name header note.task) note.action
-call_depth header by core (call.NotifyWait entry exit ticks) = omega arith
-call_depth header by core (call.NotifyTake clear ticks) = omega arith
-call_depth header by core (call.StateClear task) = omega arith
-call_depth header by core (call.ValueClear task bits) = omega arith
-call_depth header by core (call.MutexTake mutex ticks) = omega arith
-call_depth header by core (call.MutexGive mutex) = omega arith
-call_depth header by core call.Finish = omega arith
-call_depth header by core call.HoldOpen = omega arith
-call_depth header by core call.HoldClose = omega arith
+call_depth : (format : Format) (header : Header) (by : List ℕ) (core : ℕ) (made : Call) → depth (call_data format header by core made) ≤ 1
+call_depth format header by core call.Yield = omega arith
+call_depth format header by core (call.Delay ticks) = omega arith
+call_depth format header by core (call.DelayUntil prev inc) = omega arith
+call_depth format header by core (call.PrioritySet task priority) = omega arith
+call_depth format header by core (call.AffinitySet task mask) = omega arith
+call_depth format header by core (call.PreemptOff task) = omega arith
+call_depth format header by core (call.PreemptOn task) = omega arith
+call_depth format header by core (call.Notify note) = notify_depth format by core (task_name header note.task) note.action note.index
+call_depth One header by core (call.NotifyWait entry exit ticks index) = omega arith
+call_depth Two header by core (call.NotifyWait entry exit ticks index) = omega arith
+call_depth One header by core (call.NotifyTake clear ticks index) = omega arith
+call_depth Two header by core (call.NotifyTake clear ticks index) = omega arith
+call_depth One header by core (call.StateClear task index) = omega arith
+call_depth Two header by core (call.StateClear task index) = omega arith
+call_depth One header by core (call.ValueClear task bits index) = omega arith
+call_depth Two header by core (call.ValueClear task bits index) = omega arith
+call_depth format header by core (call.MutexTake mutex ticks) = omega arith
+call_depth format header by core (call.MutexGive mutex) = omega arith
+call_depth format header by core call.Finish = omega arith
+call_depth format header by core call.HoldOpen = omega arith
+call_depth format header by core call.HoldClose = omega arith
 
-step_depth : (header : Header) (made : Step) → depth (step_data header made) ≤ 1
-step_depth header step.Tick = omega arith
-step_depth header (step.Switch core) = omega arith
-step_depth header (step.Call core task made) = call_depth header (task_name header task) core made
-step_depth header (step.Interrupt core note) = interrupt_depth core (task_name header note.task) note.action
+step_depth : (format : Format) (header : Header) (made : Step) → depth (step_data format header made) ≤ 1
+step_depth format header step.Tick = omega arith
+step_depth format header (step.Switch core) = omega arith
+step_depth format header (step.Call core task made) = call_depth format header (task_name header task) core made
+step_depth format header (step.Interrupt core note) = interrupt_depth format core (task_name header note.task) note.action note.index
+
+data_depth : (format : Format) (header : Header) (steps : List Step) → depth (data_in format header steps) ≤ max_depth
+unfolding data_in
+data_depth One header steps =
+    omega (arith, items_within (step_data One header) 1 (step_depth One header) steps, items_within task_data 1 (λ task. omega arith) header.tasks)
+data_depth Two header steps =
+    omega (arith, items_within (step_data Two header) 1 (step_depth Two header) steps, items_within task_data 1 (λ task. omega arith) header.tasks)
 
 pub session_depth : (header : Header) (steps : List Step) → depth (session_data header steps) ≤ max_depth
-unfolding session_data
-session_depth header steps =
-    omega (arith, items_within (step_data header) 1 (step_depth header) steps, items_within task_data 1 (λ task. omega arith) header.tasks)
+session_depth header steps = data_depth (format_for header.config) header steps

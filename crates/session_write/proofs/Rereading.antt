@@ -1,5 +1,5 @@
 -- A session that is written is read back.
-use Rattle.std.proofs.Common.{◌≡◌, ℕ, suc, ◌-◌, ◌^◌, ◌<◌, ◌≤◌, true, List, [], ◌∷◌, map, codes, refl, arith, ltb, lt-ltb, Result, Ok}
+use Rattle.std.proofs.Common.{◌≡◌, ℕ, suc, ◌-◌, ◌^◌, ◌<◌, ◌≤◌, ◌==◌, Bool, true, false, cond, List, [], ◌∷◌, map, codes, refl, sym, ap, arith, ltb, lt-ltb, Result, Ok}
 use Rattle.std.specs.Prelude.{All, IsTrue, ⊤}
 use Rattle.std.specs.List.{list_all, AllByRecursion}
 use Rattle.std.proofs.lemmas.Bool.{and_parts, and_from}
@@ -24,14 +24,17 @@ use Rattle.bench_types.specs.Limits.{max_priorities}
 use Rattle.session_text.specs.Accepted.{items_accepted}
 use Rattle.session_text.specs.Action.{action_at, action_kind_at, action_of_kind_at}
 use Rattle.session_text.specs.Array.{each_at, list_at}
+use Rattle.session_text.specs.declared.format.Format.{Format}
+use Rattle.session_text.specs.declared.format.Format.TheVariants.{One, Two}
+use Rattle.session_text.specs.Format.{format_at, notes_at, index_at}
 use Rattle.session_text.specs.Header.{task_at, config_at, header_at}
-use Rattle.session_text.specs.Member.{number_at, text_at, flag_at, array_at}
+use Rattle.session_text.specs.Member.{number_at, number_or_at, text_at, flag_at, array_at}
 use Rattle.bench_types.proofs.Passes.{IsWithinLimits, checked_header, passes_whole}
 use Rattle.session_text.specs.Names.{names_of, number_of}
-use Rattle.session_text.specs.Session.{format_at, session_at, session_accepted, session, step_fault}
+use Rattle.session_text.specs.Session.{session_at, session_accepted, session, step_fault}
 use Rattle.session_text.specs.Step.{step_at, kind_at, step_of_kind_at, task_named_at, note_at, wait_at, call_at}
-use Rattle.session_write.specs.Written.{task_data, task_name, step_data, session_data, WrittenReadsBack}
-use Rattle.session_write.proofs.Limits.{StepFits, IsCallInPlace, IsUserTask, in_place}
+use Rattle.session_write.specs.Written.{task_data, task_name, step_data, format_for, data_in, session_data, WrittenReadsBack}
+use Rattle.session_write.proofs.Limits.{StepFits, IsCallInPlace, IsNoteThere, IsUserTask, in_place}
 use Rattle.session_write.proofs.Plain.{IsTask, IsWritable, session_plain, session_depth, utf8_name}
 use Rattle.session_write.proofs.ReadBack.{document-compact_text}
 use Rattle.session_write.proofs.TaskNames.{number_of_name}
@@ -55,82 +58,137 @@ core_number header core h there = lt-ltb _ _ (omega (arith, h.few_cores))
 mutex_number : (header : Header) (mutex : ℕ) → IsWithinLimits header → mutex < header.config.mutexes → ltb mutex (2 ^ 32) ≡ true
 mutex_number header mutex h there = lt-ltb _ _ (omega (arith, h.few_mutexes))
 
-notify_read : (header : Header) (at : List ℕ) (core task to : ℕ) (what : Action) → IsWithinLimits header → core < header.config.cores → IsUserTask header task → IsUserTask header to → IsActionOfWord what → step_at (names_of header) at (step_data header (step.Call core task (call.Notify (record { task = to; action = what })))) ≡ Ok (step.Call core task (call.Notify (record { task = to; action = what })))
-unfolding step_at kind_at text_at step_of_kind_at number_at task_named_at call_at note_at action_at action_kind_at action_of_kind_at
-notify_read header at core task to action.Nothing h there caller target word = rw (core_number header core h there, target_named header task h caller, target_named header to h target) refl
-notify_read header at core task to (action.SetBits bits) h there caller target word = rw (core_number header core h there, lt-ltb _ _ word, target_named header task h caller, target_named header to h target) refl
-notify_read header at core task to action.Increment h there caller target word = rw (core_number header core h there, target_named header task h caller, target_named header to h target) refl
-notify_read header at core task to (action.Set value) h there caller target word = rw (core_number header core h there, lt-ltb _ _ word, target_named header task h caller, target_named header to h target) refl
-notify_read header at core task to (action.SetNew value) h there caller target word = rw (core_number header core h there, lt-ltb _ _ word, target_named header task h caller, target_named header to h target) refl
+-- in the first format each task has one notification
+abbrev pub Fits : Format → Header → Type 0
+Fits One header = header.config.notes ≡ 1
+Fits Two header = ⊤
 
-interrupt_read : (header : Header) (at : List ℕ) (core to : ℕ) (what : Action) → IsWithinLimits header → core < header.config.cores → IsUserTask header to → IsActionOfWord what → step_at (names_of header) at (step_data header (step.Interrupt core (record { task = to; action = what }))) ≡ Ok (step.Interrupt core (record { task = to; action = what }))
-unfolding step_at kind_at text_at step_of_kind_at number_at task_named_at note_at action_at action_kind_at action_of_kind_at
-interrupt_read header at core to action.Nothing h there target word = rw (core_number header core h there, target_named header to h target) refl
-interrupt_read header at core to (action.SetBits bits) h there target word = rw (core_number header core h there, lt-ltb _ _ word, target_named header to h target) refl
-interrupt_read header at core to action.Increment h there target word = rw (core_number header core h there, target_named header to h target) refl
-interrupt_read header at core to (action.Set value) h there target word = rw (core_number header core h there, lt-ltb _ _ word, target_named header to h target) refl
-interrupt_read header at core to (action.SetNew value) h there target word = rw (core_number header core h there, lt-ltb _ _ word, target_named header to h target) refl
+fits_for : (header : Header) → Fits (format_for header.config) header
+fits_for header = at (header.config.notes == 1) refl
+  where
+    at : (b : Bool) → (header.config.notes == 1) ≡ b → Fits (cond b One Two) header
+    at true same = grind (arith, nat_tests, same)
+    at false same = tt
 
-call_read : (header : Header) (at : List ℕ) (core task : ℕ) (made : Call) → IsWithinLimits header → IsCallInPlace header core task made → IsOfWords made → step_at (names_of header) at (step_data header (step.Call core task made)) ≡ Ok (step.Call core task made)
-unfolding step_at kind_at text_at step_of_kind_at number_at flag_at task_named_at call_at wait_at
-call_read header at core task call.Yield h place words = rw (core_number header core h place.core_there, target_named header task h place.caller) refl
-call_read header at core task (call.Delay ticks) h place words = rw (core_number header core h place.core_there, lt-ltb _ _ words, target_named header task h place.caller) refl
-call_read header at core task (call.DelayUntil prev inc) h place words = rw (core_number header core h place.core_there, lt-ltb _ _ words.0, lt-ltb _ _ words.1, target_named header task h place.caller) refl
-call_read header at core task (call.PrioritySet to priority) h place words = rw (core_number header core h place.core_there, lt-ltb _ _ words, target_named header task h place.caller, target_named header to h place.target) refl
-call_read header at core task (call.AffinitySet to mask) h place words = rw (core_number header core h place.core_there, lt-ltb _ _ words, target_named header task h place.caller, target_named header to h place.target) refl
-call_read header at core task (call.PreemptOff to) h place words = rw (core_number header core h place.core_there, target_named header task h place.caller, target_named header to h place.target) refl
-call_read header at core task (call.PreemptOn to) h place words = rw (core_number header core h place.core_there, target_named header task h place.caller, target_named header to h place.target) refl
-call_read header at core task (call.Notify note) h place words = notify_read header at core task note.task note.action h place.core_there place.caller place.target words
-call_read header at core task (call.NotifyWait entry exit ticks) h place words = rw (core_number header core h place.core_there, lt-ltb _ _ words.0, lt-ltb _ _ words.1, lt-ltb _ _ words.2, target_named header task h place.caller) refl
-call_read header at core task (call.NotifyTake clear ticks) h place words = rw (core_number header core h place.core_there, lt-ltb _ _ words, target_named header task h place.caller) refl
-call_read header at core task (call.StateClear to) h place words = rw (core_number header core h place.core_there, target_named header task h place.caller, target_named header to h place.target) refl
-call_read header at core task (call.ValueClear to bits) h place words = rw (core_number header core h place.core_there, lt-ltb _ _ words, target_named header task h place.caller, target_named header to h place.target) refl
-call_read header at core task (call.MutexTake mutex ticks) h place words = rw (core_number header core h place.core_there, mutex_number header mutex h place.target, lt-ltb _ _ words, target_named header task h place.caller) refl
-call_read header at core task (call.MutexGive mutex) h place words = rw (core_number header core h place.core_there, mutex_number header mutex h place.target, target_named header task h place.caller) refl
-call_read header at core task call.Finish h place words = rw (core_number header core h place.core_there, target_named header task h place.caller) refl
-call_read header at core task call.HoldOpen h place words = rw (core_number header core h place.core_there, target_named header task h place.caller) refl
-call_read header at core task call.HoldClose h place words = rw (core_number header core h place.core_there, target_named header task h place.caller) refl
+-- the only index in the first format
+first_index : (header : Header) (index : ℕ) → header.config.notes ≡ 1 → index < header.config.notes → index ≡ 0
+first_index header index one there = omega arith
 
-step_read : (header : Header) (at : List ℕ) (made : Step) → IsWithinLimits header → StepFits header made → IsStepOfWords made → step_at (names_of header) at (step_data header made) ≡ Ok made
+index_number : (header : Header) (index : ℕ) → IsWithinLimits header → index < header.config.notes → ltb index (2 ^ 32) ≡ true
+index_number header index h there = lt-ltb _ _ (omega (arith, h.few_notes))
+
+notify_read : (format : Format) (header : Header) (at : List ℕ) (core task to : ℕ) (what : Action) (index : ℕ) → Fits format header → IsWithinLimits header → core < header.config.cores → IsUserTask header task → IsNoteThere header to index → IsActionOfWord what → step_at format (names_of header) at (step_data format header (step.Call core task (call.Notify (record { task = to; action = what; index = index })))) ≡ Ok (step.Call core task (call.Notify (record { task = to; action = what; index = index })))
+unfolding step_at kind_at text_at step_of_kind_at number_at task_named_at call_at note_at action_at action_kind_at action_of_kind_at index_at number_or_at
+notify_read One header at core task to action.Nothing index fits h there caller target word = rw (first_index header index fits target.index_there, core_number header core h there, target_named header task h caller, target_named header to h target.owner) refl
+notify_read One header at core task to (action.SetBits bits) index fits h there caller target word = rw (first_index header index fits target.index_there, core_number header core h there, lt-ltb _ _ word, target_named header task h caller, target_named header to h target.owner) refl
+notify_read One header at core task to action.Increment index fits h there caller target word = rw (first_index header index fits target.index_there, core_number header core h there, target_named header task h caller, target_named header to h target.owner) refl
+notify_read One header at core task to (action.Set value) index fits h there caller target word = rw (first_index header index fits target.index_there, core_number header core h there, lt-ltb _ _ word, target_named header task h caller, target_named header to h target.owner) refl
+notify_read One header at core task to (action.SetNew value) index fits h there caller target word = rw (first_index header index fits target.index_there, core_number header core h there, lt-ltb _ _ word, target_named header task h caller, target_named header to h target.owner) refl
+notify_read Two header at core task to action.Nothing index fits h there caller target word = rw (index_number header index h target.index_there, core_number header core h there, target_named header task h caller, target_named header to h target.owner) refl
+notify_read Two header at core task to (action.SetBits bits) index fits h there caller target word = rw (index_number header index h target.index_there, core_number header core h there, lt-ltb _ _ word, target_named header task h caller, target_named header to h target.owner) refl
+notify_read Two header at core task to action.Increment index fits h there caller target word = rw (index_number header index h target.index_there, core_number header core h there, target_named header task h caller, target_named header to h target.owner) refl
+notify_read Two header at core task to (action.Set value) index fits h there caller target word = rw (index_number header index h target.index_there, core_number header core h there, lt-ltb _ _ word, target_named header task h caller, target_named header to h target.owner) refl
+notify_read Two header at core task to (action.SetNew value) index fits h there caller target word = rw (index_number header index h target.index_there, core_number header core h there, lt-ltb _ _ word, target_named header task h caller, target_named header to h target.owner) refl
+
+interrupt_read : (format : Format) (header : Header) (at : List ℕ) (core to : ℕ) (what : Action) (index : ℕ) → Fits format header → IsWithinLimits header → core < header.config.cores → IsNoteThere header to index → IsActionOfWord what → step_at format (names_of header) at (step_data format header (step.Interrupt core (record { task = to; action = what; index = index }))) ≡ Ok (step.Interrupt core (record { task = to; action = what; index = index }))
+unfolding step_at kind_at text_at step_of_kind_at number_at task_named_at note_at action_at action_kind_at action_of_kind_at index_at number_or_at
+interrupt_read One header at core to action.Nothing index fits h there target word = rw (first_index header index fits target.index_there, core_number header core h there, target_named header to h target.owner) refl
+interrupt_read One header at core to (action.SetBits bits) index fits h there target word = rw (first_index header index fits target.index_there, core_number header core h there, lt-ltb _ _ word, target_named header to h target.owner) refl
+interrupt_read One header at core to action.Increment index fits h there target word = rw (first_index header index fits target.index_there, core_number header core h there, target_named header to h target.owner) refl
+interrupt_read One header at core to (action.Set value) index fits h there target word = rw (first_index header index fits target.index_there, core_number header core h there, lt-ltb _ _ word, target_named header to h target.owner) refl
+interrupt_read One header at core to (action.SetNew value) index fits h there target word = rw (first_index header index fits target.index_there, core_number header core h there, lt-ltb _ _ word, target_named header to h target.owner) refl
+interrupt_read Two header at core to action.Nothing index fits h there target word = rw (index_number header index h target.index_there, core_number header core h there, target_named header to h target.owner) refl
+interrupt_read Two header at core to (action.SetBits bits) index fits h there target word = rw (index_number header index h target.index_there, core_number header core h there, lt-ltb _ _ word, target_named header to h target.owner) refl
+interrupt_read Two header at core to action.Increment index fits h there target word = rw (index_number header index h target.index_there, core_number header core h there, target_named header to h target.owner) refl
+interrupt_read Two header at core to (action.Set value) index fits h there target word = rw (index_number header index h target.index_there, core_number header core h there, lt-ltb _ _ word, target_named header to h target.owner) refl
+interrupt_read Two header at core to (action.SetNew value) index fits h there target word = rw (index_number header index h target.index_there, core_number header core h there, lt-ltb _ _ word, target_named header to h target.owner) refl
+
+call_read : (format : Format) (header : Header) (at : List ℕ) (core task : ℕ) (made : Call) → Fits format header → IsWithinLimits header → IsCallInPlace header core task made → IsOfWords made → step_at format (names_of header) at (step_data format header (step.Call core task made)) ≡ Ok (step.Call core task made)
+unfolding step_at kind_at text_at step_of_kind_at number_at flag_at task_named_at call_at wait_at index_at number_or_at
+call_read format header at core task call.Yield fits h place words = rw (core_number header core h place.core_there, target_named header task h place.caller) refl
+call_read format header at core task (call.Delay ticks) fits h place words = rw (core_number header core h place.core_there, lt-ltb _ _ words, target_named header task h place.caller) refl
+call_read format header at core task (call.DelayUntil prev inc) fits h place words = rw (core_number header core h place.core_there, lt-ltb _ _ words.0, lt-ltb _ _ words.1, target_named header task h place.caller) refl
+call_read format header at core task (call.PrioritySet to priority) fits h place words = rw (core_number header core h place.core_there, lt-ltb _ _ words, target_named header task h place.caller, target_named header to h place.target) refl
+call_read format header at core task (call.AffinitySet to mask) fits h place words = rw (core_number header core h place.core_there, lt-ltb _ _ words, target_named header task h place.caller, target_named header to h place.target) refl
+call_read format header at core task (call.PreemptOff to) fits h place words = rw (core_number header core h place.core_there, target_named header task h place.caller, target_named header to h place.target) refl
+call_read format header at core task (call.PreemptOn to) fits h place words = rw (core_number header core h place.core_there, target_named header task h place.caller, target_named header to h place.target) refl
+call_read format header at core task (call.Notify note) fits h place words = notify_read format header at core task note.task note.action note.index fits h place.core_there place.caller place.target words
+call_read One header at core task (call.NotifyWait entry exit ticks index) fits h place words = rw (first_index header index fits place.target, core_number header core h place.core_there, lt-ltb _ _ words.0, lt-ltb _ _ words.1, lt-ltb _ _ words.2, target_named header task h place.caller) refl
+call_read Two header at core task (call.NotifyWait entry exit ticks index) fits h place words = rw (index_number header index h place.target, core_number header core h place.core_there, lt-ltb _ _ words.0, lt-ltb _ _ words.1, lt-ltb _ _ words.2, target_named header task h place.caller) refl
+call_read One header at core task (call.NotifyTake clear ticks index) fits h place words = rw (first_index header index fits place.target, core_number header core h place.core_there, lt-ltb _ _ words, target_named header task h place.caller) refl
+call_read Two header at core task (call.NotifyTake clear ticks index) fits h place words = rw (index_number header index h place.target, core_number header core h place.core_there, lt-ltb _ _ words, target_named header task h place.caller) refl
+call_read One header at core task (call.StateClear to index) fits h place words = rw (first_index header index fits place.target.index_there, core_number header core h place.core_there, target_named header task h place.caller, target_named header to h place.target.owner) refl
+call_read Two header at core task (call.StateClear to index) fits h place words = rw (index_number header index h place.target.index_there, core_number header core h place.core_there, target_named header task h place.caller, target_named header to h place.target.owner) refl
+call_read One header at core task (call.ValueClear to bits index) fits h place words = rw (first_index header index fits place.target.index_there, core_number header core h place.core_there, lt-ltb _ _ words, target_named header task h place.caller, target_named header to h place.target.owner) refl
+call_read Two header at core task (call.ValueClear to bits index) fits h place words = rw (index_number header index h place.target.index_there, core_number header core h place.core_there, lt-ltb _ _ words, target_named header task h place.caller, target_named header to h place.target.owner) refl
+call_read format header at core task (call.MutexTake mutex ticks) fits h place words = rw (core_number header core h place.core_there, mutex_number header mutex h place.target, lt-ltb _ _ words, target_named header task h place.caller) refl
+call_read format header at core task (call.MutexGive mutex) fits h place words = rw (core_number header core h place.core_there, mutex_number header mutex h place.target, target_named header task h place.caller) refl
+call_read format header at core task call.Finish fits h place words = rw (core_number header core h place.core_there, target_named header task h place.caller) refl
+call_read format header at core task call.HoldOpen fits h place words = rw (core_number header core h place.core_there, target_named header task h place.caller) refl
+call_read format header at core task call.HoldClose fits h place words = rw (core_number header core h place.core_there, target_named header task h place.caller) refl
+
+step_read : (format : Format) (header : Header) (at : List ℕ) (made : Step) → Fits format header → IsWithinLimits header → StepFits header made → IsStepOfWords made → step_at format (names_of header) at (step_data format header made) ≡ Ok made
 unfolding step_at kind_at text_at step_of_kind_at number_at
-step_read header at step.Tick h place words = refl
-step_read header at (step.Switch core) h place words = rw (core_number header core h place) refl
-step_read header at (step.Call core task made) h place words = call_read header at core task made h place words
-step_read header at (step.Interrupt core note) h place words = interrupt_read header at core note.task note.action h place.core_there place.target words
+step_read format header at step.Tick fits h place words = refl
+step_read format header at (step.Switch core) fits h place words = rw (core_number header core h place) refl
+step_read format header at (step.Call core task made) fits h place words = call_read format header at core task made fits h place words
+step_read format header at (step.Interrupt core note) fits h place words = interrupt_read format header at core note.task note.action note.index fits h place.core_there place.target words
 
-steps_read : (header : Header) (at : List ℕ) (index : ℕ) (steps : List Step) → IsWithinLimits header → AllByRecursion (λ made. StepFits header made × IsStepOfWords made) steps → each_at (step_at (names_of header)) at index (items_of (map (step_data header) steps)) ≡ Ok steps
-steps_read header at index [] h each = refl
-steps_read header at index (made ∷ steps) h each = rw (step_read header _ made h each.0.0 each.0.1, steps_read header at (suc index) steps h each.1) refl
+steps_read : (format : Format) (header : Header) (at : List ℕ) (index : ℕ) (steps : List Step) → Fits format header → IsWithinLimits header → AllByRecursion (λ made. StepFits header made × IsStepOfWords made) steps → each_at (step_at format (names_of header)) at index (items_of (map (step_data format header) steps)) ≡ Ok steps
+steps_read format header at index [] fits h each = refl
+steps_read format header at index (made ∷ steps) fits h each = rw (step_read format header _ made fits h each.0.0 each.0.1, steps_read format header at (suc index) steps fits h each.1) refl
 
-config_read : (header : Header) (steps : List Step) (at : List ℕ) → IsWritable header steps → config_at at (session_data header steps) ≡ Ok header.config
-unfolding session_data config_at number_at flag_at
-config_read header steps at h =
+-- the settings, with the number of notifications that the first format means
+config_of_one : (config : Config) → config.notes ≡ 1 → record { cores = config.cores; priorities = config.priorities; slicing = config.slicing; tick = config.tick; mutexes = config.mutexes; notes = 1 } ≡ config
+config_of_one config one = ap with_notes (sym one)
+  where
+    with_notes : ℕ → Config
+    with_notes notes = record { cores = config.cores; priorities = config.priorities; slicing = config.slicing; tick = config.tick; mutexes = config.mutexes; notes = notes }
+
+config_read : (format : Format) (header : Header) (steps : List Step) (at : List ℕ) → Fits format header → IsWritable header steps → config_at format at (data_in format header steps) ≡ Ok header.config
+unfolding data_in config_at notes_at number_at flag_at
+config_read One header steps at fits h =
     let limits = h.limits in
     let cores : header.config.cores < 2 ^ 32 = omega (arith, limits.few_cores) in
     let priorities : header.config.priorities < 2 ^ 32 = omega (arith, limits.few_priorities) in
     let mutexes : header.config.mutexes < 2 ^ 32 = omega (arith, limits.few_mutexes) in
-    rw (lt-ltb _ _ cores, lt-ltb _ _ priorities, lt-ltb _ _ mutexes, lt-ltb _ _ h.tick) refl
+    rw (lt-ltb _ _ cores, lt-ltb _ _ priorities, lt-ltb _ _ mutexes, lt-ltb _ _ h.tick) (ap Ok (config_of_one header.config fits))
+config_read Two header steps at fits h =
+    let limits = h.limits in
+    let cores : header.config.cores < 2 ^ 32 = omega (arith, limits.few_cores) in
+    let priorities : header.config.priorities < 2 ^ 32 = omega (arith, limits.few_priorities) in
+    let mutexes : header.config.mutexes < 2 ^ 32 = omega (arith, limits.few_mutexes) in
+    let notes : header.config.notes < 2 ^ 32 = omega (arith, limits.few_notes) in
+    rw (lt-ltb _ _ cores, lt-ltb _ _ priorities, lt-ltb _ _ mutexes, lt-ltb _ _ notes, lt-ltb _ _ h.tick) refl
 
 are_named : (config : Config) (tasks : List TaskArgs) → AllByRecursion (IsTask config) tasks → list_all (λ task. is_name task.name) tasks ≡ true
 are_named config [] each = refl
 are_named config (task ∷ tasks) each = and_from _ _ each.0.named (are_named config tasks each.1)
 
-header_read : (header : Header) (steps : List Step) (at : List ℕ) → is_header header ≡ true → IsWritable header steps → header_at at (session_data header steps) ≡ Ok (Ok header)
-unfolding session_data header_at list_at array_at
-header_read header steps at valid h =
-    rw (config_read header steps at h, tasks_read header.config _ 0 header.tasks h.limits.few_priorities h.each_task, are_named header.config header.tasks h.each_task, valid) refl
+tasks_found : (format : Format) (header : Header) (steps : List Step) (at : List ℕ) → IsWritable header steps → list_at task_at at (codes "tasks") (data_in format header steps) ≡ Ok header.tasks
+unfolding data_in list_at array_at
+tasks_found One header steps at h = tasks_read header.config _ 0 header.tasks h.limits.few_priorities h.each_task
+tasks_found Two header steps at h = tasks_read header.config _ 0 header.tasks h.limits.few_priorities h.each_task
 
-format_read : (header : Header) (steps : List Step) (at : List ℕ) → format_at at (session_data header steps) ≡ Ok tt
-unfolding session_data format_at number_at
-format_read header steps at = refl
+header_read : (format : Format) (header : Header) (steps : List Step) (at : List ℕ) → Fits format header → is_header header ≡ true → IsWritable header steps → header_at format at (data_in format header steps) ≡ Ok (Ok header)
+unfolding header_at
+header_read format header steps at fits valid h =
+    rw (config_read format header steps at fits h, tasks_found format header steps at h, are_named header.config header.tasks h.each_task, valid) refl
 
-steps_at_read : (header : Header) (steps : List Step) (at : List ℕ) → IsWritable header steps → list_at (step_at (names_of header)) at (codes "steps") (session_data header steps) ≡ Ok steps
-unfolding session_data list_at array_at
-steps_at_read header steps at h = steps_read header _ 0 steps h.limits h.each_step
+format_read : (format : Format) (header : Header) (steps : List Step) (at : List ℕ) → format_at at (data_in format header steps) ≡ Ok format
+unfolding data_in format_at number_at
+format_read One header steps at = refl
+format_read Two header steps at = refl
 
-session_read : (header : Header) (steps : List Step) (at : List ℕ) → is_header header ≡ true → IsWritable header steps → session_at at (session_data header steps) ≡ Ok (Ok header, steps)
-unfolding session_data session_at
-session_read header steps at valid h = rw (format_read header steps at, header_read header steps at valid h, steps_at_read header steps at h) refl
+steps_found : (format : Format) (header : Header) (steps : List Step) (at : List ℕ) → Fits format header → IsWritable header steps → list_at (step_at format (names_of header)) at (codes "steps") (data_in format header steps) ≡ Ok steps
+unfolding data_in list_at array_at
+steps_found One header steps at fits h = steps_read One header _ 0 steps fits h.limits h.each_step
+steps_found Two header steps at fits h = steps_read Two header _ 0 steps fits h.limits h.each_step
+
+data_read : (format : Format) (header : Header) (steps : List Step) (at : List ℕ) → Fits format header → is_header header ≡ true → IsWritable header steps → session_at at (data_in format header steps) ≡ Ok (format, Ok header, steps)
+unfolding data_in session_at
+data_read One header steps at fits valid h = rw (format_read One header steps at, header_read One header steps at fits valid h, steps_found One header steps at fits h) refl
+data_read Two header steps at fits valid h = rw (format_read Two header steps at, header_read Two header steps at fits valid h, steps_found Two header steps at fits h) refl
 
 all_of : (config : Config) (tasks : List TaskArgs) → list_all (has_valid_args config) tasks ≡ true → AllByRecursion (λ task. IsTrue (is_name task.name)) tasks → AllByRecursion (λ task. task.mask < 2 ^ 32) tasks → AllByRecursion (IsTask config) tasks
 all_of config [] fit named masks = tt
@@ -167,7 +225,8 @@ pub written_reads_back : WrittenReadsBack
 unfolding session
 written_reads_back header steps h =
     let writes = writable header steps h in
+    let format = format_for header.config in
     let passing = all_accepted (step_fault header) (codes "steps") steps (λ k d short. (h.steps k d short).passes) in
     let valid = passes_whole header h.header.passes in
-    rw (document-compact_text (session_data header steps) (session_plain header steps writes) (session_depth header steps), session_read header steps [] valid writes)
+    rw (document-compact_text (session_data header steps) (session_plain header steps writes) (session_depth header steps), data_read format header steps [] (fits_for header) valid writes)
     (accepted_read header steps passing)

@@ -1,11 +1,12 @@
 -- A session as it is written: a JSON value, whose members stand in ascending byte order, in its
 -- compact text.
-use Rattle.std.specs.Prelude.{◌≡◌, ◌-◌, ℕ, Bool, List, [], ◌∷◌, map, codes, Option, Some, None, Ok, slice_index_or}
-use Rattle.serde_json.specs.Data.{Data, Members, number, unsigned, string, boolean, array, object, no_members, member}
+use Rattle.std.specs.Prelude.{◌≡◌, ◌-◌, ℕ, ◌==◌, Bool, List, [], ◌∷◌, ◌++◌, map, codes, Option, Some, None, Ok, slice_index_or, if◌then◌else◌}
+use Rattle.serde_json.specs.Data.{Data, Members, number, unsigned, string, boolean, array, object, no_members, member, put}
 use Rattle.serde_json.specs.View.{items_of}
 use Rattle.serde_json.specs.Written.{compact_text}
 use Rattle.bench_types.specs.declared.note.Action.{Action}
 use Rattle.bench_types.specs.declared.note.Action.TheVariants as action
+use Rattle.bench_types.specs.declared.header.Config.{Config}
 use Rattle.bench_types.specs.declared.header.TaskArgs.{TaskArgs}
 use Rattle.bench_types.specs.declared.header.Header.{Header}
 use Rattle.bench_types.specs.declared.step.Step.{Step}
@@ -13,6 +14,8 @@ use Rattle.bench_types.specs.declared.step.Step.TheVariants as step
 use Rattle.bench_types.specs.declared.step.Call.{Call}
 use Rattle.bench_types.specs.declared.step.Call.TheVariants as call
 use Rattle.bench_types.specs.Session.{IsSession}
+use Rattle.session_text.specs.declared.format.Format.{Format}
+use Rattle.session_text.specs.declared.format.Format.TheVariants.{One, Two}
 use Rattle.session_text.specs.Action.{action_number}
 use Rattle.session_text.specs.Session.{session}
 
@@ -24,8 +27,17 @@ members (first ∷ others) = member first.0 first.1 (members others)
 abbrev pub object_with : List (List ℕ × Data) → Data
 object_with all = object (members all)
 
+-- an object's members, with these put among them
+abbrev pub with_members : List (List ℕ × Data) → Members → Members
+with_members [] old = old
+with_members (first ∷ others) old = with_members others (put first.0 first.1 old)
+
 abbrev pub whole : ℕ → Data
 whole n = number (unsigned n)
+
+-- the format that a session is written in: the first where each task has one notification
+abbrev pub format_for : Config → Format
+format_for config = if config.notes == 1 then One else Two
 
 abbrev pub task_data : TaskArgs → Data
 task_data task =
@@ -81,40 +93,51 @@ action_word action.Increment = codes "increment"
 action_word (action.Set value) = codes "set"
 action_word (action.SetNew value) = codes "set_new"
 
+-- the index of a notification, which the second format has
+abbrev pub index_member : Format → ℕ → List (List ℕ × Data)
+index_member One index = []
+index_member Two index = (codes "index", whole index) ∷ []
+
 -- the last member of a notification, where its action has a number
 abbrev pub value_member : Option ℕ → List (List ℕ × Data)
 value_member None = []
 value_member (Some value) = (codes "value", whole value) ∷ []
 
-abbrev pub notify_data : List ℕ → ℕ → List ℕ → Action → Data
-notify_data by core to what =
+abbrev pub notify_data : Format → List ℕ → ℕ → List ℕ → Action → ℕ → Data
+notify_data format by core to what index =
     object_with ((codes "action", string (action_word what)) ∷ (codes "by", string by)
-    ∷ (codes "core", whole core) ∷ (codes "do", string (codes "notify")) ∷ (codes "to", string to)
-    ∷ value_member (action_number what))
+    ∷ (codes "core", whole core) ∷ (codes "do", string (codes "notify"))
+    ∷ index_member format index ++ (codes "to", string to) ∷ value_member (action_number what))
 
-abbrev pub interrupt_data : ℕ → List ℕ → Action → Data
-interrupt_data core to what
-    = object_with
-    ((codes "action", string (action_word what)) ∷ (codes "core", whole core)
-    ∷ (codes "do", string (codes "isr_notify")) ∷ (codes "to", string to)
-    ∷ value_member (action_number what))
+abbrev pub interrupt_data : Format → ℕ → List ℕ → Action → ℕ → Data
+interrupt_data format core to what index =
+    object_with ((codes "action", string (action_word what)) ∷ (codes "core", whole core)
+    ∷ (codes "do", string (codes "isr_notify"))
+    ∷ index_member format index ++ (codes "to", string to) ∷ value_member (action_number what))
 
-abbrev pub wait_data : List ℕ → ℕ → ℕ → ℕ → ℕ → Data
-wait_data by core entry exit ticks =
+abbrev pub wait_data : Format → List ℕ → ℕ → ℕ → ℕ → ℕ → ℕ → Data
+wait_data format by core entry exit ticks index =
     object_with ((codes "by", string by) ∷ (codes "core", whole core)
     ∷ (codes "do", string (codes "notify_wait")) ∷ (codes "entry", whole entry)
-    ∷ (codes "exit", whole exit) ∷ (codes "ticks", whole ticks) ∷ [])
+    ∷ (codes "exit", whole exit) ∷ index_member format index ++ (codes "ticks", whole ticks) ∷ [])
 
-abbrev pub take_data : List ℕ → ℕ → Bool → ℕ → Data
-take_data by core clear ticks =
+abbrev pub take_data : Format → List ℕ → ℕ → Bool → ℕ → ℕ → Data
+take_data format by core clear ticks index =
     object_with ((codes "by", string by) ∷ (codes "clear", boolean clear)
     ∷ (codes "core", whole core) ∷ (codes "do", string (codes "notify_take"))
-    ∷ (codes "ticks", whole ticks) ∷ [])
+    ∷ index_member format index ++ (codes "ticks", whole ticks) ∷ [])
 
-abbrev pub value_clear_data : List ℕ → ℕ → List ℕ → ℕ → Data
-value_clear_data by core to bits =
+abbrev pub state_clear_data : Format → List ℕ → ℕ → List ℕ → ℕ → Data
+state_clear_data format by core to index =
+    object_with ((codes "by", string by) ∷ (codes "core", whole core)
+    ∷ (codes "do", string (codes "state_clear"))
+    ∷ index_member format index ++ (codes "to", string to) ∷ [])
+
+abbrev pub value_clear_data : Format → List ℕ → ℕ → List ℕ → ℕ → ℕ → Data
+value_clear_data format by core to bits index =
     object_with ((codes "bits", whole bits) ∷ (codes "by", string by) ∷ (codes "core", whole core)
-    ∷ (codes "do", string (codes "value_clear")) ∷ (codes "to", string to) ∷ [])
+    ∷ (codes "do", string (codes "value_clear"))
+    ∷ index_member format index ++ (codes "to", string to) ∷ [])
 
 abbrev pub mutex_take_data : List ℕ → ℕ → ℕ → ℕ → Data
 mutex_take_data by core mutex ticks =
@@ -127,56 +150,82 @@ mutex_give_data by core mutex =
     object_with ((codes "by", string by) ∷ (codes "core", whole core)
     ∷ (codes "do", string (codes "mutex_give")) ∷ (codes "mutex", whole mutex) ∷ [])
 
-abbrev pub call_data : Header → List ℕ → ℕ → Call → Data
-call_data header by core call.Yield = bare_call by core (codes "yield")
-call_data header by core (call.Delay ticks) = delay_data by core ticks
-call_data header by core (call.DelayUntil prev inc) = delay_until_data by core prev inc
-call_data header by core (call.PrioritySet task priority) =
+abbrev pub call_data : Format → Header → List ℕ → ℕ → Call → Data
+call_data format header by core call.Yield = bare_call by core (codes "yield")
+call_data format header by core (call.Delay ticks) = delay_data by core ticks
+call_data format header by core (call.DelayUntil prev inc) = delay_until_data by core prev inc
+call_data format header by core (call.PrioritySet task priority) =
     priority_data by core (task_name header task) priority
-call_data header by core (call.AffinitySet task mask) =
+call_data format header by core (call.AffinitySet task mask) =
     affinity_data by core (task_name header task) mask
-call_data header by core (call.PreemptOff task) =
+call_data format header by core (call.PreemptOff task) =
     call_for by core (codes "preempt_off") (task_name header task)
-call_data header by core (call.PreemptOn task) =
+call_data format header by core (call.PreemptOn task) =
     call_for by core (codes "preempt_on") (task_name header task)
-call_data header by core (call.Notify note) =
-    notify_data by core (task_name header note.task) note.action
-call_data header by core (call.NotifyWait entry exit ticks) = wait_data by core entry exit ticks
-call_data header by core (call.NotifyTake clear ticks) = take_data by core clear ticks
-call_data header by core (call.StateClear task) =
-    call_for by core (codes "state_clear") (task_name header task)
-call_data header by core (call.ValueClear task bits) =
-    value_clear_data by core (task_name header task) bits
-call_data header by core (call.MutexTake mutex ticks) = mutex_take_data by core mutex ticks
-call_data header by core (call.MutexGive mutex) = mutex_give_data by core mutex
-call_data header by core call.Finish = bare_call by core (codes "finish")
-call_data header by core call.HoldOpen = bare_call by core (codes "hold_open")
-call_data header by core call.HoldClose = bare_call by core (codes "hold_close")
+call_data format header by core (call.Notify note) =
+    notify_data format by core (task_name header note.task) note.action note.index
+call_data format header by core (call.NotifyWait entry exit ticks index) =
+    wait_data format by core entry exit ticks index
+call_data format header by core (call.NotifyTake clear ticks index) =
+    take_data format by core clear ticks index
+call_data format header by core (call.StateClear task index) =
+    state_clear_data format by core (task_name header task) index
+call_data format header by core (call.ValueClear task bits index) =
+    value_clear_data format by core (task_name header task) bits index
+call_data format header by core (call.MutexTake mutex ticks) = mutex_take_data by core mutex ticks
+call_data format header by core (call.MutexGive mutex) = mutex_give_data by core mutex
+call_data format header by core call.Finish = bare_call by core (codes "finish")
+call_data format header by core call.HoldOpen = bare_call by core (codes "hold_open")
+call_data format header by core call.HoldClose = bare_call by core (codes "hold_close")
 
-abbrev pub step_data : Header → Step → Data
-step_data header step.Tick = object_with ((codes "do", string (codes "tick")) ∷ [])
-step_data header (step.Switch core) =
+abbrev pub step_data : Format → Header → Step → Data
+step_data format header step.Tick = object_with ((codes "do", string (codes "tick")) ∷ [])
+step_data format header (step.Switch core) =
     object_with ((codes "core", whole core) ∷ (codes "do", string (codes "switch")) ∷ [])
-step_data header (step.Call core task made) = call_data header (task_name header task) core made
-step_data header (step.Interrupt core note) =
-    interrupt_data core (task_name header note.task) note.action
+step_data format header (step.Call core task made) =
+    call_data format header (task_name header task) core made
+step_data format header (step.Interrupt core note) =
+    interrupt_data format core (task_name header note.task) note.action note.index
 
 abbrev pub tasks_data : List TaskArgs → Data
 tasks_data tasks = array (items_of (map task_data tasks))
 
-abbrev pub steps_data : Header → List Step → Data
-steps_data header steps = array (items_of (map (step_data header) steps))
+abbrev pub steps_data : Format → Header → List Step → Data
+steps_data format header steps = array (items_of (map (step_data format header) steps))
 
-unfoldable pub session_data : Header → List Step → Data
-session_data header steps = object_with (
-    (codes "cores", whole header.config.cores) ∷
+-- a session of the first format, with these steps and tasks
+abbrev pub first_data : Config → Data → Data → Data
+first_data config steps tasks = object_with (
+    (codes "cores", whole config.cores) ∷
     (codes "format", whole 1) ∷
-    (codes "mutexes", whole header.config.mutexes) ∷
-    (codes "priorities", whole header.config.priorities) ∷
-    (codes "slicing", boolean header.config.slicing) ∷
-    (codes "steps", steps_data header steps) ∷
-    (codes "tasks", tasks_data header.tasks) ∷
-    (codes "tick", whole header.config.tick) ∷ [])
+    (codes "mutexes", whole config.mutexes) ∷
+    (codes "priorities", whole config.priorities) ∷
+    (codes "slicing", boolean config.slicing) ∷
+    (codes "steps", steps) ∷
+    (codes "tasks", tasks) ∷
+    (codes "tick", whole config.tick) ∷ [])
+
+-- the same of the second
+abbrev pub second_data : Config → Data → Data → Data
+second_data config steps tasks = object_with (
+    (codes "cores", whole config.cores) ∷
+    (codes "format", whole 2) ∷
+    (codes "mutexes", whole config.mutexes) ∷
+    (codes "notes", whole config.notes) ∷
+    (codes "priorities", whole config.priorities) ∷
+    (codes "slicing", boolean config.slicing) ∷
+    (codes "steps", steps) ∷
+    (codes "tasks", tasks) ∷
+    (codes "tick", whole config.tick) ∷ [])
+
+unfoldable pub data_in : Format → Header → List Step → Data
+data_in One header steps =
+    first_data header.config (steps_data One header steps) (tasks_data header.tasks)
+data_in Two header steps =
+    second_data header.config (steps_data Two header steps) (tasks_data header.tasks)
+
+abbrev pub session_data : Header → List Step → Data
+session_data header steps = data_in (format_for header.config) header steps
 
 abbrev pub written : Header → List Step → List ℕ
 written header steps = compact_text (session_data header steps)

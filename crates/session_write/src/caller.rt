@@ -5,12 +5,14 @@ ghost use Rattle.session_write.specs.Written.{affinity_data, bare_call, call_for
 
 use crate::object::{put_text, put_whole};
 use serde_json::{Map, Value};
+use session_text::Format;
 use std::alloc::{AllocError, Global};
 
-/// A task that makes a call on a core, with the allocator for what is written of it.
+/// A task that makes a call on a core, with the allocator and the format for what is written of it.
 #[derive(Clone, Copy)]
 pub(crate) struct Caller<'a> {
     pub(crate) alloc: Global,
+    pub(crate) format: Format,
     pub(crate) by: &'a str,
     pub(crate) core: u32,
 }

@@ -1,9 +1,12 @@
 ghost use Rattle.std.specs.Prelude.{◌≡◌, OnOk};
 ghost use Rattle.serde_json.specs.Data.{boolean, string, put as with_member};
 ghost use Rattle.serde_json.specs.View.{members_view};
-ghost use Rattle.session_write.specs.Written.{whole};
+ghost use Rattle.session_text.specs.Action.{action_number};
+ghost use Rattle.session_write.specs.Written.{index_member, value_member, whole, with_members};
 
+use bench_types::Action;
 use serde_json::{Map, Value, put};
+use session_text::Format;
 use std::alloc::{AllocError, Global};
 
 /// Puts a text into the object, under the name.
@@ -44,4 +47,37 @@ pub(crate) fn put_flag(
         ≡ with_member name.now (boolean flag) (members_view object.old.entries)) }
 {
     put(object, alloc, name, Value::from(flag))
+}
+
+/// Puts the index of a notification into the object, where the format has it.
+pub(crate) fn put_index(
+    object: &mut Map<String, Value>,
+    alloc: Global,
+    format: Format,
+    index: u32,
+) -> Result<(), AllocError>
+    ensures { OnOk result (members_view object.new.entries
+        ≡ with_members (index_member format index) (members_view object.old.entries)) }
+{
+    match format {
+        Format::One => Ok(()),
+        Format::Two => put_whole(object, alloc, "index", index),
+    }
+}
+
+/// Puts the number of the action into the object, where it has one.
+pub(crate) fn put_value(
+    object: &mut Map<String, Value>,
+    alloc: Global,
+    action: Action,
+) -> Result<(), AllocError>
+    ensures { OnOk result (members_view object.new.entries
+        ≡ with_members (value_member (action_number action)) (members_view object.old.entries)) }
+{
+    match action {
+        Action::Nothing | Action::Increment => Ok(()),
+        Action::SetBits(value) | Action::Set(value) | Action::SetNew(value) => {
+            put_whole(object, alloc, "value", value)
+        }
+    }
 }

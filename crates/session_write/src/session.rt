@@ -2,15 +2,17 @@ ghost use Rattle.std.specs.Prelude.{◌≡◌, IfOk, Ok};
 ghost use Rattle.serde_json.specs.View.{view};
 ghost use Rattle.bench_types.specs.Session.{IsSession};
 ghost use Rattle.session_text.specs.Session.{session};
-ghost use Rattle.session_write.specs.Written.{session_data, task_data, tasks_data, written};
+ghost use Rattle.session_write.specs.Written.{first_data, format_for, second_data, session_data, task_data, tasks_data, written};
 
 use crate::step::steps_value;
 use bench_types::{Config, Header, Step, TaskArgs};
 use serde_json::{Value, json};
+use session_text::Format;
 use std::alloc::{AllocError, Global};
 
 /// Writes a session as a JSON text without spaces, with the members of each object in ascending
-/// byte order.
+/// byte order. The text has format 1 where each task has one notification, and else format 2, in
+/// which each step that is for a notification says its index.
 pub fn write_session(alloc: Global, header: &Header, steps: &[Step]) -> Result<Vec<u8>, AllocError>
     requires { IsSession (record { header = header.now; steps = steps.now }) }
     ensures text { IfOk result (λ text. text.items ≡ written header.now steps.now) }
@@ -20,29 +22,71 @@ pub fn write_session(alloc: Global, header: &Header, steps: &[Step]) -> Result<V
     session_value(alloc, header, steps)?.to_vec(alloc)
 }
 
-#[tactic(auto, unfolding(crate::specs::Written::session_data))]
+/// The format that a session with these settings is written in.
+fn format_for(config: Config) -> Format
+    ensures { result ≡ format_for config }
+{
+    if config.notes == 1 {
+        Format::One
+    } else {
+        Format::Two
+    }
+}
+
+#[tactic(auto, unfolding(crate::specs::Written::data_in))]
 fn session_value(alloc: Global, header: &Header, steps: &[Step]) -> Result<Value, AllocError>
     requires { IsSession (record { header = header.now; steps = steps.now }) }
     ensures { IfOk result (λ value. view value ≡ session_data header.now steps.now) }
 {
-    let Config {
-        cores,
-        priorities,
-        slicing,
-        tick,
-        mutexes,
-    } = header.config;
+    let format = format_for(header.config);
+    let steps = steps_value(alloc, format, header, steps)?;
     let tasks = tasks_value(alloc, header.tasks.as_slice())?;
-    let steps = steps_value(alloc, header, steps)?;
+    match format {
+        Format::One => first_value(alloc, header.config, steps, tasks),
+        Format::Two => second_value(alloc, header.config, steps, tasks),
+    }
+}
+
+/// A session of format 1, with these steps and tasks.
+fn first_value(
+    alloc: Global,
+    config: Config,
+    steps: Value,
+    tasks: Value,
+) -> Result<Value, AllocError>
+    ensures { IfOk result (λ value. view value ≡ first_data config (view steps) (view tasks)) }
+{
     json!(in alloc; {
-        "cores": cores,
+        "cores": config.cores,
         "format": 1u32,
-        "mutexes": mutexes,
-        "priorities": priorities,
-        "slicing": slicing,
+        "mutexes": config.mutexes,
+        "priorities": config.priorities,
+        "slicing": config.slicing,
         "steps": steps,
         "tasks": tasks,
-        "tick": tick
+        "tick": config.tick
+    })
+}
+
+/// The same of format 2.
+fn second_value(
+    alloc: Global,
+    config: Config,
+    steps: Value,
+    tasks: Value,
+) -> Result<Value, AllocError>
+    ensures { IfOk result (λ value. view value ≡ second_data config (view steps) (view tasks)) }
+{
+    json!(in alloc; {
+        "cores": config.cores,
+        "format": 2u32,
+        "mutexes": config.mutexes,
+        "notes": config.notes,
+        "priorities": config.priorities,
+        "slicing": config.slicing,
+        "steps": steps,
+        "tasks": tasks,
+        "tick": config.tick
     })
 }
 

@@ -5,28 +5,35 @@ ghost use Rattle.session_write.specs.Written.{call_data, step_data, steps_data, 
 
 use crate::caller::Caller;
 use crate::notes::interrupt_value;
-use bench_types::{Call, Header, Note, Step};
+use bench_types::{Call, Header, Step};
 use serde_json::{Value, json};
+use session_text::Format;
 use std::alloc::{AllocError, Global};
 
 pub(crate) fn steps_value(
     alloc: Global,
+    format: Format,
     header: &Header,
     steps: &[Step],
 ) -> Result<Value, AllocError>
     requires { All (IsCheckedStep (settings_of header.now)) steps.now }
-    ensures { IfOk result (λ value. view value ≡ steps_data header.now steps.now) }
+    ensures { IfOk result (λ value. view value ≡ steps_data format header.now steps.now) }
 {
     let mut values = Vec::with_capacity(alloc, steps.len())?;
     for step in steps {
-        values.push(step_value(alloc, header, step)?)?;
+        values.push(step_value(alloc, format, header, step)?)?;
     }
     Ok(Value::Array(values))
 }
 
-fn step_value(alloc: Global, header: &Header, step: &Step) -> Result<Value, AllocError>
+fn step_value(
+    alloc: Global,
+    format: Format,
+    header: &Header,
+    step: &Step,
+) -> Result<Value, AllocError>
     requires { step_check (settings_of header.now) step.now ≡ Ok tt }
-    ensures { IfOk result (λ value. view value ≡ step_data header.now step.now) }
+    ensures { IfOk result (λ value. view value ≡ step_data format header.now step.now) }
 {
     match step {
         Step::Tick => json!(in alloc; {"do": "tick"}),
@@ -34,13 +41,14 @@ fn step_value(alloc: Global, header: &Header, step: &Step) -> Result<Value, Allo
         Step::Call { core, task, call } => {
             let caller = Caller {
                 alloc,
+                format,
                 by: task_name(header, *task),
                 core: *core,
             };
             call_value(header, &caller, *call)
         }
         Step::Interrupt { core, note } => {
-            interrupt_value(alloc, *core, task_name(header, note.task), note.action)
+            interrupt_value(alloc, format, *core, task_name(header, note.task), *note)
         }
     }
 }
@@ -48,7 +56,8 @@ fn step_value(alloc: Global, header: &Header, step: &Step) -> Result<Value, Allo
 fn call_value(header: &Header, caller: &Caller<'_>, call: Call) -> Result<Value, AllocError>
     requires { call_check (settings_of header.now) call ≡ Ok tt }
     ensures { IfOk result
-        (λ value. view value ≡ call_data header.now caller.now.by.now caller.now.core call) }
+        (λ value. view value
+        ≡ call_data caller.now.format header.now caller.now.by.now caller.now.core call) }
 {
     match call {
         Call::Yield => caller.bare("yield"),
@@ -60,11 +69,22 @@ fn call_value(header: &Header, caller: &Caller<'_>, call: Call) -> Result<Value,
         Call::AffinitySet { task, mask } => caller.affinity_set(task_name(header, task), mask),
         Call::PreemptOff(task) => caller.call_for("preempt_off", task_name(header, task)),
         Call::PreemptOn(task) => caller.call_for("preempt_on", task_name(header, task)),
-        Call::Notify(Note { task, action }) => caller.notify(task_name(header, task), action),
-        Call::NotifyWait { entry, exit, ticks } => caller.wait(entry, exit, ticks),
-        Call::NotifyTake { clear, ticks } => caller.take(clear, ticks),
-        Call::StateClear(task) => caller.call_for("state_clear", task_name(header, task)),
-        Call::ValueClear { task, bits } => caller.value_clear(task_name(header, task), bits),
+        Call::Notify(note) => caller.notify(task_name(header, note.task), note),
+        Call::NotifyWait {
+            entry,
+            exit,
+            ticks,
+            index,
+        } => caller.wait(entry, exit, ticks, index),
+        Call::NotifyTake {
+            clear,
+            ticks,
+            index,
+        } => caller.take(clear, ticks, index),
+        Call::StateClear { task, index } => caller.state_clear(task_name(header, task), index),
+        Call::ValueClear { task, bits, index } => {
+            caller.value_clear(task_name(header, task), bits, index)
+        }
         Call::MutexTake { mutex, ticks } => caller.mutex_take(mutex, ticks),
         Call::MutexGive(mutex) => caller.mutex_give(mutex),
         Call::Finish => caller.bare("finish"),

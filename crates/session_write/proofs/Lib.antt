@@ -1,3 +1,4 @@
+mod Indexed
 mod Limits
 mod Plain
 mod ReadBack

@@ -1,6 +1,7 @@
-ghost use Rattle.std.specs.Prelude.{◌≡◌, IfOk};
-ghost use Rattle.serde_json.specs.View.{view};
-ghost use Rattle.session_write.specs.Written.{action_word, interrupt_data, notify_data, state_clear_data, take_data, value_clear_data, wait_data};
+ghost use Rattle.std.specs.Prelude.{◌≡◌, [], ◌∷◌, codes, IfOk};
+ghost use Rattle.serde_json.specs.Data.{string};
+ghost use Rattle.serde_json.specs.View.{view, members_view};
+ghost use Rattle.session_write.specs.Written.{action_word, interrupt_data, members, notify_data, state_clear_data, take_data, value_clear_data, wait_data, whole};
 
 use crate::caller::Caller;
 use crate::object::{put_flag, put_index, put_text, put_value, put_whole};
@@ -21,6 +22,28 @@ fn action_word(action: Action) -> &'static str
     }
 }
 
+/// The members that each interrupt begins with.
+fn interrupt_members(
+    alloc: Global,
+    core: u32,
+    to: &str,
+    action: Action,
+) -> Result<Map<String, Value>, AllocError>
+    ensures { IfOk result
+        (λ object. members_view object.entries
+        ≡ members ((codes "action", string (action_word action))
+        ∷ (codes "core", whole core)
+        ∷ (codes "do", string (codes "isr_notify"))
+        ∷ (codes "to", string to.now) ∷ [])) }
+{
+    let mut object = Map::new(alloc);
+    put_text(&mut object, alloc, "action", action_word(action))?;
+    put_whole(&mut object, alloc, "core", core)?;
+    put_text(&mut object, alloc, "do", "isr_notify")?;
+    put_text(&mut object, alloc, "to", to)?;
+    Ok(object)
+}
+
 pub(crate) fn interrupt_value(
     alloc: Global,
     format: Format,
@@ -31,11 +54,7 @@ pub(crate) fn interrupt_value(
     ensures { IfOk result
         (λ value. view value ≡ interrupt_data format core to.now note.action note.index) }
 {
-    let mut object = Map::new(alloc);
-    put_text(&mut object, alloc, "action", action_word(note.action))?;
-    put_whole(&mut object, alloc, "core", core)?;
-    put_text(&mut object, alloc, "do", "isr_notify")?;
-    put_text(&mut object, alloc, "to", to)?;
+    let mut object = interrupt_members(alloc, core, to, note.action)?;
     put_value(&mut object, alloc, note.action)?;
     put_index(&mut object, alloc, format, note.index)?;
     Ok(Value::Object(object))
@@ -48,11 +67,8 @@ impl Caller<'_> {
             ≡ notify_data self.now.format self.now.by.now self.now.core to.now note.action
             note.index) }
     {
-        let mut object = Map::new(self.alloc);
+        let mut object = self.members("notify")?;
         put_text(&mut object, self.alloc, "action", action_word(note.action))?;
-        put_text(&mut object, self.alloc, "by", self.by)?;
-        put_whole(&mut object, self.alloc, "core", self.core)?;
-        put_text(&mut object, self.alloc, "do", "notify")?;
         put_text(&mut object, self.alloc, "to", to)?;
         put_value(&mut object, self.alloc, note.action)?;
         put_index(&mut object, self.alloc, self.format, note.index)?;
@@ -83,11 +99,8 @@ impl Caller<'_> {
             (λ value. view value
             ≡ take_data self.now.format self.now.by.now self.now.core clear ticks index) }
     {
-        let mut object = Map::new(self.alloc);
-        put_text(&mut object, self.alloc, "by", self.by)?;
+        let mut object = self.members("notify_take")?;
         put_flag(&mut object, self.alloc, "clear", clear)?;
-        put_whole(&mut object, self.alloc, "core", self.core)?;
-        put_text(&mut object, self.alloc, "do", "notify_take")?;
         put_whole(&mut object, self.alloc, "ticks", ticks)?;
         put_index(&mut object, self.alloc, self.format, index)?;
         Ok(Value::Object(object))
@@ -109,11 +122,8 @@ impl Caller<'_> {
             (λ value. view value
             ≡ value_clear_data self.now.format self.now.by.now self.now.core to.now bits index) }
     {
-        let mut object = Map::new(self.alloc);
+        let mut object = self.members("value_clear")?;
         put_whole(&mut object, self.alloc, "bits", bits)?;
-        put_text(&mut object, self.alloc, "by", self.by)?;
-        put_whole(&mut object, self.alloc, "core", self.core)?;
-        put_text(&mut object, self.alloc, "do", "value_clear")?;
         put_text(&mut object, self.alloc, "to", to)?;
         put_index(&mut object, self.alloc, self.format, index)?;
         Ok(Value::Object(object))

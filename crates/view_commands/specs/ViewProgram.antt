@@ -1,5 +1,5 @@
 -- How the program ends, and what it has read and written then.
-use Rattle.std.specs.Prelude.{◌≡◌, ◌⊎◌, ℕ, List, ◌++◌, Bool, true, false, Option, Some, None, Ok, Err, codes, decimal, map, string_bytes}
+use Rattle.std.specs.Prelude.{◌≡◌, ◌⊎◌, ℕ, List, ◌++◌, Bool, true, false, Option, Some, None, Ok, Err, codes, map, string_bytes}
 use Rattle.std.specs.Vec.Iter.{into_iter_items}
 use Rattle.std.specs.IoError.{error_kind}
 use Rattle.std.specs.declared.io.ErrorKind.{ErrorKind}
@@ -11,7 +11,6 @@ use Rattle.bench_commands.specs.declared.program.Ending.TheVariants.{Ran, Refuse
 use Rattle.bench_commands.specs.Device.{failures_after}
 use Rattle.bench_commands.specs.Program.{DeviceState, Shows, Tells, Untouched, Words}
 use Rattle.bench_commands.specs.Program as bench
-use Rattle.run_pictures.specs.Limits.{max_places}
 use Rattle.view_commands.specs.declared.program.ViewEnding.{ViewEnding}
 use Rattle.view_commands.specs.declared.program.ViewEnding.TheVariants.{AsBench, NotOpened}
 use Rattle.view_commands.specs.declared.words.Command.{Command}

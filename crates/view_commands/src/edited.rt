@@ -14,7 +14,7 @@ use crate::interest::{interest_of, unknown_core, unknown_task};
 use crate::{Command, Selection};
 use bench_types::{Edit, Header, MAX_SPAN, Step};
 use run_comparisons::compare;
-use run_pictures::{MAX_PLACES, TooLong, timeline, timelines};
+use run_pictures::{TooLong, timeline, timelines};
 use run_views::{Places, trace};
 use session_store::{Store, StoreFault};
 use session_write::write_session;
@@ -187,7 +187,7 @@ fn refused_long(alloc: Global, count: u64) -> Result<Shown, AllocError>
 {
     let mut text = String::new(alloc);
     write!(text, "refused range of {count} places")?;
-    write!(text, ", and a picture shows at most {MAX_PLACES}")?;
+    text.push_str(", and a picture shows at most 4000")?;
     text.push_str(": name fewer by --from and --to\n")?;
     Ok(Shown {
         is_refused: true,

@@ -2,7 +2,7 @@ ghost use Rattle.std.specs.Prelude.{◌≡◌, IfOk, Ok};
 ghost use Rattle.bench_types.specs.Header.{header_check};
 
 use crate::{SampleFault, header_of, numbered_header};
-use bench_types::{Config, Header, MAX_CORES, MAX_MUTEXES, MAX_PRIORITIES};
+use bench_types::{Config, Header, MAX_CORES, MAX_MUTEXES, MAX_NOTES, MAX_PRIORITIES};
 use std::alloc::Global;
 
 /// Two cores, 5 priorities, no time slices, no mutexes and one notification a task, from tick 0.
@@ -15,15 +15,15 @@ pub const PLAIN: Config = Config {
     notes: 1,
 };
 
-/// The most cores, priorities and mutexes, with time slices and one notification a task, from the
-/// last tick.
+/// The most cores, priorities, mutexes and notifications a task, with time slices, from the last
+/// tick.
 pub const LARGEST: Config = Config {
     cores: MAX_CORES,
     priorities: MAX_PRIORITIES,
     slicing: true,
     tick: u32::MAX,
     mutexes: MAX_MUTEXES,
-    notes: 1,
+    notes: MAX_NOTES,
 };
 
 /// Two cores and the tasks A, B and C on both, of the priorities 2, 1 and 1.

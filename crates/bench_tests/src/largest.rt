@@ -1,5 +1,5 @@
-//! The calls that take memory, each at its largest size: 64 tasks on 8 cores with 32 mutexes, and
-//! 100,000 steps.
+//! The calls that take memory, each at its largest size: 64 tasks of 8 notifications on 8 cores
+//! with 32 mutexes, and 100,000 steps.
 
 use crate::replays::check_store;
 use crate::samples::{
@@ -9,7 +9,9 @@ use crate::samples::{
 use crate::store_edits::{change, insert};
 use crate::trials::tried;
 use bench_samples::{LARGEST, crowd};
-use bench_types::{Edit, Header, MAX_CORES, MAX_MUTEXES, MAX_SPAN, MAX_STEPS, MAX_TASKS, Step};
+use bench_types::{
+    Edit, Header, MAX_CORES, MAX_MUTEXES, MAX_NOTES, MAX_SPAN, MAX_STEPS, MAX_TASKS, Step,
+};
 use session_store::Store;
 use smp_kernel::Kernel;
 use std::alloc::{AllocError, Global};
@@ -29,13 +31,9 @@ fn check_header(rt: &impl Abort, copy: &Header, header: &Header) {
 
 fn check_copy(rt: &impl Abort, alloc: Global, kernel: &Kernel) -> Result<(), Fail> {
     let settings = kernel.settings();
-    let most = (MAX_CORES + MAX_TASKS, MAX_MUTEXES);
-    assert_same(
-        rt,
-        "tasks and mutexes",
-        &(settings.tasks, settings.mutexes),
-        &most,
-    );
+    let shown = (settings.tasks, settings.mutexes, settings.notes);
+    let most = (MAX_CORES + MAX_TASKS, MAX_MUTEXES, MAX_NOTES);
+    assert_same(rt, "tasks, mutexes and notifications", &shown, &most);
     let copy = kernel.copy(alloc)?;
     assert_is(rt, "the same", copy.same(kernel));
     Ok(())

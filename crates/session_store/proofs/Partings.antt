@@ -34,7 +34,7 @@ edited_settings session (Remove at) = refl
 edited_settings session (Replace at step) = refl
 edited_settings session (ChangeTask task priority mask) =
     let config = session.header.config in
-    ap (λ users. record { cores = config.cores; priorities = config.priorities; slicing = config.slicing; mutexes = config.mutexes; tasks = config.cores + users }) (length-set session.header.tasks (task - config.cores) _)
+    ap (λ users. record { cores = config.cores; priorities = config.priorities; slicing = config.slicing; mutexes = config.mutexes; notes = config.notes; tasks = config.cores + users }) (length-set session.header.tasks (task - config.cores) _)
 
 state_first : (header : Header) (steps : List Step) → state_at header steps 0 ≡ start header
 unfolding state_at

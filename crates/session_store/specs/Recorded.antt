@@ -5,6 +5,7 @@ use Rattle.bench_types.specs.declared.header.Header.{Header}
 use Rattle.bench_types.specs.Header.{header_check}
 use Rattle.bench_types.specs.Limits.{max_span, max_steps}
 use Rattle.bench_types.specs.Name.{is_within}
+use Rattle.bench_types.specs.Session.{Session}
 use Rattle.bench_model.specs.History.{steps_of, IsLegal}
 use Rattle.bench_model.specs.Meeting.{first_kept}
 use Rattle.bench_model.specs.Session.{reply_at}
@@ -23,7 +24,7 @@ RecordedIsOpened =
 abbrev pub RecordedReplies : Type 0
 RecordedReplies =
     (header : Header) (entries : List Entry) (span place : ℕ) → IsLegal header entries →
-    let opened = record { header = header; steps = steps_of entries } in
+    let opened : Session = record { header = header; steps = steps_of entries } in
     let session = (first_kept span opened).session in
     reply_at session.header session.steps place
     ≡ option_map (λ entry. entry.reply) (slice_get entries place)

@@ -4,7 +4,7 @@ ghost use Rattle.bench_model.specs.History.{IsGrowthBy};
 ghost use Rattle.port_locks.specs.Holds.{hold_after};
 
 use bench_samples::{LARGEST, header_of};
-use bench_types::{Action, Note};
+use bench_types::{Act, Action, Note};
 use port_locks::Kept;
 use recordings::Recording;
 use smp_kernel::Meter;
@@ -66,9 +66,10 @@ impl Log {
         ensures hold { hold_after self.old.header self.new.entries
             ≡ hold_after self.old.header self.old.entries }
     {
-        let settings = self.recording.settings();
-        assert!(rt; core < settings.cores);
-        assert!(rt; settings.cores <= NOTE.task && NOTE.task < settings.tasks);
+        assert!(rt; core < self.recording.settings().cores);
+        let Ok(()) = Act::Interrupt(NOTE).check(core, self.recording.header()) else {
+            panic!(rt; "the interrupt is at fault");
+        };
         assert!(rt; self.recording.holder().is_none());
         assert!(rt; self.recording.interrupt(core, NOTE).is_ok());
         assert!(rt; self.recording.holder().is_none());

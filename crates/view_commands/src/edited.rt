@@ -187,7 +187,8 @@ fn refused_long(alloc: Global, count: u64) -> Result<Shown, AllocError>
 {
     let mut text = String::new(alloc);
     write!(text, "refused range of {count} places")?;
-    text.push_str(", and a picture shows at most 4000")?;
+    text.push_str(", and a picture shows at most ")?;
+    text.push_str("4000")?;
     text.push_str(": name fewer by --from and --to\n")?;
     Ok(Shown {
         is_refused: true,

@@ -10,19 +10,12 @@ use Rattle.bench_types.specs.declared.step.Call.TheVariants.{HoldOpen, HoldClose
 use Rattle.bench_types.specs.declared.step.Step.{Step}
 use Rattle.bench_types.specs.declared.step.Step.TheVariants.{Tick, Switch, Interrupt}
 use Rattle.bench_types.specs.declared.step.Step.TheVariants as steps
-use Rattle.bench_types.specs.Step.{settings_of, IsCheckedStep}
+use Rattle.bench_types.specs.Step.{core_of, settings_of, IsCheckedStep}
 use Rattle.bench_model.specs.Control.{Control, current}
 use Rattle.bench_model.specs.Holds.{is_held_by, is_held_elsewhere, depth_of}
 use Rattle.bench_model.specs.Session.{step_of, state_after, reply_at}
 use Rattle.bench_model.specs.Start.{start}
 use Rattle.bench_model.specs.Table.{Table}
-
--- the core that makes the step; a tick is made by core 0
-abbrev pub core_of : Step → ℕ
-core_of Tick = 0
-core_of (Switch core) = core
-core_of (steps.Call core task call) = core
-core_of (Interrupt core note) = core
 
 -- the session that the entries are
 abbrev pub steps_of : List Entry → List Step

@@ -6,7 +6,7 @@ abbrev pub min_cores : ℕ
 min_cores = 2
 
 abbrev pub max_cores : ℕ
-max_cores = 8
+max_cores = 32
 
 -- the priorities (FreeRTOS Reference Manual, configMAX_PRIORITIES)
 abbrev pub max_priorities : ℕ
@@ -14,7 +14,7 @@ max_priorities = 32
 
 -- the user tasks
 abbrev pub max_tasks : ℕ
-max_tasks = 64
+max_tasks = 512
 
 abbrev pub max_mutexes : ℕ
 max_mutexes = 32
@@ -25,7 +25,7 @@ max_notes = 8
 
 -- the steps of a session
 abbrev pub max_steps : ℕ
-max_steps = 100000
+max_steps = 1000000
 
 -- how many times over a core may hold the kernel
 abbrev pub max_depth : ℕ
@@ -37,4 +37,4 @@ max_span = 1000
 
 -- the bytes that a program reads
 abbrev pub max_input : ℕ
-max_input = 67108864
+max_input = 268435456

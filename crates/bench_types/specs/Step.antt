@@ -15,6 +15,13 @@ use Rattle.bench_types.specs.declared.step.Call.TheVariants as call
 use Rattle.bench_types.specs.declared.step.Unfinished.{Unfinished}
 use Rattle.bench_types.specs.declared.step.Unfinished.TheVariants as unfinished
 
+-- the core that makes the step; a tick is made by core 0
+abbrev pub core_of : Step → ℕ
+core_of step.Tick = 0
+core_of (step.Switch core) = core
+core_of (step.Call core task call) = core
+core_of (step.Interrupt core note) = core
+
 -- what a kernel keeps of its header's settings; the number of tasks counts the idle tasks too
 abbrev pub settings_of : Header → Settings
 settings_of header = record {

@@ -6,13 +6,13 @@ ghost use Rattle.bench_types.specs.Limits.{min_cores, max_cores, max_priorities,
 pub const MIN_CORES: u32 = 2;
 
 /// The greatest number of cores (`configNUMBER_OF_CORES`).
-pub const MAX_CORES: u32 = 8;
+pub const MAX_CORES: u32 = 32;
 
 /// The greatest number of priorities (`configMAX_PRIORITIES`).
 pub const MAX_PRIORITIES: u32 = 32;
 
 /// How many user tasks there are at most.
-pub const MAX_TASKS: u32 = 64;
+pub const MAX_TASKS: u32 = 512;
 
 /// How many mutexes there are at most.
 pub const MAX_MUTEXES: u32 = 32;
@@ -21,7 +21,7 @@ pub const MAX_MUTEXES: u32 = 32;
 pub const MAX_NOTES: u32 = 8;
 
 /// How many steps a session has at most.
-pub const MAX_STEPS: u32 = 100_000;
+pub const MAX_STEPS: u32 = 1_000_000;
 
 /// How many times over a core may hold the kernel.
 pub const MAX_DEPTH: u32 = 255;
@@ -30,7 +30,7 @@ pub const MAX_DEPTH: u32 = 255;
 pub const MAX_SPAN: u32 = 1_000;
 
 /// How many bytes of input a program reads at most.
-pub const MAX_INPUT: usize = 67_108_864;
+pub const MAX_INPUT: usize = 268_435_456;
 
 /// The limits of the code are those that contracts name. It does nothing: its contract is the law.
 pub fn laws_of_limits()

@@ -1,11 +1,5 @@
-use crate::MAX_CORES;
-use arrayvec::ArrayVec;
-
 /// The current task of each core, core 0 first.
-pub type Row = ArrayVec<u32, ROW>;
-
-// How many cores a row has room for.
-const ROW: usize = MAX_CORES as usize;
+pub type Row = Vec<u32>;
 
 /// What a step answers.
 #[derive(Clone, Copy, Debug, PartialEq, Eq, Hash)]

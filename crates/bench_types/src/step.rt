@@ -1,5 +1,5 @@
 ghost use Rattle.std.specs.Prelude.{◌≡◌, OnOk};
-ghost use Rattle.bench_types.specs.Step.{settings_of, call_check, core_check, increment_check, index_check, mask_check, mutex_check, note_check, step_check, task_check, IsActionOfWord, IsCheckedCall, IsCheckedStep};
+ghost use Rattle.bench_types.specs.Step.{core_of, settings_of, call_check, core_check, increment_check, index_check, mask_check, mutex_check, note_check, step_check, task_check, IsActionOfWord, IsCheckedCall, IsCheckedStep};
 
 use crate::header::allows_core;
 use crate::{Action, Fault, Header, Note};
@@ -100,6 +100,17 @@ pub enum Unfinished {
 }
 
 impl Step {
+    /// The core that makes the step. A tick is made by core 0.
+    #[inline]
+    pub fn core(&self) -> u32
+        ensures { result ≡ core_of self.now }
+    {
+        match *self {
+            Step::Tick => 0,
+            Step::Switch { core } | Step::Call { core, .. } | Step::Interrupt { core, .. } => core,
+        }
+    }
+
     /// F2 where the core is none, else F3 where the caller is no user task, else the fault of the
     /// call. For an interrupt F3 where the notified task is no user task.
     pub fn check(&self, header: &Header) -> Result<(), Fault>

@@ -11,8 +11,8 @@ use Rattle.bench_types.specs.declared.entry.Entry.{Entry}
 use Rattle.bench_types.specs.declared.fault.Fault.{Fault}
 use Rattle.bench_types.specs.declared.fault.Fault.TheVariants.{BadCore}
 use Rattle.bench_types.specs.Header.{header_check}
-use Rattle.bench_types.specs.Step.{settings_of}
-use Rattle.bench_model.specs.History.{core_of, made_by, IsLegal}
+use Rattle.bench_types.specs.Step.{core_of, settings_of}
+use Rattle.bench_model.specs.History.{made_by, IsLegal}
 use Rattle.bench_model.specs.Holds.{depth_of, depth_by, is_held_by}
 use Rattle.history_laws.specs.SoundHistories.{IsSoundHistory}
 use Rattle.history_laws.proofs.Parts.{made-push}

@@ -10,9 +10,9 @@ use Rattle.bench_types.specs.declared.reply.Reply.{Reply}
 use Rattle.bench_types.specs.declared.step.Step.{Step}
 use Rattle.bench_types.specs.declared.fault.Fault.{Fault}
 use Rattle.bench_types.specs.Header.{header_check}
-use Rattle.bench_types.specs.Step.{settings_of, IsCheckedStep}
+use Rattle.bench_types.specs.Step.{core_of, settings_of, IsCheckedStep}
 use Rattle.bench_model.specs.Equal.{StandsFor}
-use Rattle.bench_model.specs.History.{core_of, end_of, is_kept_out, places_of, AreByCurrent, IsByCurrent, IsLegal, IsNext}
+use Rattle.bench_model.specs.History.{end_of, is_kept_out, places_of, AreByCurrent, IsByCurrent, IsLegal, IsNext}
 use Rattle.bench_model.specs.Holds.{depth_of, depth_by, is_held_by}
 use Rattle.bench_model.specs.Lists.{View}
 use Rattle.bench_model.specs.Session.{step_of}

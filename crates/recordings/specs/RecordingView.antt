@@ -10,7 +10,8 @@ use Rattle.bench_types.specs.declared.step.Call.{Call}
 use Rattle.bench_types.specs.declared.step.Step.{Step}
 use Rattle.bench_types.specs.declared.step.Step.TheVariants as steps
 use Rattle.bench_model.specs.Control.{current}
-use Rattle.bench_model.specs.History.{core_of, end_of, free_places, places_of}
+use Rattle.bench_types.specs.Step.{core_of}
+use Rattle.bench_model.specs.History.{end_of, free_places, places_of}
 use Rattle.bench_model.specs.Session.{step_of}
 use Rattle.bench_model.specs.Table.{Table}
 use Rattle.recordings.specs.declared.recording.Answer.{Answer}

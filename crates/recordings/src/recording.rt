@@ -3,7 +3,7 @@ ghost use Rattle.std.specs.Vec.{vec_capacity};
 ghost use Rattle.bench_types.specs.Act.{IsCheckedAct};
 ghost use Rattle.bench_types.specs.Header.{header_check};
 ghost use Rattle.bench_types.specs.Step.{settings_of, note_check, IsActionOfWord, IsCheckedCall, IsCheckedStep};
-ghost use Rattle.bench_model.specs.History.{core_of as made_on, is_kept_out, places_of, AreByCurrent, IsByCurrent, IsGrowthBy, IsLegal, IsNext};
+ghost use Rattle.bench_model.specs.History.{is_kept_out, places_of, AreByCurrent, IsByCurrent, IsGrowthBy, IsLegal, IsNext};
 ghost use Rattle.bench_model.specs.Holds.{depth_of, depth_by, is_held_by, is_held_elsewhere};
 ghost use Rattle.history_laws.specs.SoundHistories.{IsSoundHistory};
 ghost use Rattle.recordings.specs.Kept.{IsRecording};
@@ -105,16 +105,6 @@ impl Parts {
     }
 }
 
-#[inline(always)]
-fn core_of(step: &Step) -> u32
-    ensures { result ≡ made_on step.now }
-{
-    match *step {
-        Step::Tick => 0,
-        Step::Switch { core } | Step::Call { core, .. } | Step::Interrupt { core, .. } => core,
-    }
-}
-
 impl Recording {
     /// A recording of no entries, with room for `limit` of them. It takes all the memory that it
     /// will ever have, and counts the steps that are made on `meter`.
@@ -155,7 +145,7 @@ impl Recording {
         let parts = &mut *self.parts;
         let reply = parts.kernel.step(&mut parts.meter, &step);
         parts.entries.push_reserved(Entry {
-            core: core_of(&step),
+            core: step.core(),
             step,
             reply,
         });

@@ -5,7 +5,8 @@ use Rattle.bench_types.specs.declared.header.Header.{Header}
 use Rattle.bench_types.specs.declared.reply.Reply.{Reply}
 use Rattle.bench_types.specs.declared.step.Step.{Step}
 use Rattle.bench_types.specs.declared.step.Step.TheVariants as step
-use Rattle.run_views.specs.ReplyWords.{core_of, reply_words}
+use Rattle.bench_types.specs.Step.{core_of}
+use Rattle.run_views.specs.ReplyWords.{reply_words}
 use Rattle.run_views.specs.StepWords.{step_text}
 use Rattle.run_pictures.specs.declared.film.Made.{Made}
 use Rattle.run_pictures.specs.declared.frame.Frame.{Frame}

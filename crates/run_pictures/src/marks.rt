@@ -2,7 +2,6 @@
 //! marked in the row of its core.
 ghost use Rattle.std.specs.Prelude.{◌≡◌, ◌++◌, ◌+◌, ◌<◌, ◌≤◌, ◌^◌, OnOk, flat_map, string_bytes};
 ghost use Rattle.list_orders.specs.Search.{numbers};
-ghost use Rattle.run_views.specs.ReplyWords.{core_of};
 ghost use Rattle.run_pictures.specs.Marks.{mark_in, mark_of, mark_text, middle, path_text, step_at, step_cell, step_words};
 
 use crate::Made;
@@ -31,15 +30,6 @@ fn mark_of(made: Made) -> Option<Mark>
     match made.step {
         Step::Interrupt { .. } => Some(Mark::Interrupt),
         _ => None,
-    }
-}
-
-fn core_of(step: Step) -> u32
-    ensures { result ≡ core_of step }
-{
-    match step {
-        Step::Tick => 0,
-        Step::Switch { core } | Step::Call { core, .. } | Step::Interrupt { core, .. } => core,
     }
 }
 
@@ -143,7 +133,7 @@ fn push_cell(
         height: 14,
     };
     push_bar(text, frame, bar, words.as_str())?;
-    let y = top + 36 + 28 * core_of(made.step) as u64;
+    let y = top + 36 + 28 * made.step.core() as u64;
     push_marked(text, frame, y, place, mark_of(made), words.as_str())
 }
 

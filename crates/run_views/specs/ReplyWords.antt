@@ -13,13 +13,7 @@ use Rattle.run_views.specs.declared.reply_words.Subject.{Subject}
 use Rattle.run_views.specs.declared.reply_words.Subject.TheVariants.{TheKernel, TheCore, TheCaller, AnotherTask}
 use Rattle.bench_types.specs.Codes.{refusal_code}
 use Rattle.bench_types.specs.Header.{name_of}
-
--- the core of a step; core 0 serves the tick
-abbrev pub core_of : Step → ℕ
-core_of steps.Tick = 0
-core_of (steps.Switch core) = core
-core_of (steps.Call core task call) = core
-core_of (steps.Interrupt core note) = core
+use Rattle.bench_types.specs.Step.{core_of}
 
 -- the task that makes a call; what is no call has none, and is refused for no task's sake
 abbrev pub caller_of : Step → ℕ

@@ -1,18 +1,9 @@
 //! A reply in words: as the output of a replay writes it, and what it means.
 ghost use Rattle.std.specs.Prelude.{◌≡◌, ◌++◌, OnOk, string_bytes, true, false};
-ghost use Rattle.run_views.specs.ReplyWords.{caller_of, core_of, flag_meaning, pass_meaning, pend_meaning, predicate, refusal_meaning, reply_words, step_flag_meaning, subject_of, subject_text, until_meaning, waited_meaning};
+ghost use Rattle.run_views.specs.ReplyWords.{caller_of, flag_meaning, pass_meaning, pend_meaning, predicate, refusal_meaning, reply_words, step_flag_meaning, subject_of, subject_text, until_meaning, waited_meaning};
 
 use bench_types::{Call, Header, Refusal, Reply, Step};
 use std::alloc::AllocError;
-
-fn core_of(step: Step) -> u32
-    ensures { result ≡ core_of step }
-{
-    match step {
-        Step::Tick => 0,
-        Step::Switch { core } | Step::Call { core, .. } | Step::Interrupt { core, .. } => core,
-    }
-}
 
 fn caller_of(step: Step) -> u32
     ensures { result ≡ caller_of step }
@@ -217,7 +208,7 @@ pub fn push_reply(
             text.push_str("refused ")?;
             text.push_str(why.code())?;
             text.push_str(": ")?;
-            push_refusal(text, header, core_of(step), caller_of(step), why)
+            push_refusal(text, header, step.core(), caller_of(step), why)
         }
     }
 }

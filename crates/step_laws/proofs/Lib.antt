@@ -1,4 +1,5 @@
 pub mod Along
+pub mod Currents
 pub mod Holds
 pub mod Nears
 pub mod StartFlags

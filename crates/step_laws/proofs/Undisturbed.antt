@@ -243,7 +243,7 @@ pub bits_undisturbed : (task bits index : ℕ) (table : Table) → IsUndisturbed
 unfolding bits_cleared
 bits_undisturbed task bits index table = notes_undisturbed table _
 
-completed_undisturbed : (task : ℕ) (call : Call) (table : Table) → IsUndisturbed table (completed task call table).1
+pub completed_undisturbed : (task : ℕ) (call : Call) (table : Table) → IsUndisturbed table (completed task call table).1
 completed_undisturbed task call table = let made = completed_notes task call table in subst (IsUndisturbed table) (sym made.1) (notes_undisturbed table made.0)
 
 pub timeout_undisturbed : (core task : ℕ) (call : Call) (ticks : ℕ) (begun : Bool × List Notification) (table : Table) → (begun.0 && ltb 0 ticks) ≡ false → IsUndisturbed table (awaited stamp_queues core task call ticks begun table).1

@@ -1,14 +1,14 @@
 -- The laws between the definitions. Each is the contract of a public function.
 use Rattle.bench_model.specs.Lists.{seen_of}
-use Rattle.std.specs.Prelude.{◌≡◌, ℕ, ◌<◌, ◌≤◌, List, length, true, false, Option, Some, is_some, IsSome, IfSome, Ok}
+use Rattle.std.specs.Prelude.{◌≡◌, ℕ, ◌<◌, ◌≤◌, List, length, slice_set, true, false, Option, Some, is_some, IsSome, IfSome, Ok}
 use Rattle.std.specs.List.{AllByRecursion}
 use Rattle.bench_types.specs.declared.header.Header.{Header}
 use Rattle.bench_types.specs.declared.kernel_data.MutexWait.{MutexWait}
 use Rattle.bench_types.specs.declared.step.Unfinished.{Unfinished}
 use Rattle.bench_types.specs.declared.step.Step.{Step}
 use Rattle.bench_types.specs.Header.{header_check}
-use Rattle.bench_types.specs.Step.{IsCheckedUnfinished, IsCheckedStep}
-use Rattle.bench_model.specs.Control.{Control, is_due, ask}
+use Rattle.bench_types.specs.Step.{core_of, IsCheckedUnfinished, IsCheckedStep}
+use Rattle.bench_model.specs.Control.{Control, current, is_due, running, ask}
 use Rattle.bench_model.specs.State.{blocked, selected, after_select}
 use Rattle.bench_model.specs.Steps.{woken, after}
 use Rattle.bench_model.specs.Table.{Stamps, Table, stamp_queues, is_ready, pick, add_to_ready_list, delay, advance, due}
@@ -41,6 +41,13 @@ abbrev pub SwitchFindsTask : Type 0
 SwitchFindsTask =
     (table : Table) (core : ℕ) → IsConsistent table → core < table.settings.cores
     → IsSome (selected stamp_queues core table)
+
+-- a step exchanges the current task of its own core at most: a tick's is core 0
+abbrev pub StepSeatsItsCore : Type 0
+StepSeatsItsCore =
+    (table : Table) (step : Step) → IsSound table → IsCheckedStep table.settings step →
+    let later = (step_of step table).1.control in
+    running later ≡ slice_set (running table.control) (core_of step) (current later (core_of step))
 
 -- seen as lists, the start of a table is the start over lists
 abbrev pub StartSimulates : Type 0

@@ -3,7 +3,7 @@
 #![tactic(auto)]
 
 ghost use Rattle.step_laws.specs.HoldLaws.{BlocksWhereItWould, HolderKeepsItsCore};
-ghost use Rattle.step_laws.specs.Laws.{StartIsSound, StartAsksNone, StepKeepsSound, SwitchFindsTask, StartSimulates, StepSimulates, EqualStaysEqual, ReadySimulates, LookSimulates, ReadyAtEndSimulates, PickSimulates, SwitchSimulates, DelaySimulates, TickSimulates, WokenSimulates, BlockSimulates, BlockKeepsConsistent, CoresAreApart};
+ghost use Rattle.step_laws.specs.Laws.{StartIsSound, StartAsksNone, StepKeepsSound, StepSeatsItsCore, SwitchFindsTask, StartSimulates, StepSimulates, EqualStaysEqual, ReadySimulates, LookSimulates, ReadyAtEndSimulates, PickSimulates, SwitchSimulates, DelaySimulates, TickSimulates, WokenSimulates, BlockSimulates, BlockKeepsConsistent, CoresAreApart};
 
 /// The start of a checked header.
 pub fn laws_of_starts()
@@ -22,6 +22,8 @@ pub fn laws_of_steps()
     ensures step_keeps_sound { StepKeepsSound }
     // A core that switches always finds a task, since there are as many idle tasks as cores.
     ensures switch_finds_task { SwitchFindsTask }
+    // A step leaves every core but its own the task that it runs.
+    ensures step_seats_its_core { StepSeatsItsCore }
     // The reply of a step is the same over stamps and over lists, and what can be seen afterwards
     // is the step over lists.
     ensures step_simulates { StepSimulates }

@@ -4,6 +4,8 @@ use Rattle.bench_types.specs.declared.edit.EditFault.{EditFault}
 use Rattle.bench_types.specs.declared.header.Header.{Header}
 use Rattle.bench_types.specs.Codes.{refusal_code, edit_fault_code}
 use Rattle.bench_types.specs.Header.{name_of}
+use Rattle.bench_types.specs.Session.{Session}
+use Rattle.bench_model.specs.Session.{running_at}
 use Rattle.bench_types.specs.declared.reply.Reply.{Reply}
 use Rattle.bench_types.specs.declared.reply.Reply.TheVariants.{Done, Blocked, Flag, Value, Waited, Until, Isr, Refused}
 use Rattle.session_store.specs.declared.outcome.Outcome.{Outcome}
@@ -15,6 +17,11 @@ spaced text = codes " " ++ text
 -- the names of the running tasks, each after a space
 abbrev pub row_text : Header → List ℕ → List ℕ
 row_text header row = flat_map (λ task. spaced (name_of header task)) row
+
+-- the tasks that run at a place of a session, and the text of their row
+pub record IsShownAt (session : Session) (place : ℕ) (tasks text : List ℕ) : Type 0 where
+  pub runs : running_at session.header session.steps place ≡ Some tasks
+  pub shown : text ≡ row_text session.header tasks
 
 -- each text is what rows say of the task with its number
 abbrev pub AreLabels : Header → List (List ℕ) → Type 0

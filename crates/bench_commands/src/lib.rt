@@ -15,6 +15,7 @@ mod output;
 mod program;
 mod prompt;
 mod recording;
+mod shown_row;
 mod trials;
 mod writing;
 

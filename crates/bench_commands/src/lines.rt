@@ -1,6 +1,6 @@
-ghost use Rattle.std.specs.Prelude.{◌≡◌, ◌++◌, OnOk, string_bytes};
+ghost use Rattle.std.specs.Prelude.{◌≡◌, ◌++◌, OnOk, codes, decimal, string_bytes};
 ghost use Rattle.bench_types.specs.Header.{name_of};
-ghost use Rattle.bench_commands.specs.Lines.{spaced, reply_text, row_text, start_line, step_line, answer_text, edit_line, AreLabels};
+ghost use Rattle.bench_commands.specs.Lines.{spaced, reply_text, row_text, answer_text, edit_line, AreLabels};
 
 use crate::labels::Labels;
 use bench_types::{EditFault, Header, Reply};
@@ -40,7 +40,8 @@ pub(crate) fn push_task(text: &mut String, header: &Header, task: u32) -> Result
     header.push_name(text, task)
 }
 
-fn push_row(
+/// What lines say of the row: the name of each task after a space.
+pub(crate) fn push_row(
     text: &mut String,
     header: &Header,
     labels: &Labels,
@@ -56,37 +57,31 @@ fn push_row(
     Ok(())
 }
 
-pub(crate) fn push_start_line(
-    text: &mut String,
-    header: &Header,
-    labels: &Labels,
-    row: &[u32],
-) -> Result<(), AllocError>
-    requires { AreLabels header.now labels.now }
+/// The line of the start, with what lines say of its row.
+pub(crate) fn push_start_line(text: &mut String, row: &str) -> Result<(), AllocError>
     ensures { OnOk result
-        (string_bytes text.new ≡ string_bytes text.old ++ start_line header.now row.now) }
+        (string_bytes text.new ≡ string_bytes text.old ++ codes "start" ++ row.now ++ codes "\n") }
 {
     text.push_str("start")?;
-    push_row(text, header, labels, row)?;
+    text.push_str(row)?;
     text.push_str("\n")
 }
 
+/// The line of a step, with what lines say of the row after it.
 pub(crate) fn push_step_line(
     text: &mut String,
-    header: &Header,
-    labels: &Labels,
     index: u32,
     reply: Reply,
-    row: &[u32],
+    row: &str,
 ) -> Result<(), AllocError>
-    requires { AreLabels header.now labels.now }
     ensures { OnOk result
         (string_bytes text.new
-        ≡ string_bytes text.old ++ step_line header.now index reply row.now) }
+        ≡ string_bytes text.old ++ decimal index ++ spaced (reply_text reply) ++ row.now
+        ++ codes "\n") }
 {
     write!(text, "{index} ")?;
     push_reply(text, reply)?;
-    push_row(text, header, labels, row)?;
+    text.push_str(row)?;
     text.push_str("\n")
 }
 

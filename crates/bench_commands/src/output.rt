@@ -1,47 +1,38 @@
-ghost use Rattle.std.specs.Prelude.{◌≡◌, ◌++◌, ◌<◌, [], IfOk, OnOk, string_bytes};
-ghost use Rattle.bench_types.specs.Limits.{max_steps};
+ghost use Rattle.std.specs.Prelude.{◌≡◌, ◌++◌, ◌<◌, suc, [], length, IfOk, OnOk, string_bytes};
 ghost use Rattle.bench_model.specs.Edits.{after_edits};
 ghost use Rattle.session_store.specs.Outcomes.{after_edit, answer, answers};
-ghost use Rattle.bench_commands.specs.Answer.{edited_text, first_line, line_at, replay_text, tally_text};
-ghost use Rattle.bench_commands.specs.Lines.{edit_lines, AreLabels};
+ghost use Rattle.bench_commands.specs.Answer.{edited_text, line_at, replay_text, tally_text};
+ghost use Rattle.bench_commands.specs.Lines.{edit_lines, AreLabels, IsShownAt};
 
 use crate::labels::Labels;
 use crate::lines::{push_edit_line, push_start_line, push_step_line};
+use crate::shown_row::ShownRow;
 use bench_types::{Edit, EditFault};
 use session_store::{Outcome, Store, StoreFault, Untraced};
 use smp_kernel::Meter;
 use std::alloc::{AllocError, Global};
 
-// The line of the step at the place, none past the last.
+// The line of the step at the place. The row goes on to the place after it.
 fn push_line(
     text: &mut String,
     store: &Store,
     labels: &Labels,
+    row: &mut ShownRow,
     place: u32,
 ) -> Result<(), AllocError>
-    requires place { place < max_steps }
     requires labels { AreLabels store.now.session.header labels.now }
-    ensures { OnOk result
+    requires place { place < length store.now.session.steps }
+    requires row { IsShownAt store.now.session place row.old.tasks.items
+        (string_bytes row.old.text) }
+    ensures line { OnOk result
         (string_bytes text.new
         ≡ string_bytes text.old ++ line_at store.now.session.header store.now.session.steps place) }
+    ensures row { OnOk result (IsShownAt store.now.session (suc place) row.new.tasks.items
+        (string_bytes row.new.text)) }
 {
-    let Some(reply) = store.reply(place) else {
-        return Ok(());
-    };
-    let Some(row) = store.row_after(place) else {
-        return Ok(());
-    };
-    push_step_line(text, store.header(), labels, place, reply, row)
-}
-
-// The tasks that run at the start.
-fn push_start(text: &mut String, store: &Store, labels: &Labels) -> Result<(), AllocError>
-    requires { AreLabels store.now.session.header labels.now }
-    ensures { OnOk result
-        (string_bytes text.new ≡ string_bytes text.old ++ first_line store.now.session.header) }
-{
-    match store.row(0) {
-        Some(row) => push_start_line(text, store.header(), labels, row.as_slice()),
+    row.pass(store, labels, place)?;
+    match store.reply(place) {
+        Some(reply) => push_step_line(text, place, reply, row.text.as_str()),
         None => Ok(()),
     }
 }
@@ -52,9 +43,10 @@ fn push_replay(alloc: Global, text: &mut String, store: &Store) -> Result<(), Al
         ≡ string_bytes text.old ++ replay_text store.now.session.header store.now.session.steps) }
 {
     let labels = Labels::of_tasks(alloc, store.header())?;
-    push_start(text, store, &labels)?;
+    let mut row = ShownRow::at_start(alloc, store, &labels)?;
+    push_start_line(text, row.text.as_str())?;
     for place in 0..store.len() {
-        push_line(text, store, &labels, place)?;
+        push_line(text, store, &labels, &mut row, place)?;
     }
     Ok(())
 }

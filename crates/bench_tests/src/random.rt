@@ -5,7 +5,7 @@ ghost use Rattle.bench_types.specs.Step.{settings_of};
 use bench_samples::numbered_header;
 use bench_types::{Action, Call, Config, Header, Note, Reply, Row, Step};
 use smp_kernel::{Kernel, Meter};
-use std::alloc::Global;
+use std::alloc::{AllocError, Global};
 use std::process::Abort;
 use std::test::Fail;
 
@@ -71,7 +71,7 @@ pub fn random_session(
     let mut played = Played::new(host, mix)?;
     for _ in 0..count {
         let step = played.some_step(mix);
-        played.make(rt, step)?;
+        played.make(rt, host.alloc(), step)?;
     }
     Ok(played)
 }
@@ -108,11 +108,12 @@ impl Played {
         }
     }
 
-    fn make(&mut self, rt: &impl Abort, step: Step) -> Result<(), Fail> {
+    fn make(&mut self, rt: &impl Abort, alloc: Global, step: Step) -> Result<(), Fail> {
         assert_eq!(rt; step.check(&self.header), Ok(()));
         let reply = self.kernel.step(&mut self.meter, &step);
         self.steps.push(step)?;
-        self.outcomes.push((reply, running(&self.kernel)))?;
+        let row = running(alloc, &self.kernel)?;
+        self.outcomes.push((reply, row))?;
         Ok(())
     }
 }
@@ -385,12 +386,12 @@ fn some_note_call(choice: u32, index: u32) -> Call
     }
 }
 
-fn running(kernel: &Kernel) -> Row
+fn running(alloc: Global, kernel: &Kernel) -> Result<Row, AllocError>
     requires { kernel.now.settings.cores ≡ 8 }
 {
     let mut tasks = [0; 8];
     for core in 0..8 {
         tasks[core as usize] = kernel.running(core);
     }
-    Row::from(tasks)
+    Vec::from_slice(alloc, &tasks)
 }

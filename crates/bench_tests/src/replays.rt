@@ -108,29 +108,40 @@ pub(crate) fn check_store(
     let outcomes = by_the_definitions(rt, host, store.header(), steps)?;
     assert_eq!(rt; store.len() as usize, steps.len());
     for ((place, step), outcome) in steps.iter().enumerate().zip(&outcomes) {
-        check_step(rt, store, place as u32, *step, outcome);
+        check_outcome_at(rt, host.alloc(), store, place as u32, *step, outcome)?;
     }
     Ok(())
 }
 
-fn check_step(rt: &impl Abort, store: &Store, place: u32, step: Step, outcome: &(Reply, Row)) {
+fn check_outcome_at(
+    rt: &impl Abort,
+    alloc: Global,
+    store: &Store,
+    place: u32,
+    step: Step,
+    outcome: &(Reply, Row),
+) -> Result<(), Fail> {
     let (reply, row) = outcome;
-    assert_at(rt, "step", place, &store.step(place), &Some(step));
-    assert_at(rt, "reply", place, &store.reply(place), &Some(*reply));
-    assert_at(
-        rt,
-        "row after step",
-        place,
-        &has_row(store, place, row),
-        &true,
-    );
+    check_step(rt, store, place, step, *reply);
+    check_row(rt, alloc, store, place.saturating_add(1), row)
 }
 
-fn has_row(store: &Store, step: u32, row: &Row) -> bool {
-    match store.row(step.saturating_add(1)) {
-        Some(shown) => shown == *row,
-        None => false,
-    }
+fn check_step(rt: &impl Abort, store: &Store, place: u32, step: Step, reply: Reply) {
+    assert_at(rt, "step", place, &store.step(place), &Some(step));
+    assert_at(rt, "reply", place, &store.reply(place), &Some(reply));
+}
+
+fn check_row(
+    rt: &impl Abort,
+    alloc: Global,
+    store: &Store,
+    place: u32,
+    row: &Row,
+) -> Result<(), Fail> {
+    let shown = store.row(alloc, place)?;
+    let is_same = shown.as_ref() == Some(row);
+    assert_at(rt, "row at place", place, &is_same, &true);
+    Ok(())
 }
 
 #[test]

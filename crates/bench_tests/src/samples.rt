@@ -222,10 +222,9 @@ pub fn assert_steps(rt: &impl Abort, store: &Store, steps: &[Step]) {
 
 /// The tasks of both cores at the place.
 pub fn assert_row(rt: &impl Abort, store: &Store, place: u32, tasks: [u32; 2]) {
-    match store.row(place) {
-        Some(row) => assert_eq!(rt; row.as_slice(), tasks.as_slice(), "place {place}"),
-        None => panic!(rt; "no place {place}"),
-    }
+    let shown = (store.running(place, 0), store.running(place, 1));
+    let [first, second] = tasks;
+    assert_at(rt, "tasks", place, &shown, &(Some(first), Some(second)));
 }
 
 /// The store's tallies, as text.

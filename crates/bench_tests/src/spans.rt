@@ -54,17 +54,34 @@ fn check_places(
 ) -> Result<(), Fail> {
     assert_same(rt, "steps", &opened.store.len(), &anew.store.len());
     for place in 0..=opened.store.len() {
-        check_place(rt, &opened.store, &anew.store, place);
+        check_place(rt, alloc, &opened.store, &anew.store, place)?;
         check_state(rt, alloc, opened, anew, place)?;
     }
     Ok(())
 }
 
-fn check_place(rt: &impl Abort, store: &Store, anew: &Store, place: u32) {
+fn check_place(
+    rt: &impl Abort,
+    alloc: Global,
+    store: &Store,
+    anew: &Store,
+    place: u32,
+) -> Result<(), Fail> {
     assert_at(rt, "step", place, &store.step(place), &anew.step(place));
     assert_at(rt, "reply", place, &store.reply(place), &anew.reply(place));
-    let is_same = store.row(place) == anew.row(place);
-    assert_at(rt, "row at place", place, &is_same, &true);
+    check_rows(rt, alloc, store, anew, place)
+}
+
+fn check_rows(
+    rt: &impl Abort,
+    alloc: Global,
+    store: &Store,
+    anew: &Store,
+    place: u32,
+) -> Result<(), Fail> {
+    let (row, wanted) = (store.row(alloc, place)?, anew.row(alloc, place)?);
+    assert_at(rt, "row at place", place, &(row == wanted), &true);
+    Ok(())
 }
 
 fn check_state(

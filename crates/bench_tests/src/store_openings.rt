@@ -38,7 +38,6 @@ fn check_shown(rt: &impl Abort, store: &Store) {
         assert_row(rt, store, *place, *row);
     }
     assert_steps(rt, store, STEPS.as_slice());
-    assert_is(rt, "no row", store.row(6).is_none());
     let checkpoints = (store.checkpoint(0), store.checkpoint(1));
     assert_same(rt, "checkpoints", &checkpoints, &(Some(0), None));
     assert_same(rt, "tasks", &store.header().tasks.as_slice().len(), &3);
@@ -192,4 +191,39 @@ fn ticks_and(alloc: Global, count: u32, steps: &[Step]) -> Result<Vec<Step>, Fai
     let mut all = ticks(alloc, count)?;
     all.extend_from_slice(steps)?;
     Ok(all)
+}
+
+/// The current tasks at the start, and after each of the first two steps.
+const ROWS: [[u32; 2]; 3] = [[2, 3], [2, 3], [4, 3]];
+
+#[test]
+fn a_row_goes_from_place_to_place(rt: HostRuntime) -> Result<(), Fail> {
+    let opened = Opened::new(&rt, false, &STEPS)?;
+    check_walk(&rt, rt.alloc(), &opened.store)
+}
+
+// A delay of A leaves it on its core, and the switch after it puts C there.
+fn check_walk(rt: &impl Abort, alloc: Global, store: &Store) -> Result<(), Fail> {
+    assert_is(rt, "two steps", store.len() > 1);
+    let Some(mut row) = store.row(alloc, 0)? else {
+        panic!(rt; "no start");
+    };
+    assert_same(rt, "start", &row.as_slice(), &ROWS[0].as_slice());
+    assert_is(rt, "same tasks", !store.update_row(0, &mut row));
+    assert_same(rt, "after a delay", &row.as_slice(), &ROWS[1].as_slice());
+    assert_is(rt, "other tasks", store.update_row(1, &mut row));
+    assert_same(rt, "after a switch", &row.as_slice(), &ROWS[2].as_slice());
+    Ok(())
+}
+
+#[test]
+fn there_is_no_row_past_the_last_place(rt: HostRuntime) -> Result<(), Fail> {
+    let opened = Opened::new(&rt, false, &STEPS)?;
+    check_no_row(&rt, rt.alloc(), &opened.store)
+}
+
+fn check_no_row(rt: &impl Abort, alloc: Global, store: &Store) -> Result<(), Fail> {
+    assert_is(rt, "a row", store.row(alloc, 5)?.is_some());
+    assert_is(rt, "no row", store.row(alloc, 6)?.is_none());
+    Ok(())
 }

@@ -1,4 +1,5 @@
 -- A core's hold along a history: what other cores record leaves it.
+use Rattle.bench_types.specs.Step.{core_of}
 use Rattle.std.proofs.Common.{inl, inr, ◌≡◌, ℕ, suc, Bool, true, false, cond, eqb, List, [], ◌∷◌, ◌++◌, length, drop, refl, sym, ap, subst, ◌∙◌, arith, append_assoc}
 use Rattle.std.specs.Prelude.{All, ◌≢◌, ◌⊎◌}
 use Rattle.std.proofs.lemmas.Bool.Decides.{nat_tests}
@@ -6,7 +7,7 @@ use Rattle.std.proofs.lemmas.List.{append-nil}
 use Rattle.std.proofs.lemmas.List.Elements.{All-head, All-tail, All-drop}
 use Rattle.bench_types.specs.declared.entry.Entry.{Entry}
 use Rattle.bench_types.specs.declared.header.Header.{Header}
-use Rattle.bench_model.specs.History.{core_of, end_of, made_by, StartsWith, IsLegal}
+use Rattle.bench_model.specs.History.{end_of, made_by, StartsWith, IsLegal}
 use Rattle.bench_model.specs.Holds.{is_held_by}
 use Rattle.bench_model.specs.Sound.{IsSound}
 use Rattle.history_laws.specs.SoundHistories.{IsSoundHistory}

@@ -11,12 +11,12 @@ use Rattle.bench_types.specs.declared.header.Header.{Header}
 use Rattle.bench_types.specs.declared.reply.Refusal.TheVariants.{Held}
 use Rattle.bench_types.specs.declared.reply.Reply.TheVariants.{Refused}
 use Rattle.bench_types.specs.Header.{header_check}
-use Rattle.bench_types.specs.Step.{settings_of, step_check, core_check, note_check, task_check, call_check, ◌>>◌, IsCheckedStep}
+use Rattle.bench_types.specs.Step.{core_of, settings_of, step_check, core_check, note_check, task_check, call_check, ◌>>◌, IsCheckedStep}
 use Rattle.bench_types.proofs.Passes.{both_pass, checked_core, checked_header}
 use Rattle.bench_types.specs.declared.step.Step.{Step}
 use Rattle.bench_types.specs.declared.step.Step.TheVariants.{Tick, Switch, Interrupt}
 use Rattle.bench_types.specs.declared.step.Step.TheVariants as steps
-use Rattle.bench_model.specs.History.{core_of, steps_of, end_of, IsLegal, IsNext}
+use Rattle.bench_model.specs.History.{steps_of, end_of, IsLegal, IsNext}
 use Rattle.bench_model.specs.Session.{step_of, state_after, state_at, reply_at}
 use Rattle.bench_model.specs.Start.{start}
 use Rattle.bench_model.specs.Table.{Table}

@@ -1,4 +1,5 @@
 -- A core opens and closes its own holds alone.
+use Rattle.bench_types.specs.Step.{core_of}
 use Rattle.std.proofs.Common.{◌≡◌, ℕ, ◌+◌, ◌-◌, Bool, true, false, cond, eqb, Option, Some, None, refl, sym, ap, ◌∙◌, arith}
 use Rattle.std.specs.Prelude.{◌≢◌}
 use Rattle.std.specs.Option.{option_map_or}
@@ -11,7 +12,6 @@ use Rattle.bench_types.specs.declared.step.Step.{Step}
 use Rattle.bench_types.specs.declared.step.Step.TheVariants as steps
 use Rattle.bench_types.specs.declared.step.Call.{Call}
 use Rattle.bench_types.specs.declared.step.Call.TheVariants.{HoldOpen, HoldClose}
-use Rattle.bench_model.specs.History.{core_of}
 use Rattle.bench_model.specs.Holds.{is_held_by, is_held_elsewhere, depth_of, depth_by, hold_opened, hold_closed}
 use Rattle.bench_model.specs.Refusals.{refusal}
 use Rattle.bench_model.specs.Session.{step_of}

@@ -1,5 +1,6 @@
 -- The laws of what an open hold keeps out, and of the room that it needs until it is closed. Each
 -- is a clause of a public function.
+use Rattle.bench_types.specs.Step.{core_of}
 use Rattle.std.specs.Prelude.{◌≡◌, ◌≢◌, ◌↔◌, ℕ, suc, ◌+◌, ◌≤◌, List, length, true, None}
 use Rattle.bench_types.specs.declared.entry.Entry.{Entry}
 use Rattle.bench_types.specs.declared.header.Header.{Header}
@@ -9,7 +10,7 @@ use Rattle.bench_types.specs.declared.step.Step.{Step}
 use Rattle.bench_types.specs.declared.step.Step.TheVariants.{Call}
 use Rattle.bench_types.specs.declared.step.Call.TheVariants.{HoldClose}
 use Rattle.bench_model.specs.Control.{current}
-use Rattle.bench_model.specs.History.{core_of, is_kept_out, free_places, places_of, IsByCurrent}
+use Rattle.bench_model.specs.History.{is_kept_out, free_places, places_of, IsByCurrent}
 use Rattle.bench_model.specs.Holds.{is_held_by, depth_of, depth_by, hold_closed}
 use Rattle.bench_model.specs.Session.{step_of}
 use Rattle.bench_model.specs.Sound.{IsSound}

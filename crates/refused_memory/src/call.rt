@@ -15,6 +15,7 @@ pub(crate) enum Call {
     Traced,
     Trial,
     State,
+    Row,
     Tallies,
     TryAll,
     LockPair,
@@ -31,7 +32,7 @@ pub(crate) enum Call {
 }
 
 /// All of them.
-pub(crate) const ALL: [Call; 20] = [
+pub(crate) const ALL: [Call; 21] = [
     Call::Start,
     Call::Copy,
     Call::Open,
@@ -39,6 +40,7 @@ pub(crate) const ALL: [Call; 20] = [
     Call::Traced,
     Call::Trial,
     Call::State,
+    Call::Row,
     Call::Tallies,
     Call::TryAll,
     Call::LockPair,
@@ -65,6 +67,7 @@ impl Call {
             Call::Traced => "Store::traced",
             Call::Trial => "Store::trial",
             Call::State => "Store::state",
+            Call::Row => "Store::row",
             Call::Tallies => "Store::tallies",
             Call::TryAll => "try_all",
             Call::LockPair => "LockPair::new",
@@ -108,6 +111,7 @@ impl Call {
             Call::Traced => stores::traced(host),
             Call::Trial => trials::trial(host),
             Call::State => stores::state(host),
+            Call::Row => stores::row(host),
             Call::Tallies => stores::tallies(host),
             Call::TryAll => trials::all(rt, host),
             Call::LockPair => rigs::lock_pair(host),

@@ -238,6 +238,27 @@ fn tick_at_5(alloc: Global, opened: &mut Opened) -> Result<Option<u32>, AllocErr
     Ok(kernel.map(|kernel| kernel.tick()))
 }
 
+pub(crate) fn row(rt: &HostRuntime) -> Option<Outcome> {
+    let opened = open_worked(rt)?;
+    Some(match is_row_of_5(rt.alloc(), &opened.store) {
+        Ok(is_right) => Outcome::answered(is_right),
+        Err(AllocError) => {
+            let again = is_row_of_5(rt.alloc(), &opened.store);
+            Outcome::refused(again == Ok(true))
+        }
+    })
+}
+
+/// Whether the row of place 5 has the tasks that run on its two cores.
+fn is_row_of_5(alloc: Global, store: &Store) -> Result<bool, AllocError> {
+    let row = store.row(alloc, 5)?;
+    let tasks = (store.running(5, 0), store.running(5, 1));
+    Ok(match row {
+        Some(row) => row.len() == 2 && tasks == (Some(row[0]), Some(row[1])),
+        None => false,
+    })
+}
+
 pub(crate) fn tallies(rt: &HostRuntime) -> Option<Outcome> {
     let opened = open_worked(rt)?;
     Some(match tallied(rt.alloc(), &opened.store) {

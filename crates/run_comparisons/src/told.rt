@@ -114,15 +114,18 @@ impl Told {
     pub(crate) fn at(alloc: Global, store: &Store, place: u32) -> Result<Told, AllocError>
         ensures { IfOk result (λ told. told ≡ told_at store.now.session place) }
     {
+        if place >= store.len() {
+            return Ok(no_step(alloc));
+        }
         let Some(step) = store.step(place) else {
             return Ok(no_step(alloc));
         };
         let Some(reply) = store.reply(place) else {
             return Ok(no_step(alloc));
         };
-        let Some(tasks) = store.row_after(place) else {
+        let Some(tasks) = store.row(alloc, place + 1)? else {
             return Ok(no_step(alloc));
         };
-        told_of(alloc, store.header(), step, reply, tasks)
+        told_of(alloc, store.header(), step, reply, &tasks)
     }
 }

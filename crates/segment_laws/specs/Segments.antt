@@ -3,7 +3,8 @@ use Rattle.std.specs.Prelude.{◌≡◌, ℕ, ◌+◌, ◌<◌, ◌≤◌, ⊤, 
 use Rattle.std.specs.List.{flat_map}
 use Rattle.bench_types.specs.declared.reply.Reply.{Reply}
 use Rattle.bench_types.specs.declared.step.Step.{Step}
-use Rattle.bench_model.specs.Control.{running}
+use Rattle.bench_types.specs.Step.{core_of}
+use Rattle.bench_model.specs.Control.{current, running}
 use Rattle.bench_model.specs.Equal.{StandsFor}
 use Rattle.bench_model.specs.Lists.{View}
 use Rattle.bench_model.specs.Meeting.{CheckpointedSession}
@@ -54,6 +55,13 @@ abbrev pub reply_after : Table → List Step → ℕ → Option Reply
 reply_after table steps count =
     option_map (λ step. (step_of step (state_after table (take count steps))).0)
     (slice_get steps count)
+
+-- for each step the current task of the core that made it, after it, from a table on
+abbrev pub currents_after : Table → List Step → List ℕ
+currents_after table [] = []
+currents_after table (step ∷ steps) =
+    let next = (step_of step table).1 in
+    current next.control (core_of step) ∷ currents_after next steps
 
 -- the tasks that run after so many steps from a table on, core by core; none past the last
 abbrev pub running_after : Table → List Step → ℕ → Option (List ℕ)

@@ -1,30 +1,28 @@
 -- A replay, step by step.
-use Rattle.std.proofs.Common.{◌≡◌, ℕ, ◌+◌, ◌<◌, ◌≤◌, List, [], ◌∷◌, ◌++◌, length, map, take, get_or, sym, ap, subst, ◌∙◌}
-use Rattle.std.specs.List.{flat_map, fold}
-use Rattle.std.proofs.lemmas.Grind.{flat_map-append}
-use Rattle.std.proofs.lemmas.List.{take_more, take_all, append-nil, map-append}
+use Rattle.std.proofs.Common.{◌≡◌, ℕ, ◌+◌, ◌<◌, ◌≤◌, List, [], ◌∷◌, ◌++◌, length, map, take, get_or, refl, sym, ap, subst, ◌∙◌}
+use Rattle.std.specs.List.{fold}
+use Rattle.std.proofs.lemmas.List.{take_more, take_all, map-append}
 use Rattle.bench_types.specs.declared.reply.Reply.{Reply}
 use Rattle.bench_types.specs.declared.step.Step.{Step}
 use Rattle.bench_types.specs.declared.step.Step.TheVariants.{Tick}
-use Rattle.bench_model.specs.Control.{running}
+use Rattle.bench_types.specs.Step.{core_of}
+use Rattle.bench_model.specs.Control.{current, running}
 use Rattle.bench_model.specs.Table.{Table}
 use Rattle.bench_model.specs.Lists.{View}
 use Rattle.bench_model.specs.Equal.{StandsFor}
 use Rattle.bench_model.specs.Session.{step_of, state_after, trace}
 use Rattle.list_orders.proofs.Filters.{fold-append}
 use Rattle.meeting_laws.proofs.Runs.{traces_follow}
+use Rattle.segment_laws.specs.Segments.{currents_after}
 
 abbrev pub reply_in : Reply × List ℕ → Reply
 reply_in outcome = outcome.0
 
-abbrev pub row_in : Reply × List ℕ → List ℕ
-row_in outcome = outcome.1
-
--- the kernel stands for the state after the first steps, whose replies and rows are kept
-pub record IsReplayed (table : Table) (steps : List Step) (place : ℕ) (view : View) (replies : List Reply) (rows : List ℕ) : Type 0 where
+-- the kernel stands for the state after the first steps, whose replies and current tasks are kept
+pub record IsReplayed (table : Table) (steps : List Step) (place : ℕ) (view : View) (replies : List Reply) (currents : List ℕ) : Type 0 where
   pub stands : StandsFor view (state_after table (take place steps))
   pub replied : replies ≡ map reply_in (trace table (take place steps))
-  pub shown : rows ≡ flat_map row_in (trace table (take place steps))
+  pub left : currents ≡ currents_after table (take place steps)
 
 -- what a kernel shows runs in the table that it stands for
 pub runs : (view : View) (table : Table) → StandsFor view table → running view.control ≡ running table.control
@@ -43,30 +41,39 @@ trace_more : (table : Table) (steps : List Step) (place : ℕ) → place < lengt
     → trace table (take (place + 1) steps) ≡ trace table (take place steps) ++ trace (state_after table (take place steps)) (get_or steps place Tick ∷ [])
 trace_more table steps place early = ap (trace table) (take_more steps place Tick early) ∙ traces_follow table (take place steps) (get_or steps place Tick ∷ [])
 
-pub replayed_starts : (table : Table) (steps : List Step) (view : View) (replies : List Reply) (rows : List ℕ) → StandsFor view table → replies ≡ [] → rows ≡ [] → IsReplayed table steps 0 view replies rows
-replayed_starts table steps view replies rows stands none no_rows = record { stands = stands; replied = none; shown = no_rows }
+-- what steps leave their cores with, and what the steps after them do
+currents_follow : (steps more : List Step) (table : Table) → currents_after table (steps ++ more) ≡ currents_after table steps ++ currents_after (state_after table steps) more
+currents_follow [] more table = refl
+currents_follow (step ∷ steps) more table = let next = (step_of step table).1 in ap (λ tasks. current next.control (core_of step) ∷ tasks) (currents_follow steps more next)
 
-pub replayed_goes : (table : Table) (steps : List Step) (place : ℕ) (view next : View) (replies more_replies : List Reply) (rows more_rows : List ℕ) (reply : Reply) → place < length steps
+currents_more : (table : Table) (steps : List Step) (place : ℕ) → place < length steps
+    → currents_after table (take (place + 1) steps) ≡ currents_after table (take place steps) ++ currents_after (state_after table (take place steps)) (get_or steps place Tick ∷ [])
+currents_more table steps place early = ap (currents_after table) (take_more steps place Tick early) ∙ currents_follow (take place steps) (get_or steps place Tick ∷ []) table
+
+pub replayed_starts : (table : Table) (steps : List Step) (view : View) (replies : List Reply) (currents : List ℕ) → StandsFor view table → replies ≡ [] → currents ≡ [] → IsReplayed table steps 0 view replies currents
+replayed_starts table steps view replies currents stands none no_currents = record { stands = stands; replied = none; left = no_currents }
+
+pub replayed_goes : (table : Table) (steps : List Step) (place : ℕ) (view next : View) (replies more_replies : List Reply) (currents more_currents : List ℕ) (reply : Reply) (task : ℕ) → place < length steps
     → reply ≡ (step_of (get_or steps place Tick) (state_after table (take place steps))).0 → StandsFor next (step_of (get_or steps place Tick) (state_after table (take place steps))).1
-    → more_replies ≡ replies ++ reply ∷ [] → more_rows ≡ rows ++ running next.control
-    → IsReplayed table steps place view replies rows → IsReplayed table steps (place + 1) next more_replies more_rows
-replayed_goes table steps place view next replies more_replies rows more_rows reply early replied stands pushed shown so_far =
+    → more_replies ≡ replies ++ reply ∷ [] → task ≡ current next.control (core_of (get_or steps place Tick)) → more_currents ≡ currents ++ task ∷ []
+    → IsReplayed table steps place view replies currents → IsReplayed table steps (place + 1) next more_replies more_currents
+replayed_goes table steps place view next replies more_replies currents more_currents reply task early replied stands pushed runs_there left so_far =
     let before = state_after table (take place steps) in
     let step = get_or steps place Tick in
     let done = trace table (take place steps) in
     let last = trace before (step ∷ []) in
-    let run : running next.control ++ [] ≡ flat_map row_in last = ap (λ (row : List ℕ). row ++ []) (runs next (step_of step before).1 stands) in
+    let seen : task ≡ current (step_of step before).1.control (core_of step) = runs_there ∙ sym (ap (λ (v : View). current v.control (core_of step)) stands.shows) in
     record {
       stands = subst (λ t. StandsFor next t) (sym (state_after_more table steps place early)) stands;
       replied = pushed ∙ ap (λ r. replies ++ r ∷ []) replied ∙ ap (λ rs. rs ++ map reply_in last) so_far.replied ∙ sym (map-append reply_in done last) ∙ ap (map reply_in) (sym (trace_more table steps place early));
-      shown = shown ∙ ap (λ row. rows ++ row) (sym (append-nil (running next.control)) ∙ run) ∙ ap (λ rs. rs ++ flat_map row_in last) so_far.shown ∙ sym (flat_map-append row_in done last) ∙ ap (flat_map row_in) (sym (trace_more table steps place early));
+      left = left ∙ ap (λ t. currents ++ t ∷ []) seen ∙ ap (λ ts. ts ++ currents_after before (step ∷ [])) so_far.left ∙ sym (currents_more table steps place early);
     }
 
-pub all_replied : (table : Table) (steps : List Step) (place : ℕ) (view : View) (replies : List Reply) (rows : List ℕ) → length steps ≤ place → IsReplayed table steps place view replies rows → replies ≡ map reply_in (trace table steps)
-all_replied table steps place view replies rows all so_far = so_far.replied ∙ ap (λ (ss : List Step). map reply_in (trace table ss)) (take_all place steps all)
+pub all_replied : (table : Table) (steps : List Step) (place : ℕ) (view : View) (replies : List Reply) (currents : List ℕ) → length steps ≤ place → IsReplayed table steps place view replies currents → replies ≡ map reply_in (trace table steps)
+all_replied table steps place view replies currents all so_far = so_far.replied ∙ ap (λ (ss : List Step). map reply_in (trace table ss)) (take_all place steps all)
 
-pub all_shown : (table : Table) (steps : List Step) (place : ℕ) (view : View) (replies : List Reply) (rows : List ℕ) → length steps ≤ place → IsReplayed table steps place view replies rows → rows ≡ flat_map row_in (trace table steps)
-all_shown table steps place view replies rows all so_far = so_far.shown ∙ ap (λ (ss : List Step). flat_map row_in (trace table ss)) (take_all place steps all)
+pub all_left : (table : Table) (steps : List Step) (place : ℕ) (view : View) (replies : List Reply) (currents : List ℕ) → length steps ≤ place → IsReplayed table steps place view replies currents → currents ≡ currents_after table steps
+all_left table steps place view replies currents all so_far = so_far.left ∙ ap (λ (ss : List Step). currents_after table ss) (take_all place steps all)
 
-pub all_stand : (table : Table) (steps : List Step) (place : ℕ) (view : View) (replies : List Reply) (rows : List ℕ) → length steps ≤ place → IsReplayed table steps place view replies rows → StandsFor view (state_after table steps)
-all_stand table steps place view replies rows all so_far = subst (λ (ss : List Step). StandsFor view (state_after table ss)) (take_all place steps all) so_far.stands
+pub all_stand : (table : Table) (steps : List Step) (place : ℕ) (view : View) (replies : List Reply) (currents : List ℕ) → length steps ≤ place → IsReplayed table steps place view replies currents → StandsFor view (state_after table steps)
+all_stand table steps place view replies currents all so_far = subst (λ (ss : List Step). StandsFor view (state_after table ss)) (take_all place steps all) so_far.stands

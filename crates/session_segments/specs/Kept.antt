@@ -1,6 +1,5 @@
 -- What the fields of a segment keep, and those of several.
-use Rattle.std.specs.Prelude.{◌≡◌, ℕ, ◌*◌, ◌<◌, ◌≤◌, ◌^◌, List, length, map, All}
-use Rattle.std.specs.List.{flat_map}
+use Rattle.std.specs.Prelude.{◌≡◌, ℕ, ◌<◌, ◌≤◌, ◌^◌, List, length, map, All}
 use Rattle.bench_types.specs.declared.kernel_data.Settings.{Settings}
 use Rattle.bench_types.specs.declared.reply.Reply.{Reply}
 use Rattle.bench_types.specs.declared.step.Step.{Step}
@@ -12,15 +11,15 @@ use Rattle.bench_model.specs.Session.{trace}
 use Rattle.bench_model.specs.Table.{Table}
 use Rattle.bench_model.specs.Tally.{TaskTally}
 use Rattle.bench_model.specs.Tallied.{part_tallies, shape, shape_of}
-use Rattle.segment_laws.specs.Segments.{SegmentView, all_steps, lengths, starts}
+use Rattle.segment_laws.specs.Segments.{SegmentView, all_steps, currents_after, lengths, starts}
 use Rattle.smp_kernel.specs.Kernel.{StandsForSome}
 
--- the replies of the steps from a table on, the tasks that run after each, one step after another,
--- and the tallies of the steps
+-- the replies of the steps from a table on, the current task of each step's core after it, and the
+-- tallies of the steps
 pub record IsReplayedFrom (table : Table) (settings : Settings) (steps : List Step)
-    (replies : List Reply) (rows : List ℕ) (tallies : List TaskTally) : Type 0 where
+    (replies : List Reply) (currents : List ℕ) (tallies : List TaskTally) : Type 0 where
   pub replies_are : replies ≡ map (λ outcome. outcome.0) (trace table steps)
-  pub rows_are : rows ≡ flat_map (λ outcome. outcome.1) (trace table steps)
+  pub currents_are : currents ≡ currents_after table steps
   pub tallies_are : tallies ≡ part_tallies settings table steps
 
 -- a kernel, and steps that it can make
@@ -31,17 +30,17 @@ pub record IsBegun (kernel : View) (steps : List Step) : Type 0 where
   pub few_steps : length steps ≤ max_steps
 
 -- what steps on a kernel led to
-pub record IsTold (kernel : View) (steps : List Step) (replies : List Reply) (rows : List ℕ)
+pub record IsTold (kernel : View) (steps : List Step) (replies : List Reply) (currents : List ℕ)
     (tallies : List TaskTally) : Type 0 where
   pub sizes : shape tallies ≡ shape_of kernel.settings
   pub outcomes :
       (table : Table) → StandsFor kernel table
-      → IsReplayedFrom table kernel.settings steps replies rows tallies
+      → IsReplayedFrom table kernel.settings steps replies currents tallies
 
--- there is room for the replies and the rows of as many steps
-pub record HasRoom (kernel : View) (steps : List Step) (replies rows : ℕ) : Type 0 where
+-- there is room for the replies and the current tasks of as many steps
+pub record HasRoom (steps : List Step) (replies currents : ℕ) : Type 0 where
   pub of_replies : length steps ≤ replies
-  pub of_rows : length steps * kernel.settings.cores ≤ rows
+  pub of_currents : length steps ≤ currents
 
 -- the places where the segments begin; there is a first one
 pub record ArePlaced (places : List ℕ) (segments : List SegmentView) : Type 0 where

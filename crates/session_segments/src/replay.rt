@@ -1,6 +1,5 @@
-ghost use Rattle.std.specs.Prelude.{◌≡◌, ℕ, [], ◌++◌, ◌<◌, ◌≤◌, ◌+◌, ◌-◌, ◌*◌, ◌^◌, All, Ok, length, map};
-ghost use Rattle.std.specs.List.{flat_map};
-ghost use Rattle.std.specs.Vec.{vec_capacity, vec_len};
+ghost use Rattle.std.specs.Prelude.{◌≡◌, ℕ, [], ◌<◌, ◌≤◌, ◌+◌, ◌-◌, ◌^◌, All, IfOk, Ok, length, map};
+ghost use Rattle.std.specs.Vec.{vec_capacity};
 ghost use Rattle.bench_types.specs.Limits.{max_steps};
 ghost use Rattle.bench_types.specs.Step.{step_check, IsCheckedStep};
 ghost use Rattle.bench_model.specs.Control.{running};
@@ -8,6 +7,7 @@ ghost use Rattle.bench_model.specs.Equal.{StandsFor};
 ghost use Rattle.bench_model.specs.Session.{state_after, trace};
 ghost use Rattle.bench_model.specs.Table.{Table};
 ghost use Rattle.bench_model.specs.Tallied.{first_tallies, part_tallies, shape, shape_of, tallied_after, AllCountsBelow};
+ghost use Rattle.segment_laws.specs.Segments.{currents_after};
 ghost use Rattle.smp_kernel.specs.Kernel.{StandsForSome};
 ghost use Rattle.bench_reports.specs.Tops.{HasTops};
 ghost use Rattle.session_segments.specs.Counting.{meter_after};
@@ -15,6 +15,7 @@ ghost use Rattle.session_segments.specs.Counting.{meter_after};
 use bench_reports::Tallies;
 use bench_types::{Reply, Step};
 use smp_kernel::{Kernel, Meter};
+use std::alloc::{AllocError, Global};
 
 /// Makes the steps on the kernel, and keeps no reply.
 pub fn advance(kernel: &mut Kernel, steps: &[Step], meter: &mut Meter)
@@ -52,27 +53,25 @@ pub fn tally_steps(kernel: &mut Kernel, tallies: &mut Tallies, steps: &[Step], m
     }
 }
 
-// Adds the tasks that run, core 0 first. There is room for them.
-fn push_row(rows: &mut Vec<u32>, kernel: &Kernel, cores: u32)
-    requires stands { StandsForSome kernel.now }
-    requires cores { cores ≡ kernel.now.settings.cores }
-    requires room { vec_len rows.old + cores ≤ vec_capacity rows.old }
-    ensures rows { rows.new.items ≡ rows.old.items ++ running kernel.now.control }
-    ensures len { vec_len rows.new ≡ vec_len rows.old + cores }
-    ensures room { vec_capacity rows.new ≡ vec_capacity rows.old }
+/// The current tasks of the kernel, core 0 first.
+pub(crate) fn first_row(alloc: Global, kernel: &Kernel) -> Result<Vec<u32>, AllocError>
+    ensures { IfOk result (λ row. row.items ≡ running kernel.now.control) }
 {
+    let cores = kernel.settings().cores;
+    let mut row = Vec::with_capacity(alloc, cores as usize)?;
     for core in 0..cores {
-        rows.push_reserved(kernel.running(core));
+        row.push_reserved(kernel.running(core));
     }
+    Ok(row)
 }
 
-/// Adds the replies that the kernel gives to the steps, and the tasks that run after each, one row
-/// after another. There is room for them. The tallies count the steps.
+/// Adds the replies that the kernel gives to the steps, and for each the current task of the core
+/// that made it, after it. There is room for them. The tallies count the steps.
 pub(crate) fn push_outcomes(
     kernel: &mut Kernel,
     tallies: &mut Tallies,
     replies: &mut Vec<Reply>,
-    rows: &mut Vec<u32>,
+    currents: &mut Vec<u32>,
     steps: &[Step],
     meter: &mut Meter,
 )
@@ -84,14 +83,14 @@ pub(crate) fn push_outcomes(
     requires tops { HasTops kernel.old.control tallies.old }
     requires no_replies { replies.old.items ≡ [] }
     requires reply_room { length steps.now ≤ vec_capacity replies.old }
-    requires no_rows { rows.old.items ≡ [] }
-    requires row_room { length steps.now * kernel.old.settings.cores ≤ vec_capacity rows.old }
+    requires no_currents { currents.old.items ≡ [] }
+    requires current_room { length steps.now ≤ vec_capacity currents.old }
     ensures replies { (table : Table) → StandsFor kernel.old table
         → replies.new.items ≡ map (λ outcome. outcome.0) (trace table steps.now) }
     ensures reply_room { vec_capacity replies.new ≡ vec_capacity replies.old }
-    ensures rows { (table : Table) → StandsFor kernel.old table
-        → rows.new.items ≡ flat_map (λ outcome. outcome.1) (trace table steps.now) }
-    ensures row_room { vec_capacity rows.new ≡ vec_capacity rows.old }
+    ensures currents { (table : Table) → StandsFor kernel.old table
+        → currents.new.items ≡ currents_after table steps.now }
+    ensures current_room { vec_capacity currents.new ≡ vec_capacity currents.old }
     ensures tallies { (table : Table) → StandsFor kernel.old table
         → tallies.new ≡ part_tallies kernel.old.settings table steps.now }
     ensures sizes { shape tallies.new ≡ shape_of kernel.old.settings }
@@ -100,9 +99,8 @@ pub(crate) fn push_outcomes(
     ensures settings { kernel.new.settings ≡ kernel.old.settings }
     ensures meter { meter.new ≡ meter_after (length steps.now) meter.old }
 {
-    let cores = kernel.settings().cores;
     for step in steps {
         replies.push_reserved(tallies.make_next(kernel, meter, step));
-        push_row(rows, kernel, cores);
+        currents.push_reserved(kernel.running(step.core()));
     }
 }

@@ -1,10 +1,10 @@
-ghost use Rattle.std.specs.Prelude.{◌≡◌, ◌↔◌, suc, ◌<◌, ◌≤◌, ◌+◌, ◌-◌, ◌*◌, All, true, Ok, Some, None, IfOk, IfSome, IsSome, OnOk, OnErr, length, take, map, option_map, option_and_then, slice_get};
-ghost use Rattle.std.specs.List.{flat_map};
+ghost use Rattle.std.specs.Prelude.{◌≡◌, ◌≢◌, ◌↔◌, suc, ◌<◌, ◌≤◌, All, true, false, Ok, Some, None, IfOk, OnOk, OnErr, length, take, option_and_then, slice_get};
 ghost use Rattle.std.specs.Vec.{vec_capacity};
 ghost use Rattle.bench_types.specs.Limits.{max_cores, max_steps};
 ghost use Rattle.bench_types.specs.Step.{IsCheckedStep};
+ghost use Rattle.bench_model.specs.Control.{current};
 ghost use Rattle.bench_model.specs.Equal.{Same, StandsFor};
-ghost use Rattle.bench_model.specs.Session.{state_after, trace};
+ghost use Rattle.bench_model.specs.Session.{state_after};
 ghost use Rattle.bench_model.specs.Table.{Table};
 ghost use Rattle.bench_model.specs.Tallied.{part_tallies, shape, shape_of};
 ghost use Rattle.segment_laws.specs.Segments.{reply_after, running_after};
@@ -12,7 +12,7 @@ ghost use Rattle.smp_kernel.specs.Kernel.{StandsForSome};
 ghost use Rattle.session_segments.specs.Counting.{meter_after, CountsUpTo};
 ghost use Rattle.session_segments.specs.Kept.{HasRoom, IsTold};
 
-use crate::replay::advance;
+use crate::replay::{advance, first_row};
 use crate::tracing::{Traced, Tracing, Untraced};
 use bench_reports::Tallies;
 use bench_types::{Reply, Step};
@@ -171,44 +171,63 @@ impl Segment {
             ≡ option_and_then (λ row. slice_get row core)
             (running_after table self.now.steps count) }
     {
-        let cores = self.kernel.settings().cores;
-        if cores <= core {
+        if self.kernel.settings().cores <= core {
             return None;
         }
         if count as usize > self.steps.len() {
             return None;
         }
-        if count == 0 {
-            return Some(self.kernel.running(core));
-        }
-        Some(self.row_of(count)[core as usize])
+        Some(self.current(count, core))
     }
 
-    /// The current tasks after the step at the index, core 0 first; `None` past the last step.
-    pub fn row_after(&self, index: u32) -> Option<&[u32]>
-        ensures there { index < length self.now.steps → IsSome result }
-        ensures past { length self.now.steps ≤ index → result ≡ None }
-        ensures row { IfSome result
-            (λ row. (table : Table) → StandsFor self.now.kernel table
-            → Some row.now ≡ running_after table self.now.steps (suc index)) }
-    {
-        if index as usize >= self.steps.len() {
-            return None;
-        }
-        Some(self.row_of(index + 1))
-    }
-
-    // The current tasks after so many steps, core 0 first.
-    fn row_of(&self, count: u32) -> &[u32]
-        requires some { 0 < count }
+    // The current task of the core after so many steps: what the last of them that the core made
+    // left it with.
+    fn current(&self, count: u32, core: u32) -> u32
+        requires core { core < self.now.kernel.settings.cores }
         requires within { count ≤ length self.now.steps }
-        ensures row { (table : Table) → StandsFor self.now.kernel table
-            → Some result.now ≡ running_after table self.now.steps count }
-        ensures cores { length result.now ≡ self.now.kernel.settings.cores }
+        ensures { (table : Table) → StandsFor self.now.kernel table
+            → result ≡ current (state_after table (take count self.now.steps)).control core }
     {
-        let cores = self.kernel.settings().cores as usize;
-        let from = (count as usize - 1) * cores;
-        &self.kept.rows[from..from + cores]
+        let mut task = self.kernel.running(core);
+        for index in 0..count as usize {
+            if self.steps[index].core() == core {
+                task = self.kept.currents[index];
+            }
+        }
+        task
+    }
+
+    /// The current tasks after so many steps, core 0 first.
+    pub fn row(&self, alloc: Global, count: u32) -> Result<Vec<u32>, AllocError>
+        requires { count ≤ length self.now.steps }
+        ensures { IfOk result
+            (λ row. (table : Table) → StandsFor self.now.kernel table
+            → running_after table self.now.steps count ≡ Some row.items) }
+    {
+        let mut row = first_row(alloc, &self.kernel)?;
+        for index in 0..count {
+            self.update_row(index, &mut row);
+        }
+        Ok(row)
+    }
+
+    /// Makes of the current tasks before the step at the index, core 0 first, those after it, and
+    /// tells whether they differ. No memory is taken.
+    pub fn update_row(&self, index: u32, row: &mut [u32]) -> bool
+        requires within { index < length self.now.steps }
+        requires cores { length row.old ≡ self.now.kernel.settings.cores }
+        ensures row { (table : Table) → StandsFor self.now.kernel table
+            → running_after table self.now.steps index ≡ Some row.old
+            → running_after table self.now.steps (suc index) ≡ Some row.new }
+        ensures same { result ≡ false → row.new ≡ row.old }
+        ensures changed { result ≡ true → row.new ≢ row.old }
+        ensures cores { length row.new ≡ length row.old }
+    {
+        let core = self.steps[index as usize].core() as usize;
+        let task = self.kept.currents[index as usize];
+        let is_other = row[core] != task;
+        row[core] = task;
+        is_other
     }
 
     /// How the tasks fared in these steps.
@@ -255,8 +274,8 @@ fn told(
     requires steps { All (IsCheckedStep kernel.now.settings) steps.now }
     requires few_steps { length steps.now ≤ max_steps }
     ensures kept { IfOk result (λ kept. IsTold kernel.now steps.now kept.replies.items
-        kept.rows.items kept.tallies
-        × HasRoom kernel.now steps.now (vec_capacity kept.replies) (vec_capacity kept.rows)) }
+        kept.currents.items kept.tallies
+        × HasRoom steps.now (vec_capacity kept.replies) (vec_capacity kept.currents)) }
     ensures meter { OnOk result (meter.new ≡ meter_after (length steps.now) meter.old) }
     ensures some { OnErr result (CountsUpTo (length steps.now) meter.old meter.new) }
 {

@@ -56,13 +56,14 @@ pub trait Tracing: Debug + Drop {
         ensures meter { meter.new ≡ meter_after (length steps.now) meter.old };
 }
 
-/// The replies of steps, the tasks that run after each, and how the tasks fared in them.
+/// The replies of steps, what each left its core with, and how the tasks fared in them.
 #[derive(Debug)]
 pub struct Traced {
     /// Each step's reply.
     pub(crate) replies: Vec<Reply>,
-    /// The tasks that run after each step, core 0 first, one row after another.
-    pub(crate) rows: Vec<u32>,
+    /// For each step the current task of the core that made it, after it: a step changes the
+    /// current task of no other core.
+    pub(crate) currents: Vec<u32>,
     /// How the tasks fared in these steps.
     pub(crate) tallies: Tallies,
 }
@@ -72,7 +73,7 @@ impl Drop for Traced {
     fn drop(self) {
         let Traced {
             replies: _,
-            rows: _,
+            currents: _,
             tallies: _,
         } = self;
     }
@@ -80,8 +81,8 @@ impl Drop for Traced {
 
 impl Tracing for Traced {
     ghost fits = { λ kernel steps traced. IsTold kernel steps traced.replies.items
-        traced.rows.items traced.tallies
-        × HasRoom kernel steps (vec_capacity traced.replies) (vec_capacity traced.rows) };
+        traced.currents.items traced.tallies
+        × HasRoom steps (vec_capacity traced.replies) (vec_capacity traced.currents) };
 
     fn of(
         alloc: Global,
@@ -91,12 +92,11 @@ impl Tracing for Traced {
     ) -> Result<Traced, AllocError> {
         let mut tallies = Tallies::begin(alloc, kernel)?;
         let mut replies = Vec::with_capacity(alloc, steps.len())?;
-        let cores = kernel.settings().cores as usize;
-        let mut rows = Vec::with_capacity(alloc, steps.len() * cores)?;
-        push_outcomes(kernel, &mut tallies, &mut replies, &mut rows, steps, meter);
+        let mut currents = Vec::with_capacity(alloc, steps.len())?;
+        push_outcomes(kernel, &mut tallies, &mut replies, &mut currents, steps, meter);
         Ok(Traced {
             replies,
-            rows,
+            currents,
             tallies,
         })
     }
@@ -104,12 +104,12 @@ impl Tracing for Traced {
     fn again(&mut self, kernel: &mut Kernel, steps: &[Step], meter: &mut Meter) {
         self.tallies.begin_again(kernel);
         self.replies.clear();
-        self.rows.clear();
+        self.currents.clear();
         push_outcomes(
             kernel,
             &mut self.tallies,
             &mut self.replies,
-            &mut self.rows,
+            &mut self.currents,
             steps,
             meter,
         );

@@ -10,7 +10,6 @@ mod Partings
 mod RecordedSessions
 mod Retraces
 mod Spans
-mod StepRows
 mod StoreReads
 mod StoreStates
 mod StoreSums

@@ -97,35 +97,3 @@ module _ (kernel : View) (steps : List Step) (cores : ℕ) (sized : cores ≡ ke
       at : (b : Bool) → (if b then Some (running (state_after table (take count steps)).control) else None) ≡ Some row → length row ≡ cores
       at true is = ap (λ (xs : List ℕ). length xs) (sym (same_Some (running (state_after table (take count steps)).control) row is)) ∙ row_after checked count
       at false is = absurd (cc is)
-
--- ---- a row, core by core
-
--- the tasks of the first cores
-pub record IsFront (told : Option (List ℕ)) (core : ℕ) (items : List ℕ) : Type 0 where
-  pub some : 0 < core → (row : List ℕ) × (told ≡ Some row)
-  pub front : (row : List ℕ) → told ≡ Some row → items ≡ take core row
-
-pub front_goes : (told : Option (List ℕ)) (core task : ℕ) (items next : List ℕ) → Some task ≡ option_and_then (λ row. slice_get row core) told → next ≡ items ++ task ∷ [] → IsFront told core items → IsFront told (core + 1) next
-front_goes None core task items next is push so_far = absurd (cc is)
-front_goes (Some row) core task items next is push so_far = record {
-  some = λ low. (row, refl);
-  front = λ other same.
-      let one : row ≡ other = same_Some row other same in
-      subst (λ (xs : List ℕ). next ≡ take (core + 1) xs) one (push ∙ ap (λ xs. xs ++ task ∷ []) (so_far.front row refl) ∙ sym (taken row core task (sym is)));
-}
-  where
-    taken : (xs : List ℕ) (k x : ℕ) → slice_get xs k ≡ Some x → take (k + 1) xs ≡ take k xs ++ x ∷ []
-    taken xs k x there = ap (λ n. take n xs) (add-one k) ∙ take_with xs k x there
-
--- there is no row where one of its tasks is not there
-pub front_none : (told : Option (List ℕ)) (core cores : ℕ) → core < cores → ((row : List ℕ) → told ≡ Some row → length row ≡ cores) → None ≡ option_and_then (λ row. slice_get row core) told → None ≡ told
-front_none None core cores early sized is = refl
-front_none (Some row) core cores early sized is =
-    let low : core < length row = omega (arith, early, sized row refl) in
-    absurd (cc (is ∙ slice_get-get_or row core 0 low))
-
-pub front_ends : (told : Option (List ℕ)) (core cores : ℕ) (items : List ℕ) → cores ≤ core → 0 < cores → ((row : List ℕ) → told ≡ Some row → length row ≡ cores) → IsFront told core items → Some items ≡ told
-front_ends told core cores items all some sized so_far =
-    let there = so_far.some (omega (arith, all, some)) in
-    let row = there.0 in
-    ap (λ (xs : List ℕ). Some xs) (so_far.front row there.1 ∙ take_all core row (omega (arith, all, sized row there.1))) ∙ sym there.1

@@ -1,7 +1,7 @@
 -- What edits of a session lead to.
 use Rattle.std.specs.Prelude.{ℕ, ◌-◌, List, [], ◌∷◌, fold, nat_le, sum_by, if◌then◌else◌, Result, Ok, Err, is_ok}
 use Rattle.std.specs.Result.{result_map_both}
-use Rattle.arrayvec.specs.ArrayVec.{ArrayVec}
+use Rattle.std.specs.Global.{Vec}
 use Rattle.bench_types.specs.declared.edit.Edit.{Edit}
 use Rattle.bench_types.specs.declared.edit.EditFault.{EditFault}
 use Rattle.bench_model.specs.Edits.{accepted}
@@ -43,7 +43,7 @@ abbrev pub all_replayed : CheckpointedSession → List Edit → ℕ
 all_replayed kept edits = sum_by replayed_for (answers kept edits)
 
 -- a row as a list
-abbrev pub row_items : ArrayVec ℕ → List ℕ
+abbrev pub row_items : Vec ℕ → List ℕ
 row_items row = row.items
 
 -- how many steps lie between a place and the checkpoint before it; past the end none

@@ -1,4 +1,4 @@
-ghost use Rattle.std.specs.Prelude.{◌≡◌, suc, ◌≤◌, ◌<◌, ◌+◌, ◌-◌, ◌^◌, ◌↔◌, All, length, List, Ok, Err, Some, None, IfOk, IfErr, IfSome, IsSome, OnOk, OnErr, option_map, option_and_then, slice_get};
+ghost use Rattle.std.specs.Prelude.{◌≡◌, ◌≢◌, suc, ◌≤◌, ◌<◌, ◌↔◌, length, true, false, Ok, Err, Some, None, IfOk, IfErr, IfSome, IsSome, OnOk, OnErr, option_map, option_and_then, slice_get};
 ghost use Rattle.bench_types.specs.Edit.{IsEditOfWords};
 ghost use Rattle.bench_types.specs.Step.{settings_of, IsCheckedStep};
 ghost use Rattle.bench_types.specs.Limits.{max_cores, max_steps};
@@ -76,21 +76,6 @@ fn step_at(steps: &[Step], index: u32) -> Option<Step>
     ensures { result ≡ slice_get steps.now index }
 {
     steps.get(index as usize).copied()
-}
-
-// The current tasks after so many of the segment's steps, core 0 first; `None` past the last.
-fn row_in(segment: &Segment, count: u32, cores: u32) -> Option<Row>
-    requires cores { cores ≡ segment.now.kernel.settings.cores }
-    requires few { cores ≤ max_cores }
-    requires checked { All (IsCheckedStep segment.now.kernel.settings) segment.now.steps }
-    ensures { (table : Table) → StandsFor segment.now.kernel table
-        → option_map row_items result ≡ running_after table segment.now.steps count }
-{
-    let mut row = Row::new();
-    for core in 0..cores {
-        row.push(segment.running(count, core)?);
-    }
-    Some(row)
 }
 
 // The session, replayed from its start; a refusal gives it back.
@@ -375,27 +360,36 @@ impl Store {
         self.segments.as_slice()[index].running(place - from, core)
     }
 
-    /// The current tasks at the place, core 0 first; `None` past the last place.
-    pub fn row(&self, place: u32) -> Option<Row>
-        ensures { option_map row_items result
-            ≡ running_at self.now.session.header self.now.session.steps place }
+    /// The current tasks at the place, core 0 first; `None` past the last place, which takes no
+    /// memory. They are found from the checkpoint before the place on.
+    pub fn row(&self, alloc: Global, place: u32) -> Result<Option<Row>, AllocError>
+        ensures row { IfOk result
+            (λ found. option_map row_items found
+            ≡ running_at self.now.session.header self.now.session.steps place) }
+        ensures past { length self.now.session.steps < place → result ≡ Ok None }
     {
+        if place > self.len() {
+            return Ok(None);
+        }
         let (index, from) = self.segments.locate(place);
-        let segment = &self.segments.as_slice()[index];
-        row_in(segment, place - from, self.header.config.cores)
+        let row = self.segments.as_slice()[index].row(alloc, place - from)?;
+        Ok(Some(row))
     }
 
-    /// The current tasks after the step at index `i`, core 0 first; `None` past the last step. They
-    /// are lent, and [`Store::row`] gives a row of one's own.
-    pub fn row_after(&self, i: u32) -> Option<&[u32]>
-        ensures there { i < length self.now.session.steps → IsSome result }
-        ensures past { length self.now.session.steps ≤ i → result ≡ None }
-        ensures row { IfSome result
-            (λ row. Some row.now
-            ≡ running_at self.now.session.header self.now.session.steps (suc i)) }
+    /// Makes of the current tasks before the step at index `i`, core 0 first, those after it, and
+    /// tells whether they differ. No memory is taken, so whoever goes from place to place keeps one
+    /// row of [`Store::row`].
+    pub fn update_row(&self, i: u32, row: &mut [u32]) -> bool
+        requires within { i < length self.now.session.steps }
+        requires row { running_at self.now.session.header self.now.session.steps i
+            ≡ Some row.old }
+        ensures row { running_at self.now.session.header self.now.session.steps (suc i)
+            ≡ Some row.new }
+        ensures same { result ≡ false → row.new ≡ row.old }
+        ensures changed { result ≡ true → row.new ≢ row.old }
     {
         let (index, from) = self.segments.locate(i);
-        self.segments.as_slice()[index].row_after(i - from)
+        self.segments.as_slice()[index].update_row(i - from, row)
     }
 
     /// How each task fared in the session as it stands after all edits.

@@ -4,7 +4,7 @@ use Rattle.std.specs.Prelude.{option_map, slice_get}
 use Rattle.std.specs.List.{fold}
 use Rattle.std.proofs.lemmas.List.FromFn.{length-range_with_len}
 use Rattle.std.proofs.lemmas.List.{append_assoc, append-nil, map_push, drop_all}
-use Rattle.arrayvec.specs.ArrayVec.{ArrayVec}
+use Rattle.std.specs.Global.{Vec}
 use Rattle.bench_types.specs.declared.header.Header.{Header}
 use Rattle.bench_types.specs.declared.reply.Reply.{Reply}
 use Rattle.bench_types.specs.declared.step.Step.{Step}
@@ -69,7 +69,7 @@ option_map-slice_get f (x ∷ xs) zero = refl
 option_map-slice_get f (x ∷ xs) (suc i) = option_map-slice_get f xs i
 
 -- the outcomes so far and what the rest of the steps gives are the whole trace
-pub record IsReplaying (header : Header) (steps : List Step) (place : ℕ) (table : Table) (outcomes : List (Reply × ArrayVec ℕ)) : Type 0 where
+pub record IsReplaying (header : Header) (steps : List Step) (place : ℕ) (table : Table) (outcomes : List (Reply × Vec ℕ)) : Type 0 where
   pub whole : map shown outcomes ++ trace table (drop place steps) ≡ trace (start header) steps
   pub sound : IsSound table
   pub settings : table.settings ≡ settings_of header
@@ -97,7 +97,7 @@ unstarted_orders : (header : Header) → ((unstarted (first_stamps header) heade
 unfolding unstarted first_stamps
 unstarted_orders header = (refl, refl, refl)
 
-pub replaying_starts : (header : Header) (steps : List Step) (table : Table) (outcomes : List (Reply × ArrayVec ℕ)) → header_check header ≡ Ok tt → table ≡ start header → outcomes ≡ [] → IsReplaying header steps 0 table outcomes
+pub replaying_starts : (header : Header) (steps : List Step) (table : Table) (outcomes : List (Reply × Vec ℕ)) → header_check header ≡ Ok tt → table ≡ start header → outcomes ≡ [] → IsReplaying header steps 0 table outcomes
 unfolding started
 replaying_starts header steps table outcomes passes starts none =
     let facts = checked_header header passes in
@@ -125,13 +125,13 @@ rows_few header table passes sound settings =
     let tasks = ap (λ (s : Settings). s.tasks) settings in
     (omega (arith, sound.sized.rows, tasks, facts.some_core), omega (arith, sound.sized.rows, tasks, facts.few_cores, facts.few_tasks))
 
-pub can_step : (header : Header) (steps : List Step) (place : ℕ) (table : Table) (outcomes : List (Reply × ArrayVec ℕ)) → header_check header ≡ Ok tt → IsReplaying header steps place table outcomes → place < 2 ^ 64 → header.config.tick < 2 ^ 32 → CanStep table
+pub can_step : (header : Header) (steps : List Step) (place : ℕ) (table : Table) (outcomes : List (Reply × Vec ℕ)) → header_check header ≡ Ok tt → IsReplaying header steps place table outcomes → place < 2 ^ 64 → header.config.tick < 2 ^ 32 → CanStep table
 can_step header steps place table outcomes passes replaying early tick = record {
   room = omega (arith, replaying.room, (rows_few header table passes replaying.sound.consistent replaying.settings).1);
   time = omega (arith, replaying.time);
 }
 
-pub replaying_goes : (header : Header) (steps : List Step) (place : ℕ) (table next : Table) (outcomes : List (Reply × ArrayVec ℕ)) (step : Step) (reply : Reply) (row : ArrayVec ℕ) → header_check header ≡ Ok tt → IsReplaying header steps place table outcomes → drop place steps ≡ step ∷ drop (place + 1) steps → IsCheckedStep table.settings step → (reply, next) ≡ step_of step table → row.items ≡ running next.control → IsReplaying header steps (place + 1) next (outcomes ++ (reply, row) ∷ [])
+pub replaying_goes : (header : Header) (steps : List Step) (place : ℕ) (table next : Table) (outcomes : List (Reply × Vec ℕ)) (step : Step) (reply : Reply) (row : Vec ℕ) → header_check header ≡ Ok tt → IsReplaying header steps place table outcomes → drop place steps ≡ step ∷ drop (place + 1) steps → IsCheckedStep table.settings step → (reply, next) ≡ step_of step table → row.items ≡ running next.control → IsReplaying header steps (place + 1) next (outcomes ++ (reply, row) ∷ [])
 replaying_goes header steps place table next outcomes step reply row passes replaying here fits goes runs =
     let later : next ≡ (step_of step table).1 = ap (λ (o : Reply × Table). o.1) goes in
     let replied : reply ≡ (step_of step table).0 = ap (λ (o : Reply × Table). o.0) goes in
@@ -149,7 +149,7 @@ replaying_goes header steps place table next outcomes step reply row passes repl
       time = omega (arith, ticks, near.1, replaying.time);
     }
 
-pub replaying_ends : (header : Header) (steps : List Step) (place : ℕ) (table : Table) (outcomes : List (Reply × ArrayVec ℕ)) → IsReplaying header steps place table outcomes → length steps ≤ place → (at : ℕ) → option_map shown (slice_get outcomes at) ≡ outcome_at header steps at
+pub replaying_ends : (header : Header) (steps : List Step) (place : ℕ) (table : Table) (outcomes : List (Reply × Vec ℕ)) → IsReplaying header steps place table outcomes → length steps ≤ place → (at : ℕ) → option_map shown (slice_get outcomes at) ≡ outcome_at header steps at
 replaying_ends header steps place table outcomes replaying all at =
     let none : trace table (drop place steps) ≡ [] = ap (trace table) (drop_all place steps all) in
     let outcomes_all : map shown outcomes ≡ trace (start header) steps = sym (append-nil (map shown outcomes)) ∙ ap (λ rest. map shown outcomes ++ rest) (sym none) ∙ replaying.whole in

@@ -479,14 +479,10 @@ impl SlowTable {
         }
     }
 
-    fn row(&self) -> Row
-        ensures { result.items ≡ running self.now.control }
+    fn row(&self, alloc: Global) -> Result<Row, AllocError>
+        ensures { IfOk result (λ row. row.items ≡ running self.now.control) }
     {
-        let mut row = Row::new();
-        for look in &self.cores {
-            row.push(look.current);
-        }
-        row
+        self.cores.iter().map(|look| look.current).collect(alloc)
     }
 }
 
@@ -683,7 +679,8 @@ pub fn replay_slow(
     let mut outcomes = Vec::with_capacity(alloc, steps.len())?;
     for step in steps {
         let reply = table.step(*step);
-        outcomes.push((reply, table.row()))?;
+        let row = table.row(alloc)?;
+        outcomes.push((reply, row))?;
     }
     Ok(outcomes)
 }

@@ -14,10 +14,10 @@ step-reply-requires-clause-time c = (can_step c.args.header.now c.args.steps.now
 pub loop-step-preserved : goal.loop-step-preserved
 loop-step-preserved c =
     subst (λ os. IsReplaying c.args.header.now c.args.steps.now (c.loop-step.step-index + 1) c.step-reply.new.self os) (sym c.in_ok-push.ensures.items)
-    (replaying_goes c.args.header.now c.args.steps.now c.loop-step.step-index c.loop-step.table c.step-reply.new.self c.loop-step.outcomes.items _ c.step-reply.result c.row.result c.requires.header c.loop-step.invariant
+    (replaying_goes c.args.header.now c.args.steps.now c.loop-step.step-index c.loop-step.table c.step-reply.new.self c.loop-step.outcomes.items _ c.step-reply.result c.in_ok-row.row c.requires.header c.loop-step.invariant
     (drop_more c.args.steps.now c.loop-step.step-index _ (omega arith))
     (record { passes = subst (λ settings. step_check settings (get_or c.args.steps.now c.loop-step.step-index Tick) ≡ Ok tt) (sym c.loop-step.invariant.settings) (c.requires.steps c.loop-step.step-index Tick (omega arith)); words = c.step-reply.ensures.words })
-    c.step-reply.ensures.outcome c.row.ensures)
+    c.step-reply.ensures.outcome c.in_ok-row.ensures)
 
 pub returns : goal.returns
 returns c = replaying_ends c.args.header.now c.args.steps.now c.loop-step.step-index c.loop-step.table c.loop-step.outcomes.items c.loop-step.invariant (omega arith)

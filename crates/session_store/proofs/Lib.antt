@@ -10,6 +10,7 @@ mod Partings
 mod RecordedSessions
 mod Retraces
 mod Spans
+mod StepRows
 mod StoreReads
 mod StoreStates
 mod StoreSums

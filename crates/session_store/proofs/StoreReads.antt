@@ -1,7 +1,8 @@
 -- What a store reads of the segment that a place is in.
 use Rattle.std.proofs.Common.{◌≡◌, ℕ, ◌+◌, ◌-◌, ◌<◌, ◌≤◌, List, [], ◌∷◌, ◌++◌, length, take, drop, get_or, Option, Some, None, refl, sym, ap, subst, ◌∙◌, arith, length-append, add-one}
 use Rattle.std.specs.Prelude.{All, slice_get, option_and_then, Bool, true, false, nat_le, if◌then◌else◌}
-use Rattle.std.proofs.lemmas.List.{take_all, length-map}
+use Rattle.std.proofs.lemmas.Bool.Decides.{nat_tests}
+use Rattle.std.proofs.lemmas.List.{length-map}
 use Rattle.std.proofs.lemmas.List.Elements.{All-take}
 use Rattle.std.proofs.lemmas.Option.{slice_get-get_or, same_Some}
 use Rattle.bench_types.specs.declared.edit.Edit.TheVariants.{Remove}
@@ -34,6 +35,13 @@ lent_at segments lent index segment are early is =
 parted_steps : (segments before : List SegmentView) (part : SegmentView) (after : List SegmentView) → segments ≡ before ++ part ∷ after → length (all_steps segments) ≡ length (all_steps before) + length part.steps + length (all_steps after)
 parted_steps segments before part after whole =
     ap (λ (xs : List SegmentView). length (all_steps xs)) whole ∙ omega (arith, ap (λ (steps : List Step). length steps) (all_more before (part ∷ after)), length-append (all_steps before) (part.steps ++ all_steps after), length-append part.steps (all_steps after))
+
+-- there is no row past the last place
+pub no_row : (header : Header) (steps : List Step) (place : ℕ) → length steps < place → running_at header steps place ≡ None
+unfolding running_at
+no_row header steps place past =
+    let beyond : nat_le place (length steps) ≡ false = grind (arith, nat_tests, past) in
+    ap (λ b. if b then Some (running (state_at header steps place).control) else None) beyond
 
 module _ (header : Header) (span : ℕ) (segments : List SegmentView) (kept : IsKept header span segments) where
   pub are_segments : AreSegments (kept_of header span segments) segments

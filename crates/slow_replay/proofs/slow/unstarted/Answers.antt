@@ -34,7 +34,7 @@ none_held n mutex task held = cc (none_at n mutex, held)
 -- a checked header has not too many notifications to be named
 few_notes : (header : Header) (settings : Settings) → settings ≡ settings_of header → header.config.cores ≤ max_cores → length header.tasks ≤ max_tasks → header.config.notes ≤ max_notes → settings.tasks * settings.notes < 2 ^ 32
 few_notes header settings same cores users notes =
-    let most = mul-le-mul (let few : header.config.cores + length header.tasks ≤ 72 = omega (arith, cores, users) in few) notes in
+    let most = mul-le-mul (let few : header.config.cores + length header.tasks ≤ max_cores + max_tasks = omega (arith, cores, users) in few) notes in
     let whole = ap (λ (s : Settings). s.tasks * s.notes) same in
     omega (arith, most, whole)
 

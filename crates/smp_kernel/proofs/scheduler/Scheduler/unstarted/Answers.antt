@@ -1,6 +1,7 @@
 use Rattle.std.proofs.Common.{◌+◌, ◌*◌, ◌<◌, ◌≤◌, ◌^◌, length, ap, subst, arith}
 use Rattle.std.proofs.Math.Nat.{mul-le-mul}
 use Rattle.bench_types.proofs.Passes.{checked_header}
+use Rattle.bench_types.specs.Limits.{max_cores, max_tasks}
 use Rattle.tick_delay.specs.Parts.{DelayView}
 use Rattle.smp_kernel.proofs.Firsts.{seen_unstarted, first_kernel_shape}
 use Rattle.smp_kernel.proofs.scheduler.Scheduler.unstarted.Goals as goal
@@ -8,7 +9,7 @@ use Rattle.smp_kernel.proofs.scheduler.Scheduler.unstarted.Goals as goal
 pub no_waits-requires : goal.no_waits-requires
 no_waits-requires c =
     let facts = checked_header c.args.header.now c.requires in
-    let few : c.args.header.now.config.cores + length c.args.header.now.tasks ≤ 72 = omega (arith, facts.few_cores, facts.few_tasks) in
+    let few : c.args.header.now.config.cores + length c.args.header.now.tasks ≤ max_cores + max_tasks = omega (arith, facts.few_cores, facts.few_tasks) in
     let most = mul-le-mul few facts.few_notes in
     let long = ap (λ tasks. (c.args.header.now.config.cores + length tasks) * c.args.header.now.config.notes) c.as_slice.ensures in
     omega (arith, most, long)

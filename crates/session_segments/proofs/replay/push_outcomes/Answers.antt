@@ -32,8 +32,8 @@ loop-step-preserved c =
       so_far = λ table stands.
           let before = state_after table (take place steps) in
           let here = (so_far.so_far table stands).stands in
-          replayed_goes table steps place c.loop-step.kernel c.make_next.new.kernel c.loop-step.replies.items c.push_reserved.new.self.items c.loop-step.currents.items c.push_reserved-2.new.self.items c.make_next.result c.running.result (omega arith)
-          (c.make_next.ensures.reply before here) (c.make_next.ensures.state before here) c.push_reserved.ensures.items (c.running.ensures.seen) c.push_reserved-2.ensures.items (so_far.so_far table stands);
+          replayed_goes table steps place c.loop-step.kernel c.make_next.new.kernel c.loop-step.replies.items c.push_reserved.new.self.items c.loop-step.currents.items c.push_reserved-in-loop-step.new.self.items c.make_next.result c.running.result (omega arith)
+          (c.make_next.ensures.reply before here) (c.make_next.ensures.state before here) c.push_reserved.ensures.items (c.running.ensures.seen) c.push_reserved-in-loop-step.ensures.items (so_far.so_far table stands);
       counted = λ table stands.
           let before = state_after table (take place steps) in
           let here = (so_far.so_far table stands).stands in
@@ -43,7 +43,7 @@ loop-step-preserved c =
       settings = c.make_next.ensures.shape ∙ so_far.settings;
       replied = omega (arith, c.push_reserved.ensures.len, so_far.replied);
       reply_room = omega (arith, c.push_reserved.ensures.capacity, so_far.reply_room);
-      left = omega (arith, c.push_reserved-2.ensures.len, so_far.left);
-      current_room = omega (arith, c.push_reserved-2.ensures.capacity, so_far.current_room);
+      left = omega (arith, c.push_reserved-in-loop-step.ensures.len, so_far.left);
+      current_room = omega (arith, c.push_reserved-in-loop-step.ensures.capacity, so_far.current_room);
       meter = c.make_next.ensures.meter ∙ ap (λ count. min (count + 1) (2 ^ 64 - 1)) so_far.meter ∙ counted_more place c.args.meter.now;
     }

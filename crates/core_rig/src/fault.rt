@@ -12,8 +12,8 @@ pub enum RigFault {
     /// F1: a number of the header is outside its limits, or a name is repeated.
     #[error("{}", Fault::BadHeader)]
     BadHeader,
-    /// F5: the limit is over 100,000 entries.
-    #[error("the limit is over 100,000 entries")]
+    /// F5: the limit is over 1,000,000 entries.
+    #[error("the limit is over 1,000,000 entries")]
     BadLimit,
     /// The allocator had no memory left.
     #[error("out of memory")]

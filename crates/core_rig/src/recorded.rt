@@ -2,8 +2,11 @@ ghost use Rattle.std.specs.Prelude.{◌≡◌, IfOk};
 ghost use Rattle.bench_model.specs.History.{steps_of};
 
 use arrayvec::ArrayVec;
-use bench_types::{Entry, Header, Items, Step};
+use bench_types::{Entry, Header, Items, MAX_CORES, Step};
 use std::alloc::{AllocError, Global};
+
+/// For how many cores there is room.
+pub(crate) const ROOM: usize = MAX_CORES as usize;
 
 /// What the cores of a rig did, once it was closed.
 #[derive(Drop)]
@@ -13,7 +16,7 @@ pub struct Recorded {
     /// What the cores did, in the order in which the kernel did it.
     pub entries: Items<Entry>,
     /// How many of the entries each core made, core by core.
-    pub made: ArrayVec<u64, 8>,
+    pub made: ArrayVec<u64, ROOM>,
 }
 
 impl Recorded {

@@ -1,7 +1,7 @@
 ghost use Rattle.std.specs.Prelude.{◌≡◌, ◌<◌, ◌≤◌, ◌↔◌, ℕ, length, map, sum_by, true, [], vec_len, vec_capacity, All, Ok, Err, IfOk, IfErr, OnOk, IsErr, None};
 ghost use Rattle.list_orders.specs.Search.{numbers};
 ghost use Rattle.bench_types.specs.Header.{header_check};
-ghost use Rattle.bench_types.specs.Limits.{max_steps};
+ghost use Rattle.bench_types.specs.Limits.{max_cores, max_steps};
 ghost use Rattle.bench_types.specs.Session.{IsSession};
 ghost use Rattle.bench_model.specs.History.{made_by, steps_of, AreByCurrent, IsLegal};
 ghost use Rattle.port_locks.specs.Holds.{hold_after};
@@ -11,7 +11,7 @@ ghost use Rattle.core_rig.specs.Resting.{IsOwn, at_rest};
 ghost use Rattle.core_rig.specs.Seats.{IsSeatOf, depth_at, new_seat};
 
 use crate::fault::{CloseFault, RigFault};
-use crate::recorded::Recorded;
+use crate::recorded::{ROOM, Recorded};
 use crate::room::SeatRoom;
 use crate::seat::CoreSeat;
 use arrayvec::ArrayVec;
@@ -59,7 +59,7 @@ impl Rig {
     /// A rig of the header's cores, with a seat for each of them, in their order, and room for
     /// `limit` entries. It takes all the memory that it will ever have.
     ///
-    /// F1 where the header is at fault, else F5 where the limit is over 100,000, and else only
+    /// F1 where the header is at fault, else F5 where the limit is over 1,000,000, and else only
     /// memory can be wanting.
     pub fn new(
         rt: &HostRuntime,
@@ -189,8 +189,8 @@ fn move_all(seats: Vec<CoreSeat>, room: &mut Vec<Seat<Recording>>)
     }
 }
 
-fn count_by_core(cores: u32, entries: &[Entry]) -> ArrayVec<u64, 8>
-    requires { cores ≤ 8 }
+fn count_by_core(cores: u32, entries: &[Entry]) -> ArrayVec<u64, ROOM>
+    requires { cores ≤ max_cores }
     ensures { result.items ≡ counts cores entries.now }
 {
     let mut counts = ArrayVec::new();

@@ -1,6 +1,7 @@
 //! Making a lock pair with its seats.
 ghost use Rattle.std.specs.Prelude.{◌≡◌, ◌≤◌, ◌<◌, ℕ, [], IfOk, map, None};
 ghost use Rattle.list_orders.specs.Search.{numbers};
+ghost use Rattle.bench_types.specs.Limits.{max_cores};
 ghost use Rattle.port_locks.specs.Made.{new_seat};
 ghost use Rattle.port_locks.specs.Steps.{seated};
 
@@ -72,7 +73,7 @@ impl<V: Kept> LockPair<V> {
         cores: u32,
         value: V,
     ) -> Result<(LockPair<V>, Vec<Seat<V>>), AllocError>
-        requires cores { (1 ≤ cores) × (cores ≤ 8) }
+        requires cores { (1 ≤ cores) × (cores ≤ max_cores) }
         requires empty { V.list value ≡ [] }
         ensures pair { IfOk result
             (λ made. (made.0.terms ≡ V.terms value) × (made.0.cores ≡ cores)) }

@@ -6,6 +6,7 @@ use crate::checks::{
     assert_same, assert_switch, assert_tick, assert_tried, at, one_more,
 };
 use crate::faults::check_arguments;
+use crate::many::fill;
 use crate::rigs::{closed, one_missing, one_task, refused, rig_of, turn};
 use crate::scenes::{Scene, play_alone, recorded, recorded_over};
 use crate::stopped::make_call;
@@ -46,6 +47,8 @@ pub enum Alone {
     NoRoom,
     /// A hold is opened as often as it may be.
     Deepest,
+    /// As many entries are made as there may be.
+    Most,
 }
 
 /// The two cores do that.
@@ -75,6 +78,7 @@ pub fn act(
         Alone::OwnHold => check_own_hold(rt, rig, zero),
         Alone::NoRoom => check_no_room(rt, rig, zero),
         Alone::Deepest => check_deepest(rt, rig, zero),
+        Alone::Most => fill(rt, rig, zero),
     }
 }
 

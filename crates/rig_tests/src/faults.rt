@@ -9,7 +9,7 @@ use crate::checks::{
 use crate::rigs::one_task;
 use crate::scenes::{Scene, recorded};
 use bench_samples::{LARGEST, PLAIN, crowd, three_tasks};
-use bench_types::{Call, Fault, Header, MAX_STEPS, MAX_TASKS, Reply};
+use bench_types::{Call, Config, Fault, Header, MAX_STEPS, MAX_TASKS, Reply};
 use core_rig::{CoreSeat, Rig, RigFault, RigRefusal};
 use std::process::Abort;
 use std::sync::Wait;
@@ -18,10 +18,39 @@ use std::test::Fail;
 #[test]
 fn headers_and_limits_are_tested(rt: HostRuntime) -> Result<(), Fail> {
     let header = one_task(rt.alloc(), PLAIN, 9, 3)?;
-    check_rig(&rt, &rt, &header, 100_001, Some(RigFault::BadHeader));
+    check_rig(&rt, &rt, &header, 1_000_001, Some(RigFault::BadHeader));
     let header = three_tasks(rt.alloc(), false)?;
-    check_rig(&rt, &rt, &header, 100_001, Some(RigFault::BadLimit));
-    check_rig(&rt, &rt, &header, 100_000, None);
+    check_rig(&rt, &rt, &header, 1_000_001, Some(RigFault::BadLimit));
+    check_rig(&rt, &rt, &header, 1_000_000, None);
+    Ok(())
+}
+
+#[test]
+fn cores_are_counted(rt: HostRuntime) -> Result<(), Fail> {
+    check_cores(&rt, &rt, 1, Some(RigFault::BadHeader))?;
+    check_cores(&rt, &rt, 2, None)?;
+    check_cores(&rt, &rt, 32, None)?;
+    check_cores(&rt, &rt, 33, Some(RigFault::BadHeader))
+}
+
+/// A rig of so many cores is refused for that reason, or made where there is none.
+fn check_cores(
+    rt: &impl Abort,
+    host: &HostRuntime,
+    cores: u32,
+    why: Option<RigFault>,
+) -> Result<(), Fail> {
+    let header = one_task(host.alloc(), Config { cores, ..PLAIN }, 1, 3)?;
+    check_rig(rt, host, &header, 10, why);
+    Ok(())
+}
+
+#[test]
+fn tasks_are_counted(rt: HostRuntime) -> Result<(), Fail> {
+    let header = crowd(rt.alloc(), PLAIN, 513)?;
+    check_rig(&rt, &rt, &header, 10, Some(RigFault::BadHeader));
+    let header = crowd(rt.alloc(), PLAIN, 512)?;
+    check_rig(&rt, &rt, &header, 10, None);
     Ok(())
 }
 

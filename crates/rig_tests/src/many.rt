@@ -2,12 +2,13 @@
 ghost use Rattle.std.specs.Prelude.{All};
 ghost use Rattle.core_rig.specs.Seats.{IsSeatOf};
 
-use crate::checks::{ISR, assert_made, assert_same, one_more};
+use crate::alone::Alone;
+use crate::checks::{ISR, assert_counts, assert_made, assert_same, assert_tick, one_more};
 use crate::rigs::one_task;
 use crate::scenes::{Scene, recorded, recorded_over};
 use bench_samples::LARGEST;
-use bench_types::{Entry, Reply};
-use core_rig::{CoreSeat, Recorded, Rig};
+use bench_types::{Config, Entry, Reply};
+use core_rig::{CoreSeat, Recorded, Rig, RigRefusal};
 use session_store::Store;
 use smp_kernel::{Kernel, Meter};
 use std::process::Abort;
@@ -52,13 +53,35 @@ fn check_interrupts(rt: &impl Abort, entries: &[Entry]) {
 }
 
 #[test]
+fn the_most_threads_record_32_000_entries(rt: HostRuntime) -> Result<(), Fail> {
+    let scene = Scene::Many {
+        threads: 32,
+        times: 1_000,
+        task: 32,
+    };
+    let header = one_task(rt.alloc(), LARGEST, 1, u32::MAX)?;
+    let recorded = recorded_over(&rt, &rt, &header, 32_000, scene)?;
+    assert_made(&rt, &recorded, &[1_000; 32]);
+    let end = End {
+        tick: 999,
+        task: 32,
+        value: 31_000,
+    };
+    check_session(&rt, &rt, &recorded, 32_000, end)
+}
+
+#[test]
 fn eight_threads_record_100_000_entries(rt: HostRuntime) -> Result<(), Fail> {
     let scene = Scene::Many {
         threads: 8,
         times: 12_500,
         task: 8,
     };
-    let header = one_task(rt.alloc(), LARGEST, 1, 255)?;
+    let config = Config {
+        cores: 8,
+        ..LARGEST
+    };
+    let header = one_task(rt.alloc(), config, 1, 255)?;
     let recorded = recorded_over(&rt, &rt, &header, 100_000, scene)?;
     assert_made(&rt, &recorded, &[12_500; 8]);
     let end = End {
@@ -67,6 +90,51 @@ fn eight_threads_record_100_000_entries(rt: HostRuntime) -> Result<(), Fail> {
         value: 87_500,
     };
     check_session(&rt, &rt, &recorded, 100_000, end)
+}
+
+#[test]
+fn the_most_entries_are_recorded(rt: HostRuntime) -> Result<(), Fail> {
+    let recorded = recorded(&rt, &rt, 1_000_000, Scene::Alone(Alone::Most))?;
+    assert_made(&rt, &recorded, &[1_000_000, 0]);
+    Ok(())
+}
+
+/// Core 0 makes as many ticks as there may be entries, and finds no room for one more.
+pub fn fill(rt: &(impl Wait + Abort), rig: &Rig, zero: &mut CoreSeat)
+    requires { IsSeatOf rig.now zero.old }
+    ensures { IsSeatOf rig.now zero.new }
+{
+    act_alone(rt, rig, zero, 1_000_000, 2);
+    assert_tick(rt, rig, zero, Err(RigRefusal::Full));
+    assert_counts(rt, zero, 1_000_000, 1_000_000);
+}
+
+/// The seats of the most cores are used by one thread, each once, and by a thread each.
+#[test]
+fn each_of_the_most_cores_makes_an_entry(rt: HostRuntime) -> Result<(), Fail> {
+    check_most_cores(&rt, &rt, 1)?;
+    check_most_cores(&rt, &rt, 32)
+}
+
+fn check_most_cores<R: Threads + Wait + Abort + Sync>(
+    rt: &R,
+    host: &HostRuntime,
+    threads: usize,
+) -> Result<(), Fail> {
+    let scene = Scene::Many {
+        threads,
+        times: 1,
+        task: 32,
+    };
+    let header = one_task(host.alloc(), LARGEST, 1, u32::MAX)?;
+    let recorded = recorded_over(rt, host, &header, 32, scene)?;
+    assert_made(rt, &recorded, &[1; 32]);
+    let end = End {
+        tick: 0,
+        task: 32,
+        value: 31,
+    };
+    check_session(rt, host, &recorded, 32, end)
 }
 
 /// So many entries were recorded, a store of them answers as they were answered, and ends so.

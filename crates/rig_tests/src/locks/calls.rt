@@ -1,5 +1,6 @@
 //! Pairs of tests, and calls of them that have to succeed.
 ghost use Rattle.std.specs.Prelude.{◌≡◌, ◌+◌, ◌<◌, ◌≤◌, vec_len, vec_capacity, All, IfOk};
+ghost use Rattle.bench_types.specs.Limits.{max_cores};
 ghost use Rattle.rig_tests.specs.Use.{IsUsable};
 
 use crate::checks::assert_same;
@@ -15,7 +16,7 @@ pub fn pair_of(
     seats: u32,
     limit: u32,
 ) -> Result<(LockPair<Log>, Vec<Seat<Log>>), Fail>
-    requires { (1 ≤ seats) × (seats ≤ 8) }
+    requires { (1 ≤ seats) × (seats ≤ max_cores) }
     ensures { IfOk result (λ made. All (IsUsable made.0) made.1.items) }
 {
     let log = Log::new(rt, limit)?;

@@ -4,7 +4,7 @@ ghost use Rattle.bench_model.specs.History.{IsGrowthBy};
 ghost use Rattle.port_locks.specs.Holds.{hold_after};
 
 use bench_samples::{LARGEST, header_of};
-use bench_types::{Act, Action, Note};
+use bench_types::{Act, Action, MAX_CORES, Note};
 use port_locks::Kept;
 use recordings::Recording;
 use smp_kernel::Meter;
@@ -12,9 +12,9 @@ use std::marker::Model;
 use std::process::Abort;
 use std::test::Fail;
 
-/// A notification of the only user task of a kernel of 8 cores.
+/// A notification of the only user task of a kernel of the most cores.
 const NOTE: Note = Note {
-    task: 8,
+    task: MAX_CORES,
     action: Action::Increment,
     index: 0,
 };
@@ -53,7 +53,7 @@ impl Log {
     pub fn new(rt: &HostRuntime, limit: u32) -> Result<Log, Fail>
         ensures { IfOk result (λ log. log.entries ≡ []) }
     {
-        let header = header_of(rt.alloc(), LARGEST, &[("A", 1, 255)])?;
+        let header = header_of(rt.alloc(), LARGEST, &[("A", 1, u32::MAX)])?;
         let recording = Recording::new(rt.alloc(), Meter::new(rt), &header, limit)?;
         Ok(Log { recording })
     }

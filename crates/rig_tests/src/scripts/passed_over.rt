@@ -66,15 +66,21 @@ fn a_hold_for_which_there_is_no_room_is_passed_over(rt: HostRuntime) -> Result<(
     check(&rt, &rt, THREE, 1, scripts, &[Step::Tick])
 }
 
+#[test]
+fn the_greatest_limit_leaves_room(rt: HostRuntime) -> Result<(), Fail> {
+    let scripts = "[[{\"do\":\"tick\"}],[]]";
+    check(&rt, &rt, THREE, 1_000_000, scripts, &[Step::Tick])
+}
+
 /// There is one tick more than there is room for.
 #[test]
-fn the_most_actions_are_recorded(rt: HostRuntime) -> Result<(), Fail> {
-    let recorded = most_ticks(&rt, &rt)?;
+fn a_tick_past_the_limit_is_passed_over(rt: HostRuntime) -> Result<(), Fail> {
+    let recorded = too_many_ticks(&rt, &rt)?;
     assert_made(&rt, &recorded, &[100_000, 0]);
     Ok(())
 }
 
-fn most_ticks<R: Threads + Wait + Abort + Sync>(
+fn too_many_ticks<R: Threads + Wait + Abort + Sync>(
     rt: &R,
     host: &HostRuntime,
 ) -> Result<Recorded, Fail> {

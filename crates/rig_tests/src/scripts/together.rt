@@ -20,16 +20,21 @@ fn both_cores_yield_at_one_time(rt: HostRuntime) -> Result<(), Fail> {
     Ok(())
 }
 
-/// A script for each of the most cores, of one interrupt.
-const EIGHT: &str =
-    "{\"session\":{\"format\":1,\"cores\":8,\"priorities\":5,\"slicing\":false,\"tick\":0,\"mutexes\":0,\"tasks\":[{\"name\":\"A\",\"priority\":1,\"mask\":255}],\"steps\":[]},\"limit\":8,\"scripts\":[[{\"do\":\"isr_notify\",\"to\":\"A\",\"action\":\"increment\"}],[{\"do\":\"isr_notify\",\"to\":\"A\",\"action\":\"increment\"}],[{\"do\":\"isr_notify\",\"to\":\"A\",\"action\":\"increment\"}],[{\"do\":\"isr_notify\",\"to\":\"A\",\"action\":\"increment\"}],[{\"do\":\"isr_notify\",\"to\":\"A\",\"action\":\"increment\"}],[{\"do\":\"isr_notify\",\"to\":\"A\",\"action\":\"increment\"}],[{\"do\":\"isr_notify\",\"to\":\"A\",\"action\":\"increment\"}],[{\"do\":\"isr_notify\",\"to\":\"A\",\"action\":\"increment\"}]]}";
+/// A rig of the most cores, up to the script of core 0, which is a tick.
+const MOST: &str =
+    "{\"session\":{\"format\":1,\"cores\":32,\"priorities\":5,\"slicing\":false,\"tick\":0,\"mutexes\":0,\"tasks\":[{\"name\":\"A\",\"priority\":1,\"mask\":4294967295}],\"steps\":[]},\"limit\":32,\"scripts\":[[{\"do\":\"tick\"}]";
+
+/// The script of one core more, which is an interrupt.
+const INTERRUPT: &str = ",[{\"do\":\"isr_notify\",\"to\":\"A\",\"action\":\"increment\"}]";
 
 #[test]
-fn eight_scripts_are_played_at_one_time(rt: HostRuntime) -> Result<(), Fail> {
-    let gate = Together::of(8);
-    let recorded = played(&rt, &rt, EIGHT, &gate)?;
+fn the_most_scripts_are_played_at_one_time(rt: HostRuntime) -> Result<(), Fail> {
+    let gate = Together::of(32);
+    let others = INTERRUPT.repeat(rt.alloc(), 31)?;
+    let text = format!(in rt.alloc(); "{MOST}{others}]}}")?;
+    let recorded = played(&rt, &rt, text.as_str(), &gate)?;
     assert_same(&rt, "late", &gate.is_late(), &false);
-    assert_made(&rt, &recorded, &[1; 8]);
+    assert_made(&rt, &recorded, &[1; 32]);
     Ok(())
 }
 

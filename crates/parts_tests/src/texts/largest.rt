@@ -6,13 +6,14 @@ use crate::expected::{expect_is, expect_same};
 use crate::texts::sessions::with_steps;
 use crate::texts::writing::most_ticks;
 use bench_samples::{LARGEST, crowd};
-use bench_types::{Edit, Header, MAX_STEPS, MAX_TASKS, Step};
+use bench_types::{Edit, Header, MAX_CORES, MAX_PRIORITIES, MAX_STEPS, MAX_TASKS, Step};
 use session_text::{Bench, read_bench, read_edit};
 use std::alloc::{AllocError, Global};
 use std::process::Abort;
 use std::test::Fail;
 
-const CHANGE: &str = r#"{"edit":"change","task":"T63","priority":31,"mask":128}"#;
+/// The last task of the most on the last of the most cores.
+const CHANGE: &str = r#"{"edit":"change","task":"T511","priority":31,"mask":2147483648}"#;
 
 /// The text of an edit after more than a million spaces.
 fn long_edit(alloc: Global) -> Result<String, AllocError> {
@@ -29,9 +30,9 @@ fn check_long_edit(rt: &impl Abort, alloc: Global, header: &Header) -> Result<()
 {
     let text = long_edit(alloc)?;
     let edit = Edit::ChangeTask {
-        task: 71,
-        priority: 31,
-        mask: 128,
+        task: MAX_CORES + MAX_TASKS - 1,
+        priority: MAX_PRIORITIES - 1,
+        mask: 1 << (MAX_CORES - 1),
     };
     let read = read_edit(alloc, text.as_bytes(), header).ok();
     expect_same(rt, &read, &Some(edit));

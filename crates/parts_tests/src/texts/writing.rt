@@ -168,7 +168,7 @@ fn steps_in_their_order(rt: HostRuntime) -> Result<(), Fail> {
     check_all(&rt, rt.alloc(), want.as_str())
 }
 
-/// The texts of 100,000 ticks.
+/// The texts of the most ticks.
 pub(crate) fn most_ticks(alloc: Global) -> Result<String, AllocError> {
     let mut steps = String::new(alloc);
     for _step in 0..MAX_STEPS {

@@ -259,7 +259,7 @@ row 'with a third script, or with `"scripts": [[], 7]`' "$(rig 's/"scripts": \[/
 row 'with `{"do": "sleep"}` as the first action of the second script' "$(there '{"do": "sleep"}')"
 row 'with `{"do": "switch", "core": 1}` there' "$(there '{"do": "switch", "core": 1}')"
 row 'with a member `edits` beside `limit`' "$(rig 's/"limit"/"edits": [], &/')"
-row 'with `"limit": 100001`' "$(rig 's/"limit": 100/"limit": 100001/')"
+row 'with `"limit": 1000001`' "$(rig 's/"limit": 100/"limit": 1000001/')"
 row 'with `{"do": "tick"}` as the first action of the second script' "$(there '{"do": "tick"}')"
 rows="$(sed -n '/^## Paths/,/^## Order of checks/p' docs/FORMATS.md | grep -c '| `refused ')"
 [ "$held" = "$rows" ] || wrong "docs/FORMATS.md: $rows texts with their refusals, of which $held are tried"

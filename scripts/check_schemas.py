@@ -41,7 +41,7 @@ def mask(rng, cores):
 
 
 def header(rng):
-    cores, priorities = rng.randint(2, 8), rng.randint(1, 32)
+    cores, priorities = rng.randint(2, 32), rng.randint(1, 32)
     names = rng.sample(NAMES, rng.randint(1, 6))
     notes = rng.choice([None, 1, 2, 8])
     return {
@@ -115,7 +115,7 @@ def document(rng, kind):
         late = [k for k in STEPS if k != "tick"]
         scripts = [[action(rng, head, late if core else list(STEPS)) for _ in range(rng.randrange(5))]
                    for core in range(head["cores"])]
-        limit = rng.choice([0, 1, 100, 100000])
+        limit = rng.choice([0, 1, 100, 1000000])
         return {"session": {**head, "steps": []}, "limit": limit, "scripts": scripts}
     session = mixed(rng, {**head, "steps": [step(rng, head) for _ in range(rng.randrange(12))]})
     if kind == "session":
@@ -307,7 +307,7 @@ def written(check):
         fenced = r"^```json\n(.*?)^```"
         lines = re.findall(r"^    (\{.*\})$", re.sub(fenced, "", text, flags=re.M | re.S), re.M)
         for block in re.findall(fenced, text, re.M | re.S) + lines:
-            values = json.loads("[%s]" % block)
+            values = json.loads("[%s]" % block.rstrip().removesuffix(","))
             for value in values:
                 fine = (check.valid_step if "do" in value else check.valid_edit if "edit" in value
                         else check.valid[kind_of(value)])

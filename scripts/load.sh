@@ -1,7 +1,7 @@
 #!/usr/bin/env bash
-# Runs the built program on texts of the greatest length, 67,108,864 bytes, of every shape that was found to be dear, from file to
+# Runs the built program on texts of the greatest length, 268,435,456 bytes, of every shape that was found to be dear, from file to
 # file. It prints a table of what came of each, the time and the peak memory, and ends with status 1 where a text took more than
-# 5 s or 2.2 GB, or got another answer than it should. It is no part of the gate; it takes a minute, and needs 200 MB of room for
+# 20 s or 9 GB, or got another answer than it should. It is no part of the gate; it takes some minutes, and needs 400 MB of room for
 # files and GNU time.
 set -u
 export LC_ALL=C
@@ -12,16 +12,16 @@ if ! [ -x "$program" ]; then
     echo "no program at $program: build it first, with (cd crates/smp_bench && rt run -- --help)" >&2
     exit 1
 fi
-length=67108864
-most_seconds=5
-most_kilobytes=2200000
+length=268435456
+most_seconds=20
+most_kilobytes=9000000
 folder="$(mktemp -d)"
 trap 'rm -rf -- "$folder"' EXIT
 bad=0
 
 # The members of a session up to its steps.
 head='{"format":1,"cores":2,"priorities":5,"slicing":false,"tick":0,"mutexes":0,"tasks":[{"name":"A","priority":2,"mask":3}],"steps":['
-rig='{"session":{"format":1,"cores":2,"priorities":5,"slicing":false,"tick":0,"mutexes":0,"tasks":[{"name":"A","priority":2,"mask":3}],"steps":[]},"limit":100000,"scripts":[['
+rig='{"session":{"format":1,"cores":2,"priorities":5,"slicing":false,"tick":0,"mutexes":0,"tasks":[{"name":"A","priority":2,"mask":3}],"steps":[]},"limit":1000000,"scripts":[['
 
 again() { # TIMES TEXT: the text so many times
     [ "$1" = 0 ] || yes "$2" | head -n "$1" | tr -d '\n'
@@ -43,8 +43,8 @@ text() { # BEGIN ITEM END [TIMES]
 # The same with members whose names differ.
 members() { # TIMES END
     printf '{'
-    seq -f '"m%07.0f":1,' 1 "$1" | tr -d '\n'
-    spaces $((length - 1 - 13 * $1 - ${#2}))
+    seq -f '"m%08.0f":1,' 1 "$1" | tr -d '\n'
+    spaces $((length - 1 - 14 * $1 - ${#2}))
     printf '%s' "$2"
 }
 
@@ -92,17 +92,17 @@ text "$head" '{"a":1},' '' >"$folder/in"
 run 'the same without an end' 'refused H1' 1 replay
 members 1000000 '"m":1}' >"$folder/in"
 run 'an object of a million members' 'refused H2 format' 1 replay
-members 5162000 '"m":1}' >"$folder/in"
-run 'an object of five million members' 'refused H2 format' 1 replay
+members 19170000 '"m":1}' >"$folder/in"
+run 'an object of nineteen million members' 'refused H2 format' 1 replay
 text '{' '"a":1,' '"a":1}' >"$folder/in"
 run 'one member again and again' 'refused H2 format' 1 replay
 text "$head" '{"do":"tick"},' '{"do":"tick"}]}' >"$folder/in"
 run 'more ticks than a session has' 'refused J2' 1 replay
-text "$head" "{\"do\":\"tick\"$(spaces 640)}," '{"do":"tick"}]}' 99999 >"$folder/in"
-run 'a session of 100,000 steps, padded with spaces' 'start A IDLE0' 0 replay
+text "$head" "{\"do\":\"tick\"$(spaces 250)}," '{"do":"tick"}]}' 999999 >"$folder/in"
+run 'a session of 1,000,000 steps, padded with spaces' 'start A IDLE0' 0 replay
 run 'the same with tallies' 'start A IDLE0' 0 replay --tally
 text "$rig" '{"do":"tick"},' '{"do":"tick"}],[]]}' >"$folder/in"
-run 'a script of four million ticks, with room for 100,000' "$(printf '{"cores":2,"format":1,"mutexes":0,"prior')" 0 record
+run 'a script of nineteen million ticks, with room for 1,000,000' "$(printf '{"cores":2,"format":1,"mutexes":0,"prior')" 0 record
 text "$rig" '{"a":1},' '{"do":"tick"}],[]]}' >"$folder/in"
 run 'actions that are small objects' 'refused H2 scripts[0][0].do' 1 record
 if [ "$bad" -gt 0 ]; then

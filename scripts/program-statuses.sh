@@ -179,7 +179,7 @@ run 'replay of a recording' 0 'start A B
 6 done A B
 7 done A B
 ' '' replay
-with '"limit": 9' '"limit": 100000'
+with '"limit": 9' '"limit": 1000000'
 run 'record: a hold that is open at the end is closed' 0 "${recorded/'"do":"finish"}'/'"do":"finish"},{"by":"A","core":0,"do":"hold_open"},{"by":"A","core":0,"do":"hold_close"}'}" '' record
 with '"limit": 9' '"limit": 0'
 run 'record with room for nothing' 0 "$(printf '%s' "$recorded" | sed 's/"steps":\[.*\],"tasks"/"steps":[],"tasks"/')
@@ -208,12 +208,12 @@ printf '{}' >"$folder/in"
 run 'a missing member' 1 $'refused H2 format\n' 'format: a member is missing, ill-typed or unknown' replay
 session '"core": 0' '"core": "0"'
 run 'an ill-typed member' 1 $'refused H2 steps[0].core\n' 'steps[0].core: a member is missing, ill-typed or unknown' replay
-head -c 67108864 /dev/zero | tr '\0' ' ' >"$folder/in"
+head -c 268435456 /dev/zero | tr '\0' ' ' >"$folder/in"
 run 'the longest input' 1 $'refused H1\n' 'not JSON' replay
 printf ' ' >>"$folder/in"
-run 'an input one byte longer' 1 $'refused H3\n' 'the input has more than 67108864 bytes' replay
+run 'an input one byte longer' 1 $'refused H3\n' 'the input has more than 268435456 bytes' replay
 session '"cores": 2' '"cores": 1'
-run 'a header that is outside its limits' 1 $'refused F1\n' 'header: cores is 1, and may be 2 to 8' replay
+run 'a header that is outside its limits' 1 $'refused F1\n' 'header: cores is 1, and may be 2 to 32' replay
 session '"core": 0' '"core": 2'
 run 'no such core' 1 $'refused F2 steps[0]\n' 'steps[0]: there is no such core' replay
 session '"by": "C"' '"by": "D"'
@@ -222,9 +222,9 @@ sed 's/"by": "A"}}/"by": "D"}}/' examples/another-call.json >"$folder/in"
 run 'no such task in an edit' 1 $'refused F3 edits[0]\n' 'edits[0]: no user task has such a name' replay
 sed 's/"at": 6, //' examples/another-call.json >"$folder/in"
 run 'an edit at no place' 1 $'refused H2 edits[1].at\n' 'edits[1].at: a member is missing' replay
-ticks="$(printf '%0100001d' 0 | sed 's/0/{"do":"tick"},/g')"
+ticks="$(printf '%01000001d' 0 | sed 's/0/{"do":"tick"},/g')"
 session '"steps": [' "\"steps\": [$ticks"
-run 'more steps than a session may have' 1 $'refused J2\n' 'the session has more than 100000 steps' replay
+run 'more steps than a session may have' 1 $'refused J2\n' 'the session has more than 1000000 steps' replay
 
 : >"$folder/in"
 run 'no document' 1 $'refused H1\n' 'not JSON: line 1, column 0' whatif
@@ -239,12 +239,12 @@ with '"cores": 2' '"cores": 1'
 run 'more scripts than cores' 1 $'refused H2 scripts\n' 'scripts: a member is missing' record
 with '"priorities": 5' '"priorities": 2'
 run 'a rig with a header outside its limits' 1 $'refused F1\n' 'header: tasks[0].priority has to be below 2' record
-with '"limit": 9' '"limit": 100001'
+with '"limit": 9' '"limit": 1000001'
 run 'a limit above the greatest' 1 $'refused F5 limit\n' 'limit: an argument is outside its limits' record
 with ', []]}' ', [{"do": "tick"}]]}'
 run 'a tick on another core than 0' 1 $'refused F2 scripts[1][0]\n' 'scripts[1][0]: there is no such core, or it is a tick on another core than 0' record
-head -c 67108865 /dev/zero | tr '\0' ' ' >"$folder/in"
-run 'a rig one byte longer than the longest input' 1 $'refused H3\n' 'the input has more than 67108864 bytes' record
+head -c 268435457 /dev/zero | tr '\0' ' ' >"$folder/in"
+run 'a rig one byte longer than the longest input' 1 $'refused H3\n' 'the input has more than 268435456 bytes' record
 with '' ''
 run 'a rig in place of a session' 1 $'refused H2 edits\n' 'edits: a member is missing' replay
 
@@ -686,7 +686,7 @@ printf '{' >"$folder/in"
 run 'a text that is not JSON' 1 $'refused H1\n' '' session
 printf '{}' >"$folder/in"
 run 'a missing member' 1 $'refused H2 format\n' '' compare
-head -c 67108865 /dev/zero | tr '\0' ' ' >"$folder/in"
+head -c 268435457 /dev/zero | tr '\0' ' ' >"$folder/in"
 run 'an input one byte longer than the longest' 1 $'refused H3\n' '' timeline
 session '"cores": 2' '"cores": 1'
 run 'a header that is outside its limits' 1 $'refused F1\n' '' trace
@@ -694,7 +694,7 @@ session '"core": 0' '"core": 2'
 run 'no such core' 1 $'refused F2 steps[0]\n' '' session
 sed 's/"by": "A"}}/"by": "D"}}/' examples/another-call.json >"$folder/in"
 run 'no such task in an edit' 1 $'refused F3 edits[0]\n' '' compare
-ticks="$(printf '%0100001d' 0 | sed 's/0/{"do":"tick"},/g')"
+ticks="$(printf '%01000001d' 0 | sed 's/0/{"do":"tick"},/g')"
 session '"steps": [' "\"steps\": [$ticks"
 run 'more steps than a session may have' 1 $'refused J2\n' '' timeline
 session '' ''

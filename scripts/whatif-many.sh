@@ -36,7 +36,7 @@ whole() {
 }
 
 # A longer document is refused for its length, which a part of it does not have.
-[ "$(wc -c <"$document")" -le 67108864 ] || whole
+[ "$(wc -c <"$document")" -le 268435456 ] || whole
 
 # The document on one line. Where jq changed anything but the space in it (a number such as 1e0, a member that is there twice, an
 # escape), or found more values than one, a part could be read otherwise than the whole: then the whole is run at once.

@@ -19,8 +19,8 @@ pub enum Act {
 }
 
 impl Act {
-    /// F2 where a core other than 0 makes a tick, else the fault of the call, or for an interrupt F3
-    /// where the task that it notifies is no user task, and then F5 where there is no such
+    /// F2 where a core other than 0 makes a tick, else the fault of the call, or for an interrupt
+    /// F3 where the task that it notifies is no user task, and then F5 where it has no such
     /// notification.
     pub fn check(&self, core: u32, header: &Header) -> Result<(), Fault>
         ensures value { result ≡ act_check (settings_of header.now) core self.now }

@@ -155,10 +155,10 @@ fn lines_of(host: &HostRuntime, store: &Store, tallies: &Tallies) -> Result<Stri
 /// The session still has its 8 steps, and A and C run at its end.
 fn assert_away(rt: &impl Abort, store: &Store) {
     assert_eq!(rt; store.len(), 8);
-    match store.row(8) {
-        Some(row) => assert_eq!(rt; row.as_slice(), [2, 4].as_slice()),
-        None => panic!(rt; "no place 8"),
-    }
+    assert_eq!(rt;
+        (store.running(8, 0), store.running(8, 1)),
+        (Some(2), Some(4))
+    );
 }
 
 /// A yields in place of its delay, and a tick is put where there is no place. Neither is kept.

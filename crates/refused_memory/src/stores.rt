@@ -192,7 +192,7 @@ fn is_traced(rt: &HostRuntime) -> bool {
 
 /// Whether it has each reply and row, and no more.
 fn is_whole(store: &Store) -> bool {
-    store.len() == 6 && store.reply(5).is_some() && store.row_after(5).is_some()
+    store.len() == 6 && store.reply(5).is_some() && store.running(6, 0).is_some()
 }
 
 /// Whether both show the same steps, replies, running tasks, checkpoints and tallies.

@@ -2,6 +2,7 @@
 ghost use Rattle.std.specs.Prelude.{◌≡◌, ℕ, ◌++◌, ◌+◌, ◌*◌, ◌<◌, ◌≤◌, ◌^◌, All, IfOk, OnOk, flat_map, length, map, min, string_bytes};
 ghost use Rattle.list_orders.specs.Search.{numbers};
 ghost use Rattle.bench_types.specs.Header.{IsCheckedHeader};
+ghost use Rattle.bench_types.specs.Limits.{max_tasks};
 ghost use Rattle.bench_types.specs.Step.{settings_of, IsCheckedStep};
 ghost use Rattle.run_pictures.specs.CoreBands.{core_row};
 ghost use Rattle.run_pictures.specs.Limits.{max_places};
@@ -53,7 +54,7 @@ fn frame_for(places: Places, count: u64) -> Frame
 }
 
 fn panel_height(header: &Header) -> u64
-    requires { length header.now.tasks ≤ 64 }
+    requires { length header.now.tasks ≤ max_tasks }
     ensures value { result ≡ panel_height header.now }
     ensures few { result < 2 ^ 37 }
 {

@@ -39,7 +39,7 @@ pub struct RigScript {
 /// Reads a rig document from a JSON text: an object with `session`, whose `steps` are none,
 /// `limit` and `scripts`.
 ///
-/// F5 at `limit` is a limit over 100,000 entries.
+/// F5 at `limit` is a limit over [`MAX_STEPS`] entries.
 pub fn read_rig(alloc: Global, text: &[u8]) -> Result<RigScript, TextFault>
     // The header, the limit and the scripts, or the first fault with its path, or that memory ran
     // out.

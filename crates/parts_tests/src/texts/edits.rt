@@ -3,7 +3,7 @@
 use crate::texts::answers::{Answer, check_answer};
 use Fault::{BadCore, BadHeader, BadTask};
 use bench_samples::{PLAIN, crowd};
-use bench_types::{Call, Config, Edit, Fault, Header, Step};
+use bench_types::{Call, Config, Edit, Fault, Header, MAX_STEPS, Step};
 use std::alloc::Global;
 use std::process::Abort;
 use std::test::Fail;
@@ -36,7 +36,7 @@ const CHANGES: &[ChangeRow] = &[
     (2, 3, 2, 1, 4, Err(BadHeader)),
     (2, 3, 2, 1, 0xFFFF_FFFC, Err(BadHeader)),
     (2, 3, 2, 1, 0xFFFF_FFFE, Ok(())),
-    // Headers past their limits.
+    // A core fewer than a mask has bits, as many, and headers past their limits.
     (31, 1, 31, 1, 0x8000_0000, Err(BadHeader)),
     (32, 1, 32, 1, 0x8000_0000, Ok(())),
     (40, 1, 40, 1, 0x8000_0000, Ok(())),
@@ -75,7 +75,7 @@ fn check_place(rt: &impl Abort, header: &Header, at: u32) {
 fn places_of_edits(rt: HostRuntime) -> Result<(), Fail> {
     let header = crowd(rt.alloc(), PLAIN, 1)?;
     check_place(&rt, &header, 0);
-    check_place(&rt, &header, 100_000);
+    check_place(&rt, &header, MAX_STEPS);
     check_place(&rt, &header, LAST);
     Ok(())
 }

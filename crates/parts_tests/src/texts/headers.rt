@@ -31,8 +31,8 @@ type HeaderRow = (u32, u32, u32, bool, u32, Tasks, bool);
 const HEADERS: &[HeaderRow] = &[
     (1, 5, 2, false, 0, ONE, false),
     (2, 5, 2, false, 0, ONE, true),
-    (8, 5, 2, false, 0, ONE, true),
-    (9, 5, 2, false, 0, ONE, false),
+    (32, 5, 2, false, 0, ONE, true),
+    (33, 5, 2, false, 0, ONE, false),
     (2, 0, 2, false, 0, ONE, false),
     (2, 1, 2, false, 0, ONE, true),
     (2, 32, 2, false, 0, ONE, true),
@@ -68,9 +68,9 @@ const HEADERS: &[HeaderRow] = &[
         &[("A", 0, 3), ("B", 1, 0xFFFF_FFFE)],
         true,
     ),
-    // The last core of eight.
-    (8, 5, 2, false, 0, &[("A", 0, 0x80)], true),
-    (8, 5, 2, false, 0, &[("A", 0, 0x100)], false),
+    // The last of 32 cores, which is none of 31.
+    (32, 5, 2, false, 0, &[("A", 0, 0x8000_0000)], true),
+    (31, 5, 2, false, 0, &[("A", 0, 0x8000_0000)], false),
     // A name twice.
     (
         2,
@@ -165,7 +165,7 @@ fn check_number(rt: &impl Abort, alloc: Global, tasks: usize, fits: bool) -> Res
 }
 
 // Numbers of tasks, and whether a header may have so many.
-const NUMBERS: &[(usize, bool)] = &[(0, false), (1, true), (64, true), (65, false)];
+const NUMBERS: &[(usize, bool)] = &[(0, false), (1, true), (512, true), (513, false)];
 
 #[test]
 fn numbers_of_tasks(rt: HostRuntime) -> Result<(), Fail> {

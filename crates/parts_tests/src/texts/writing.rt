@@ -3,7 +3,7 @@ ghost use Rattle.bench_types.specs.Session.{IsSession};
 
 use crate::texts::sessions::{session_of, with_steps};
 use crate::texts::values::check_steps;
-use bench_types::{Header, MAX_STEPS, Step};
+use bench_types::{Header, Step};
 use session_write::write_session;
 use std::alloc::{AllocError, Global};
 use std::process::Abort;
@@ -168,19 +168,20 @@ fn steps_in_their_order(rt: HostRuntime) -> Result<(), Fail> {
     check_all(&rt, rt.alloc(), want.as_str())
 }
 
-/// The texts of 100,000 ticks.
-pub(crate) fn most_ticks(alloc: Global) -> Result<String, AllocError> {
-    let mut steps = String::new(alloc);
-    for _step in 0..MAX_STEPS {
-        push_item(&mut steps, "{\"do\":\"tick\"}")?;
-    }
+/// So many ticks are a text of more than a million bytes.
+pub(crate) const MANY: u32 = 100_000;
+
+/// The texts of that many ticks.
+pub(crate) fn many_ticks(alloc: Global) -> Result<String, AllocError> {
+    let mut steps = "{\"do\":\"tick\"},".repeat(alloc, MANY as usize - 1)?;
+    steps.push_str("{\"do\":\"tick\"}")?;
     Ok(steps)
 }
 
 /// A text of more than a million bytes.
 #[test]
-fn the_most_steps(rt: HostRuntime) -> Result<(), Fail> {
-    let steps = most_ticks(rt.alloc())?;
+fn many_steps(rt: HostRuntime) -> Result<(), Fail> {
+    let steps = many_ticks(rt.alloc())?;
     assert!(&rt; steps.len() > 1_000_000);
     let want = written_of(rt.alloc(), steps.as_str())?;
     check_step(&rt, rt.alloc(), steps.as_str(), want.as_str())

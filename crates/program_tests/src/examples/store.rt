@@ -18,23 +18,30 @@ fn opened(rt: &HostRuntime, meter: &mut Meter) -> Result<Store, Fail> {
 }
 
 /// The tasks that run at the place, core 0 first.
-fn check_row(rt: &impl Abort, store: &Store, place: u32, tasks: &[u32]) {
-    match store.row(place) {
+fn check_row(
+    rt: &impl Abort,
+    alloc: Global,
+    store: &Store,
+    place: u32,
+    tasks: &[u32],
+) -> Result<(), AllocError> {
+    match store.row(alloc, place)? {
         Some(row) => assert_eq!(rt; row.as_slice(), tasks),
         None => assert!(rt; false),
     }
+    Ok(())
 }
 
 #[test]
 fn a_store_is_edited(rt: HostRuntime) -> Result<(), Fail> {
     let mut meter = Meter::new(&rt);
     let mut store = opened(&rt, &mut meter)?;
-    check_row(&rt, &store, 4, &[2, 3]);
+    check_row(&rt, rt.alloc(), &store, 4, &[2, 3])?;
     // Without the tick A still waits, so its core is not due, and the idle task runs on.
     let outcome = store.apply(rt.alloc(), Edit::Remove { at: 2 }, &mut meter)?;
     assert_eq!(rt; (outcome.from, outcome.met, outcome.replayed), (2, 3, 1));
     assert_eq!(rt; store.reply(2), Some(Reply::Refused(Refusal::NotDue)));
-    check_row(&rt, &store, 3, &[0, 3]);
+    check_row(&rt, rt.alloc(), &store, 3, &[0, 3])?;
     Ok(())
 }
 

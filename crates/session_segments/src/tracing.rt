@@ -93,7 +93,14 @@ impl Tracing for Traced {
         let mut tallies = Tallies::begin(alloc, kernel)?;
         let mut replies = Vec::with_capacity(alloc, steps.len())?;
         let mut currents = Vec::with_capacity(alloc, steps.len())?;
-        push_outcomes(kernel, &mut tallies, &mut replies, &mut currents, steps, meter);
+        push_outcomes(
+            kernel,
+            &mut tallies,
+            &mut replies,
+            &mut currents,
+            steps,
+            meter,
+        );
         Ok(Traced {
             replies,
             currents,

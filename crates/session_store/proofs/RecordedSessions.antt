@@ -13,7 +13,7 @@ use Rattle.bench_types.specs.declared.step.Step.{Step}
 use Rattle.bench_types.specs.Header.{header_check}
 use Rattle.bench_types.specs.Limits.{max_span, max_steps}
 use Rattle.bench_types.specs.Name.{is_within}
-use Rattle.bench_types.specs.Step.{settings_of, step_check, ◌>>◌, IsCheckedStep}
+use Rattle.bench_types.specs.Step.{settings_of, ◌>>◌, IsCheckedStep}
 use Rattle.bench_model.specs.History.{steps_of, IsLegal}
 use Rattle.bench_model.specs.Session.{reply_at}
 use Rattle.session_store.specs.declared.fault.OpenRefusal.TheVariants.{Bench, BadSpan, TooLong}

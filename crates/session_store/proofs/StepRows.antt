@@ -1,5 +1,5 @@
 -- The row after a step, which the segment with the step tells.
-use Rattle.std.proofs.Common.{◌≡◌, ℕ, suc, ◌-◌, ◌<◌, ◌≤◌, List, [], ◌∷◌, length, take, get_or, Option, Some, None, refl, sym, ap, ap₂, ◌∙◌, arith}
+use Rattle.std.proofs.Common.{◌≡◌, ℕ, suc, ◌-◌, ◌<◌, ◌≤◌, List, [], ◌∷◌, length, take, get_or, Some, None, refl, sym, ap, ap₂, ◌∙◌, arith}
 use Rattle.std.specs.Prelude.{slice_get, Bool, true, false, nat_le, nat_lt, if◌then◌else◌}
 use Rattle.std.proofs.lemmas.Bool.Decides.{nat_tests}
 use Rattle.std.proofs.lemmas.Option.{slice_get-get_or, slice_get_past, slice_get_within}
@@ -7,14 +7,14 @@ use Rattle.bench_types.specs.declared.header.Header.{Header}
 use Rattle.bench_types.specs.declared.step.Step.{Step}
 use Rattle.bench_types.specs.declared.step.Step.TheVariants.{Tick}
 use Rattle.bench_model.specs.Control.{running}
-use Rattle.bench_model.specs.Equal.{StandsFor}
 use Rattle.bench_model.specs.Session.{step_of, state_after, state_at, running_at}
 use Rattle.bench_model.specs.Start.{start}
 use Rattle.bench_model.specs.Table.{Table}
 use Rattle.segment_laws.specs.Segments.{SegmentView, all_steps, lengths, starts, IsIndexOf, running_after}
 use Rattle.segment_laws.proofs.Following.{take_with, state_append}
 use Rattle.session_store.specs.Kept.{IsKept}
-use Rattle.session_store.proofs.StoreReads.{read_at}
+use Rattle.session_store.proofs.StoreReads.{read_at, row_length}
+use Rattle.session_store.proofs.StoreStates.{checked_read}
 
 -- one step more from a table on
 row_told : (table : Table) (steps : List Step) (count : ℕ) (step : Step) → slice_get steps count ≡ Some step → running_after table steps (suc count) ≡ Some (running (step_of step (state_after table (take count steps))).1.control)
@@ -54,10 +54,18 @@ module _ (header : Header) (span : ℕ) (segments : List SegmentView) (kept : Is
   pub early_own : place < length (all_steps segments) → place - from < length segment.steps
   early_own early = early_too (all_steps segments) segment.steps place (place - from) same_step early
 
-  pub row_own : (row : List ℕ) → place < length (all_steps segments) → ((table : Table) → StandsFor segment.kernel table → Some row ≡ running_after table segment.steps (suc (place - from))) → Some row ≡ running_at header (all_steps segments) (suc place)
+  -- the row at the place, as the segment tells it, and what it has after the step there
+  pub row_here : (row : List ℕ) → running_at header (all_steps segments) place ≡ Some row → running_after (state_at header (all_steps segments) from) segment.steps (place - from) ≡ Some row
+  row_here row runs = sym (read_at header span segments kept place index from segment is found).row ∙ runs
+
+  pub row_own : (row : List ℕ) → place < length (all_steps segments) → running_after (state_at header (all_steps segments) from) segment.steps (suc (place - from)) ≡ Some row → running_at header (all_steps segments) (suc place) ≡ Some row
   row_own row early told =
       let reads = read_at header span segments kept place index from segment is found in
       let step = get_or (all_steps segments) place Tick in
       let there : slice_get (all_steps segments) place ≡ Some step = slice_get-get_or (all_steps segments) place Tick early in
-      told (state_at header (all_steps segments) from) reads.stands
-      ∙ both_rows header (all_steps segments) (state_at header (all_steps segments) from) segment.steps place (place - from) step there (sym same_step ∙ there) reads.state
+      sym (both_rows header (all_steps segments) (state_at header (all_steps segments) from) segment.steps place (place - from) step there (sym same_step ∙ there) reads.state) ∙ told
+
+  pub row_cores : (row : List ℕ) → running_at header (all_steps segments) place ≡ Some row → length row ≡ segment.kernel.settings.cores
+  row_cores row runs =
+      let reads = read_at header span segments kept place index from segment is found in
+      row_length segment.kernel segment.steps segment.kernel.settings.cores refl (state_at header (all_steps segments) from) reads.stands (checked_read header span segments kept place index from segment is found) (place - from) row (row_here row runs)

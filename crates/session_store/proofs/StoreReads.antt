@@ -1,5 +1,5 @@
 -- What a store reads of the segment that a place is in.
-use Rattle.std.proofs.Common.{◌≡◌, ℕ, ◌+◌, ◌-◌, ◌<◌, ◌≤◌, List, [], ◌∷◌, ◌++◌, length, take, drop, get_or, Option, Some, None, refl, sym, ap, subst, ◌∙◌, arith, length-append, add-one}
+use Rattle.std.proofs.Common.{◌≡◌, ℕ, ◌+◌, ◌-◌, ◌<◌, ◌≤◌, List, [], ◌∷◌, ◌++◌, length, take, drop, get_or, Option, Some, None, refl, sym, ap, subst, ◌∙◌, arith, length-append}
 use Rattle.std.specs.Prelude.{All, slice_get, option_and_then, Bool, true, false, nat_le, if◌then◌else◌}
 use Rattle.std.proofs.lemmas.Bool.Decides.{nat_tests}
 use Rattle.std.proofs.lemmas.List.{length-map}
@@ -21,7 +21,7 @@ use Rattle.bench_model.specs.Table.{Table}
 use Rattle.step_laws.proofs.Along.{sound_along, settings_along}
 use Rattle.segment_laws.specs.SegmentLaws.{IsReadAt, IsFoundPart}
 use Rattle.segment_laws.specs.Segments.{SegmentView, all_steps, lengths, starts, AreSegments, IsIndexOf, reply_after, running_after}
-use Rattle.segment_laws.proofs.Following.{take_with, all_more}
+use Rattle.segment_laws.proofs.Following.{all_more}
 use Rattle.segment_laws.proofs.Reading.{places_are_read, parts_are_found}
 use Rattle.session_store.specs.Kept.{session_of, kept_of, IsKept}
 

@@ -1,8 +1,8 @@
-use Rattle.std.proofs.Common.{◌+◌, ◌-◌, ◌^◌, ◌<◌, min, get_or, sym, ◌∙◌, ap, arith, take, length}
+use Rattle.std.proofs.Common.{◌+◌, ◌-◌, ◌^◌, min, get_or, sym, ◌∙◌, ap, arith, take}
 use Rattle.bench_types.specs.declared.kernel_data.Settings.{Settings}
 use Rattle.bench_types.specs.declared.step.Step.TheVariants.{Tick}
+use Rattle.bench_model.specs.Control.{current}
 use Rattle.bench_model.specs.Session.{state_after}
-use Rattle.bench_model.specs.Table.{Table}
 use Rattle.session_segments.proofs.Counts.{counted_more}
 use Rattle.session_segments.proofs.Replays.{replayed_goes}
 use Rattle.session_segments.proofs.Rows.{own_core}
@@ -33,7 +33,7 @@ loop-step-preserved c =
           let before = state_after table (take place steps) in
           let here = (so_far.so_far table stands).stands in
           replayed_goes table steps place c.loop-step.kernel c.make_next.new.kernel c.loop-step.replies.items c.push_reserved.new.self.items c.loop-step.currents.items c.push_reserved-in-loop-step.new.self.items c.make_next.result c.running.result (omega arith)
-          (c.make_next.ensures.reply before here) (c.make_next.ensures.state before here) c.push_reserved.ensures.items (c.running.ensures.seen) c.push_reserved-in-loop-step.ensures.items (so_far.so_far table stands);
+          (c.make_next.ensures.reply before here) (c.make_next.ensures.state before here) c.push_reserved.ensures.items (c.running.ensures.seen ∙ ap (current c.make_next.new.kernel.control) c.core.ensures) c.push_reserved-in-loop-step.ensures.items (so_far.so_far table stands);
       counted = λ table stands.
           let before = state_after table (take place steps) in
           let here = (so_far.so_far table stands).stands in

@@ -1,8 +1,6 @@
-use Rattle.std.proofs.Common.{◌≡◌, ◌<◌, ◌≤◌, List, ℕ, Some, length, ap, sym, subst, ◌∙◌, arith}
-use Rattle.bench_model.specs.Equal.{StandsFor}
+use Rattle.std.proofs.Common.{◌≤◌, Some, length, ap, sym, ◌∙◌, arith}
 use Rattle.bench_model.specs.Meeting.{CheckpointedSession}
 use Rattle.bench_model.specs.Session.{running_at}
-use Rattle.bench_model.specs.Table.{Table}
 use Rattle.segment_laws.specs.Segments.{all_steps}
 use Rattle.session_store.proofs.StoreReads.{lent_at, no_row, row_read}
 use Rattle.session_store.proofs.StoreStates.{within_read}

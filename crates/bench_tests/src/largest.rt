@@ -1,5 +1,5 @@
-//! The calls that take memory, each at its largest size: 64 tasks of 8 notifications on 8 cores
-//! with 32 mutexes, and 100,000 steps.
+//! The calls that take memory, each at its largest size: the most tasks, notifications, cores and
+//! mutexes, and the most steps.
 
 use crate::replays::check_store;
 use crate::samples::{
@@ -93,14 +93,18 @@ fn a_store_of_the_most_steps_and_tasks(rt: HostRuntime) -> Result<(), Fail> {
     check_last_place(&rt, rt.alloc(), &mut opened)
 }
 
+/// Ticks that the plain replay makes too, which searches all tasks for each core.
+const SOME: u32 = 300;
+
 fn check_ticks(rt: &impl Abort, host: &HostRuntime, store: &Store) -> Result<(), Fail> {
-    let steps = ticks(host.alloc(), MAX_STEPS)?;
+    let steps = ticks(host.alloc(), SOME)?;
     check_store(rt, host, store, &steps)
 }
 
 #[test]
-fn the_most_steps_by_the_definitions(rt: HostRuntime) -> Result<(), Fail> {
-    let opened = opened(&rt)?;
+fn the_most_tasks_by_the_definitions(rt: HostRuntime) -> Result<(), Fail> {
+    let header = crowd(rt.alloc(), LARGEST, MAX_TASKS as usize)?;
+    let opened = Opened::of(&rt, header, ticks(rt.alloc(), SOME)?, 64)?;
     check_ticks(&rt, &rt, &opened.store)
 }
 

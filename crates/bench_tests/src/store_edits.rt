@@ -93,14 +93,15 @@ const FULL: [(u32, EditFault); 4] = [
     (0, EditFault::TooLong),
     (MAX_STEPS, EditFault::TooLong),
     (MAX_STEPS + 1, EditFault::NoPlace),
-    (1_000_000, EditFault::NoPlace),
+    (u32::MAX, EditFault::NoPlace),
 ];
 
 fn check_fullness(rt: &impl Abort, alloc: Global, opened: &mut Opened) {
     for (at, why) in &FULL {
         refuse_edit(rt, alloc, opened, insert(*at, Step::Tick), *why);
     }
-    let (last, from) = (MAX_STEPS - 1, MAX_STEPS - MAX_STEPS % 64);
+    let last = MAX_STEPS - 1;
+    let from = last - last % 64;
     make_edit(
         rt,
         alloc,

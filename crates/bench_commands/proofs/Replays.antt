@@ -1,5 +1,5 @@
 -- The lines of a replay, place by place.
-use Rattle.std.proofs.Common.{◌≡◌, ℕ, suc, ◌+◌, ◌<◌, ◌≤◌, Bool, true, false, List, [], ◌∷◌, ◌++◌, length, flat_map, nat_le, if◌then◌else◌, Option, Some, None, refl, sym, ap, ◌∙◌, arith, append_assoc}
+use Rattle.std.proofs.Common.{◌≡◌, ℕ, suc, ◌+◌, ◌≤◌, Bool, true, false, List, [], ◌∷◌, ◌++◌, length, flat_map, nat_le, if◌then◌else◌, Option, Some, None, refl, sym, ap, ◌∙◌, arith, append_assoc}
 use Rattle.std.specs.Prelude.{option_map}
 use Rattle.std.specs.Option.{option_map_or}
 use Rattle.std.proofs.lemmas.Bool.Decides.{nat_tests}
@@ -94,15 +94,6 @@ start_shown header steps row shown = cc (shown, start_is_there header steps)
 
 pub start_not_none : (header : Header) (steps : List Step) → None ≡ running_at header steps 0 → ⊥
 start_not_none header steps none = cc (none, start_is_there header steps)
-
--- what is lent of the row after a step
-pub row_none : (header : Header) (steps : List Step) (place : ℕ) → (place < length steps → ⊥) → None ≡ running_at header steps (place + 1)
-unfolding running_at
-row_none header steps place late = go (nat_le (place + 1) (length steps)) refl
-  where
-    go : (b : Bool) → nat_le (place + 1) (length steps) ≡ b → None ≡ (if b then Some (running (state_at header steps (place + 1)).control) else None)
-    go true early = absurd (late (grind (arith, nat_tests, early)))
-    go false past = refl
 
 pub row_some : (header : Header) (steps : List Step) (place : ℕ) (row : List ℕ) → Some row ≡ running_at header steps (suc place) → Some row ≡ running_at header steps (place + 1)
 row_some header steps place row told =

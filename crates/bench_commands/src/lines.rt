@@ -60,7 +60,8 @@ pub(crate) fn push_row(
 /// The line of the start, with what lines say of its row.
 pub(crate) fn push_start_line(text: &mut String, row: &str) -> Result<(), AllocError>
     ensures { OnOk result
-        (string_bytes text.new ≡ string_bytes text.old ++ codes "start" ++ row.now ++ codes "\n") }
+        (string_bytes text.new
+        ≡ string_bytes text.old ++ (codes "start" ++ row.now ++ codes "\n")) }
 {
     text.push_str("start")?;
     text.push_str(row)?;
@@ -76,8 +77,8 @@ pub(crate) fn push_step_line(
 ) -> Result<(), AllocError>
     ensures { OnOk result
         (string_bytes text.new
-        ≡ string_bytes text.old ++ decimal index ++ spaced (reply_text reply) ++ row.now
-        ++ codes "\n") }
+        ≡ string_bytes text.old
+        ++ (decimal index ++ spaced (reply_text reply) ++ row.now ++ codes "\n")) }
 {
     write!(text, "{index} ")?;
     push_reply(text, reply)?;

@@ -27,9 +27,11 @@ impl ShownRow {
             (string_bytes row.text)) }
     {
         let mut text = String::new(alloc);
-        let tasks = match store.row(alloc, 0)? {
-            Some(tasks) => tasks,
-            None => Row::new(alloc),
+        let Some(tasks) = store.row(alloc, 0)? else {
+            return Ok(ShownRow {
+                tasks: Row::new(alloc),
+                text,
+            });
         };
         push_row(&mut text, store.header(), labels, &tasks)?;
         Ok(ShownRow { tasks, text })
@@ -49,10 +51,10 @@ impl ShownRow {
         ensures { OnOk result (IsShownAt store.now.session (suc place) self.new.tasks.items
             (string_bytes self.new.text)) }
     {
-        if store.update_row(place, &mut self.tasks) {
-            self.text.clear();
-            push_row(&mut self.text, store.header(), labels, &self.tasks)?;
+        if !store.update_row(place, &mut self.tasks) {
+            return Ok(());
         }
-        Ok(())
+        self.text.clear();
+        push_row(&mut self.text, store.header(), labels, &self.tasks)
     }
 }

@@ -204,7 +204,8 @@ fn a_row_goes_from_place_to_place(rt: HostRuntime) -> Result<(), Fail> {
 
 // A delay of A leaves it on its core, and the switch after it puts C there.
 fn check_walk(rt: &impl Abort, alloc: Global, store: &Store) -> Result<(), Fail> {
-    assert_is(rt, "two steps", store.len() > 1);
+    let steps = store.len();
+    assert!(rt; steps > 1);
     let Some(mut row) = store.row(alloc, 0)? else {
         panic!(rt; "no start");
     };

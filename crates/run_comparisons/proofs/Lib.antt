@@ -1,4 +1,5 @@
 mod Aligned
+mod GainsTold
 mod LastRows
 mod Outcomes
 mod Ranges

@@ -153,7 +153,6 @@ fn push_gains_line(
 }
 
 /// Writes a line for each task that fared otherwise.
-#[tactic(auto, unfolding(crate::specs::Gains::gains_text))]
 pub(crate) fn push_gains(
     alloc: Global,
     text: &mut String,

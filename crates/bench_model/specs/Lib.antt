@@ -18,6 +18,7 @@ pub mod Refusals
 pub mod SameTest
 pub mod Seek
 pub mod Session
+pub mod Shifted
 pub mod Sound
 pub mod Start
 pub mod State

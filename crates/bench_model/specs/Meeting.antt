@@ -1,15 +1,15 @@
 -- What an edit makes of the checkpoints of a session, the places whose kernels are kept, and which
 -- steps are replayed for it: from a checkpoint before the edit to the first one after it from which
--- the edited session goes on as the session did.
-use Rattle.std.specs.Prelude.{ℕ, suc, ◌+◌, ◌-◌, ◌*◌, ◌%◌, List, length, map, filter, fold, min, max, Bool, true, ◌&&◌, ◌||◌, ◌==◌, nat_lt, nat_le, if◌then◌else◌}
+-- the edited session goes on as the session did, its tick count aside where no step reads it.
+use Rattle.std.specs.Prelude.{ℕ, suc, ◌+◌, ◌-◌, ◌*◌, ◌%◌, List, length, map, filter, fold, drop, min, max, Bool, true, ◌&&◌, ◌||◌, ◌==◌, nat_lt, nat_le, if◌then◌else◌}
 use Rattle.std.specs.List.{list_any}
 use Rattle.bench_types.specs.declared.edit.Edit.{Edit}
 use Rattle.bench_types.specs.declared.edit.Edit.TheVariants.{Insert, Remove, Replace, ChangeTask}
 use Rattle.bench_types.specs.Session.{Session}
 use Rattle.list_orders.specs.Search.{numbers, has}
 use Rattle.bench_model.specs.Edits.{edited}
-use Rattle.bench_model.specs.SameTest.{is_same}
 use Rattle.bench_model.specs.Session.{state_at}
+use Rattle.bench_model.specs.Shifted.{is_met}
 use Rattle.bench_model.specs.Tally.{greatest}
 
 -- a session with its checkpoints, in ascending order; the span says about how many steps lie
@@ -63,21 +63,22 @@ is_compared (Remove at) place = nat_lt at place
 is_compared (Replace at step) place = nat_lt at place
 is_compared (ChangeTask task priority mask) place = true
 
--- the place of the session and where it lies in the edited one have equal states
-abbrev pub is_same_after : Session → Edit → ℕ → Bool
-is_same_after session edit place =
+-- from the place of the session, and from where it lies in the edited one, both go on alike
+abbrev pub goes_on_alike : Session → Edit → ℕ → Bool
+goes_on_alike session edit place =
     let next = edited edit session in
-    is_same (state_at session.header session.steps place)
+    is_met (state_at session.header session.steps place)
     (state_at next.header next.steps (moved_place edit place))
+    (drop (moved_place edit place) next.steps)
 
 -- Where the replay begins: at the last checkpoint that is not after the edit.
 abbrev pub replayed_from : CheckpointedSession → Edit → ℕ
 replayed_from kept edit = checkpoint_before kept.checkpoints (place_of edit)
 
--- the checkpoints where both sessions are compared and have equal states
+-- the checkpoints where both sessions are compared and go on alike
 abbrev pub meetings : CheckpointedSession → Edit → List ℕ
 meetings kept edit =
-    filter (λ place. is_compared edit place && is_same_after kept.session edit place)
+    filter (λ place. is_compared edit place && goes_on_alike kept.session edit place)
     kept.checkpoints
 
 -- Where the replay ends, as a place of the edited session: at the first of these, or at the end.

@@ -1,4 +1,4 @@
--- Two sessions with equal states at two places and the same steps after them go on alike.
+-- Two sessions that meet at two places, and have the same steps after them, go on alike.
 use Rattle.std.proofs.Common.{◌≡◌, ℕ, zero, suc, ◌+◌, ◌-◌, ◌≤◌, Bool, leb, List, [], ◌∷◌, length, take, drop, Option, Some, None, refl, sym, ap, subst, ◌∙◌, arith, take-add, length-drop}
 use Rattle.std.specs.Prelude.{All, fold, option_map, slice_get, if◌then◌else◌}
 use Rattle.std.proofs.lemmas.List.Sums.{fold-append}
@@ -13,18 +13,18 @@ use Rattle.bench_types.specs.Step.{settings_of, IsCheckedStep}
 use Rattle.list_orders.specs.Search.{numbers}
 use Rattle.bench_model.specs.Control.{Control, running}
 use Rattle.bench_model.specs.Equal.{Same, StandsFor}
-use Rattle.bench_model.specs.Lists.{View}
+use Rattle.bench_model.specs.Lists.{View, view_of}
 use Rattle.bench_model.specs.Meeting.{last_place}
 use Rattle.bench_model.specs.Seek.{after_switch}
 use Rattle.bench_model.specs.Session.{step_of, state_after, state_at, reply_at, running_at}
+use Rattle.bench_model.specs.Shifted.{shifted}
 use Rattle.bench_model.specs.Sound.{IsSound}
 use Rattle.bench_model.specs.Start.{start, started, unstarted, first_stamps}
 use Rattle.bench_model.specs.Table.{Table, stamp_queues}
 use Rattle.step_laws.proofs.Along.{sound_along, settings_along, start_settings}
 use Rattle.step_laws.proofs.Starts.{start_sound}
-use Rattle.step_laws.proofs.Steps.{equal_after}
-use Rattle.meeting_laws.specs.RunLaws.{GoOnAlike}
-use Rattle.meeting_laws.proofs.Runs.{run_alike}
+use Rattle.meeting_laws.specs.RunLaws.{GoOnAlike, MeetBy}
+use Rattle.meeting_laws.proofs.Meets.{met_reply, met_run_alike, met_step}
 
 -- ---- the state at a place of a session
 
@@ -69,14 +69,14 @@ checked_item settings steps k step all found =
 
 -- ---- two sessions
 
-module _ (old new : Session) (p q : ℕ) (first : IsSession old) (second : IsSession new) (same : Same (state_at old.header old.steps p) (state_at new.header new.steps q)) (rest : drop p old.steps ≡ drop q new.steps) where
-  states : (k : ℕ) → Same (state_at old.header old.steps (p + k)) (state_at new.header new.steps (q + k))
+module _ (by : ℕ) (old new : Session) (p q : ℕ) (first : IsSession old) (second : IsSession new) (meet : MeetBy by (state_at old.header old.steps p) (state_at new.header new.steps q) (drop p old.steps)) (rest : drop p old.steps ≡ drop q new.steps) where
+  states : (k : ℕ) → view_of (state_at new.header new.steps (q + k)) ≡ shifted by (view_of (state_at old.header old.steps (p + k)))
   states k =
       let a = state_at old.header old.steps p in
       let b = state_at new.header new.steps q in
-      let alike = run_alike a b (drop p old.steps) (sound_at old p first) (sound_at new q second) same (checked_from old p first) in
-      subst (λ table. Same table (state_at new.header new.steps (q + k))) (sym (state_later old.header old.steps p k))
-      (subst (λ table. Same (state_after a (take k (drop p old.steps))) table) (sym (state_later new.header new.steps q k ∙ ap (λ steps. state_after b (take k steps)) (sym rest))) (alike.states k))
+      let alike = met_run_alike by a b (drop p old.steps) (sound_at old p first) (sound_at new q second) meet (checked_from old p first) in
+      subst (λ table. view_of (state_at new.header new.steps (q + k)) ≡ shifted by (view_of table)) (sym (state_later old.header old.steps p k))
+      (subst (λ table. view_of table ≡ shifted by (view_of (state_after a (take k (drop p old.steps))))) (sym (state_later new.header new.steps q k ∙ ap (λ steps. state_after b (take k steps)) (sym rest))) (alike.states k))
 
   step_there : (k : ℕ) → slice_get old.steps (p + k) ≡ slice_get new.steps (q + k)
   step_there k = slice_get-drop p old.steps k ∙ ap (λ steps. slice_get steps k) rest ∙ sym (slice_get-drop q new.steps k)
@@ -100,22 +100,23 @@ module _ (old new : Session) (p q : ℕ) (first : IsSession old) (second : IsSes
       at None is = refl
       at (Some step) is =
           let checked = checked_item a.settings old.steps (p + k) step (subst (λ s. All (IsCheckedStep s) old.steps) (sym settings) (checked_from_start old first)) is in
-          ap Some (equal_after a b step (sound_at old (p + k) first) (sound_at new (q + k) second) (states k) checked).0
+          let meets = met_step by a b (drop p old.steps) k step (sym (slice_get-drop p old.steps k) ∙ is) (states k) meet.unread in
+          ap Some (met_reply by a b step (sound_at old (p + k) first) (sound_at new (q + k) second) meets checked)
 
   rows : p ≤ last_place old → q ≤ last_place new → (k : ℕ) → running_at old.header old.steps (p + k) ≡ running_at new.header new.steps (q + k)
   unfolding running_at
   rows within there k =
-      let control = ap (λ (view : View). view.control) (states k) in
+      let control = sym (ap (λ (view : View). view.control) (states k)) in
       let left : length old.steps - p ≡ length new.steps - q = sym (length-drop p old.steps) ∙ ap length rest ∙ length-drop q new.steps in
       let past : leb (p + k) (length old.steps) ≡ leb (q + k) (length new.steps) = grind (arith, nat_tests, left, within, there) in
       ap (λ (b : Bool). if b then Some (running (state_at old.header old.steps (p + k)).control) else None) past
       ∙ ap (λ (control : Control). if leb (q + k) (length new.steps) then Some (running control) else None) control
 
-pub go_on_alike : (old new : Session) (p q : ℕ) → IsSession old → IsSession new → p ≤ last_place old → q ≤ last_place new → Same (state_at old.header old.steps p) (state_at new.header new.steps q) → drop p old.steps ≡ drop q new.steps → GoOnAlike old new p q
-go_on_alike old new p q first second within there same rest = record {
-  states = states old new p q first second same rest;
-  replies = replies old new p q first second same rest;
-  rows = rows old new p q first second same rest within there;
+pub go_on_alike : (by : ℕ) (old new : Session) (p q : ℕ) → IsSession old → IsSession new → p ≤ last_place old → q ≤ last_place new → MeetBy by (state_at old.header old.steps p) (state_at new.header new.steps q) (drop p old.steps) → drop p old.steps ≡ drop q new.steps → GoOnAlike by old new p q
+go_on_alike by old new p q first second within there meet rest = record {
+  states = states by old new p q first second meet rest;
+  replies = replies by old new p q first second meet rest;
+  rows = rows by old new p q first second meet rest within there;
 }
 
 pub stand_alike : (view : View) (a b : Table) → StandsFor view a → Same a b → IsSound b → StandsFor view b

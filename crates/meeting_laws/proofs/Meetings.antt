@@ -1,5 +1,5 @@
 -- What is untouched before an edit, what is as it was after a meeting, and the first meeting.
-use Rattle.std.proofs.Common.{◌≡◌, inl, inr, ⊎_elim, ℕ, suc, ◌+◌, ◌-◌, ◌<◌, ◌≤◌, Bool, true, ◌&&◌, List, length, map, take, Some, None, Ok, sym, ap, ap₂, subst, ◌∙◌, arith}
+use Rattle.std.proofs.Common.{◌≡◌, inl, inr, ⊎_elim, ℕ, suc, ◌+◌, ◌-◌, ◌<◌, ◌≤◌, Bool, true, ◌&&◌, List, length, map, take, drop, Some, None, Ok, sym, ap, ap₂, subst, ◌∙◌, arith}
 use Rattle.std.specs.Prelude.{filter, option_map, slice_get, nat_le, if◌then◌else◌}
 use Rattle.std.proofs.lemmas.Bool.{and_parts}
 use Rattle.std.proofs.lemmas.Bool.Decides.{nat_tests}
@@ -11,14 +11,16 @@ use Rattle.bench_types.specs.Session.{Session, IsSession}
 use Rattle.list_orders.specs.Search.{has}
 use Rattle.bench_model.specs.Control.{running}
 use Rattle.bench_model.specs.Edits.{accepted, edited}
-use Rattle.bench_model.specs.Equal.{Same}
-use Rattle.bench_model.specs.Meeting.{CheckpointedSession, last_place, least, place_of, moved_place, is_compared, is_same_after, met}
+use Rattle.bench_model.specs.Lists.{view_of}
+use Rattle.bench_model.specs.Meeting.{CheckpointedSession, last_place, least, place_of, moved_place, is_compared, goes_on_alike, met}
 use Rattle.bench_model.specs.Session.{step_of, state_after, state_at, reply_at, running_at}
+use Rattle.bench_model.specs.Shifted.{shifted}
 use Rattle.bench_model.specs.Start.{start}
 use Rattle.session_laws.proofs.EditedSessions.{edited_session}
-use Rattle.session_laws.proofs.SameTests.{same_told}
-use Rattle.meeting_laws.specs.MeetingLaws.{IsUntouchedAt, MeetAt, IsKeptAt, IsMeeting, MayEnd, IsFirstEnd}
+use Rattle.meeting_laws.specs.MeetingLaws.{IsUntouchedAt, MeetAt, IsKeptAt, IsMeeting, MayEnd, IsFirstEnd, ticks_later}
+use Rattle.meeting_laws.specs.RunLaws.{MeetBy}
 use Rattle.meeting_laws.proofs.Going.{go_on_alike}
+use Rattle.meeting_laws.proofs.Meets.{meetings_told}
 use Rattle.meeting_laws.proofs.Places.{last_taken, least_from, least_each, least_reached, least_within, moved_found, moved_has}
 use Rattle.meeting_laws.proofs.Moves.{moved_later, moved_within, moved_from, edit_within, edit_there, steps_before_stay, steps_after_move}
 
@@ -57,16 +59,19 @@ before_is_untouched session edit place accepts header before = record {
 
 -- ---- from a meeting on
 
-pub meeting_lasts : (session : Session) (edit : Edit) (meeting place : ℕ) → IsSession session → IsEditOfWords edit → accepted session edit ≡ Ok tt → meeting ≤ last_place session → is_compared edit meeting ≡ true → MeetAt session edit meeting → meeting ≤ place → IsKeptAt session edit place
-meeting_lasts session edit meeting place is words accepts within compared same later =
+pub meeting_lasts : (session : Session) (edit : Edit) (meeting place : ℕ) → IsSession session → IsEditOfWords edit → accepted session edit ≡ Ok tt → meeting ≤ last_place session → is_compared edit meeting ≡ true → MeetAt session edit meeting → meeting ≤ place → IsKeptAt (ticks_later session edit meeting) session edit place
+meeting_lasts session edit meeting place is words accepts within compared alike later =
     let next = edited edit session in
     let there = moved_place edit meeting in
-    let on = go_on_alike session next meeting there is (edited_session session edit is words accepts) within (moved_within session edit meeting accepts within) same (sym (steps_after_move session edit meeting accepts compared)) in
+    let by = ticks_later session edit meeting in
+    let same_steps = steps_after_move session edit meeting accepts compared in
+    let meet = (meetings_told (state_at session.header session.steps meeting) (state_at next.header next.steps there) (drop there next.steps)).0 alike in
+    let on = go_on_alike by session next meeting there is (edited_session session edit is words accepts) within (moved_within session edit meeting accepts within) (subst (MeetBy by (state_at session.header session.steps meeting) (state_at next.header next.steps there)) same_steps meet) (sym same_steps) in
     let k : ℕ = place - meeting in
     let old : meeting + k ≡ place = omega (arith, later) in
     let new : there + k ≡ moved_place edit place = sym (moved_later edit meeting place compared later) in
     record {
-      state = subst (λ p. Same (state_at session.header session.steps p) (state_at next.header next.steps (moved_place edit place))) old (subst (λ q. Same (state_at session.header session.steps (meeting + k)) (state_at next.header next.steps q)) new (on.states k));
+      state = subst (λ p. view_of (state_at next.header next.steps (moved_place edit place)) ≡ shifted by (view_of (state_at session.header session.steps p))) old (subst (λ q. view_of (state_at next.header next.steps q) ≡ shifted by (view_of (state_at session.header session.steps (meeting + k)))) new (on.states k));
       reply = sym (sym (ap (reply_at session.header session.steps) old) ∙ on.replies k ∙ ap (reply_at next.header next.steps) new);
       row = sym (sym (ap (running_at session.header session.steps) old) ∙ on.rows k ∙ ap (running_at next.header next.steps) new);
     }
@@ -75,23 +80,15 @@ meeting_lasts session edit meeting place is words accepts within compared same l
 
 -- the test of a meeting
 abbrev is_meeting : CheckpointedSession → Edit → ℕ → Bool
-is_meeting kept edit place = is_compared edit place && is_same_after kept.session edit place
+is_meeting kept edit place = is_compared edit place && goes_on_alike kept.session edit place
 
 passes_meeting : (kept : CheckpointedSession) (edit : Edit) (place : ℕ) → IsMeeting kept edit place → is_meeting kept edit place ≡ true
-passes_meeting kept edit place meeting =
-    let next = edited edit kept.session in
-    let told = (same_told (state_at kept.session.header kept.session.steps place) (state_at next.header next.steps (moved_place edit place))).1 meeting.equal in
-    ap₂ (λ a b. a && b) meeting.compared told
+passes_meeting kept edit place meeting = ap₂ (λ a b. a && b) meeting.compared meeting.alike
 
 is_one : (kept : CheckpointedSession) (edit : Edit) (place : ℕ) → has place kept.checkpoints ≡ true → is_meeting kept edit place ≡ true → IsMeeting kept edit place
 is_one kept edit place listed passes =
-    let next = edited edit kept.session in
-    let parts = and_parts (is_compared edit place) (is_same_after kept.session edit place) passes in
-    record {
-      listed = listed;
-      compared = parts.0;
-      equal = (same_told (state_at kept.session.header kept.session.steps place) (state_at next.header next.steps (moved_place edit place))).0 parts.1;
-    }
+    let parts = and_parts (is_compared edit place) (goes_on_alike kept.session edit place) passes in
+    record { listed = listed; compared = parts.0; alike = parts.1 }
 
 -- where meetings lie in the edited session
 abbrev moved_meetings : CheckpointedSession → Edit → List ℕ
@@ -108,7 +105,7 @@ met_after kept edit place within each =
     least_from place (last_place (edited edit kept.session)) (moved_meetings kept edit) within
     (λ moved found.
     let from = moved_found (moved_place edit) (is_meeting kept edit) kept.checkpoints moved found in
-    let compared = (and_parts (is_compared edit from.0) (is_same_after kept.session edit from.0) from.2).0 in
+    let compared = (and_parts (is_compared edit from.0) (goes_on_alike kept.session edit from.0) from.2).0 in
     subst (λ n. place ≤ n) from.3 (each from.0 from.1 compared))
 
 pub met_from : (kept : CheckpointedSession) (edit : Edit) → accepted kept.session edit ≡ Ok tt → place_of edit ≤ met kept edit

@@ -1,16 +1,21 @@
-//! The laws by which the replay of an edited session may stop: from equal states equal steps go on
-//! alike. Each function does nothing: its contract is the laws, one a clause.
+//! The laws by which the replay of an edited session may stop: from equal states, and from states
+//! that are equal but for a tick count that no step reads, the same steps go on alike. Each function does nothing: its contract is the laws, one a clause.
 #![tactic(auto)]
 
 ghost use Rattle.meeting_laws.specs.CheckpointLaws.{FirstCheckpointsFit, NextCheckpointsFit, PlacesAreNear, NextAreThese, AddedIsReplayed, AscendingAreOne, CheckpointBeforeIsLast, MovedPlacesAreWithin, LaterPlacesMoveAlike, ReplayIsWithin};
 ghost use Rattle.meeting_laws.specs.MeetingLaws.{StepsBeforeStay, StepsAfterMove, BeforeIsUntouched, MeetingLasts, MetIsFirstEnd, FirstEndIsMet};
-ghost use Rattle.meeting_laws.specs.RunLaws.{EqualRunAlike, TracesFollow, SegmentsAddUp, StatesAreSound, StatesGoOn, EqualStandAlike, EqualGoOnAlike};
+ghost use Rattle.meeting_laws.specs.RunLaws.{EqualRunAlike, MeetingsAreTested, MeetingsPass, MetRunAlike, TracesFollow, SegmentsAddUp, StatesAreSound, StatesGoOn, EqualStandAlike, MetGoOnAlike};
 
 /// Lists of steps.
 pub fn laws_of_runs()
     // From equal tables checked steps have equal replies, running tasks and tallies, and lead to
     // equal states at each place.
     ensures equal_run_alike { EqualRunAlike }
+    // So they have from tables that meet, equal but for the tick count where no step reads it; the
+    // test of a meeting tells just whether they do.
+    ensures met_run_alike { MetRunAlike }
+    ensures meetings_are_tested { MeetingsAreTested }
+    ensures meetings_pass { MeetingsPass }
     // Replies and running tasks of steps that follow others are those from the state that these
     // left, and the tallies of segments add up to those of all.
     ensures traces_follow { TracesFollow }
@@ -20,9 +25,9 @@ pub fn laws_of_runs()
     ensures states_go_on { StatesGoOn }
     // A kernel stands for each sound table that is equal to one that it stands for.
     ensures equal_stand_alike { EqualStandAlike }
-    // Two sessions that have equal states at two places and the same steps after them have equal
-    // states, replies and running tasks from there on.
-    ensures equal_go_on_alike { EqualGoOnAlike }
+    // Two sessions that meet at two places, and have the same steps after them, have equal replies
+    // and running tasks from there on, and states that are equal but for the tick count.
+    ensures met_go_on_alike { MetGoOnAlike }
 {}
 
 /// Edits of a session: what stays before them, and what is as it was after a meeting.
@@ -32,7 +37,8 @@ pub fn laws_of_meetings()
     ensures steps_after_move { StepsAfterMove }
     // Where no task is changed, states, replies and running tasks before the edit stay.
     ensures before_is_untouched { BeforeIsUntouched }
-    // From a meeting on, states, replies and running tasks are as they were, at moved places.
+    // From a meeting on, states, replies and running tasks are as they were, at moved places, but
+    // for a tick count that is so many ticks later.
     ensures meeting_lasts { MeetingLasts }
     // The replay ends at the first place where a meeting lies, or else at the end.
     ensures met_is_first_end { MetIsFirstEnd }

@@ -1,21 +1,23 @@
 -- The replay of an edit ends where the two sessions meet.
-use Rattle.std.proofs.Common.{◌≡◌, inl, inr, ⊎_elim, ℕ, ◌+◌, ◌<◌, ◌≤◌, Bool, true, false, ltb, List, ◌++◌, length, take, drop, Some, None, Ok, slice_get, get_or, refl, sym, ap, subst, ◌∙◌, arith, length-append}
+use Rattle.std.proofs.Common.{◌≡◌, inl, inr, ⊎_elim, ℕ, ◌+◌, ◌<◌, ◌≤◌, Bool, true, false, ltb, List, ◌++◌, length, take, drop, Some, None, Ok, slice_get, get_or, refl, sym, ap, ap₂, subst, ◌∙◌, arith, length-append, true≢false}
 use Rattle.std.proofs.lemmas.Bool.Decides.{nat_tests}
-use Rattle.std.proofs.lemmas.List.{append_assoc, take_all}
+use Rattle.std.proofs.lemmas.List.{append_assoc, drop_at, take_all}
 use Rattle.std.proofs.lemmas.Option.{slice_get_cases}
 use Rattle.bench_types.specs.declared.edit.Edit.{Edit}
 use Rattle.bench_types.specs.declared.header.Header.{Header}
 use Rattle.bench_types.specs.declared.step.Step.{Step}
 use Rattle.bench_model.specs.Edits.{accepted, edited}
-use Rattle.bench_model.specs.Equal.{Same, StandsFor}
-use Rattle.bench_model.specs.Meeting.{CheckpointedSession, last_place, moved_place, met}
+use Rattle.bench_model.specs.Equal.{StandsFor}
+use Rattle.bench_model.specs.Meeting.{CheckpointedSession, goes_on_alike, last_place, moved_place, met}
 use Rattle.bench_model.specs.Session.{state_after, state_at}
+use Rattle.bench_model.specs.Shifted.{is_met}
 use Rattle.bench_model.specs.Start.{start}
 use Rattle.bench_model.specs.Table.{Table}
 use Rattle.meeting_laws.specs.CheckpointLaws.{AreCheckpoints}
 use Rattle.meeting_laws.specs.MeetingLaws.{IsMeeting, IsFirstEnd, MayEnd}
 use Rattle.meeting_laws.proofs.Meetings.{first_end_is_met, met_is_first}
-use Rattle.segment_laws.specs.EditedSegments.{AreUnequal, AreReplayed}
+use Rattle.meeting_laws.proofs.Meets.{meetings_pass}
+use Rattle.segment_laws.specs.EditedSegments.{AreUnmet, AreReplayed}
 use Rattle.segment_laws.specs.Segments.{SegmentView, all_steps, Follow, AreSegments}
 use Rattle.segment_laws.proofs.EditedPlaces.{new_last, old_after, old_either, old_steps}
 use Rattle.segment_laws.proofs.EditedSteps.{made_steps}
@@ -79,7 +81,22 @@ module _ (kept : CheckpointedSession) (edit : Edit) (segments before : List Segm
   last_there : last_place (edited edit kept.session) ≡ length (all_steps before) + length steps + length (all_steps after)
   last_there = omega (arith, new_last kept edit segments before steps after front some accepts fit are shift, all_length after)
 
-  module _ (count : ℕ) (unequal : AreUnequal (state_at (edited edit kept.session).header (edited edit kept.session).steps (length (all_steps before))) steps after count) where
+  -- the steps from there on are those of the segments
+  later_steps_are : (i : ℕ) → drop (new_place i) (edited edit kept.session).steps ≡ all_steps (drop i after)
+  later_steps_are i =
+      let own = steps ++ all_steps (take i after) in
+      let front_size : length (all_steps before ++ own) ≡ new_place i = omega (arith, length-append (all_steps before) own, length-append steps (all_steps (take i after))) in
+      ap (drop (new_place i)) (edited_parts i ∙ sym (append_assoc (all_steps before) own (all_steps (drop i after))))
+      ∙ drop_at (all_steps before ++ own) (all_steps (drop i after)) (new_place i) front_size
+
+  -- so the test of the two sessions is that of the segment's kernel
+  met_there : (i place : ℕ) → moved_place edit place ≡ new_place i
+      → goes_on_alike kept.session edit place ≡ is_met (old_state place) (state_after (new_state (length (all_steps before))) (steps ++ all_steps (take i after))) (all_steps (drop i after))
+  met_there i place lies =
+      ap (λ n. is_met (old_state place) (new_state n) (drop n (edited edit kept.session).steps)) lies
+      ∙ ap₂ (is_met (old_state place)) (replayed_state i) (later_steps_are i)
+
+  module _ (count : ℕ) (unmet : AreUnmet (state_at (edited edit kept.session).header (edited edit kept.session).steps (length (all_steps before))) steps after count) where
     ends_first : (other : ℕ) → MayEnd kept edit other → new_place count ≤ other
     ends_first other (inl last) = omega (arith, last, last_there, ap length (all_parted count after), length-append (all_steps (take count after)) (all_steps (drop count after)))
     ends_first other (inr (place, meeting, moved)) = ⊎_elim
@@ -91,9 +108,9 @@ module _ (kept : CheckpointedSession) (edit : Edit) (segments before : List Segm
         not_before i segment found there true is =
             let early : i < count = grind (arith, nat_tests, is) in
             let lies : moved_place edit place ≡ new_place i = ap (moved_place edit) there ∙ moves_there i segment found in
-            let met_there = subst (λ n. Same (old_state place) (new_state n)) lies meeting.equal in
-            let same = subst (Same (old_state place)) (replayed_state i) met_there in
-            absurd (unequal i segment (old_state place) early found (subst (λ n. StandsFor segment.kernel (old_state n)) (sym there) (stands i segment found)) same)
+            let stands_there = subst (λ n. StandsFor segment.kernel (old_state n)) (sym there) (stands i segment found) in
+            let unmet_there = unmet i segment (old_state place) early found stands_there in
+            absurd (true≢false (sym meeting.alike ∙ met_there i place lies ∙ unmet_there))
         not_before i segment found there false is =
             let past : count ≤ i = grind (arith, nat_tests, is) in
             let lies : moved_place edit place ≡ new_place i = ap (moved_place edit) there ∙ moves_there i segment found in
@@ -103,7 +120,7 @@ module _ (kept : CheckpointedSession) (edit : Edit) (segments before : List Segm
     pub ends_later : new_place count ≤ met kept edit
     ends_later = ends_first (met kept edit) (met_is_first kept edit).ends
 
-  module _ (made : List SegmentView) (count : ℕ) (replayed : AreReplayed kept.span (state_at (edited edit kept.session).header (edited edit kept.session).steps (length (all_steps before))) steps after made count) where
+  module _ (made : List SegmentView) (count by : ℕ) (replayed : AreReplayed kept.span (state_at (edited edit kept.session).header (edited edit kept.session).steps (length (all_steps before))) steps after made count by) where
     may_end : MayEnd kept edit (new_place count)
     may_end = ⊎_elim stops ends (slice_get_cases after count).1
       where
@@ -114,11 +131,12 @@ module _ (kept : CheckpointedSession) (edit : Edit) (segments before : List Segm
             let place = old_place count in
             let listed = start_at after count (length (all_steps front)) segment found in
             let moved = moves_there count segment found in
-            let same = subst (Same (old_state place)) (sym (replayed_state count)) (replayed.equal segment (old_state place) found (stands count segment found)) in
+            let reached = state_after (new_state (length (all_steps before))) (steps ++ all_steps (take count after)) in
+            let passes = meetings_pass by (old_state place) reached (all_steps (drop count after)) (replayed.met segment (old_state place) found (stands count segment found)) in
             let meeting : IsMeeting kept edit place = record {
               listed = old_after kept edit segments before steps after front some accepts fit are shift place listed;
               compared = shift.compared place listed;
-              equal = subst (λ n. Same (old_state place) (new_state n)) (sym moved) same;
+              alike = met_there count place moved ∙ passes;
             } in
             inr (place, meeting, moved)
 
@@ -130,6 +148,6 @@ module _ (kept : CheckpointedSession) (edit : Edit) (segments before : List Segm
     -- the end of the replay is the first where it may end
     pub ends_there : length (all_steps before) + length (all_steps made) ≡ met kept edit
     ends_there =
-        let first : IsFirstEnd kept edit (new_place count) = record { ends = may_end; first = ends_first count replayed.unequal } in
-        let all = made_steps kept.span (new_state (length (all_steps before))) steps after made count replayed in
+        let first : IsFirstEnd kept edit (new_place count) = record { ends = may_end; first = ends_first count replayed.unmet } in
+        let all = made_steps kept.span (new_state (length (all_steps before))) steps after made count by replayed in
         omega (arith, ap length all, length-append steps (all_steps (take count after)), first_end_is_met kept edit (new_place count) first)

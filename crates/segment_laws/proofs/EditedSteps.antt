@@ -13,16 +13,18 @@ use Rattle.bench_types.specs.Edit.{IsEditOfWords}
 use Rattle.bench_types.specs.Session.{Session, IsSession}
 use Rattle.bench_types.specs.Step.{IsCheckedStep}
 use Rattle.bench_model.specs.Edits.{accepted, edited}
-use Rattle.bench_model.specs.Equal.{Same, StandsFor}
+use Rattle.bench_model.specs.Equal.{StandsFor}
 use Rattle.bench_model.specs.Meeting.{CheckpointedSession, place_of}
 use Rattle.bench_model.specs.Session.{state_after, state_at}
 use Rattle.bench_model.specs.Start.{start}
 use Rattle.bench_model.specs.Table.{Table}
 use Rattle.session_laws.proofs.EditedSessions.{edited_session, passed}
+use Rattle.meeting_laws.specs.RunLaws.{MeetBy}
 use Rattle.meeting_laws.proofs.Moves.{edit_there}
 use Rattle.segment_laws.specs.EditedSegments.{IsPartedAt, AreParted, is_empty, has_none, cut, AreReplayed}
-use Rattle.segment_laws.specs.Segments.{SegmentView, steps_of, all_steps, Follow, AreSegments}
-use Rattle.segment_laws.proofs.Following.{take_found, all_more, all_parted, state_append, follow_append, follow_front, follow_back, follow_alike}
+use Rattle.segment_laws.specs.Segments.{SegmentView, steps_of, all_steps, later_segments, Follow, AreSegments}
+use Rattle.segment_laws.proofs.Following.{take_found, all_more, all_parted, state_append, follow_append, follow_front, follow_back}
+use Rattle.segment_laws.proofs.LaterSegments.{follow_met, later_nothing, later_steps}
 use Rattle.segment_laws.proofs.Reading.{state_front, front_sound, front_settings, back_checked, part_steps}
 
 -- ---- the segments that the replay made
@@ -47,8 +49,8 @@ cut_joined span is_last steps = at (leb (2 * span) (length steps)) steps
     at true steps = ap (λ rest. take span steps ++ rest) (append-nil (drop span steps)) ∙ take-append-drop span steps
     at false steps = none is_last steps
 
-pub made_steps : (span : ℕ) (table : Table) (steps : List Step) (after made : List SegmentView) (count : ℕ) → AreReplayed span table steps after made count → all_steps made ≡ steps ++ all_steps (take count after)
-made_steps span table steps after made count replayed =
+pub made_steps : (span : ℕ) (table : Table) (steps : List Step) (after made : List SegmentView) (count by : ℕ) → AreReplayed span table steps after made count by → all_steps made ≡ steps ++ all_steps (take count after)
+made_steps span table steps after made count by replayed =
     sym (own_steps made)
     ∙ ap joined replayed.parts
     ∙ flat_map-append (λ (part : List Step). part) (cut span (has_none after) steps) (map steps_of (take count after))
@@ -189,26 +191,26 @@ are_cut kept (ChangeTask task priority mask) segments before steps after accepts
 pub parted_steps : (kept : CheckpointedSession) (edit : Edit) (segments before : List SegmentView) (steps : List Step) (after : List SegmentView) → accepted kept.session edit ≡ Ok tt → AreSegments kept segments → AreParted edit segments before steps after → (edited edit kept.session).steps ≡ all_steps before ++ (steps ++ all_steps after)
 parted_steps kept edit segments before steps after accepts are parts = (are_cut kept edit segments before steps after accepts are parts).edited
 
--- ---- segments that stay follow an equal state
+-- ---- segments that stay follow a state that they meet
 
-rest_follows : (old next : Session) (front other : List Step) (rest : List SegmentView) → IsSession old → IsSession next → old.steps ≡ front ++ all_steps rest → next.steps ≡ other ++ all_steps rest → Follow (state_after (start old.header) front) rest
-    → ((segment : SegmentView) → slice_get rest 0 ≡ Some segment → StandsFor segment.kernel (state_after (start old.header) front) → Same (state_after (start old.header) front) (state_after (start next.header) other))
-    → Follow (state_after (start next.header) other) rest
-rest_follows old next front other [] first second whole there follow same = tt
-rest_follows old next front other (segment ∷ rest) first second whole there follow same =
+rest_follows : (by : ℕ) (old next : Session) (front other : List Step) (rest : List SegmentView) → IsSession old → IsSession next → old.steps ≡ front ++ all_steps rest → next.steps ≡ other ++ all_steps rest → Follow (state_after (start old.header) front) rest
+    → ((segment : SegmentView) → slice_get rest 0 ≡ Some segment → StandsFor segment.kernel (state_after (start old.header) front) → MeetBy by (state_after (start old.header) front) (state_after (start next.header) other) (all_steps rest))
+    → Follow (state_after (start next.header) other) (later_segments by rest)
+rest_follows by old next front other [] first second whole there follow meet = subst (Follow (state_after (start next.header) other)) (sym (later_nothing by)) tt
+rest_follows by old next front other (segment ∷ rest) first second whole there follow meet =
     let all = all_steps (segment ∷ rest) in
     let a = state_after (start old.header) front in
     let checked = subst (λ settings. All (IsCheckedStep settings) all) (sym (front_settings old front all first whole)) (back_checked old front all first whole) in
-    follow_alike (segment ∷ rest) a (state_after (start next.header) other) (front_sound old front all first whole) (front_sound next other all second there) (same segment refl follow.0) checked follow
+    follow_met by (segment ∷ rest) a (state_after (start next.header) other) (front_sound old front all first whole) (front_sound next other all second there) (meet segment refl follow.0) checked follow
 
 -- ---- the edited session's segments
 
-module _ (kept : CheckpointedSession) (edit : Edit) (segments before : List SegmentView) (steps : List Step) (after made : List SegmentView) (count : ℕ) (accepts : accepted kept.session edit ≡ Ok tt) (are : AreSegments kept segments) (parts : AreParted edit segments before steps after) (replayed : AreReplayed kept.span (state_at (edited edit kept.session).header (edited edit kept.session).steps (length (all_steps before))) steps after made count) where
+module _ (kept : CheckpointedSession) (edit : Edit) (segments before : List SegmentView) (steps : List Step) (after made : List SegmentView) (count by : ℕ) (accepts : accepted kept.session edit ≡ Ok tt) (are : AreSegments kept segments) (parts : AreParted edit segments before steps after) (replayed : AreReplayed kept.span (state_at (edited edit kept.session).header (edited edit kept.session).steps (length (all_steps before))) steps after made count by) where
   cuts : IsCut kept edit before steps after
   cuts = are_cut kept edit segments before steps after accepts are parts
 
   made_are : all_steps made ≡ steps ++ all_steps (take count after)
-  made_are = made_steps kept.span (state_at (edited edit kept.session).header (edited edit kept.session).steps (length (all_steps before))) steps after made count replayed
+  made_are = made_steps kept.span (state_at (edited edit kept.session).header (edited edit kept.session).steps (length (all_steps before))) steps after made count by replayed
 
   -- the steps of the edited session before the segments that stay
   next_steps : (edited edit kept.session).steps ≡ all_steps (before ++ made) ++ all_steps (drop count after)
@@ -223,8 +225,11 @@ module _ (kept : CheckpointedSession) (edit : Edit) (segments before : List Segm
       ∙ sym (append_assoc b (all_steps made) d)
       ∙ ap (λ xs. xs ++ d) (sym (all_more before made))
 
-  pub edited_steps : all_steps (before ++ made ++ drop count after) ≡ (edited edit kept.session).steps
-  edited_steps = all_more (before ++ made) (drop count after) ∙ sym next_steps
+  pub edited_steps : all_steps (before ++ made ++ later_segments by (drop count after)) ≡ (edited edit kept.session).steps
+  edited_steps =
+      all_more (before ++ made) (later_segments by (drop count after))
+      ∙ ap (λ xs. all_steps (before ++ made) ++ xs) (later_steps by (drop count after))
+      ∙ sym next_steps
 
   begin_state : state_at (edited edit kept.session).header (edited edit kept.session).steps (length (all_steps before)) ≡ state_after (start (edited edit kept.session).header) (all_steps before)
   begin_state = state_front (edited edit kept.session).header (edited edit kept.session).steps (all_steps before) (steps ++ all_steps after) cuts.edited
@@ -239,7 +244,7 @@ module _ (kept : CheckpointedSession) (edit : Edit) (segments before : List Segm
       ∙ sym (state_append (start (edited edit kept.session).header) (all_steps before) (all_steps made))
       ∙ ap (state_after (start (edited edit kept.session).header)) (sym (all_more before made))
 
-  pub edited_follow : IsSession kept.session → IsEditOfWords edit → Follow (start (edited edit kept.session).header) (before ++ made ++ drop count after)
+  pub edited_follow : IsSession kept.session → IsEditOfWords edit → Follow (start (edited edit kept.session).header) (before ++ made ++ later_segments by (drop count after))
   edited_follow is words =
       let rest = drop count after in
       let front = cuts.front ++ take count after in
@@ -247,6 +252,6 @@ module _ (kept : CheckpointedSession) (edit : Edit) (segments before : List Segm
       let regrouped : cuts.front ++ after ≡ front ++ rest = ap (λ xs. cuts.front ++ xs) (sym (take-append-drop count after)) ∙ sym (append_assoc cuts.front (take count after) rest) in
       let follow = follow_back front rest old (subst (Follow old) regrouped cuts.follow) in
       let whole : kept.session.steps ≡ all_steps front ++ all_steps rest = cuts.whole ∙ ap all_steps regrouped ∙ all_more front rest in
-      let same = λ (segment : SegmentView) (found : slice_get rest 0 ≡ Some segment) (stands : StandsFor segment.kernel (state_after old (all_steps front))). subst (Same (state_after old (all_steps front))) reached (replayed.equal segment (state_after old (all_steps front)) (take_found after count ∙ found) stands) in
-      follow_append (before ++ made) rest (start (edited edit kept.session).header) made_follow
-      (rest_follows kept.session (edited edit kept.session) (all_steps front) (all_steps (before ++ made)) rest is (edited_session kept.session edit is words accepts) whole next_steps follow same)
+      let meet = λ (segment : SegmentView) (found : slice_get rest 0 ≡ Some segment) (stands : StandsFor segment.kernel (state_after old (all_steps front))). subst (λ table. MeetBy by (state_after old (all_steps front)) table (all_steps rest)) reached (replayed.met segment (state_after old (all_steps front)) (take_found after count ∙ found) stands) in
+      follow_append (before ++ made) (later_segments by rest) (start (edited edit kept.session).header) made_follow
+      (rest_follows by kept.session (edited edit kept.session) (all_steps front) (all_steps (before ++ made)) rest is (edited_session kept.session edit is words accepts) whole next_steps follow meet)

@@ -97,14 +97,3 @@ kernel_at (first ∷ segments) table segment follow found = subst (λ (one : Seg
 pub segment_follows : (table : Table) (segments : List SegmentView) (index : ℕ) (segment : SegmentView) → Follow table segments → slice_get segments index ≡ Some segment → StandsFor segment.kernel (state_after table (all_steps (take index segments)))
 segment_follows table segments index segment follow found =
     kernel_at (drop index segments) (state_after table (all_steps (take index segments))) segment (follow_drop index segments table follow) (sym (take_found segments index) ∙ found)
-
--- from an equal state segments of checked steps follow alike
-pub follow_alike : (segments : List SegmentView) (a b : Table) → IsSound a → IsSound b → Same a b → All (IsCheckedStep a.settings) (all_steps segments) → Follow a segments → Follow b segments
-follow_alike [] a b first second same all follow = tt
-follow_alike (segment ∷ segments) a b first second same all follow =
-    let own = All_front (IsCheckedStep a.settings) segment.steps (all_steps segments) all in
-    let later = All_back (IsCheckedStep a.settings) segment.steps (all_steps segments) all in
-    let other = subst (λ settings. All (IsCheckedStep settings) segment.steps) (ap (λ (view : View). view.settings) same) own in
-    let run = run_alike a b segment.steps first second same own in
-    let reached = subst (λ steps. Same (state_after a steps) (state_after b steps)) (take_all (length segment.steps) segment.steps (omega arith)) (run.states (length segment.steps)) in
-    (stand_alike segment.kernel a b follow.0 same second, follow_alike segments (state_after a segment.steps) (state_after b segment.steps) (sound_along segment.steps a first own) (sound_along segment.steps b second other) reached (subst (λ settings. All (IsCheckedStep settings) (all_steps segments)) (sym (settings_along segment.steps a first own)) later) follow.1)

@@ -3,6 +3,7 @@ pub mod EditedPlaces
 pub mod EditedSegments
 pub mod EditedSteps
 pub mod Following
+pub mod LaterSegments
 pub mod OpenedPlaces
 pub mod Reading
 pub mod Shifts

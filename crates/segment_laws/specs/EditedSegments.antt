@@ -1,13 +1,16 @@
 -- Segments of an edited session: one is parted from the others, edited and cut, and those after it
--- are replayed up to the first whose kernel the replay comes to.
+-- are replayed up to the first whose kernel the replay comes to, but for a tick count that no later
+-- step reads.
 use Rattle.std.specs.Prelude.{◌≡◌, ℕ, ◌+◌, ◌-◌, ◌*◌, ◌<◌, ◌≤◌, List, [], ◌∷◌, ◌++◌, length, map, take, drop, insert, remove, Bool, true, false, not, ◌&&◌, nat_le, if◌then◌else◌, slice_set, slice_get, Some}
 use Rattle.bench_types.specs.declared.edit.Edit.{Edit}
 use Rattle.bench_types.specs.declared.edit.Edit.TheVariants.{Insert, Remove, Replace, ChangeTask}
 use Rattle.bench_types.specs.declared.step.Step.{Step}
-use Rattle.bench_model.specs.Equal.{Same, StandsFor}
+use Rattle.bench_model.specs.Equal.{StandsFor}
 use Rattle.bench_model.specs.Meeting.{place_of}
 use Rattle.bench_model.specs.Session.{state_after}
+use Rattle.bench_model.specs.Shifted.{is_met}
 use Rattle.bench_model.specs.Table.{Table}
+use Rattle.meeting_laws.specs.RunLaws.{MeetBy}
 use Rattle.segment_laws.specs.Segments.{SegmentView, steps_of, all_steps, Follow}
 
 -- the steps of a segment that begins at the place, after an edit of one of them
@@ -57,29 +60,32 @@ cut span is_last steps =
     if nat_le (2 * span) (length steps) then take span steps ∷ drop span steps ∷ []
     else if is_empty steps && not is_last then [] else steps ∷ []
 
--- after the steps from a table on, none of the first so many segments begins with a kernel that is
--- equal to the one that the replay came to
-abbrev pub AreUnequal : Table → List Step → List SegmentView → ℕ → Type 0
-AreUnequal table steps after count =
+-- after the steps from a table on, none of the first so many segments begins with a kernel that the
+-- replay meets
+abbrev pub AreUnmet : Table → List Step → List SegmentView → ℕ → Type 0
+AreUnmet table steps after count =
     (i : ℕ) (segment : SegmentView) (old : Table) → i < count → slice_get after i ≡ Some segment
-    → StandsFor segment.kernel old
-    → Same old (state_after table (steps ++ all_steps (take i after))) → ⊥
+    → StandsFor segment.kernel old →
+    is_met old (state_after table (steps ++ all_steps (take i after))) (all_steps (drop i after))
+    ≡ false
 
--- the segment at the index, if there is one, begins with such a kernel
-abbrev pub IsEqualAt : Table → List Step → List SegmentView → ℕ → Type 0
-IsEqualAt table steps after count =
+-- the segment at the index, if there is one, begins with a kernel that the replay meets, so many
+-- ticks later
+abbrev pub IsMetAt : Table → List Step → List SegmentView → ℕ → ℕ → Type 0
+IsMetAt table steps after count by =
     (segment : SegmentView) (old : Table) → slice_get after count ≡ Some segment
-    → StandsFor segment.kernel old
-    → Same old (state_after table (steps ++ all_steps (take count after)))
+    → StandsFor segment.kernel old →
+    MeetBy by old (state_after table (steps ++ all_steps (take count after)))
+    (all_steps (drop count after))
 
 -- The segments that a replay of the steps from a table on made, with the steps of so many of the
--- segments after them: it ended at the first that begins with the kernel it came to, or at the
--- last.
+-- segments after them: it ended at the first that begins with a kernel which it meets, so many
+-- ticks later, or at the last.
 pub record AreReplayed (span : ℕ) (table : Table) (steps : List Step)
-    (after made : List SegmentView) (count : ℕ) : Type 0 where
+    (after made : List SegmentView) (count by : ℕ) : Type 0 where
   pub within : count ≤ length after
   pub parts :
       map steps_of made ≡ cut span (has_none after) steps ++ map steps_of (take count after)
   pub follow : Follow table made
-  pub unequal : AreUnequal table steps after count
-  pub equal : IsEqualAt table steps after count
+  pub unmet : AreUnmet table steps after count
+  pub met : IsMetAt table steps after count by

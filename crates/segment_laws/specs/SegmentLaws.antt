@@ -10,8 +10,8 @@ use Rattle.bench_model.specs.Meeting.{CheckpointedSession, last_place, first_che
 use Rattle.bench_model.specs.Session.{state_after, state_at, reply_at, running_at}
 use Rattle.bench_model.specs.Table.{Table}
 use Rattle.meeting_laws.specs.CheckpointLaws.{AreCheckpoints}
-use Rattle.segment_laws.specs.EditedSegments.{IsPartedAt, AreParted, AreUnequal, AreReplayed}
-use Rattle.segment_laws.specs.Segments.{SegmentView, all_steps, starts, Follow, AreSegments, IsIndexOf, reply_after, running_after}
+use Rattle.segment_laws.specs.EditedSegments.{IsPartedAt, AreParted, AreUnmet, AreReplayed}
+use Rattle.segment_laws.specs.Segments.{SegmentView, all_steps, later_segments, starts, Follow, AreSegments, IsIndexOf, reply_after, running_after}
 
 -- the segment from the last checkpoint before a place tells what the session has at the place
 pub record IsReadAt (session : Session) (place from : ℕ) (segment : SegmentView) : Type 0 where
@@ -75,7 +75,7 @@ PartStandsStill =
     (state_at (edited edit kept.session).header (edited edit kept.session).steps
     (length (all_steps before)))
 
--- the segments after an edit, and what of them was replayed
+-- the segments after an edit, of which those that were made were replayed
 pub record IsEdited (kept : CheckpointedSession) (edit : Edit)
     (before made rest : List SegmentView) : Type 0 where
   pub segments : AreSegments (kept_after edit kept) (before ++ made ++ rest)
@@ -85,24 +85,24 @@ pub record IsEdited (kept : CheckpointedSession) (edit : Edit)
 abbrev pub EditedSegmentsStand : Type 0
 EditedSegmentsStand =
     (kept : CheckpointedSession) (edit : Edit) (segments before : List SegmentView)
-    (steps : List Step) (after made : List SegmentView) (count : ℕ) → IsSession kept.session
+    (steps : List Step) (after made : List SegmentView) (count by : ℕ) → IsSession kept.session
     → IsEditOfWords edit → accepted kept.session edit ≡ Ok tt → 1 ≤ kept.span
     → AreCheckpoints kept.span (last_place kept.session) kept.checkpoints
     → AreSegments kept segments → AreParted edit segments before steps after →
     AreReplayed kept.span
     (state_at (edited edit kept.session).header (edited edit kept.session).steps
-    (length (all_steps before))) steps after made count
-    → IsEdited kept edit before made (drop count after)
+    (length (all_steps before))) steps after made count by
+    → IsEdited kept edit before made (later_segments by (drop count after))
 
--- a replay ends no earlier than after the segments that begin with no such kernel
-abbrev pub UnequalAreReplayed : Type 0
-UnequalAreReplayed =
+-- a replay ends no earlier than after the segments that it doesn't meet
+abbrev pub UnmetAreReplayed : Type 0
+UnmetAreReplayed =
     (kept : CheckpointedSession) (edit : Edit) (segments before : List SegmentView)
     (steps : List Step) (after : List SegmentView) (count : ℕ)
     → accepted kept.session edit ≡ Ok tt → 1 ≤ kept.span
     → AreCheckpoints kept.span (last_place kept.session) kept.checkpoints
     → AreSegments kept segments → AreParted edit segments before steps after →
-    AreUnequal
+    AreUnmet
     (state_at (edited edit kept.session).header (edited edit kept.session).steps
     (length (all_steps before))) steps after count
     → length (all_steps before) + length steps + length (all_steps (take count after))

@@ -1,5 +1,5 @@
 -- Segments of a session: the steps from one checkpoint to the next, with the kernel at the first.
-use Rattle.std.specs.Prelude.{◌≡◌, ℕ, ◌+◌, ◌<◌, ◌≤◌, ⊤, List, [], ◌∷◌, length, map, take, Option, Some, None, nat_le, if◌then◌else◌, option_map, slice_get}
+use Rattle.std.specs.Prelude.{◌≡◌, ℕ, ◌+◌, ◌<◌, ◌≤◌, ⊤, List, [], ◌∷◌, ◌==◌, length, map, take, Option, Some, None, nat_le, if◌then◌else◌, option_map, slice_get}
 use Rattle.std.specs.List.{flat_map}
 use Rattle.bench_types.specs.declared.reply.Reply.{Reply}
 use Rattle.bench_types.specs.declared.step.Step.{Step}
@@ -9,6 +9,7 @@ use Rattle.bench_model.specs.Equal.{StandsFor}
 use Rattle.bench_model.specs.Lists.{View}
 use Rattle.bench_model.specs.Meeting.{CheckpointedSession}
 use Rattle.bench_model.specs.Session.{step_of, state_after}
+use Rattle.bench_model.specs.Shifted.{shifted}
 use Rattle.bench_model.specs.Start.{start}
 use Rattle.bench_model.specs.Table.{Table}
 
@@ -26,6 +27,14 @@ all_steps segments = flat_map steps_of segments
 
 abbrev pub lengths : List SegmentView → List ℕ
 lengths segments = map (λ segment. length segment.steps) segments
+
+-- the segment with a kernel that is so many ticks later
+abbrev pub later_segment : ℕ → SegmentView → SegmentView
+later_segment by segment = record segment { kernel = shifted by segment.kernel }
+
+-- the segments so many ticks later, or as they are
+abbrev pub later_segments : ℕ → List SegmentView → List SegmentView
+later_segments by segments = if by == 0 then segments else map (later_segment by) segments
 
 -- the places where parts of these lengths begin, the first of them at the place
 abbrev pub starts : ℕ → List ℕ → List ℕ

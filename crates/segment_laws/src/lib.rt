@@ -2,7 +2,7 @@
 //! function does nothing: its contract is the laws, one a clause.
 #![tactic(auto)]
 
-ghost use Rattle.segment_laws.specs.SegmentLaws.{PlacesAreRead, SegmentFollows, OpenedPlacesAreFirst, PartsAreFound, PartStandsStill, EditedSegmentsStand, UnequalAreReplayed};
+ghost use Rattle.segment_laws.specs.SegmentLaws.{PlacesAreRead, SegmentFollows, OpenedPlacesAreFirst, PartsAreFound, PartStandsStill, EditedSegmentsStand, UnmetAreReplayed};
 
 /// What the segments of a session tell of its places.
 pub fn laws_of_segments()
@@ -20,9 +20,9 @@ pub fn laws_of_edited_segments()
     // kernel stands for the edited session's state there where the header stays.
     ensures parts_are_found { PartsAreFound }
     ensures part_stands_still { PartStandsStill }
-    // The segments before the edit, those that the replay made and those where it need not go are
-    // the edited session's, and the replay ends where the two sessions meet.
+    // The segments before the edit, those that the replay made and, so many ticks later, those
+    // where it need not go are the edited session's. The replay ends where the two sessions meet.
     ensures edited_segments_stand { EditedSegmentsStand }
-    // The replay ends no earlier than after the segments with no such kernel.
-    ensures unequal_are_replayed { UnequalAreReplayed }
+    // The replay ends no earlier than after the segments that it doesn't meet.
+    ensures unmet_are_replayed { UnmetAreReplayed }
 {}

@@ -1,3 +1,4 @@
 pub mod Again
 pub mod Counting
 pub mod Kept
+pub mod Meetings

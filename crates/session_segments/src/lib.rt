@@ -2,11 +2,14 @@
 //! led to.
 #![tactic(auto)]
 
+mod checkpoint;
+mod meeting;
 mod replay;
 mod segment;
 mod segments;
 mod tracing;
 
+pub use meeting::met_by;
 pub use replay::{advance, tally_steps};
 pub use segment::Segment;
 pub use segments::Segments;

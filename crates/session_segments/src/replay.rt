@@ -12,6 +12,7 @@ ghost use Rattle.smp_kernel.specs.Kernel.{StandsForSome};
 ghost use Rattle.bench_reports.specs.Tops.{HasTops};
 ghost use Rattle.session_segments.specs.Counting.{meter_after};
 
+use crate::checkpoint::Checkpoint;
 use bench_reports::Tallies;
 use bench_types::{Reply, Step};
 use smp_kernel::{Kernel, Meter};
@@ -54,7 +55,7 @@ pub fn tally_steps(kernel: &mut Kernel, tallies: &mut Tallies, steps: &[Step], m
 }
 
 /// The current tasks of the kernel, core 0 first.
-pub(crate) fn first_row(alloc: Global, kernel: &Kernel) -> Result<Vec<u32>, AllocError>
+pub(crate) fn first_row(alloc: Global, kernel: &Checkpoint) -> Result<Vec<u32>, AllocError>
     ensures { IfOk result (λ row. row.items ≡ running kernel.now.control) }
 {
     let cores = kernel.settings().cores;

@@ -1,21 +1,25 @@
-ghost use Rattle.std.specs.Prelude.{◌≡◌, ◌≢◌, ◌↔◌, suc, ◌<◌, ◌≤◌, All, true, false, Ok, Some, None, IfOk, OnOk, OnErr, length, take, option_and_then, slice_get};
+ghost use Rattle.std.specs.Prelude.{◌≡◌, ◌≢◌, suc, ◌<◌, ◌≤◌, All, true, false, Ok, Some, None, IfOk, OnOk, OnErr, MatchOption, length, take, option_and_then, slice_get};
 ghost use Rattle.std.specs.Vec.{vec_capacity};
 ghost use Rattle.bench_types.specs.Limits.{max_cores, max_steps};
 ghost use Rattle.bench_types.specs.Step.{IsCheckedStep};
 ghost use Rattle.bench_model.specs.Control.{current};
-ghost use Rattle.bench_model.specs.Equal.{Same, StandsFor};
+ghost use Rattle.bench_model.specs.Equal.{StandsFor};
 ghost use Rattle.bench_model.specs.Session.{state_after};
+ghost use Rattle.bench_model.specs.Shifted.{SameShifted, delays_until, some_delays_until};
 ghost use Rattle.bench_model.specs.Table.{Table};
-ghost use Rattle.bench_model.specs.Tallied.{part_tallies, shape, shape_of};
-ghost use Rattle.segment_laws.specs.Segments.{reply_after, running_after};
+ghost use Rattle.bench_model.specs.Tallied.{first_tallies, part_tallies, shape, shape_of, AllCountsBelow};
+ghost use Rattle.bench_reports.specs.Tops.{HasTops};
+ghost use Rattle.shift_laws.specs.Shifts.{IsShifted};
+ghost use Rattle.segment_laws.specs.Segments.{later_segment, reply_after, running_after};
 ghost use Rattle.smp_kernel.specs.Kernel.{StandsForSome};
 ghost use Rattle.session_segments.specs.Counting.{meter_after, CountsUpTo};
 ghost use Rattle.session_segments.specs.Kept.{HasRoom, IsTold};
 
+use crate::checkpoint::Checkpoint;
 use crate::replay::{advance, first_row};
 use crate::tracing::{Traced, Tracing, Untraced};
 use bench_reports::Tallies;
-use bench_types::{Reply, Step};
+use bench_types::{Call, Reply, Settings, Step};
 use smp_kernel::{Kernel, Meter};
 use std::alloc::{AllocError, Global};
 use std::marker::Model;
@@ -24,8 +28,10 @@ use std::marker::Model;
 /// is [`Traced`], what the steps led to.
 #[derive(Debug)]
 pub struct Segment<K: Tracing = Traced> {
-    kernel: Kernel,
+    kernel: Checkpoint,
     steps: Vec<Step>,
+    /// Whether one of the steps delays until a tick count.
+    delays_until: bool,
     /// What is kept of what the steps led to.
     kept: K,
 }
@@ -36,12 +42,15 @@ impl<K: Tracing> Drop for Segment<K> {
         let Segment {
             kernel: _,
             steps: _,
+            delays_until: _,
             kept: _,
         } = self;
     }
 }
 
 impl<K: Tracing> Model for Segment<K> {
+    ghost use Rattle.std.specs.Prelude.{◌≡◌};
+    ghost use Rattle.bench_model.specs.Shifted.{some_delays_until};
     ghost use Rattle.segment_laws.specs.Segments.{SegmentView};
 
     ghost Value = { SegmentView };
@@ -51,7 +60,27 @@ impl<K: Tracing> Model for Segment<K> {
     ghost view = { λ segment. record { kernel = segment.kernel; steps = segment.steps.items } };
 
     ghost invariant = { λ segment. IsBegun segment.kernel segment.steps.items
+        × (segment.delays_until ≡ some_delays_until segment.steps.items)
         × K.fits segment.kernel segment.steps.items segment.kept };
+}
+
+fn delays_until(step: &Step) -> bool
+    ensures { result ≡ delays_until step.now }
+{
+    matches!(
+        step,
+        Step::Call {
+            call: Call::DelayUntil { .. },
+            ..
+        }
+    )
+}
+
+// Whether one of the steps is a delay until a tick count.
+fn some_delays_until(steps: &[Step]) -> bool
+    ensures { result ≡ some_delays_until steps.now }
+{
+    steps.iter().any(delays_until)
 }
 
 fn reply_at(replies: &[Reply], index: u32) -> Option<Reply>
@@ -85,8 +114,9 @@ impl<K: Tracing> Segment<K> {
         let first = kernel.copy(alloc)?;
         let kept = K::of(alloc, kernel, steps, meter)?;
         Ok(Segment {
-            kernel: first,
+            kernel: Checkpoint::new(first),
             steps: own,
+            delays_until: some_delays_until(steps),
             kept,
         })
     }
@@ -102,17 +132,36 @@ impl<K: Tracing> Segment<K> {
         ensures settings { kernel.new.settings ≡ kernel.old.settings }
         ensures meter { meter.new ≡ meter_after (length self.old.steps) meter.old }
     {
-        self.kernel.copy_from(kernel);
+        self.kernel.replace(kernel);
         self.kept.again(kernel, &self.steps, meter);
     }
 
-    /// The kernel before the first step.
-    pub fn kernel(&self) -> &Kernel
-        ensures kernel { result.now ≡ self.now.kernel }
+    /// A kernel as this segment's is before the first step.
+    pub fn copy_kernel(&self, alloc: Global) -> Result<Kernel, AllocError>
+        ensures kernel { IfOk result (λ kernel. kernel ≡ self.now.kernel) }
+    {
+        self.kernel.copy_kernel(alloc)
+    }
+
+    /// The settings of its kernel.
+    pub fn settings(&self) -> Settings
+        ensures settings { result ≡ self.now.kernel.settings }
         ensures stands { StandsForSome self.now.kernel }
         ensures few { self.now.kernel.settings.cores ≤ max_cores }
     {
-        &self.kernel
+        self.kernel.settings()
+    }
+
+    /// The tallies before the first step: zeros, and each task's priority in use.
+    pub fn first_tallies(&self, alloc: Global) -> Result<Tallies, AllocError>
+        ensures tallies { IfOk result (λ tallies. tallies
+            ≡ first_tallies self.now.kernel.settings self.now.kernel.control) }
+        ensures shape { IfOk result
+            (λ tallies. shape tallies ≡ shape_of self.now.kernel.settings) }
+        ensures room { IfOk result (AllCountsBelow 1) }
+        ensures tops { IfOk result (HasTops self.now.kernel.control) }
+    {
+        self.kernel.first_tallies(alloc)
     }
 
     /// The steps.
@@ -140,17 +189,34 @@ impl<K: Tracing> Segment<K> {
         ensures meter { OnOk result (meter.new ≡ meter_after count meter.old) }
         ensures uncounted { OnErr result (meter.new ≡ meter.old) }
     {
-        let mut kernel = self.kernel.copy(alloc)?;
+        let mut kernel = self.kernel.copy_kernel(alloc)?;
         advance(&mut kernel, &self.steps[..count as usize], meter);
         Ok(kernel)
     }
 
-    /// Whether the kernel before the first step is equal to this one.
-    pub fn begins_with(&self, kernel: &Kernel) -> bool
-        ensures { (a b : Table) → StandsFor self.now.kernel a → StandsFor kernel.now b
-            → ((result ≡ true) ↔ Same a b) }
+    /// Whether one of the steps is a delay until a tick count, one that is refused too.
+    pub fn delays_until(&self) -> bool
+        ensures { result ≡ some_delays_until self.now.steps }
     {
-        self.kernel.same(kernel)
+        self.delays_until
+    }
+
+    /// By how many ticks the kernel is later than the one before the first step; `None` where the
+    /// two differ in more than the tick count.
+    pub fn ticks_to(&self, kernel: &Kernel) -> Option<u32>
+        ensures { (a b : Table) → StandsFor self.now.kernel a → StandsFor kernel.now b
+            → MatchOption result (SameShifted a b → ⊥) (λ by. IsShifted by a b) }
+    {
+        self.kernel.ticks_to(kernel)
+    }
+
+    /// The segment becomes the same so many ticks later, where no step reads the tick count. What
+    /// the steps led to stays.
+    pub fn shift(&mut self, by: u32)
+        requires { some_delays_until self.old.steps ≡ false }
+        ensures { self.new ≡ later_segment by self.old }
+    {
+        self.kernel.shift(by);
     }
 }
 
@@ -251,12 +317,14 @@ impl Segment<Untraced> {
         let Segment {
             kernel,
             steps,
+            delays_until,
             kept: _,
         } = self;
         let kept = told(alloc, &kernel, steps.as_slice(), meter)?;
         Ok(Segment {
             kernel,
             steps,
+            delays_until,
             kept,
         })
     }
@@ -265,7 +333,7 @@ impl Segment<Untraced> {
 // What the steps lead to on a copy of the kernel. A copy is dear to drop, so one call follows.
 fn told(
     alloc: Global,
-    kernel: &Kernel,
+    kernel: &Checkpoint,
     steps: &[Step],
     meter: &mut Meter,
 ) -> Result<Traced, AllocError>
@@ -279,6 +347,6 @@ fn told(
     ensures meter { OnOk result (meter.new ≡ meter_after (length steps.now) meter.old) }
     ensures some { OnErr result (CountsUpTo (length steps.now) meter.old meter.new) }
 {
-    let mut next = kernel.copy(alloc)?;
+    let mut next = kernel.copy_kernel(alloc)?;
     Traced::of(alloc, &mut next, steps, meter)
 }

@@ -1,12 +1,14 @@
-ghost use Rattle.std.specs.Prelude.{◌≡◌, ◌++◌, ◌<◌, ◌≤◌, ◌+◌, ◌-◌, ◌^◌, All, Ok, Some, IfOk, OnOk, OnErr, length, take, drop, map, slice_get, slice_index_or};
+ghost use Rattle.std.specs.Prelude.{◌≡◌, ◌⊎◌, false, ◌++◌, ◌<◌, ◌≤◌, ◌+◌, ◌-◌, ◌^◌, All, Ok, Some, IfOk, OnOk, OnErr, length, take, drop, map, slice_get, slice_index_or};
 ghost use Rattle.std.specs.Vec.{vec_capacity};
 ghost use Rattle.bench_model.specs.Equal.{StandsFor};
 ghost use Rattle.bench_model.specs.Table.{Table};
-ghost use Rattle.segment_laws.specs.Segments.{all_steps, lengths, starts, IsIndexOf};
+ghost use Rattle.bench_model.specs.Shifted.{some_delays_until};
+ghost use Rattle.segment_laws.specs.Segments.{all_steps, later_segments, lengths, starts, IsIndexOf};
 ghost use Rattle.smp_kernel.specs.Kernel.{StandsForSome};
 ghost use Rattle.session_segments.specs.Again.{AreReplayedFrom, HasSettings};
 ghost use Rattle.session_segments.specs.Counting.{meter_after, CountsUpTo};
 
+use crate::meeting::met_by;
 use crate::segment::Segment;
 use crate::tracing::{Traced, Tracing, Untraced};
 use smp_kernel::{Kernel, Meter};
@@ -159,8 +161,8 @@ impl<K: Tracing> Segments<K> {
     }
 
     /// Replays the segments from the index on, each in place of what it was, up to the first that
-    /// begins with a kernel that is equal to the one that the replay has come to. Returns the index
-    /// of that one, or that after the last. No memory is taken.
+    /// the replay meets. Those from there on become so many ticks later. Returns the index of that
+    /// one, or that after the last. No memory is taken.
     pub fn replay_from(&mut self, first: usize, kernel: &mut Kernel, meter: &mut Meter) -> usize
         requires stands { StandsForSome kernel.old }
         requires within { first ≤ length self.old }
@@ -172,6 +174,21 @@ impl<K: Tracing> Segments<K> {
             meter.old }
     {
         replay_each(kernel, &mut self.segments, first, meter)
+    }
+}
+
+// The segments from the index on become so many ticks later.
+fn shift_from<K: Tracing>(segments: &mut [Segment<K>], from: usize, by: u32)
+    requires within { from ≤ length segments.old }
+    requires unread { (by ≡ 0)
+        ⊎ (some_delays_until (all_steps (drop from segments.old)) ≡ false) }
+    ensures { segments.new ≡ take from segments.old ++ later_segments by (drop from segments.old) }
+{
+    if by == 0 {
+        return;
+    }
+    for index in from..segments.len() {
+        segments[index].shift(by);
     }
 }
 
@@ -191,8 +208,10 @@ fn replay_each<K: Tracing>(
         ≡ meter_after (length (all_steps (take (result - first) (drop first segments.old))))
         meter.old }
 {
+    let mut known = None;
     for index in first..segments.len() {
-        if segments[index].begins_with(kernel) {
+        if let Some(by) = met_by(&mut known, segments, index, kernel) {
+            shift_from(segments, index, by);
             return index;
         }
         segments[index].replay_again(kernel, meter);

@@ -1,4 +1,4 @@
-ghost use Rattle.std.specs.Prelude.{◌≡◌, ◌≤◌, All, IfOk, List, OnOk, OnErr, length, ⊤};
+ghost use Rattle.std.specs.Prelude.{◌≡◌, ◌≤◌, ℕ, false, tt, All, IfOk, List, OnOk, OnErr, length, ⊤};
 ghost use Rattle.std.specs.Vec.{vec_capacity};
 ghost use Rattle.bench_types.specs.Limits.{max_cores, max_steps};
 ghost use Rattle.bench_types.specs.Step.{IsCheckedStep};
@@ -6,10 +6,12 @@ ghost use Rattle.bench_types.specs.declared.step.Step.{Step};
 ghost use Rattle.bench_model.specs.Equal.{StandsFor};
 ghost use Rattle.bench_model.specs.Lists.{View};
 ghost use Rattle.bench_model.specs.Session.{state_after};
+ghost use Rattle.bench_model.specs.Shifted.{shifted, some_delays_until};
 ghost use Rattle.bench_model.specs.Table.{Table};
 ghost use Rattle.smp_kernel.specs.Kernel.{StandsForSome};
 ghost use Rattle.session_segments.specs.Counting.{meter_after, CountsUpTo};
-ghost use Rattle.session_segments.specs.Kept.{HasRoom, IsTold};
+ghost use Rattle.session_segments.specs.Kept.{HasRoom, IsBegun, IsTold};
+ghost use Rattle.session_segments.proofs.Later.{told_later};
 
 use crate::replay::{advance, push_outcomes};
 use bench_reports::Tallies;
@@ -54,6 +56,11 @@ pub trait Tracing: Debug + Drop {
             → StandsFor kernel.new (state_after table steps.now) }
         ensures settings { kernel.new.settings ≡ kernel.old.settings }
         ensures meter { meter.new ≡ meter_after (length steps.now) meter.old };
+
+    // What is kept fits the kernel so many ticks later too, if no step reads the tick count.
+    ghost moves: { (by : ℕ) (kernel : View) (steps : List Step) (kept : Self)
+        → IsBegun kernel steps → some_delays_until steps ≡ false → fits kernel steps kept
+        → fits (shifted by kernel) steps kept };
 }
 
 /// The replies of steps, what each left its core with, and how the tasks fared in them.
@@ -80,6 +87,9 @@ impl Drop for Traced {
 }
 
 impl Tracing for Traced {
+    ghost moves = { λ by kernel steps kept begun unread fits.
+        (told_later by kernel steps begun unread fits.0, fits.1) };
+
     ghost fits = { λ kernel steps traced. IsTold kernel steps traced.replies.items
         traced.currents.items traced.tallies
         × HasRoom steps (vec_capacity traced.replies) (vec_capacity traced.currents) };
@@ -128,6 +138,8 @@ impl Tracing for Traced {
 pub struct Untraced;
 
 impl Tracing for Untraced {
+    ghost moves = { λ by kernel steps kept begun unread fits. tt };
+
     ghost fits = { λ _ _ _. ⊤ };
 
     fn of(

@@ -1,12 +1,22 @@
 use Rattle.meeting_laws.proofs.Going.{go_on_alike, sound_at, stand_alike, state_later}
+use Rattle.meeting_laws.proofs.Meets.{meetings_pass, meetings_told, met_run_alike}
 use Rattle.meeting_laws.proofs.Runs.{run_alike, segments_add_up, traces_follow}
 use Rattle.meeting_laws.proofs.laws_of_runs.Goals as goal
 
 pub returns-clause-equal_run_alike : goal.returns-clause-equal_run_alike
 returns-clause-equal_run_alike c = run_alike
 
-pub returns-clause-equal_go_on_alike : goal.returns-clause-equal_go_on_alike
-returns-clause-equal_go_on_alike c = go_on_alike
+pub returns-clause-met_run_alike : goal.returns-clause-met_run_alike
+returns-clause-met_run_alike c = met_run_alike
+
+pub returns-clause-meetings_are_tested : goal.returns-clause-meetings_are_tested
+returns-clause-meetings_are_tested c = meetings_told
+
+pub returns-clause-meetings_pass : goal.returns-clause-meetings_pass
+returns-clause-meetings_pass c = meetings_pass
+
+pub returns-clause-met_go_on_alike : goal.returns-clause-met_go_on_alike
+returns-clause-met_go_on_alike c = go_on_alike
 
 pub returns-clause-states_are_sound : goal.returns-clause-states_are_sound
 returns-clause-states_are_sound c = sound_at

@@ -1,0 +1,3 @@
+pub mod Renamings
+pub mod Steps
+pub mod Turns

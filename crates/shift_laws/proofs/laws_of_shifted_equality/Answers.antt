@@ -1,0 +1,8 @@
+use Rattle.shift_laws.proofs.Steps.{same_from_shifted, shifted_from_same}
+use Rattle.shift_laws.proofs.laws_of_shifted_equality.Goals as goal
+
+pub returns-clause-same_shifted_is_shifted : goal.returns-clause-same_shifted_is_shifted
+returns-clause-same_shifted_is_shifted c = λ a b. (shifted_from_same a b, same_from_shifted _ a b)
+
+pub returns-clause-shifted_is_same_shifted : goal.returns-clause-shifted_is_same_shifted
+returns-clause-shifted_is_same_shifted c = same_from_shifted

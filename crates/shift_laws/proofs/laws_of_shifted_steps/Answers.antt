@@ -1,0 +1,8 @@
+use Rattle.shift_laws.proofs.Steps.{same_shifted_after, shifted_after}
+use Rattle.shift_laws.proofs.laws_of_shifted_steps.Goals as goal
+
+pub returns-clause-same_shifted_stays_so : goal.returns-clause-same_shifted_stays_so
+returns-clause-same_shifted_stays_so c = same_shifted_after
+
+pub returns-clause-shifted_stays_shifted : goal.returns-clause-shifted_stays_shifted
+returns-clause-shifted_stays_shifted c = shifted_after

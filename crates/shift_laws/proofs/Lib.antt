@@ -1,3 +1,4 @@
 pub mod Renamings
+pub mod Runs
 pub mod Steps
 pub mod Turns

@@ -1,0 +1,121 @@
+-- Lists of steps from tables that are shifted: equal replies, running tasks and tallies, and shifted states.
+use Rattle.std.proofs.Common.{◌≡◌, ℕ, zero, suc, ◌≤◌, Bool, true, false, ◌||◌, List, [], ◌∷◌, length, take, refl, sym, ap, ap₂, subst, ◌∙◌, true≢false, arith}
+use Rattle.std.specs.Prelude.{All}
+use Rattle.std.proofs.lemmas.List.Elements.{All-head, All-take}
+use Rattle.bench_types.specs.declared.kernel_data.Settings.{Settings}
+use Rattle.bench_types.specs.declared.reply.Reply.{Reply}
+use Rattle.bench_types.specs.declared.step.Step.{Step}
+use Rattle.bench_types.specs.Step.{IsCheckedStep}
+use Rattle.bench_model.specs.Control.{Control, running}
+use Rattle.bench_model.specs.Lists.{View, list_queues, view_of}
+use Rattle.bench_model.specs.Session.{step_of, state_after, trace}
+use Rattle.bench_model.specs.Shifted.{shifted, delays_until, some_delays_until}
+use Rattle.bench_model.specs.Sound.{IsSound}
+use Rattle.bench_model.specs.Table.{Table, stamp_queues}
+use Rattle.bench_model.specs.Tallied.{tally_after, tallied, moment_of, tallied_after, first_tallies, first_tally, part_tallies}
+use Rattle.bench_model.specs.Tally.{TaskTally}
+use Rattle.session_laws.proofs.Tallies.{tallied_seen, length_each}
+use Rattle.step_laws.proofs.Along.{settings_after, checked_rest}
+use Rattle.step_laws.proofs.Steps.{after_sound}
+use Rattle.shift_laws.specs.Shifts.{IsShifted, RunShifted}
+use Rattle.shift_laws.proofs.Steps.{shifted_after}
+
+-- ---- one step
+
+-- sound tables of which the second looks as the first does so many ticks later
+record AreShifted (by : ℕ) (a b : Table) : Type 0 where
+  first : IsSound a
+  second : IsSound b
+  same : IsShifted by a b
+
+-- checked steps, none of which delays until a tick count
+record AreUntimed (table : Table) (steps : List Step) : Type 0 where
+  checked : All (IsCheckedStep table.settings) steps
+  never : some_delays_until steps ≡ false
+
+neither : (x y : Bool) → (x || y) ≡ false → (x ≡ false) × (y ≡ false)
+neither true y none = absurd (true≢false none)
+neither false y none = (refl, none)
+
+shifted_settings : (by : ℕ) (a b : Table) → IsShifted by a b → a.settings ≡ b.settings
+shifted_settings by a b same = sym (ap (λ (view : View). view.settings) same)
+
+shifted_control : (by : ℕ) (a b : Table) → IsShifted by a b → a.control ≡ b.control
+shifted_control by a b same = sym (ap (λ (view : View). view.control) same)
+
+module _ (by : ℕ) (a b : Table) (step : Step) (steps : List Step) (both : AreShifted by a b) (untimed : AreUntimed a (step ∷ steps)) where
+  checked_first : IsCheckedStep a.settings step
+  checked_first = All-head (IsCheckedStep a.settings) step steps untimed.checked
+
+  first_outcomes : ((step_of step a).0 ≡ (step_of step b).0) × IsShifted by (step_of step a).1 (step_of step b).1
+  first_outcomes = shifted_after by a b step both.first both.second both.same checked_first (neither (delays_until step) (some_delays_until steps) untimed.never).0
+
+  shifted_next : AreShifted by (step_of step a).1 (step_of step b).1
+  shifted_next = record {
+    first = after_sound step a both.first checked_first;
+    second = after_sound step b both.second (subst (λ settings. IsCheckedStep settings step) (shifted_settings by a b both.same) checked_first);
+    same = first_outcomes.1;
+  }
+
+  untimed_rest : AreUntimed (step_of step a).1 steps
+  untimed_rest = record {
+    checked = checked_rest a step steps both.first untimed.checked;
+    never = (neither (delays_until step) (some_delays_until steps) untimed.never).1;
+  }
+
+  -- the step counts the same from either table
+  counted_alike : (tallies : List TaskTally) → length tallies ≤ a.settings.tasks → tallied stamp_queues (moment_of a step) tallies ≡ tallied stamp_queues (moment_of b step) tallies
+  unfolding tallied tally_after
+  counted_alike tallies few =
+      let tasks = ap (λ (settings : Settings). settings.tasks) (shifted_settings by a b both.same) in
+      let counted = λ (before : View) (reply : Reply) (later : View). tallied list_queues (record { before = before; step = step; reply = reply; after = later }) tallies in
+      tallied_seen (moment_of a step) tallies both.first.consistent few
+      ∙ sym (λ i. counted (both.same i) (sym first_outcomes.0 i) (first_outcomes.1 i))
+      ∙ sym (tallied_seen (moment_of b step) tallies both.second.consistent (omega (arith, few, tasks)))
+
+length_tallied : (table : Table) (step : Step) (tallies : List TaskTally) → length (tallied stamp_queues (moment_of table step) tallies) ≡ length tallies
+unfolding tallied
+length_tallied table step tallies = length_each _ (length tallies)
+
+-- ---- lists of steps
+
+outcomes_alike : (by : ℕ) (steps : List Step) (a b : Table) → AreShifted by a b → AreUntimed a steps → trace a steps ≡ trace b steps
+outcomes_alike by [] a b both untimed = refl
+outcomes_alike by (step ∷ steps) a b both untimed =
+    let outcomes = first_outcomes by a b step steps both untimed in
+    let one : ◌≡◌ {A = Reply × List ℕ} ((step_of step a).0, running (step_of step a).1.control) ((step_of step b).0, running (step_of step b).1.control) = ap₂ (λ reply (control : Control). (reply, running control)) outcomes.0 (shifted_control by (step_of step a).1 (step_of step b).1 outcomes.1) in
+    ap₂ (λ outcome rest. outcome ∷ rest) one (outcomes_alike by steps (step_of step a).1 (step_of step b).1 (shifted_next by a b step steps both untimed) (untimed_rest by a b step steps both untimed))
+
+states_shifted : (by : ℕ) (steps : List Step) (a b : Table) → AreShifted by a b → AreUntimed a steps → IsShifted by (state_after a steps) (state_after b steps)
+states_shifted by [] a b both untimed = both.same
+states_shifted by (step ∷ steps) a b both untimed = states_shifted by steps (step_of step a).1 (step_of step b).1 (shifted_next by a b step steps both untimed) (untimed_rest by a b step steps both untimed)
+
+tallies_alike : (by : ℕ) (steps : List Step) (a b : Table) (tallies : List TaskTally) → AreShifted by a b → AreUntimed a steps → length tallies ≤ a.settings.tasks → tallied_after a steps tallies ≡ tallied_after b steps tallies
+tallies_alike by [] a b tallies both untimed few = refl
+tallies_alike by (step ∷ steps) a b tallies both untimed few =
+    let tasks = ap (λ (settings : Settings). settings.tasks) (settings_after a step both.first) in
+    tallies_alike by steps (step_of step a).1 (step_of step b).1 (tallied stamp_queues (moment_of a step) tallies) (shifted_next by a b step steps both untimed) (untimed_rest by a b step steps both untimed) (omega (arith, few, tasks, length_tallied a step tallies))
+    ∙ ap (tallied_after (step_of step b).1 steps) (counted_alike by a b step steps both untimed tallies few)
+
+parts_alike : (by : ℕ) (steps : List Step) (a b : Table) → AreShifted by a b → AreUntimed a steps → part_tallies a.settings a steps ≡ part_tallies a.settings b steps
+parts_alike by steps a b both untimed =
+    tallies_alike by steps a b (first_tallies a.settings a.control) both untimed (omega (arith, length_each (first_tally a.settings a.control) a.settings.tasks))
+    ∙ ap (λ (control : Control). tallied_after b steps (first_tallies a.settings control)) (shifted_control by a b both.same)
+
+-- the first of such steps are such too
+never-take : (place : ℕ) (steps : List Step) → some_delays_until steps ≡ false → some_delays_until (take place steps) ≡ false
+never-take zero steps never = refl
+never-take (suc place) [] never = refl
+never-take (suc place) (step ∷ steps) never =
+    let both = neither (delays_until step) (some_delays_until steps) never in
+    ap (λ delays. delays || some_delays_until (take place steps)) both.0 ∙ never-take place steps both.1
+
+pub run_shifted : (by : ℕ) (a b : Table) (steps : List Step) → IsSound a → IsSound b → IsShifted by a b → All (IsCheckedStep a.settings) steps → some_delays_until steps ≡ false → RunShifted by a b steps
+run_shifted by a b steps first second same checked never =
+    let both : AreShifted by a b = record { first = first; second = second; same = same } in
+    let untimed : AreUntimed a steps = record { checked = checked; never = never } in
+    record {
+      outcomes = outcomes_alike by steps a b both untimed;
+      tallies = parts_alike by steps a b both untimed;
+      states = λ place. states_shifted by (take place steps) a b both (record { checked = All-take (IsCheckedStep a.settings) place steps checked; never = never-take place steps never });
+    }

@@ -1,3 +1,4 @@
+pub mod LaterTables
 pub mod Renamings
 pub mod Runs
 pub mod Steps

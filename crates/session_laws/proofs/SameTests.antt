@@ -12,7 +12,7 @@ use Rattle.bench_model.specs.SameTest.{are_same_bools, are_same_options, are_sam
 use Rattle.bench_model.specs.Table.{Table}
 
 -- the test tells of any two values whether they are equal
-abbrev Tells : {X : Type 0} → (X → X → Bool) → Type 0
+abbrev pub Tells : {X : Type 0} → (X → X → Bool) → Type 0
 Tells {X} same = (x y : X) → Decides (same x y) (x ≡ y)
 
 -- two values that the test never finds equal, and that are not
@@ -151,7 +151,7 @@ orders a b =
     (λ e. ((((λ i. (e i).ready, λ i. (e i).tick), λ i. (e i).delayed), λ i. (e i).waiters), λ i. (e i).deadlines))
     (two (two (two (two (lists (λ m n. nat_eq m n) Decides-eqb a.ready b.ready) (Decides-eqb a.tick b.tick)) (lists are_same_delays delays a.delayed b.delayed)) (lists are_same_waiters waiters a.waiters b.waiters)) (lists (are_same_options (λ m n. nat_eq m n)) maybe a.deadlines b.deadlines))
 
-views : Tells are_same_views
+pub views : Tells are_same_views
 views a b =
     let maybe = options (λ m n. nat_eq m n) Decides-eqb in
     Decides-like (are_same_views a b)

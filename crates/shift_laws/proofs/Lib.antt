@@ -1,5 +1,6 @@
 pub mod LaterTables
 pub mod Renamings
 pub mod Runs
+pub mod ShiftTests
 pub mod Steps
 pub mod Turns

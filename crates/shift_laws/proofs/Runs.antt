@@ -14,7 +14,7 @@ use Rattle.bench_model.specs.Sound.{IsSound}
 use Rattle.bench_model.specs.Table.{Table, stamp_queues}
 use Rattle.bench_model.specs.Tallied.{tally_after, tallied, moment_of, tallied_after, first_tallies, first_tally, part_tallies}
 use Rattle.bench_model.specs.Tally.{TaskTally}
-use Rattle.session_laws.proofs.Tallies.{tallied_seen, length_each}
+use Rattle.session_laws.proofs.Tallies.{tallied_seen, length_each, length_tallied}
 use Rattle.step_laws.proofs.Along.{settings_after, checked_rest}
 use Rattle.step_laws.proofs.Steps.{after_sound}
 use Rattle.shift_laws.specs.Shifts.{IsShifted, RunShifted}
@@ -73,10 +73,6 @@ module _ (by : ℕ) (a b : Table) (step : Step) (steps : List Step) (both : AreS
       ∙ sym (λ i. counted (both.same i) (sym first_outcomes.0 i) (first_outcomes.1 i))
       ∙ sym (tallied_seen (moment_of b step) tallies both.second.consistent (omega (arith, few, tasks)))
 
-length_tallied : (table : Table) (step : Step) (tallies : List TaskTally) → length (tallied stamp_queues (moment_of table step) tallies) ≡ length tallies
-unfolding tallied
-length_tallied table step tallies = length_each _ (length tallies)
-
 -- ---- lists of steps
 
 outcomes_alike : (by : ℕ) (steps : List Step) (a b : Table) → AreShifted by a b → AreUntimed a steps → trace a steps ≡ trace b steps
@@ -94,7 +90,7 @@ tallies_alike : (by : ℕ) (steps : List Step) (a b : Table) (tallies : List Tas
 tallies_alike by [] a b tallies both untimed few = refl
 tallies_alike by (step ∷ steps) a b tallies both untimed few =
     let tasks = ap (λ (settings : Settings). settings.tasks) (settings_after a step both.first) in
-    tallies_alike by steps (step_of step a).1 (step_of step b).1 (tallied stamp_queues (moment_of a step) tallies) (shifted_next by a b step steps both untimed) (untimed_rest by a b step steps both untimed) (omega (arith, few, tasks, length_tallied a step tallies))
+    tallies_alike by steps (step_of step a).1 (step_of step b).1 (tallied stamp_queues (moment_of a step) tallies) (shifted_next by a b step steps both untimed) (untimed_rest by a b step steps both untimed) (omega (arith, few, tasks, length_tallied (moment_of a step) tallies))
     ∙ ap (tallied_after (step_of step b).1 steps) (counted_alike by a b step steps both untimed tallies few)
 
 parts_alike : (by : ℕ) (steps : List Step) (a b : Table) → AreShifted by a b → AreUntimed a steps → part_tallies a.settings a steps ≡ part_tallies a.settings b steps

@@ -1,3 +1,4 @@
+use Rattle.shift_laws.proofs.ShiftTests.{met_told, same_at_one_tick, same_shifted_told}
 use Rattle.shift_laws.proofs.Steps.{same_from_shifted, shifted_from_same}
 use Rattle.shift_laws.proofs.laws_of_shifted_equality.Goals as goal
 
@@ -6,3 +7,12 @@ returns-clause-same_shifted_is_shifted c = λ a b. (shifted_from_same a b, same_
 
 pub returns-clause-shifted_is_same_shifted : goal.returns-clause-shifted_is_same_shifted
 returns-clause-shifted_is_same_shifted c = same_from_shifted
+
+pub returns-clause-same_shifted_is_tested : goal.returns-clause-same_shifted_is_tested
+returns-clause-same_shifted_is_tested c = same_shifted_told
+
+pub returns-clause-met_is_tested : goal.returns-clause-met_is_tested
+returns-clause-met_is_tested c = met_told
+
+pub returns-clause-same_is_same_tick : goal.returns-clause-same_is_same_tick
+returns-clause-same_is_same_tick c = same_at_one_tick

@@ -32,11 +32,11 @@ ready_later : (by : ℕ) (standing : TaskState) → stands_ready (later_standing
 ready_later by Ready = refl
 ready_later by (Blocked wake wait) = refl
 
-wake_later : (by : ℕ) (standing : TaskState) → wake_in (later_standing by standing) ≡ option_map (λ wake. wake + by) (wake_in standing)
+pub wake_later : (by : ℕ) (standing : TaskState) → wake_in (later_standing by standing) ≡ option_map (λ wake. wake + by) (wake_in standing)
 wake_later by Ready = refl
 wake_later by (Blocked wake wait) = refl
 
-wait_later : (by : ℕ) (standing : TaskState) → wait_in (later_standing by standing) ≡ wait_in standing
+pub wait_later : (by : ℕ) (standing : TaskState) → wait_in (later_standing by standing) ≡ wait_in standing
 wait_later by Ready = refl
 wait_later by (Blocked wake wait) = refl
 
@@ -49,7 +49,7 @@ left_later by tick None = omega arith
 left_later by tick (Some wake) = omega arith
 
 -- the ticks to a deadline
-deadline_later : (by tick : ℕ) (deadline : Option ℕ) → option_map (λ deadline. deadline - (tick + by)) (option_map (λ deadline. deadline + by) deadline) ≡ option_map (λ deadline. deadline - tick) deadline
+pub deadline_later : (by tick : ℕ) (deadline : Option ℕ) → option_map (λ deadline. deadline - (tick + by)) (option_map (λ deadline. deadline + by) deadline) ≡ option_map (λ deadline. deadline - tick) deadline
 deadline_later by tick None = refl
 deadline_later by tick (Some deadline) = let left : (deadline + by) - (tick + by) ≡ deadline - tick = omega arith in ap Some left
 
@@ -64,13 +64,13 @@ module _ (by : ℕ) (stamps : Stamps) where
   row_later : (task : ℕ) → row_at (later_stamps by stamps) task ≡ later_row by (row_at stamps task)
   row_later task = get_or-map (later_row by) stamps.rows task (record { stamp = 0; standing = Ready })
 
-  stands_later : (task : ℕ) → (row_at (later_stamps by stamps) task).standing ≡ later_standing by (row_at stamps task).standing
+  pub stands_later : (task : ℕ) → (row_at (later_stamps by stamps) task).standing ≡ later_standing by (row_at stamps task).standing
   stands_later task = ap (λ (row : TaskRow). row.standing) (row_later task)
 
-  stamp_later : (task : ℕ) → stamp_of (later_stamps by stamps) task ≡ stamp_of stamps task
+  pub stamp_later : (task : ℕ) → stamp_of (later_stamps by stamps) task ≡ stamp_of stamps task
   stamp_later task = ap (λ (row : TaskRow). row.stamp) (row_later task)
 
-  is_ready_later : (task : ℕ) → is_ready task (later_stamps by stamps) ≡ is_ready task stamps
+  pub is_ready_later : (task : ℕ) → is_ready task (later_stamps by stamps) ≡ is_ready task stamps
   is_ready_later task = ap stands_ready (stands_later task) ∙ ready_later by (row_at stamps task).standing
 
   rows_later : length (later_stamps by stamps).rows ≡ length stamps.rows
@@ -131,7 +131,7 @@ in_time_later by stamps in_time i wake low is =
     let was = in_time i before.0 (omega (arith, rows_later by stamps, low)) before.1 in
     (omega (arith, was.0, before.2), omega (arith, was.1, before.2))
 
-deadline_at_later : (by : ℕ) (stamps : Stamps) (i : ℕ) → deadline_at (later_stamps by stamps) i ≡ option_map (λ deadline. deadline + by) (deadline_at stamps i)
+pub deadline_at_later : (by : ℕ) (stamps : Stamps) (i : ℕ) → deadline_at (later_stamps by stamps) i ≡ option_map (λ deadline. deadline + by) (deadline_at stamps i)
 deadline_at_later by stamps i = get_or-map (option_map (λ deadline. deadline + by)) stamps.deadlines i None
 
 mutexes_later : (by : ℕ) (table : Table) → HasMutexes table.settings table.calls table.holders table.orders → HasMutexes table.settings table.calls table.holders (later_stamps by table.orders)
@@ -144,7 +144,7 @@ mutexes_later by table mutexes = record {
       (omega (arith, was.0, before.2), was.1);
 }
 
-consistent_later : (by : ℕ) (table : Table) → IsConsistent table → IsConsistent (later by table)
+pub consistent_later : (by : ℕ) (table : Table) → IsConsistent table → IsConsistent (later by table)
 unfolding later
 consistent_later by table consistent = record {
   sized = resized table (later by table) refl

@@ -1,4 +1,5 @@
 pub mod LaterTables
+pub mod PairsShifted
 pub mod Renamings
 pub mod Runs
 pub mod ShiftTests

@@ -1,3 +1,4 @@
+use Rattle.shift_laws.proofs.PairsShifted.{pairs_from_shifted, shifted_from_pairs}
 use Rattle.shift_laws.proofs.ShiftTests.{met_told, same_at_one_tick, same_shifted_told}
 use Rattle.shift_laws.proofs.Steps.{same_from_shifted, shifted_from_same}
 use Rattle.shift_laws.proofs.laws_of_shifted_equality.Goals as goal
@@ -16,3 +17,6 @@ returns-clause-met_is_tested c = met_told
 
 pub returns-clause-same_is_same_tick : goal.returns-clause-same_is_same_tick
 returns-clause-same_is_same_tick c = same_at_one_tick
+
+pub returns-clause-same_shifted_is_alike : goal.returns-clause-same_shifted_is_alike
+returns-clause-same_shifted_is_alike c = λ a b first second. (pairs_from_shifted a b first second, shifted_from_pairs a b first second)

@@ -181,3 +181,6 @@ shifted_stands by view table stands = record {
   sound = later_sound by table stands.sound;
   shows = later_shifted by table ∙ ap (shifted by) stands.shows;
 }
+
+pub stands_shifted : (by : ℕ) (view : View) (a b : Table) → StandsFor view a → IsShifted by a b → IsSound b → StandsFor (shifted by view) b
+stands_shifted by view a b stands same sound = record { sound = sound; shows = same ∙ ap (shifted by) stands.shows }

@@ -5,6 +5,7 @@ use Rattle.bench_types.specs.declared.step.Call.TheVariants.{DelayUntil}
 use Rattle.bench_types.specs.declared.step.Step.{Step}
 use Rattle.bench_types.specs.declared.step.Step.TheVariants.{Call}
 use Rattle.bench_types.specs.Step.{IsCheckedStep}
+use Rattle.bench_model.specs.Equal.{Same}
 use Rattle.bench_model.specs.Lists.{Lists, View, list_queues, lists_of, view_of, pick, add_to_ready_list, delay, advance, first_waiter, forget_deadline}
 use Rattle.bench_model.specs.Mutexes.{inherited, waited_at, mutex_take, after_disinherit, timed_out, take_finished, disinherited, first_woken, mutex_give}
 use Rattle.bench_model.specs.ControlFields.{in_use_set}
@@ -90,6 +91,21 @@ shifted_from_same a b same =
     let with_tick = λ (tick : ℕ) (view : View). let timed : View = record view { orders = record view.orders { tick = tick } } in timed in
     ap (with_tick (view_of b).orders.tick) (sym same)
     ∙ ap (λ tick. with_tick tick (view_of a)) (back_at_tick (view_of a).orders.tick (view_of b).orders.tick (tick_below a) (tick_below b))
+
+-- a shift by no ticks is none
+no_shift : (view : View) → view.orders.tick < 2 ^ 32 → shifted 0 view ≡ view
+no_shift view below =
+    let stays : later_tick 0 view.orders.tick ≡ view.orders.tick = omega (arith, below) in
+    ap (λ tick. record view { orders = record view.orders { tick = tick } }) stays
+
+pub unshifted : (a b : Table) → IsShifted 0 a b → Same a b
+unshifted a b same = sym (same ∙ no_shift (view_of a) (tick_below a))
+
+pub not_shifted : (a b : Table) → Same a b → IsShifted 0 a b
+not_shifted a b same = sym (no_shift (view_of a) (tick_below a) ∙ same)
+
+pub no_ticks_between : (tick : ℕ) → shift_between tick tick ≡ 0
+no_ticks_between tick = omega arith
 
 pub same_shifted_after : (a b : Table) (step : Step) → IsSound a → IsSound b → SameShifted a b → IsCheckedStep a.settings step → delays_until step ≡ false → ((step_of step a).0 ≡ (step_of step b).0) × SameShifted (step_of step a).1 (step_of step b).1
 same_shifted_after a b step sound other same checked delays =

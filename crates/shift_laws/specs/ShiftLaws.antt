@@ -36,6 +36,13 @@ ShiftedRunAlike =
     → All (IsCheckedStep a.settings) steps → some_delays_until steps ≡ false →
     RunShifted by a b steps
 
+-- and so do steps from two kernels that the test of a meeting finds met, equal ones too
+abbrev pub MetRunShifted : Type 0
+MetRunShifted =
+    (a b : Table) (steps : List Step) → IsSound a → IsSound b
+    → All (IsCheckedStep a.settings) steps → is_met a b steps ≡ true →
+    RunShifted (shift_between (view_of a).orders.tick (view_of b).orders.tick) a b steps
+
 -- ---- equality but for the tick counts
 
 -- two tables are equal but for their tick counts just where one looks as the other does as many
@@ -59,6 +66,10 @@ abbrev pub SameIsSameTick : Type 0
 SameIsSameTick =
     (a b : Table)
     → (Same a b ↔ (SameShifted a b × (tick_count a.orders ≡ tick_count b.orders)))
+
+-- tables are equal just where they are shifted by no ticks
+abbrev pub SameIsUnshifted : Type 0
+SameIsUnshifted = (a b : Table) → (Same a b ↔ IsShifted 0 a b)
 
 -- the test of a meeting tells just whether the tables are equal, or are so but for their tick
 -- counts and no step reads these
@@ -104,3 +115,9 @@ abbrev pub ShiftedStandsForLater : Type 0
 ShiftedStandsForLater =
     (by : ℕ) (view : View) (table : Table)
     → StandsFor view table → StandsFor (shifted by view) (later by table)
+
+-- and for each sound table that is shifted by as many ticks
+abbrev pub ShiftedStandsForShifted : Type 0
+ShiftedStandsForShifted =
+    (by : ℕ) (view : View) (a b : Table)
+    → StandsFor view a → IsShifted by a b → IsSound b → StandsFor (shifted by view) b

@@ -1,6 +1,6 @@
 use Rattle.shift_laws.proofs.PairsShifted.{pairs_from_shifted, shifted_from_pairs}
 use Rattle.shift_laws.proofs.ShiftTests.{met_told, same_at_one_tick, same_shifted_told}
-use Rattle.shift_laws.proofs.Steps.{same_from_shifted, shifted_from_same}
+use Rattle.shift_laws.proofs.Steps.{not_shifted, same_from_shifted, shifted_from_same, unshifted}
 use Rattle.shift_laws.proofs.laws_of_shifted_equality.Goals as goal
 
 pub returns-clause-same_shifted_is_shifted : goal.returns-clause-same_shifted_is_shifted
@@ -20,3 +20,6 @@ returns-clause-same_is_same_tick c = same_at_one_tick
 
 pub returns-clause-same_shifted_is_alike : goal.returns-clause-same_shifted_is_alike
 returns-clause-same_shifted_is_alike c = λ a b first second. (pairs_from_shifted a b first second, shifted_from_pairs a b first second)
+
+pub returns-clause-same_is_unshifted : goal.returns-clause-same_is_unshifted
+returns-clause-same_is_unshifted c = λ a b. (not_shifted a b, unshifted a b)

@@ -1,5 +1,5 @@
 -- A table that is moved in time: what can be seen of it is what could be seen, with another tick count, and it is as sound.
-use Rattle.std.proofs.Common.{◌≡◌, ℕ, suc, ◌+◌, ◌-◌, ◌<◌, ◌%◌, ◌^◌, Bool, true, List, length, map, Option, Some, None, refl, sym, ap, ap₂, subst, ◌∙◌, arith}
+use Rattle.std.proofs.Common.{◌≡◌, ℕ, ◌+◌, ◌-◌, ◌^◌, Bool, length, map, Option, Some, None, refl, sym, ap, ap₂, ◌∙◌, arith}
 use Rattle.std.specs.Prelude.{is_some, option_map, unwrap_or}
 use Rattle.std.proofs.lemmas.List.{length-map}
 use Rattle.std.proofs.Math.ListN.{get_or-map}
@@ -15,10 +15,10 @@ use Rattle.bench_model.specs.declared.row.TaskState.{TaskState}
 use Rattle.bench_model.specs.declared.row.TaskState.TheVariants.{Ready, Blocked}
 use Rattle.bench_model.specs.Control.{Control, current}
 use Rattle.bench_model.specs.Equal.{StandsFor}
-use Rattle.bench_model.specs.Lists.{Lists, View, lists_of, view_of, delayed_of, outranks, wakes_first, waits_first}
+use Rattle.bench_model.specs.Lists.{View, lists_of, view_of, delayed_of, outranks, wakes_first, waits_first}
 use Rattle.bench_model.specs.Shifted.{later_tick, shifted}
 use Rattle.bench_model.specs.Sound.{IsStamped, HasCurrentTasks, WakesInTime, HasMutexes, IsConsistent, IsHeldWell, IsSound}
-use Rattle.bench_model.specs.Table.{Stamps, Table, row_at, stamp_of, tasks_of, wake_in, wait_in, stands_ready, is_ready, waiter_of, deadline_at}
+use Rattle.bench_model.specs.Table.{Stamps, Table, row_at, stamp_of, wake_in, wait_in, stands_ready, is_ready, waiter_of, deadline_at}
 use Rattle.list_orders.specs.Search.{numbers, by_stamp, ranked}
 use Rattle.order_laws.proofs.Restamps.{standing_so, waits}
 use Rattle.order_laws.proofs.SeenMoves.{queues, same_seen}
@@ -49,7 +49,9 @@ left_later by tick None = omega arith
 left_later by tick (Some wake) = omega arith
 
 -- the ticks to a deadline
-pub deadline_later : (by tick : ℕ) (deadline : Option ℕ) → option_map (λ deadline. deadline - (tick + by)) (option_map (λ deadline. deadline + by) deadline) ≡ option_map (λ deadline. deadline - tick) deadline
+pub deadline_later :
+    (by tick : ℕ) (deadline : Option ℕ)
+    → option_map (λ deadline. deadline - (tick + by)) (option_map (λ deadline. deadline + by) deadline) ≡ option_map (λ deadline. deadline - tick) deadline
 deadline_later by tick None = refl
 deadline_later by tick (Some deadline) = let left : (deadline + by) - (tick + by) ≡ deadline - tick = omega arith in ap Some left
 
@@ -76,7 +78,9 @@ module _ (by : ℕ) (stamps : Stamps) where
   rows_later : length (later_stamps by stamps).rows ≡ length stamps.rows
   rows_later = length-map stamps.rows (later_row by)
 
-  standing_later : (test : TaskState → Bool) → ((standing : TaskState) → test (later_standing by standing) ≡ test standing) → standing_so test (later_stamps by stamps) ≡ standing_so test stamps
+  standing_later :
+      (test : TaskState → Bool) → ((standing : TaskState) → test (later_standing by standing) ≡ test standing)
+      → standing_so test (later_stamps by stamps) ≡ standing_so test stamps
   standing_later test same =
       let stamp = fun_ext stamp_later in
       let passes = fun_ext (λ task. ap test (stands_later task) ∙ same (row_at stamps task).standing) in
@@ -90,20 +94,23 @@ module _ (by : ℕ) (stamps : Stamps) where
 
   waiter_later : (task : ℕ) → waiter_of (later_stamps by stamps) task ≡ waiter_of stamps task
   waiter_later task =
-      let waiting = λ (wait : Option MutexWait). let waiter : Waiter = record { task = task; wait = unwrap_or wait (record { mutex = 0; priority = 0 }) } in waiter in
+      let waiting = λ (wait : Option MutexWait).
+      let waiter : Waiter = record { task = task; wait = unwrap_or wait (record { mutex = 0; priority = 0 }) } in waiter in
       ap waiting (ap wait_in (stands_later task) ∙ wait_later by (row_at stamps task).standing)
 
   waits_later : (standing : TaskState) → waits (later_standing by standing) ≡ waits standing
   waits_later standing = ap is_some (wake_later by standing) ∙ some_later by (wake_in standing)
 
-  lists_later : (control : Control) → lists_of control (later_stamps by stamps) ≡ record (lists_of control stamps) { tick = later_tick by (lists_of control stamps).tick }
+  lists_later : (control : Control)
+      → lists_of control (later_stamps by stamps) ≡ record (lists_of control stamps) { tick = later_tick by (lists_of control stamps).tick }
   unfolding lists_of
   lists_later control = same_seen _ _ _ _ _ _ _ _ _ _
       (ap (ranked (outranks control)) (standing_later stands_ready (ready_later by)))
       (sym (mod-add-mod stamps.tick (2 ^ 32) by))
       (ap (ranked wakes_first) (ap₂ map (fun_ext delayed_later) (standing_later waits waits_later)))
       (ap (ranked waits_first) (ap₂ map (fun_ext waiter_later) (standing_later queues (λ standing. ap is_some (wait_later by standing)))))
-      (map-map (option_map (λ deadline. deadline - (stamps.tick + by))) (option_map (λ deadline. deadline + by)) stamps.deadlines ∙ ap (λ f. map f stamps.deadlines) (fun_ext (deadline_later by stamps.tick)))
+      (map-map (option_map (λ deadline. deadline - (stamps.tick + by))) (option_map (λ deadline. deadline + by)) stamps.deadlines
+      ∙ ap (λ f. map f stamps.deadlines) (fun_ext (deadline_later by stamps.tick)))
 
 pub later_shifted : (by : ℕ) (table : Table) → IsShifted by table (later by table)
 unfolding later
@@ -114,7 +121,9 @@ later_shifted by table = ap (λ lists. record (view_of table) { orders = lists }
 stamped_later : (by : ℕ) (stamps : Stamps) → IsStamped stamps → IsStamped (later_stamps by stamps)
 stamped_later by stamps stamped = record {
   given = λ i low. omega (arith, stamp_later by stamps i, stamped.given i (omega (arith, rows_later by stamps, low)));
-  once = λ i j low high same. stamped.once i j (omega (arith, rows_later by stamps, low)) (omega (arith, rows_later by stamps, high)) (sym (stamp_later by stamps i) ∙ same ∙ stamp_later by stamps j);
+  once = λ i j low high same.
+      stamped.once i j (omega (arith, rows_later by stamps, low)) (omega (arith, rows_later by stamps, high))
+      (sym (stamp_later by stamps i) ∙ same ∙ stamp_later by stamps j);
 }
 
 currents_later : (by : ℕ) (control : Control) (stamps : Stamps) → HasCurrentTasks control stamps → HasCurrentTasks control (later_stamps by stamps)
@@ -127,17 +136,23 @@ currents_later by control stamps current_tasks = record {
 
 in_time_later : (by : ℕ) (stamps : Stamps) → WakesInTime stamps → WakesInTime (later_stamps by stamps)
 in_time_later by stamps in_time i wake low is =
-    let before = was_before by wake (wake_in (row_at stamps i).standing) (sym (ap wake_in (stands_later by stamps i) ∙ wake_later by (row_at stamps i).standing) ∙ is) in
+    let standing = (row_at stamps i).standing in
+    let before = was_before by wake (wake_in standing) (sym (ap wake_in (stands_later by stamps i) ∙ wake_later by standing) ∙ is) in
     let was = in_time i before.0 (omega (arith, rows_later by stamps, low)) before.1 in
     (omega (arith, was.0, before.2), omega (arith, was.1, before.2))
 
-pub deadline_at_later : (by : ℕ) (stamps : Stamps) (i : ℕ) → deadline_at (later_stamps by stamps) i ≡ option_map (λ deadline. deadline + by) (deadline_at stamps i)
+pub deadline_at_later :
+    (by : ℕ) (stamps : Stamps) (i : ℕ) → deadline_at (later_stamps by stamps) i ≡ option_map (λ deadline. deadline + by) (deadline_at stamps i)
 deadline_at_later by stamps i = get_or-map (option_map (λ deadline. deadline + by)) stamps.deadlines i None
 
-mutexes_later : (by : ℕ) (table : Table) → HasMutexes table.settings table.calls table.holders table.orders → HasMutexes table.settings table.calls table.holders (later_stamps by table.orders)
+mutexes_later :
+    (by : ℕ) (table : Table) → HasMutexes table.settings table.calls table.holders table.orders
+    → HasMutexes table.settings table.calls table.holders (later_stamps by table.orders)
 mutexes_later by table mutexes = record {
   held_by_tasks = mutexes.held_by_tasks;
-  waits = λ i wait low is. mutexes.waits i wait (omega (arith, rows_later by table.orders, low)) (sym (ap wait_in (stands_later by table.orders i) ∙ wait_later by (row_at table.orders i).standing) ∙ is);
+  waits = λ i wait low is.
+      mutexes.waits i wait (omega (arith, rows_later by table.orders, low))
+      (sym (ap wait_in (stands_later by table.orders i) ∙ wait_later by (row_at table.orders i).standing) ∙ is);
   deadlines = λ i deadline is.
       let before = was_before by deadline (deadline_at table.orders i) (sym (deadline_at_later by table.orders i) ∙ is) in
       let was = mutexes.deadlines i before.0 before.1 in
@@ -148,7 +163,8 @@ pub consistent_later : (by : ℕ) (table : Table) → IsConsistent table → IsC
 unfolding later
 consistent_later by table consistent = record {
   sized = resized table (later by table) refl
-      (ap₂ (λ rows deadlines. record (lengths_of table) { rows = rows; deadlines = deadlines }) (rows_later by table.orders) (length-map table.orders.deadlines (option_map (λ deadline. deadline + by))))
+      (ap₂ (λ rows deadlines. record (lengths_of table) { rows = rows; deadlines = deadlines }) (rows_later by table.orders)
+      (length-map table.orders.deadlines (option_map (λ deadline. deadline + by))))
       consistent.sized;
   stamped = stamped_later by table.orders consistent.stamped;
   in_place = currents_later by table.control table.orders consistent.in_place;

@@ -1,17 +1,17 @@
 -- Equality but for the tick counts is equality pair by pair but for them: one table is moved in time until the tick counts agree.
-use Rattle.std.proofs.Common.{◌≡◌, ℕ, ◌+◌, ◌-◌, ◌<◌, ◌%◌, ◌^◌, Bool, true, Option, Some, None, refl, sym, ap, subst, ◌∙◌, arith}
+use Rattle.std.proofs.Common.{◌≡◌, ℕ, ◌+◌, ◌-◌, ◌<◌, ◌%◌, ◌^◌, Bool, true, Option, sym, ap, subst, ◌∙◌, arith}
 use Rattle.std.specs.Prelude.{◌↔◌, option_map, IsSome}
 use Rattle.bench_types.specs.declared.kernel_data.MutexWait.{MutexWait}
 use Rattle.bench_model.specs.Alike.{SamePairwise, CameBefore, wait_of}
 use Rattle.bench_model.specs.Control.{Control, task_at}
 use Rattle.bench_model.specs.Equal.{Same}
-use Rattle.bench_model.specs.Lists.{View, lists_of, view_of}
+use Rattle.bench_model.specs.Lists.{view_of}
 use Rattle.bench_model.specs.Looks.{ticks_left}
 use Rattle.bench_model.specs.Shifted.{SameShifted, shift_between}
 use Rattle.bench_model.specs.Sound.{IsConsistent}
 use Rattle.bench_model.specs.Table.{Table, row_at, stamp_of, is_ready, wake_in, wait_in, deadline_left, deadline_at}
 use Rattle.session_laws.proofs.Alike.{same_from_alike, alike_from_same}
-use Rattle.shift_laws.specs.Later.{later, later_stamps, later_standing}
+use Rattle.shift_laws.specs.Later.{later}
 use Rattle.shift_laws.specs.Shifts.{SamePairwiseShifted}
 use Rattle.shift_laws.proofs.LaterTables.{consistent_later, deadline_at_later, deadline_later, is_ready_later, later_shifted, stamp_later, stands_later, wait_later, wake_later}
 use Rattle.shift_laws.proofs.Steps.{same_from_shifted, shifted_from_same}
@@ -54,7 +54,9 @@ record AreAlike (tasks : ℕ) (control : Control) (one : TasksSeen) (b : Table) 
   left : (i : ℕ) → i < tasks → one.left i ≡ ticks_left i b.orders
   waits : (i : ℕ) → i < tasks → one.waits i ≡ wait_of i b
   deadlines : (i : ℕ) → i < tasks → one.deadline i ≡ deadline_left i b.orders
-  ready_order : (i j : ℕ) → i < tasks → j < tasks → (one.ready i ≡ true) × (one.ready j ≡ true) × ((task_at control i).in_use ≡ (task_at control j).in_use) → ((one.stamp i < one.stamp j) ↔ CameBefore b i j)
+  ready_order :
+      (i j : ℕ) → i < tasks → j < tasks → (one.ready i ≡ true) × (one.ready j ≡ true) × ((task_at control i).in_use ≡ (task_at control j).in_use)
+      → ((one.stamp i < one.stamp j) ↔ CameBefore b i j)
   delay_order : (i j : ℕ) → i < tasks → j < tasks → IsSome (one.left i) × (one.left i ≡ one.left j) → ((one.stamp i < one.stamp j) ↔ CameBefore b i j)
   queue_order : (i j : ℕ) → i < tasks → j < tasks → IsSome (one.waits i) × (one.waits i ≡ one.waits j) → ((one.stamp i < one.stamp j) ↔ CameBefore b i j)
 

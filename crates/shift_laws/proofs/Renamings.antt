@@ -1,5 +1,5 @@
 -- Rules that are given the orders of tasks under other names do the same with them.
-use Rattle.std.proofs.Common.{◌≡◌, ℕ, Bool, List, Option, refl, ap}
+use Rattle.std.proofs.Common.{◌≡◌, ℕ, Option, ap}
 use std.Equiv.{◌≃◌, id_equiv}
 use std.Univalence.{equiv_j}
 use Rattle.bench_types.specs.declared.kernel_data.MutexWait.{MutexWait}
@@ -53,8 +53,12 @@ same_ops a b same = λ i. record {
 }
 
 -- so a step under other names is the step, with its outcome under these names
-pub after_carried : {A B : Type 0} (e : A ≃ B) (a : QueueOps A) (b : QueueOps B) → Carries e.0 a b → (step : Step) (state : State A) → after b step (carried e.0 state) ≡ outcome_carried e.0 (after a step state)
+pub after_carried :
+    {A B : Type 0} (e : A ≃ B) (a : QueueOps A) (b : QueueOps B) → Carries e.0 a b → (step : Step) (state : State A)
+    → after b step (carried e.0 state) ≡ outcome_carried e.0 (after a step state)
 unfolding id_equiv
 after_carried {B = B} e a b carries step state =
-    equiv_j (λ A (e : A ≃ B). (a : QueueOps A) → Carries e.0 a b → (state : State A) → after b step (carried e.0 state) ≡ outcome_carried e.0 (after a step state))
+    equiv_j
+    (λ A (e : A ≃ B). (a : QueueOps A) → Carries e.0 a b → (state : State A)
+    → after b step (carried e.0 state) ≡ outcome_carried e.0 (after a step state))
     (λ a same state. ap (λ ops. after ops step state) (same_ops a b same)) e a carries state

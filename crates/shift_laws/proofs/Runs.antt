@@ -1,5 +1,5 @@
 -- Lists of steps from tables that are shifted: equal replies, running tasks and tallies, and shifted states.
-use Rattle.std.proofs.Common.{◌≡◌, ℕ, zero, suc, ◌≤◌, Bool, true, false, ◌||◌, List, [], ◌∷◌, length, take, refl, sym, ap, ap₂, subst, ◌∙◌, true≢false, inl, inr, arith}
+use Rattle.std.proofs.Common.{◌≡◌, ℕ, zero, suc, ◌≤◌, Bool, true, false, ◌||◌, List, [], ◌∷◌, length, take, refl, sym, ap, subst, ◌∙◌, true≢false, inl, inr, arith}
 use Rattle.std.specs.Prelude.{All, ◌⊎◌}
 use Rattle.std.proofs.lemmas.List.Elements.{All-head, All-take}
 use Rattle.bench_types.specs.declared.kernel_data.Settings.{Settings}
@@ -10,7 +10,7 @@ use Rattle.bench_model.specs.Control.{Control, running}
 use Rattle.bench_model.specs.Equal.{Same}
 use Rattle.bench_model.specs.Lists.{View, list_queues, view_of}
 use Rattle.bench_model.specs.Session.{step_of, state_after, trace}
-use Rattle.bench_model.specs.Shifted.{SameShifted, untimed, shifted, shift_between, delays_until, some_delays_until, is_met}
+use Rattle.bench_model.specs.Shifted.{SameShifted, untimed, shift_between, delays_until, some_delays_until, is_met}
 use Rattle.bench_model.specs.Sound.{IsSound}
 use Rattle.bench_model.specs.Table.{Table, stamp_queues}
 use Rattle.bench_model.specs.Tallied.{tally_after, tallied, moment_of, tallied_after, first_tallies, first_tally, part_tallies}
@@ -57,11 +57,13 @@ module _ (by : ℕ) (a b : Table) (step : Step) (steps : List Step) (both : AreS
   first_outcomes = from on.untold
     where
       from : AreUntold by (step ∷ steps) → ((step_of step a).0 ≡ (step_of step b).0) × IsShifted by (step_of step a).1 (step_of step b).1
-      from (inl never) = shifted_after by a b step both.first both.second both.same checked_first (neither (delays_until step) (some_delays_until steps) never).0
+      from (inl never) =
+          shifted_after by a b step both.first both.second both.same checked_first (neither (delays_until step) (some_delays_until steps) never).0
       from (inr none) =
           let same = unshifted a b (subst (λ by. IsShifted by a b) none both.same) in
           let outcomes = equal_after a b step both.first both.second same checked_first in
-          (outcomes.0, subst (λ by. IsShifted by (step_of step a).1 (step_of step b).1) (sym none) (not_shifted (step_of step a).1 (step_of step b).1 outcomes.1))
+          let stay = not_shifted (step_of step a).1 (step_of step b).1 outcomes.1 in
+          (outcomes.0, subst (λ by. IsShifted by (step_of step a).1 (step_of step b).1) (sym none) stay)
 
   shifted_next : AreShifted by (step_of step a).1 (step_of step b).1
   shifted_next = record {
@@ -81,11 +83,14 @@ module _ (by : ℕ) (a b : Table) (step : Step) (steps : List Step) (both : AreS
       untold_rest (inr none) = inr none
 
   -- the step counts the same from either table
-  counted_alike : (tallies : List TaskTally) → length tallies ≤ a.settings.tasks → tallied stamp_queues (moment_of a step) tallies ≡ tallied stamp_queues (moment_of b step) tallies
+  counted_alike :
+      (tallies : List TaskTally) → length tallies ≤ a.settings.tasks
+      → tallied stamp_queues (moment_of a step) tallies ≡ tallied stamp_queues (moment_of b step) tallies
   unfolding tallied tally_after
   counted_alike tallies few =
       let tasks = ap (λ (settings : Settings). settings.tasks) (shifted_settings by a b both.same) in
-      let counted = λ (before : View) (reply : Reply) (later : View). tallied list_queues (record { before = before; step = step; reply = reply; after = later }) tallies in
+      let counted = λ (before : View) (reply : Reply) (later : View).
+      tallied list_queues (record { before = before; step = step; reply = reply; after = later }) tallies in
       tallied_seen (moment_of a step) tallies both.first.consistent few
       ∙ sym (λ i. counted (both.same i) (sym first_outcomes.0 i) (first_outcomes.1 i))
       ∙ sym (tallied_seen (moment_of b step) tallies both.second.consistent (omega (arith, few, tasks)))
@@ -96,21 +101,27 @@ outcomes_alike : (by : ℕ) (steps : List Step) (a b : Table) → AreShifted by 
 outcomes_alike by [] a b both on = refl
 outcomes_alike by (step ∷ steps) a b both on =
     let outcomes = first_outcomes by a b step steps both on in
-    let one : ◌≡◌ {A = Reply × List ℕ} ((step_of step a).0, running (step_of step a).1.control) ((step_of step b).0, running (step_of step b).1.control) = ap₂ (λ reply (control : Control). (reply, running control)) outcomes.0 (shifted_control by (step_of step a).1 (step_of step b).1 outcomes.1) in
-    ap₂ (λ outcome rest. outcome ∷ rest) one (outcomes_alike by steps (step_of step a).1 (step_of step b).1 (shifted_next by a b step steps both on) (run_rest by a b step steps both on))
+    let control = shifted_control by (step_of step a).1 (step_of step b).1 outcomes.1 in
+    let rest = outcomes_alike by steps (step_of step a).1 (step_of step b).1 (shifted_next by a b step steps both on) (run_rest by a b step steps both on) in
+    λ i. (outcomes.0 i, running (control i)) ∷ rest i
 
 states_shifted : (by : ℕ) (steps : List Step) (a b : Table) → AreShifted by a b → RunOn by a steps → IsShifted by (state_after a steps) (state_after b steps)
 states_shifted by [] a b both on = both.same
-states_shifted by (step ∷ steps) a b both on = states_shifted by steps (step_of step a).1 (step_of step b).1 (shifted_next by a b step steps both on) (run_rest by a b step steps both on)
+states_shifted by (step ∷ steps) a b both on =
+    states_shifted by steps (step_of step a).1 (step_of step b).1 (shifted_next by a b step steps both on) (run_rest by a b step steps both on)
 
-tallies_alike : (by : ℕ) (steps : List Step) (a b : Table) (tallies : List TaskTally) → AreShifted by a b → RunOn by a steps → length tallies ≤ a.settings.tasks → tallied_after a steps tallies ≡ tallied_after b steps tallies
+tallies_alike :
+    (by : ℕ) (steps : List Step) (a b : Table) (tallies : List TaskTally) → AreShifted by a b → RunOn by a steps → length tallies ≤ a.settings.tasks
+    → tallied_after a steps tallies ≡ tallied_after b steps tallies
 tallies_alike by [] a b tallies both on few = refl
 tallies_alike by (step ∷ steps) a b tallies both on few =
     let tasks = ap (λ (settings : Settings). settings.tasks) (settings_after a step both.first) in
-    tallies_alike by steps (step_of step a).1 (step_of step b).1 (tallied stamp_queues (moment_of a step) tallies) (shifted_next by a b step steps both on) (run_rest by a b step steps both on) (omega (arith, few, tasks, length_tallied (moment_of a step) tallies))
+    tallies_alike by steps (step_of step a).1 (step_of step b).1 (tallied stamp_queues (moment_of a step) tallies)
+    (shifted_next by a b step steps both on) (run_rest by a b step steps both on) (omega (arith, few, tasks, length_tallied (moment_of a step) tallies))
     ∙ ap (tallied_after (step_of step b).1 steps) (counted_alike by a b step steps both on tallies few)
 
-parts_alike : (by : ℕ) (steps : List Step) (a b : Table) → AreShifted by a b → RunOn by a steps → part_tallies a.settings a steps ≡ part_tallies a.settings b steps
+parts_alike :
+    (by : ℕ) (steps : List Step) (a b : Table) → AreShifted by a b → RunOn by a steps → part_tallies a.settings a steps ≡ part_tallies a.settings b steps
 parts_alike by steps a b both on =
     tallies_alike by steps a b (first_tallies a.settings a.control) both on (omega (arith, length_each (first_tally a.settings a.control) a.settings.tasks))
     ∙ ap (λ (control : Control). tallied_after b steps (first_tallies a.settings control)) (shifted_control by a b both.same)
@@ -131,15 +142,21 @@ run_on : (by : ℕ) (a b : Table) (steps : List Step) → AreShifted by a b → 
 run_on by a b steps both on = record {
   outcomes = outcomes_alike by steps a b both on;
   tallies = parts_alike by steps a b both on;
-  states = λ place. states_shifted by (take place steps) a b both (record { checked = All-take (IsCheckedStep a.settings) place steps on.checked; untold = untold-take by place steps on.untold });
+  states = λ place.
+      states_shifted by (take place steps) a b both
+      (record { checked = All-take (IsCheckedStep a.settings) place steps on.checked; untold = untold-take by place steps on.untold });
 }
 
-pub run_shifted : (by : ℕ) (a b : Table) (steps : List Step) → IsSound a → IsSound b → IsShifted by a b → All (IsCheckedStep a.settings) steps → some_delays_until steps ≡ false → RunShifted by a b steps
+pub run_shifted :
+    (by : ℕ) (a b : Table) (steps : List Step) → IsSound a → IsSound b → IsShifted by a b → All (IsCheckedStep a.settings) steps
+    → some_delays_until steps ≡ false → RunShifted by a b steps
 run_shifted by a b steps first second same checked never =
     run_on by a b steps (record { first = first; second = second; same = same }) (record { checked = checked; untold = inl never })
 
 -- tables that have met run on so, whichever way they have met
-pub met_run : (a b : Table) (steps : List Step) → IsSound a → IsSound b → All (IsCheckedStep a.settings) steps → is_met a b steps ≡ true → RunShifted (shift_between (view_of a).orders.tick (view_of b).orders.tick) a b steps
+pub met_run :
+    (a b : Table) (steps : List Step) → IsSound a → IsSound b → All (IsCheckedStep a.settings) steps → is_met a b steps ≡ true
+    → RunShifted (shift_between (view_of a).orders.tick (view_of b).orders.tick) a b steps
 met_run a b steps first second checked met = from ((met_told a b steps).0 met)
   where
     by : ℕ
@@ -147,7 +164,9 @@ met_run a b steps first second checked met = from ((met_told a b steps).0 met)
 
     from : Same a b ⊎ (SameShifted a b × (some_delays_until steps ≡ false)) → RunShifted by a b steps
     from (inl same) =
+        let tick = (view_of a).orders.tick in
+        let none : by ≡ 0 = sym (ap (λ (view : View). shift_between tick view.orders.tick) same) ∙ no_ticks_between tick in
         run_on by a b steps
         (record { first = first; second = second; same = shifted_from_same a b (ap untimed same) })
-        (record { checked = checked; untold = inr (ap (shift_between (view_of a).orders.tick) (sym (ap (λ (view : View). view.orders.tick) same)) ∙ no_ticks_between (view_of a).orders.tick) })
+        (record { checked = checked; untold = inr none })
     from (inr parts) = run_shifted by a b steps first second (shifted_from_same a b parts.0) checked parts.1

@@ -1,5 +1,5 @@
 -- A step that does not delay until a tick count, from states whose tick counts differ alone.
-use Rattle.std.proofs.Common.{◌≡◌, ℕ, ◌<◌, ◌%◌, ◌^◌, Bool, true, false, refl, sym, ap, subst, ◌∙◌, true≢false, arith}
+use Rattle.std.proofs.Common.{◌≡◌, ℕ, ◌<◌, ◌^◌, false, refl, sym, ap, subst, ◌∙◌, true≢false, arith}
 use Rattle.bench_types.specs.declared.reply.Reply.{Reply}
 use Rattle.bench_types.specs.declared.step.Call.TheVariants.{DelayUntil}
 use Rattle.bench_types.specs.declared.step.Step.{Step}
@@ -18,19 +18,24 @@ use Rattle.bench_model.specs.Shifted.{SameShifted, untimed, later_tick, shifted,
 use Rattle.bench_model.specs.Sound.{IsSound}
 use Rattle.bench_model.specs.State.{State, QueueOps, after_select, yielded, blocked}
 use Rattle.bench_model.specs.Steps.{ticked, after_finish, delayed_until, called, performed, after}
-use Rattle.bench_model.specs.Table.{Table, stamp_queues}
+use Rattle.bench_model.specs.Table.{Table}
 use Rattle.step_laws.proofs.Steps.{after_seen}
 use Rattle.shift_laws.specs.Shifts.{IsShifted}
 use Rattle.shift_laws.proofs.Renamings.{Carries, carried, outcome_carried, after_carried}
-use Rattle.shift_laws.proofs.Turns.{turned, turned_lists, turned_later, turned_next, turns}
+use Rattle.shift_laws.proofs.Turns.{turned_lists, turned_later, turned_next, turns}
 
 -- the rules under another reading of the tick count
 abbrev clocked : {A : Type 0} → (A → ℕ) → QueueOps A → QueueOps A
 clocked count ops = record ops { tick_count = count }
 
 -- only a delay until a tick count reads it
-after_clocked : {A : Type 0} (count : A → ℕ) (ops : QueueOps A) (step : Step) (state : State A) → delays_until step ≡ false → after (clocked count ops) step state ≡ after ops step state
-unfolding after performed refusal would_block called ticked sliced wake after_switch after_eviction after_select yielded blocked priority_set affinity_set preemption_off preemption_on in_use_set notify interrupted state_forgotten bits_cleared awaited completed mutex_take mutex_give take_finished after_finish delayed_until inherited waited_at after_disinherit timed_out disinherited first_woken
+after_clocked :
+    {A : Type 0} (count : A → ℕ) (ops : QueueOps A) (step : Step) (state : State A) → delays_until step ≡ false
+    → after (clocked count ops) step state ≡ after ops step state
+unfolding after performed refusal would_block called ticked sliced wake after_switch after_eviction after_select
+    yielded blocked priority_set affinity_set preemption_off preemption_on in_use_set notify interrupted
+    state_forgotten bits_cleared awaited completed mutex_take mutex_give take_finished
+    after_finish delayed_until inherited waited_at after_disinherit timed_out disinherited first_woken
 after_clocked count ops (Call core task (DelayUntil prev inc)) state delays = absurd (true≢false delays)
 after_clocked count ops step state delays = refl
 
@@ -53,7 +58,9 @@ turns_carry by = record {
   forget_deadline = λ task o. refl;
 }
 
-after_turned : (by : ℕ) (step : Step) (view : View) → delays_until step ≡ false → after list_queues step (carried (turned_lists by) view) ≡ outcome_carried (turned_lists by) (after list_queues step view)
+after_turned :
+    (by : ℕ) (step : Step) (view : View) → delays_until step ≡ false
+    → after list_queues step (carried (turned_lists by) view) ≡ outcome_carried (turned_lists by) (after list_queues step view)
 after_turned by step view delays =
     sym (after_clocked (λ lists. 0) list_queues step (carried (turned_lists by) view) delays)
     ∙ after_carried (turns by) blind blind (turns_carry by) step view
@@ -70,13 +77,21 @@ shifted_turned by view below = ap (λ tick. record view { orders = record view.o
 
 -- ---- a step of tables that are shifted
 
-pub shifted_after : (by : ℕ) (a b : Table) (step : Step) → IsSound a → IsSound b → IsShifted by a b → IsCheckedStep a.settings step → delays_until step ≡ false → ((step_of step a).0 ≡ (step_of step b).0) × IsShifted by (step_of step a).1 (step_of step b).1
+pub shifted_after :
+    (by : ℕ) (a b : Table) (step : Step) → IsSound a → IsSound b → IsShifted by a b → IsCheckedStep a.settings step → delays_until step ≡ false
+    → ((step_of step a).0 ≡ (step_of step b).0) × IsShifted by (step_of step a).1 (step_of step b).1
 shifted_after by a b step sound other same checked delays =
     let settings : b.settings ≡ a.settings = ap (λ (view : View). view.settings) same in
     let turned_a = shifted_turned by (view_of a) (tick_below a) in
     let seen_b = after_seen step b other (subst (λ s. IsCheckedStep s step) (sym settings) checked) in
-    let both = seen_b ∙ ap (after list_queues step) (same ∙ sym turned_a) ∙ after_turned by step (view_of a) delays ∙ ap (outcome_carried (turned_lists by)) (sym (after_seen step a sound checked)) in
-    (sym (ap (λ (r : Reply × View). r.0) both), ap (λ (r : Reply × View). r.1) both ∙ shifted_turned by (view_of (step_of step a).1) (tick_below (step_of step a).1))
+    let both =
+    seen_b
+    ∙ ap (after list_queues step) (same ∙ sym turned_a)
+    ∙ after_turned by step (view_of a) delays
+    ∙ ap (outcome_carried (turned_lists by)) (sym (after_seen step a sound checked)) in (
+      sym (ap (λ (r : Reply × View). r.0) both),
+      ap (λ (r : Reply × View). r.1) both ∙ shifted_turned by (view_of (step_of step a).1) (tick_below (step_of step a).1),
+    )
 
 -- ---- equality but for the tick counts
 
@@ -107,7 +122,9 @@ not_shifted a b same = sym (no_shift (view_of a) (tick_below a) ∙ same)
 pub no_ticks_between : (tick : ℕ) → shift_between tick tick ≡ 0
 no_ticks_between tick = omega arith
 
-pub same_shifted_after : (a b : Table) (step : Step) → IsSound a → IsSound b → SameShifted a b → IsCheckedStep a.settings step → delays_until step ≡ false → ((step_of step a).0 ≡ (step_of step b).0) × SameShifted (step_of step a).1 (step_of step b).1
+pub same_shifted_after :
+    (a b : Table) (step : Step) → IsSound a → IsSound b → SameShifted a b → IsCheckedStep a.settings step → delays_until step ≡ false
+    → ((step_of step a).0 ≡ (step_of step b).0) × SameShifted (step_of step a).1 (step_of step b).1
 same_shifted_after a b step sound other same checked delays =
     let by = shift_between (view_of a).orders.tick (view_of b).orders.tick in
     let both = shifted_after by a b step sound other (shifted_from_same a b same) checked delays in

@@ -1,6 +1,6 @@
 -- A tick count that turns within its 32 bits, by so many ticks: a renaming of all numbers that a tick goes along with.
-use Rattle.std.proofs.Common.{◌≡◌, ℕ, ◌+◌, ◌-◌, ◌<◌, ◌%◌, ◌^◌, refl, sym, ap, ◌∙◌, arith}
-use std.Equiv.{◌≃◌, Iso, iso_to_equiv}
+use Rattle.std.proofs.Common.{◌≡◌, ℕ, ◌+◌, ◌-◌, ◌<◌, ◌%◌, ◌^◌, ap, arith}
+use std.Equiv.{◌≃◌, iso_to_equiv}
 use Rattle.bench_model.specs.Lists.{Lists, next_tick}
 use Rattle.bench_model.specs.Shifted.{later_tick}
 

@@ -7,12 +7,12 @@ use Rattle.bench_types.specs.declared.note.NoteState.TheVariants.{NotWaiting, Wa
 use Rattle.bench_types.specs.declared.step.Call.TheVariants.{Yield, Delay, DelayUntil, PrioritySet, AffinitySet, PreemptOff, PreemptOn, Notify, NotifyWait, NotifyTake, StateClear, ValueClear, MutexTake, MutexGive, Finish, HoldOpen, HoldClose}
 use Rattle.bench_types.specs.declared.step.Unfinished.TheVariants.{Made, Take}
 use Rattle.bench_model.specs.Equal.{Same}
-use Rattle.bench_model.specs.Lists.{View, view_of}
+use Rattle.bench_model.specs.Lists.{view_of}
 use Rattle.bench_model.specs.SameTest.{are_same_bools, are_same_options, are_same_lists, are_same_settings, are_same_looks, are_same_blocks, are_same_actions, are_same_notes, are_same_states, are_same_notifications, are_same_calls, are_same_unfinished, are_same_holds, are_same_delays, are_same_waiters, are_same_controls, are_same_orders, are_same_views, is_same}
 use Rattle.bench_model.specs.Table.{Table}
 
 -- the test tells of any two values whether they are equal
-abbrev Tells : {X : Type 0} → (X → X → Bool) → Type 0
+abbrev pub Tells : {X : Type 0} → (X → X → Bool) → Type 0
 Tells {X} same = (x y : X) → Decides (same x y) (x ≡ y)
 
 -- two values that the test never finds equal, and that are not
@@ -151,7 +151,7 @@ orders a b =
     (λ e. ((((λ i. (e i).ready, λ i. (e i).tick), λ i. (e i).delayed), λ i. (e i).waiters), λ i. (e i).deadlines))
     (two (two (two (two (lists (λ m n. nat_eq m n) Decides-eqb a.ready b.ready) (Decides-eqb a.tick b.tick)) (lists are_same_delays delays a.delayed b.delayed)) (lists are_same_waiters waiters a.waiters b.waiters)) (lists (are_same_options (λ m n. nat_eq m n)) maybe a.deadlines b.deadlines))
 
-pub views : (a b : View) → Decides (are_same_views a b) (a ≡ b)
+pub views : Tells are_same_views
 views a b =
     let maybe = options (λ m n. nat_eq m n) Decides-eqb in
     Decides-like (are_same_views a b)

@@ -127,7 +127,7 @@ counted_one_more table step steps task tally =
     (λ core below. omega (arith, each_at one (length tally.run) core 0 below)))
     (omega arith) (omega arith) (omega arith) (omega arith) (omega arith) (omega arith)
 
-length_tallied : (moment : Moment Stamps) (tallies : List TaskTally) → length (tallied stamp_queues moment tallies) ≡ length tallies
+pub length_tallied : (moment : Moment Stamps) (tallies : List TaskTally) → length (tallied stamp_queues moment tallies) ≡ length tallies
 unfolding tallied
 length_tallied moment tallies = length_each (λ task. tally_after stamp_queues moment task (tally_at tallies task)) (length tallies)
 

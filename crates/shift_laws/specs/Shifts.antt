@@ -1,0 +1,47 @@
+-- Kernels of which one looks as the other does at another tick count.
+use Rattle.std.specs.Prelude.{◌≡◌, ℕ, ◌<◌, List, take}
+use Rattle.bench_types.specs.declared.step.Step.{Step}
+use Rattle.bench_model.specs.Alike.{InOneReadyList, AreDelayedTogether, InOneWaitQueue, SameOrder, wait_of}
+use Rattle.bench_model.specs.Lists.{view_of}
+use Rattle.bench_model.specs.Looks.{ticks_left}
+use Rattle.bench_model.specs.Session.{state_after, trace}
+use Rattle.bench_model.specs.Shifted.{shifted}
+use Rattle.bench_model.specs.Table.{Table, is_ready, deadline_left}
+use Rattle.bench_model.specs.Tallied.{part_tallies}
+
+-- the second kernel is equal to the first with a tick count so many ticks later
+abbrev pub IsShifted : ℕ → Table → Table → Type 0
+IsShifted by a b = view_of b ≡ shifted by (view_of a)
+
+-- from both tables the steps have the same replies, the same running tasks after each and the same
+-- tallies, and at each place the second state is the first with a tick count so many ticks later
+pub record RunShifted (by : ℕ) (a b : Table) (steps : List Step) : Type 0 where
+  pub outcomes : trace a steps ≡ trace b steps
+  pub tallies : part_tallies a.settings a steps ≡ part_tallies a.settings b steps
+  pub states :
+      (place : ℕ)
+      → IsShifted by (state_after a (take place steps)) (state_after b (take place steps))
+
+-- Equality but for the tick counts, said pair by pair: all of SamePairwise but the tick counts.
+-- Stamps, wakes and deadlines themselves are not compared: only which of two stamps is the lesser,
+-- and how many ticks are left.
+pub record SamePairwiseShifted (a b : Table) : Type 0 where
+  pub settings : a.settings ≡ b.settings
+  -- each core's current task and flags, and each task's priorities, mask and preemption
+  pub control : a.control ≡ b.control
+  pub calls : a.calls ≡ b.calls
+  pub notes : a.notes ≡ b.notes
+  pub holders : a.holders ≡ b.holders
+  pub hold : a.hold ≡ b.hold
+  -- each task is ready in both or in none, with equal ticks left to its wake, waits equally at a
+  -- mutex, and has equal ticks left to the deadline of its wait for a mutex
+  pub ready : (i : ℕ) → i < a.settings.tasks → is_ready i a.orders ≡ is_ready i b.orders
+  pub left : (i : ℕ) → i < a.settings.tasks → ticks_left i a.orders ≡ ticks_left i b.orders
+  pub waits : (i : ℕ) → i < a.settings.tasks → wait_of i a ≡ wait_of i b
+  pub deadlines :
+      (i : ℕ) → i < a.settings.tasks → deadline_left i a.orders ≡ deadline_left i b.orders
+  -- the order of each ready list, of the tasks with one number of ticks left, and of the waiters of
+  -- one waiting priority
+  pub ready_order : SameOrder InOneReadyList a b
+  pub delay_order : SameOrder AreDelayedTogether a b
+  pub queue_order : SameOrder InOneWaitQueue a b

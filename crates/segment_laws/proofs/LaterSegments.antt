@@ -16,8 +16,10 @@ use Rattle.bench_model.specs.Shifted.{delays_until, shifted, some_delays_until}
 use Rattle.bench_model.specs.Sound.{IsSound}
 use Rattle.bench_model.specs.Table.{Table}
 use Rattle.step_laws.proofs.Along.{sound_along, settings_along}
+use Rattle.shift_laws.proofs.LaterTables.{stands_shifted}
+use Rattle.shift_laws.proofs.Steps.{not_shifted}
 use Rattle.meeting_laws.specs.RunLaws.{MeetBy}
-use Rattle.meeting_laws.proofs.Meets.{met_run_alike, none_later}
+use Rattle.meeting_laws.proofs.Meets.{met_run_alike}
 use Rattle.segment_laws.specs.Segments.{SegmentView, steps_of, all_steps, later_segment, later_segments, lengths, Follow}
 use Rattle.segment_laws.proofs.Following.{All_front, All_back}
 
@@ -63,7 +65,7 @@ later_nothing by = at (eqb by 0)
 moved_none : (segments : List SegmentView) (a : Table) → Follow a segments → moved 0 segments ≡ segments
 moved_none [] a follow = refl
 moved_none (segment ∷ segments) a follow =
-    let same : shifted 0 segment.kernel ≡ segment.kernel = sym (ap (shifted 0) follow.0.shows) ∙ none_later a ∙ follow.0.shows in
+    let same : shifted 0 segment.kernel ≡ segment.kernel = sym (ap (shifted 0) follow.0.shows) ∙ sym (not_shifted a a refl) ∙ follow.0.shows in
     ap₂ (λ kernel rest. record { kernel = kernel; steps = segment.steps } ∷ rest) same (moved_none segments (state_after a segment.steps) follow.1)
 
 later_moved : (by : ℕ) (segments : List SegmentView) (a : Table) → Follow a segments → later_segments by segments ≡ moved by segments
@@ -95,10 +97,6 @@ met_back by a b own rest later unread = record {
       unread;
 }
 
--- a kernel that stands for a table stands for the later one so many ticks later
-pub stands_later : (by : ℕ) (view : View) (a b : Table) → StandsFor view a → view_of b ≡ shifted by (view_of a) → IsSound b → StandsFor (shifted by view) b
-stands_later by view a b stands later sound = record { sound = sound; shows = later ∙ ap (shifted by) stands.shows }
-
 follow_moved : (by : ℕ) (segments : List SegmentView) (a b : Table) → IsSound a → IsSound b → MeetBy by a b (all_steps segments) → All (IsCheckedStep a.settings) (all_steps segments) → Follow a segments → Follow b (moved by segments)
 follow_moved by [] a b first second meet all follow = tt
 follow_moved by (segment ∷ segments) a b first second meet all follow =
@@ -108,7 +106,7 @@ follow_moved by (segment ∷ segments) a b first second meet all follow =
     let other = subst (λ settings. All (IsCheckedStep settings) segment.steps) (sym settings) own in
     let run = met_run_alike by a b segment.steps first second (met_front by a b segment.steps (all_steps segments) meet) own in
     let reached = subst (λ steps. view_of (state_after b steps) ≡ shifted by (view_of (state_after a steps))) (take_all (length segment.steps) segment.steps (omega arith)) (run.states (length segment.steps)) in
-    (stands_later by segment.kernel a b follow.0 meet.later second, follow_moved by segments (state_after a segment.steps) (state_after b segment.steps) (sound_along segment.steps a first own) (sound_along segment.steps b second other) (met_back by (state_after a segment.steps) (state_after b segment.steps) segment.steps (all_steps segments) reached meet.unread) (subst (λ settings. All (IsCheckedStep settings) (all_steps segments)) (sym (settings_along segment.steps a first own)) rest) follow.1)
+    (stands_shifted by segment.kernel a b follow.0 meet.later second, follow_moved by segments (state_after a segment.steps) (state_after b segment.steps) (sound_along segment.steps a first own) (sound_along segment.steps b second other) (met_back by (state_after a segment.steps) (state_after b segment.steps) segment.steps (all_steps segments) reached meet.unread) (subst (λ settings. All (IsCheckedStep settings) (all_steps segments)) (sym (settings_along segment.steps a first own)) rest) follow.1)
 
 -- from a state that they meet segments of checked steps follow, so many ticks later
 pub follow_met : (by : ℕ) (segments : List SegmentView) (a b : Table) → IsSound a → IsSound b → MeetBy by a b (all_steps segments) → All (IsCheckedStep a.settings) (all_steps segments) → Follow a segments → Follow b (later_segments by segments)

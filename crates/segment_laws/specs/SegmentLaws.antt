@@ -1,17 +1,22 @@
 -- The laws of segments. Each is a clause of a public function.
-use Rattle.std.specs.Prelude.{◌≡◌, ◌⊎◌, ℕ, ◌+◌, ◌-◌, ◌*◌, ◌<◌, ◌≤◌, List, [], ◌∷◌, ◌++◌, length, take, drop, replicate, Some, Ok, slice_get}
+use Rattle.std.specs.Prelude.{◌≡◌, ◌⊎◌, ℕ, ◌+◌, ◌-◌, ◌*◌, ◌<◌, ◌≤◌, List, [], ◌∷◌, ◌++◌, length, take, drop, replicate, Some, Ok, slice_get, All, false}
 use Rattle.bench_types.specs.declared.edit.Edit.{Edit}
 use Rattle.bench_types.specs.declared.step.Step.{Step}
+use Rattle.bench_types.specs.declared.reply.Reply.{Reply}
 use Rattle.bench_types.specs.Edit.{IsEditOfWords}
 use Rattle.bench_types.specs.Session.{Session, IsSession}
+use Rattle.bench_types.specs.Step.{IsCheckedStep}
 use Rattle.bench_model.specs.Edits.{accepted, edited}
 use Rattle.bench_model.specs.Equal.{StandsFor}
+use Rattle.bench_model.specs.Lists.{View}
 use Rattle.bench_model.specs.Meeting.{CheckpointedSession, last_place, first_checkpoints, place_of, replayed_from, met, kept_after}
 use Rattle.bench_model.specs.Session.{state_after, state_at, reply_at, running_at}
+use Rattle.bench_model.specs.Shifted.{shifted, some_delays_until}
 use Rattle.bench_model.specs.Table.{Table}
+use Rattle.bench_model.specs.Tally.{TaskTally}
 use Rattle.meeting_laws.specs.CheckpointLaws.{AreCheckpoints}
 use Rattle.segment_laws.specs.EditedSegments.{IsPartedAt, AreParted, AreUnmet, AreReplayed}
-use Rattle.segment_laws.specs.Segments.{SegmentView, all_steps, later_segments, starts, Follow, AreSegments, IsIndexOf, reply_after, running_after}
+use Rattle.segment_laws.specs.Segments.{SegmentView, all_steps, later_segments, starts, Follow, AreSegments, IsIndexOf, IsTold, reply_after, running_after}
 
 -- the segment from the last checkpoint before a place tells what the session has at the place
 pub record IsReadAt (session : Session) (place from : ℕ) (segment : SegmentView) : Type 0 where
@@ -42,6 +47,15 @@ SegmentFollows =
     (table : Table) (segments : List SegmentView) (index : ℕ) (segment : SegmentView)
     → Follow table segments → slice_get segments index ≡ Some segment
     → StandsFor segment.kernel (state_after table (all_steps (take index segments)))
+
+-- what steps on a kernel led to, they lead to so many ticks later, where none reads the tick count
+abbrev pub ToldStaysLater : Type 0
+ToldStaysLater =
+    (by : ℕ) (kernel : View) (steps : List Step) (table : Table) (replies : List Reply)
+    (currents : List ℕ) (tallies : List TaskTally) → StandsFor kernel table
+    → All (IsCheckedStep kernel.settings) steps → some_delays_until steps ≡ false
+    → IsTold kernel steps replies currents tallies
+    → IsTold (shifted by kernel) steps replies currents tallies
 
 -- a session that is opened is cut at each span before its last place
 abbrev pub OpenedPlacesAreFirst : Type 0

@@ -1,6 +1,7 @@
 -- Segments of a session: the steps from one checkpoint to the next, with the kernel at the first.
 use Rattle.std.specs.Prelude.{◌≡◌, ℕ, ◌+◌, ◌<◌, ◌≤◌, ⊤, List, [], ◌∷◌, ◌==◌, length, map, take, Option, Some, None, nat_le, if◌then◌else◌, option_map, slice_get}
 use Rattle.std.specs.List.{flat_map}
+use Rattle.bench_types.specs.declared.kernel_data.Settings.{Settings}
 use Rattle.bench_types.specs.declared.reply.Reply.{Reply}
 use Rattle.bench_types.specs.declared.step.Step.{Step}
 use Rattle.bench_types.specs.Step.{core_of}
@@ -8,10 +9,12 @@ use Rattle.bench_model.specs.Control.{current, running}
 use Rattle.bench_model.specs.Equal.{StandsFor}
 use Rattle.bench_model.specs.Lists.{View}
 use Rattle.bench_model.specs.Meeting.{CheckpointedSession}
-use Rattle.bench_model.specs.Session.{step_of, state_after}
+use Rattle.bench_model.specs.Session.{step_of, state_after, trace}
 use Rattle.bench_model.specs.Shifted.{shifted}
 use Rattle.bench_model.specs.Start.{start}
 use Rattle.bench_model.specs.Table.{Table}
+use Rattle.bench_model.specs.Tallied.{part_tallies, shape, shape_of}
+use Rattle.bench_model.specs.Tally.{TaskTally}
 
 pub record SegmentView : Type 0 where
   -- what can be seen of the kernel at the checkpoint
@@ -76,3 +79,19 @@ currents_after table (step ∷ steps) =
 abbrev pub running_after : Table → List Step → ℕ → Option (List ℕ)
 running_after table steps count = let after = state_after table (take count steps) in
     if nat_le count (length steps) then Some (running after.control) else None
+
+-- the replies of the steps from a table on, the current task of each step's core after it, and the
+-- tallies of the steps
+pub record IsReplayedFrom (table : Table) (settings : Settings) (steps : List Step)
+    (replies : List Reply) (currents : List ℕ) (tallies : List TaskTally) : Type 0 where
+  pub replies_are : replies ≡ map (λ outcome. outcome.0) (trace table steps)
+  pub currents_are : currents ≡ currents_after table steps
+  pub tallies_are : tallies ≡ part_tallies settings table steps
+
+-- what steps on a kernel led to
+pub record IsTold (kernel : View) (steps : List Step) (replies : List Reply) (currents : List ℕ)
+    (tallies : List TaskTally) : Type 0 where
+  pub sizes : shape tallies ≡ shape_of kernel.settings
+  pub outcomes :
+      (table : Table) → StandsFor kernel table
+      → IsReplayedFrom table kernel.settings steps replies currents tallies

@@ -1,21 +1,23 @@
--- Segments that are replayed in place, up to the first that begins with the kernel that the replay
--- comes to.
-use Rattle.std.proofs.Common.{◌≡◌, ℕ, zero, suc, ◌+◌, ◌-◌, ◌<◌, ◌≤◌, List, [], ◌∷◌, ◌++◌, length, map, take, drop, refl, sym, ap, ap₂, subst, ◌∙◌, arith}
+-- Segments that are replayed in place, up to the first that the replay meets.
+use Rattle.std.proofs.Common.{◌≡◌, ℕ, zero, suc, false, ◌+◌, ◌-◌, ◌<◌, ◌≤◌, List, [], ◌∷◌, ◌++◌, length, map, take, drop, refl, sym, ap, ap₂, subst, ◌∙◌, arith}
 use Rattle.std.specs.Prelude.{Some, slice_get, slice_set}
 use Rattle.std.specs.List.{flat_map}
 use Rattle.std.proofs.Math.Seq.{set-append_seam}
-use Rattle.std.proofs.lemmas.List.{append-nil, append_assoc, drop_at, drop-drop, length-append, length-drop, length-map, length-take-le, map-append, take-append-drop}
+use Rattle.std.proofs.lemmas.List.{append-nil, append_assoc, drop_at, take_at, drop-drop, length-append, length-drop, length-map, length-take-le, map-append, take-append-drop}
 use Rattle.std.proofs.lemmas.Simd.{map-map}
 use Rattle.std.proofs.lemmas.List.Folds.{flat_map-map}
 use Rattle.std.proofs.lemmas.Option.{same_Some, slice_get_past}
 use Rattle.bench_types.specs.declared.step.Step.{Step}
-use Rattle.bench_model.specs.Equal.{Same, StandsFor}
+use Rattle.bench_model.specs.Equal.{StandsFor}
 use Rattle.bench_model.specs.Lists.{View}
 use Rattle.bench_model.specs.Session.{state_after}
+use Rattle.bench_model.specs.Shifted.{is_met}
 use Rattle.bench_model.specs.Table.{Table}
-use Rattle.segment_laws.specs.EditedSegments.{AreUnequal}
-use Rattle.segment_laws.specs.Segments.{SegmentView, steps_of, all_steps, lengths, Follow}
+use Rattle.meeting_laws.specs.RunLaws.{MeetBy}
+use Rattle.segment_laws.specs.EditedSegments.{AreUnmet}
+use Rattle.segment_laws.specs.Segments.{SegmentView, steps_of, all_steps, later_segments, lengths, Follow}
 use Rattle.segment_laws.proofs.Following.{all_more, follow_append, state_append, take_found, take_with}
+use Rattle.segment_laws.proofs.LaterSegments.{later_parts}
 use Rattle.session_segments.specs.Again.{AreReplayedFrom}
 use Rattle.session_segments.specs.Counting.{meter_after}
 use Rattle.session_segments.proofs.Counts.{counted_twice}
@@ -86,34 +88,33 @@ later_counted after count old middle new segment found before more =
 
 -- ---- one segment after another
 
--- so many of the segments were replayed, none of which began with the kernel that the replay had
--- come to
-pub record IsLater (table : Table) (after made : List SegmentView) (count : ℕ) (kernel : View) : Type 0 where
+-- so many of the segments were replayed, none of which the replay met
+pub record IsGoing (table : Table) (after made : List SegmentView) (count : ℕ) (kernel : View) : Type 0 where
   pub parts_are : map steps_of made ≡ map steps_of (take count after)
   pub follow : Follow table made
-  pub unequal : AreUnequal table [] after count
+  pub unmet : AreUnmet table [] after count
   pub stands : StandsFor kernel (state_after table (all_steps (take count after)))
 
--- the segment does not begin with a kernel that is equal to the one that the replay came to
-abbrev pub BeginsOtherwise : SegmentView → View → Type 0
-BeginsOtherwise segment kernel = (a b : Table) → StandsFor segment.kernel a → StandsFor kernel b → Same a b → ⊥
+-- the replay, which has come to the kernel, does not meet the segment, after which these steps come
+abbrev pub IsUnmet : SegmentView → View → List Step → Type 0
+IsUnmet segment kernel steps = (a b : Table) → StandsFor segment.kernel a → StandsFor kernel b → is_met a b steps ≡ false
 
--- it does
-abbrev pub BeginsAlike : SegmentView → View → Type 0
-BeginsAlike segment kernel = (a b : Table) → StandsFor segment.kernel a → StandsFor kernel b → Same a b
+-- it does, so many ticks later
+abbrev pub IsMetBy : ℕ → SegmentView → View → List Step → Type 0
+IsMetBy by segment kernel steps = (a b : Table) → StandsFor segment.kernel a → StandsFor kernel b → MeetBy by a b steps
 
-pub unequal_more : (table : Table) (after : List SegmentView) (count : ℕ) (segment : SegmentView) (kernel : View) → slice_get after count ≡ Some segment → BeginsOtherwise segment kernel → StandsFor kernel (state_after table (all_steps (take count after))) → AreUnequal table [] after count → AreUnequal table [] after (count + 1)
-unequal_more table after count segment kernel found otherwise stands unequal =
+pub unmet_more : (table : Table) (after : List SegmentView) (count : ℕ) (segment : SegmentView) (kernel : View) → slice_get after count ≡ Some segment → IsUnmet segment kernel (all_steps (drop count after)) → StandsFor kernel (state_after table (all_steps (take count after))) → AreUnmet table [] after count → AreUnmet table [] after (count + 1)
+unmet_more table after count segment kernel found otherwise stands unmet =
     let reached = λ (i : ℕ). state_after table (all_steps (take i after)) in
-    let apart = λ (i : ℕ). (one : SegmentView) (old : Table) → slice_get after i ≡ Some one → StandsFor one.kernel old → Same old (reached i) → ⊥ in
-    let below : (i : ℕ) → i < count → apart i = λ i early one old there begins same. unequal i one old early there begins same in
-    let here : apart count = λ one old there begins same.
-    otherwise old (reached count) (subst (λ (view : SegmentView). StandsFor view.kernel old) (same_Some one segment (sym there ∙ found)) begins) stands same in
-    λ i one old early there begins same. below_more apart count below here i (omega arith) one old there begins same
+    let apart = λ (i : ℕ). (one : SegmentView) (old : Table) → slice_get after i ≡ Some one → StandsFor one.kernel old → is_met old (reached i) (all_steps (drop i after)) ≡ false in
+    let below : (i : ℕ) → i < count → apart i = λ i early one old there begins. unmet i one old early there begins in
+    let here : apart count = λ one old there begins.
+    otherwise old (reached count) (subst (λ (view : SegmentView). StandsFor view.kernel old) (same_Some one segment (sym there ∙ found)) begins) stands in
+    λ i one old early there begins. below_more apart count below here i (omega arith) one old there begins
 
 later_goes : (table : Table) (after made : List SegmentView) (count : ℕ) (kernel moved : View) (segment : SegmentView) → slice_get after count ≡ Some segment
-    → ((begun : Table) → StandsFor kernel begun → StandsFor moved (state_after begun segment.steps)) → BeginsOtherwise segment kernel
-    → IsLater table after made count kernel → IsLater table after (made ++ record { kernel = kernel; steps = segment.steps } ∷ []) (count + 1) moved
+    → ((begun : Table) → StandsFor kernel begun → StandsFor moved (state_after begun segment.steps)) → IsUnmet segment kernel (all_steps (drop count after))
+    → IsGoing table after made count kernel → IsGoing table after (made ++ record { kernel = kernel; steps = segment.steps } ∷ []) (count + 1) moved
 later_goes table after made count kernel moved segment found moves otherwise later =
     let own : SegmentView = record { kernel = kernel; steps = segment.steps } in
     let reached = state_after table (all_steps (take count after)) in
@@ -125,7 +126,7 @@ later_goes table after made count kernel moved segment found moves otherwise lat
           ∙ sym (map-append steps_of (take count after) (segment ∷ []))
           ∙ ap (map steps_of) (sym (took_more after count segment found));
       follow = follow_append made (own ∷ []) table later.follow (subst (StandsFor kernel) begun later.stands, tt);
-      unequal = unequal_more table after count segment kernel found otherwise later.stands later.unequal;
+      unmet = unmet_more table after count segment kernel found otherwise later.stands later.unmet;
       stands =
           subst (StandsFor moved)
           (sym (ap (state_after table) (more_steps after count segment found) ∙ state_append table (all_steps (take count after)) segment.steps))
@@ -139,7 +140,7 @@ pub record IsReplaying (table : Table) (first : ℕ) (old new : List SegmentView
   pub made : List SegmentView
   pub order : first ≤ index
   pub replaced : new ≡ take first old ++ made ++ drop (index - first) (drop first old)
-  pub later : IsLater table (drop first old) made (index - first) kernel
+  pub going : IsGoing table (drop first old) made (index - first) kernel
 
 pub replay_starts : (table : Table) (first : ℕ) (old : List SegmentView) (kernel : View) → StandsFor kernel table → IsReplaying table first old old first kernel
 replay_starts table first old kernel stands =
@@ -150,10 +151,10 @@ replay_starts table first old kernel stands =
       replaced =
           sym (take-append-drop first old) ∙ ap (λ xs. xs ++ drop first old) (sym (append-nil (take first old)))
           ∙ ap (λ n. take first old ++ [] ++ drop n (drop first old)) none;
-      later = subst (λ n. IsLater table (drop first old) [] n kernel) none (record {
+      going = subst (λ n. IsGoing table (drop first old) [] n kernel) none (record {
         parts_are = refl;
         follow = tt;
-        unequal = λ i segment begun below. absurd (omega arith);
+        unmet = λ i segment begun below. absurd (omega arith);
         stands = stands;
       });
     }
@@ -167,14 +168,15 @@ rest_is table first old new index kernel so_far =
 pub replay_ends : (table : Table) (first : ℕ) (old new : List SegmentView) (index : ℕ) (kernel : View) → index ≡ length old → IsReplaying table first old new index kernel → AreReplayedFrom table first old new index
 replay_ends table first old new index kernel all so_far = record {
   made = so_far.made;
+  by = 0;
   order = so_far.order;
   replaced = so_far.replaced ∙ ap (λ xs. take first old ++ so_far.made ++ xs) (rest_is table first old new index kernel so_far);
   replay = record {
     within = omega (arith, all, length-drop first old);
-    parts_are = so_far.later.parts_are;
-    follow = so_far.later.follow;
-    unequal = so_far.later.unequal;
-    equal = λ one begun there begins. let past = slice_get_past (drop first old) (index - first) (omega (arith, all, length-drop first old)) in absurd (cc (there, past));
+    parts_are = so_far.going.parts_are;
+    follow = so_far.going.follow;
+    unmet = so_far.going.unmet;
+    met = λ one begun there begins. let past = slice_get_past (drop first old) (index - first) (omega (arith, all, length-drop first old)) in absurd (cc (there, past));
   };
 }
 
@@ -186,8 +188,8 @@ same_lengths table first old new end replayed =
     let all : first + (end - first) ≡ end = omega (arith, replayed.order) in
     let rest : drop end old ≡ drop count after = ap (λ n. drop n old) (sym all) ∙ sym (drop-drop count first old) in
     let parts : map steps_of new ≡ map steps_of old =
-    ap (map steps_of) (replayed.replaced ∙ append_assoc (take first old) replayed.made (drop end old)) ∙ map-append steps_of (take first old) (replayed.made ++ drop end old)
-    ∙ ap (λ xs. map steps_of (take first old) ++ xs) (map-append steps_of replayed.made (drop end old) ∙ ap (λ xs. xs ++ map steps_of (drop end old)) replayed.replay.parts_are ∙ sym (map-append steps_of (take count after) (drop end old)) ∙ ap (map steps_of) (ap (λ xs. take count after ++ xs) rest ∙ take-append-drop count after))
+    ap (map steps_of) (replayed.replaced ∙ append_assoc (take first old) replayed.made (later_segments replayed.by (drop end old))) ∙ map-append steps_of (take first old) (replayed.made ++ later_segments replayed.by (drop end old))
+    ∙ ap (λ xs. map steps_of (take first old) ++ xs) (map-append steps_of replayed.made (later_segments replayed.by (drop end old)) ∙ ap (λ xs. map steps_of replayed.made ++ xs) (later_parts replayed.by (drop end old)) ∙ ap (λ xs. xs ++ map steps_of (drop end old)) replayed.replay.parts_are ∙ sym (map-append steps_of (take count after) (drop end old)) ∙ ap (map steps_of) (ap (λ xs. take count after ++ xs) rest ∙ take-append-drop count after))
     ∙ sym (map-append steps_of (take first old) after) ∙ ap (map steps_of) (take-append-drop first old) in
     sym (map-map length steps_of new) ∙ ap (map length) parts ∙ map-map length steps_of old
 
@@ -203,7 +205,7 @@ module _ (table : Table) (first : ℕ) (old new : List SegmentView) (index : ℕ
 
   made_size : length so_far.made ≡ count
   made_size =
-      sym (length-map so_far.made steps_of) ∙ ap length so_far.later.parts_are ∙ length-map (take count after) steps_of
+      sym (length-map so_far.made steps_of) ∙ ap length so_far.going.parts_are ∙ length-map (take count after) steps_of
       ∙ length-take-le count after (omega (arith, early, so_far.order, length-drop first old))
 
   place : length (take first old) + count ≡ index
@@ -216,6 +218,16 @@ module _ (table : Table) (first : ℕ) (old new : List SegmentView) (index : ℕ
       ∙ ap (λ n. slice_get (take first old ++ so_far.made ++ drop count after) n) place
       ∙ ap (λ xs. slice_get xs index) (sym so_far.replaced) ∙ found
 
+  front_length : length (take first old ++ so_far.made) ≡ index
+  front_length = omega (arith, length-append (take first old) so_far.made, front_size, made_size, so_far.order)
+
+  -- and those after it are those that were there
+  pub rest_there : drop index new ≡ drop count after
+  rest_there = ap (drop index) so_far.replaced ∙ drop_at (take first old ++ so_far.made) (drop count after) index front_length
+
+  front_there : take index new ≡ take first old ++ so_far.made
+  front_there = ap (take index) so_far.replaced ∙ take_at (take first old ++ so_far.made) (drop count after) index front_length
+
   next_set : (segment own : SegmentView) → slice_get after count ≡ Some segment → slice_set new index own ≡ take first old ++ (so_far.made ++ own ∷ []) ++ drop (count + 1) after
   next_set segment own found =
       ap (λ xs. slice_set xs index own) so_far.replaced
@@ -223,32 +235,35 @@ module _ (table : Table) (first : ℕ) (old new : List SegmentView) (index : ℕ
       ∙ set_there (take first old) so_far.made after count segment own made_size found
 
   pub replay_goes : (segment own : SegmentView) (next : List SegmentView) (moved : View) → slice_get new index ≡ Some segment → own ≡ record { kernel = kernel; steps = segment.steps } → next ≡ slice_set new index own
-      → ((begun : Table) → StandsFor kernel begun → StandsFor moved (state_after begun segment.steps)) → BeginsOtherwise segment kernel → IsReplaying table first old next (index + 1) moved
+      → ((begun : Table) → StandsFor kernel begun → StandsFor moved (state_after begun segment.steps)) → IsUnmet segment kernel (all_steps (drop index new)) → IsReplaying table first old next (index + 1) moved
   replay_goes segment own next moved found is set moves otherwise =
       let there = next_found segment found in
+      let unmet_here = subst (λ (rest : List SegmentView). IsUnmet segment kernel (all_steps rest)) rest_there otherwise in
       let more : count + 1 ≡ index + 1 - first = omega (arith, so_far.order) in
       record {
         made = so_far.made ++ record { kernel = kernel; steps = segment.steps } ∷ [];
         order = omega (arith, so_far.order);
         replaced = set ∙ next_set segment own there ∙ ap (λ s. take first old ++ (so_far.made ++ s ∷ []) ++ drop (count + 1) after) is
             ∙ ap (λ n. take first old ++ (so_far.made ++ record { kernel = kernel; steps = segment.steps } ∷ []) ++ drop n after) more;
-        later = subst (λ n. IsLater table after (so_far.made ++ record { kernel = kernel; steps = segment.steps } ∷ []) n moved) more (later_goes table after so_far.made count kernel moved segment there moves otherwise so_far.later);
+        going = subst (λ n. IsGoing table after (so_far.made ++ record { kernel = kernel; steps = segment.steps } ∷ []) n moved) more (later_goes table after so_far.made count kernel moved segment there moves unmet_here so_far.going);
       }
 
-  -- it begins with the kernel that the replay came to
-  pub replay_meets : (segment : SegmentView) → slice_get new index ≡ Some segment → BeginsAlike segment kernel → AreReplayedFrom table first old new index
-  replay_meets segment found alike = record {
+  -- the replay meets it
+  pub replay_meets : (segment : SegmentView) (by : ℕ) (next : List SegmentView) → slice_get new index ≡ Some segment → next ≡ take index new ++ later_segments by (drop index new) → IsMetBy by segment kernel (all_steps (drop index new)) → AreReplayedFrom table first old next index
+  replay_meets segment by next found moved meets = record {
     made = so_far.made;
+    by = by;
     order = so_far.order;
-    replaced = so_far.replaced ∙ ap (λ xs. take first old ++ so_far.made ++ xs) (rest_is table first old new index kernel so_far);
+    replaced = moved ∙ ap₂ (λ front rest. front ++ later_segments by rest) front_there (rest_there ∙ rest_is table first old new index kernel so_far);
     replay = record {
       within = omega (arith, early, length-drop first old);
-      parts_are = so_far.later.parts_are;
-      follow = so_far.later.follow;
-      unequal = so_far.later.unequal;
-      equal = λ one begun there begins.
-          alike begun (state_after table (all_steps (take count after)))
-          (subst (λ (view : SegmentView). StandsFor view.kernel begun) (same_Some one segment (sym there ∙ next_found segment found)) begins) so_far.later.stands;
+      parts_are = so_far.going.parts_are;
+      follow = so_far.going.follow;
+      unmet = so_far.going.unmet;
+      met = λ one begun there begins.
+          let met_here = subst (λ (rest : List SegmentView). IsMetBy by segment kernel (all_steps rest)) rest_there meets in
+          met_here begun (state_after table (all_steps (take count after)))
+          (subst (λ (view : SegmentView). StandsFor view.kernel begun) (same_Some one segment (sym there ∙ next_found segment found)) begins) so_far.going.stands;
     };
   }
 

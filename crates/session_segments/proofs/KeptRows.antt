@@ -16,8 +16,8 @@ use Rattle.bench_model.specs.Lists.{View}
 use Rattle.bench_model.specs.Session.{state_after}
 use Rattle.bench_model.specs.Table.{Table}
 use Rattle.bench_model.specs.Tally.{TaskTally}
-use Rattle.segment_laws.specs.Segments.{reply_after, running_after}
-use Rattle.session_segments.specs.Kept.{IsBegun, IsTold}
+use Rattle.segment_laws.specs.Segments.{reply_after, running_after, IsTold}
+use Rattle.session_segments.specs.Kept.{IsBegun}
 use Rattle.session_segments.proofs.Replays.{runs, cores_stand}
 use Rattle.session_segments.proofs.Rows.{current_stays, current_told, currents_length, first_told, in_row, own_core, reply_told, row_moves, row_sized, row_within}
 use Rattle.step_laws.proofs.Along.{settings_along, sound_along}

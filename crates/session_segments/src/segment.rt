@@ -10,10 +10,10 @@ ghost use Rattle.bench_model.specs.Table.{Table};
 ghost use Rattle.bench_model.specs.Tallied.{first_tallies, part_tallies, shape, shape_of, AllCountsBelow};
 ghost use Rattle.bench_reports.specs.Tops.{HasTops};
 ghost use Rattle.shift_laws.specs.Shifts.{IsShifted};
-ghost use Rattle.segment_laws.specs.Segments.{later_segment, reply_after, running_after};
+ghost use Rattle.segment_laws.specs.Segments.{later_segment, reply_after, running_after, IsTold};
 ghost use Rattle.smp_kernel.specs.Kernel.{StandsForSome};
 ghost use Rattle.session_segments.specs.Counting.{meter_after, CountsUpTo};
-ghost use Rattle.session_segments.specs.Kept.{HasRoom, IsTold};
+ghost use Rattle.session_segments.specs.Kept.{HasRoom};
 
 use crate::checkpoint::Checkpoint;
 use crate::replay::{advance, first_row};

@@ -1,4 +1,4 @@
-ghost use Rattle.std.specs.Prelude.{◌≡◌, ◌≤◌, ℕ, false, tt, All, IfOk, List, OnOk, OnErr, length, ⊤};
+ghost use Rattle.std.specs.Prelude.{◌≡◌, ◌≤◌, ℕ, false, All, IfOk, List, OnOk, OnErr, length, ⊤};
 ghost use Rattle.std.specs.Vec.{vec_capacity};
 ghost use Rattle.bench_types.specs.Limits.{max_cores, max_steps};
 ghost use Rattle.bench_types.specs.Step.{IsCheckedStep};
@@ -10,8 +10,9 @@ ghost use Rattle.bench_model.specs.Shifted.{shifted, some_delays_until};
 ghost use Rattle.bench_model.specs.Table.{Table};
 ghost use Rattle.smp_kernel.specs.Kernel.{StandsForSome};
 ghost use Rattle.session_segments.specs.Counting.{meter_after, CountsUpTo};
-ghost use Rattle.session_segments.specs.Kept.{HasRoom, IsBegun, IsTold};
-ghost use Rattle.session_segments.proofs.Later.{told_later};
+ghost use Rattle.session_segments.specs.Kept.{HasRoom, IsBegun};
+ghost use Rattle.segment_laws.specs.Segments.{IsTold};
+ghost use Rattle.segment_laws.proofs.ToldLater.{told_later};
 
 use crate::replay::{advance, push_outcomes};
 use bench_reports::Tallies;
@@ -88,7 +89,9 @@ impl Drop for Traced {
 
 impl Tracing for Traced {
     ghost moves = { λ by kernel steps kept begun unread fits.
-        (told_later by kernel steps begun unread fits.0, fits.1) };
+        (told_later by kernel steps begun.stands.0 kept.replies.items kept.currents.items
+            kept.tallies begun.stands.1 begun.checked unread fits.0,
+        fits.1) };
 
     ghost fits = { λ kernel steps traced. IsTold kernel steps traced.replies.items
         traced.currents.items traced.tallies

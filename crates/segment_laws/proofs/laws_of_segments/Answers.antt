@@ -1,6 +1,7 @@
 use Rattle.segment_laws.proofs.Following.{segment_follows}
 use Rattle.segment_laws.proofs.OpenedPlaces.{opened_places}
 use Rattle.segment_laws.proofs.Reading.{places_are_read}
+use Rattle.segment_laws.proofs.ToldLater.{told_later}
 use Rattle.segment_laws.proofs.laws_of_segments.Goals as goal
 
 pub returns-clause-places_are_read : goal.returns-clause-places_are_read
@@ -11,3 +12,6 @@ returns-clause-segment_follows c = segment_follows
 
 pub returns-clause-opened_places_are_first : goal.returns-clause-opened_places_are_first
 returns-clause-opened_places_are_first c = opened_places
+
+pub returns-clause-told_stays_later : goal.returns-clause-told_stays_later
+returns-clause-told_stays_later c = told_later

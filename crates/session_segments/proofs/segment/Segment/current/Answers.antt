@@ -14,7 +14,7 @@ use Rattle.session_segments.proofs.segment.Segment.current.Goals as goal
 pub index-task-requires : goal.index-task-requires
 index-task-requires c =
     let inside = c.self.inside in
-    let sized = kept_length inside.kernel inside.steps.items inside.kept.replies.items inside.kept.currents.items inside.kept.tallies c.self.invariant.0 c.self.invariant.1.0 in
+    let sized = kept_length inside.kernel inside.steps.items inside.kept.replies.items inside.kept.currents.items inside.kept.tallies c.self.invariant.0 c.self.invariant.2.0 in
     omega (arith, sized, inside.kept.currents.ok.0, c.loop-index-test.true, c.requires.within, ap (λ (v : SegmentView). length v.steps) c.self.view_is)
 
 pub loop-index-preserved : goal.loop-index-preserved
@@ -28,11 +28,11 @@ loop-index-preserved c =
     subst (λ (v : SegmentView). (table : Table) → StandsFor v.kernel table → c.if-core.task ≡ current (state_after table (take (index + 1) v.steps)).control core) c.self.view_is
     (λ table stands. elim c.if-core.branch [
       | then-core w ↦
-          let sized = kept_length inside.kernel inside.steps.items inside.kept.replies.items inside.kept.currents.items inside.kept.tallies c.self.invariant.0 c.self.invariant.1.0 in
+          let sized = kept_length inside.kernel inside.steps.items inside.kept.replies.items inside.kept.currents.items inside.kept.tallies c.self.invariant.0 c.self.invariant.2.0 in
           let read = w.index-task.ensures ∙ get_or_default inside.kept.currents.items index w.index-task.result.now 0 (omega (arith, sized, early)) in
-          w.task-is ∙ read ∙ current_here inside.kernel inside.steps.items inside.kept.replies.items inside.kept.currents.items inside.kept.tallies c.self.invariant.0 c.self.invariant.1.0 table index stands early
+          w.task-is ∙ read ∙ current_here inside.kernel inside.steps.items inside.kept.replies.items inside.kept.currents.items inside.kept.tallies c.self.invariant.0 c.self.invariant.2.0 table index stands early
           ∙ ap (current (state_after table (take (index + 1) inside.steps.items)).control) (sym step ∙ w.if-core.true)
       | else-core w ↦
           let away : core ≢ core_of (get_or inside.steps.items index Tick) = λ same. w.if-core.false (step ∙ sym same) in
-          w.task-is ∙ before table stands ∙ sym (current_elsewhere inside.kernel inside.steps.items inside.kept.replies.items inside.kept.currents.items inside.kept.tallies c.self.invariant.0 c.self.invariant.1.0 table index core stands early away)
+          w.task-is ∙ before table stands ∙ sym (current_elsewhere inside.kernel inside.steps.items inside.kept.replies.items inside.kept.currents.items inside.kept.tallies c.self.invariant.0 c.self.invariant.2.0 table index core stands early away)
     ])

@@ -15,7 +15,7 @@ returns-then-settings-core c =
     let inside = c.self.inside in
     let past : inside.kernel.settings.cores ≤ c.args.core = omega (arith, c.if-settings-core.true, ap (λ (s : Settings). s.cores) c.settings.ensures.settings) in
     subst (λ (v : SegmentView). (table : Table) → StandsFor v.kernel table → None ≡ option_and_then (λ (row : List ℕ). slice_get row c.args.core) (running_after table v.steps c.args.count)) c.self.view_is
-    (λ table stands. core_past inside.kernel inside.steps.items inside.kept.replies.items inside.kept.currents.items inside.kept.tallies c.self.invariant.0 c.self.invariant.1.0 table c.args.count c.args.core stands past)
+    (λ table stands. core_past inside.kernel inside.steps.items inside.kept.replies.items inside.kept.currents.items inside.kept.tallies c.self.invariant.0 c.self.invariant.2.0 table c.args.count c.args.core stands past)
 
 pub returns-then-count-len : goal.returns-then-count-len
 returns-then-count-len c =
@@ -37,4 +37,4 @@ returns c =
     let within : c.args.count ≤ length inside.steps.items = omega (arith, c.if-count-len.false, c.len.ensures, inside.steps.ok.0) in
     let told = subst (λ (v : SegmentView). (table : Table) → StandsFor v.kernel table → c.current.result ≡ current (state_after table (take c.args.count v.steps)).control c.args.core) (sym c.self.view_is) c.current.ensures in
     subst (λ (v : SegmentView). (table : Table) → StandsFor v.kernel table → Some c.current.result ≡ option_and_then (λ (row : List ℕ). slice_get row c.args.core) (running_after table v.steps c.args.count)) c.self.view_is
-    (λ table stands. current_read inside.kernel inside.steps.items inside.kept.replies.items inside.kept.currents.items inside.kept.tallies c.self.invariant.0 c.self.invariant.1.0 table c.args.count c.args.core c.current.result stands early within (told table stands))
+    (λ table stands. current_read inside.kernel inside.steps.items inside.kept.replies.items inside.kept.currents.items inside.kept.tallies c.self.invariant.0 c.self.invariant.2.0 table c.args.count c.args.core c.current.result stands early within (told table stands))

@@ -26,7 +26,7 @@ use borrow.Author.Count.{below_more}
 -- ---- lists of which some items were set
 
 module _ {X : Type 0} where
-  drop_found : (xs : List X) (count : ℕ) (x : X) → slice_get xs count ≡ Some x → drop count xs ≡ x ∷ drop (suc count) xs
+  pub drop_found : (xs : List X) (count : ℕ) (x : X) → slice_get xs count ≡ Some x → drop count xs ≡ x ∷ drop (suc count) xs
   drop_found [] count x found = absurd (cc found)
   drop_found (y ∷ ys) zero x found = ap (λ z. z ∷ ys) (same_Some y x found)
   drop_found (y ∷ ys) (suc count) x found = drop_found ys count x found

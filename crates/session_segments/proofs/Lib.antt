@@ -4,5 +4,8 @@ mod KeptRows
 mod Places
 mod Replays
 mod Rows
+mod Shifting
 pub mod Tallied
 mod Traces
+pub mod Unmet
+mod Unread

@@ -1,4 +1,4 @@
-ghost use Rattle.std.specs.Prelude.{◌≡◌, ◌<◌, ◌≤◌, ◌^◌, IfOk, MatchOption};
+ghost use Rattle.std.specs.Prelude.{◌≡◌, ◌<◌, ◌≤◌, ◌^◌, IfOk, IfSome, MatchOption};
 ghost use Rattle.bench_types.specs.Limits.{max_cores};
 ghost use Rattle.bench_model.specs.Control.{current};
 ghost use Rattle.bench_model.specs.Equal.{StandsFor};
@@ -46,6 +46,7 @@ impl Model for Checkpoint {
 impl Checkpoint {
     /// The kernel is at the checkpoint.
     pub(crate) fn new(kernel: Kernel) -> Checkpoint
+        requires { StandsForSome kernel }
         ensures { result ≡ kernel }
     {
         Checkpoint { kernel, later: 0 }
@@ -53,7 +54,8 @@ impl Checkpoint {
 
     /// This kernel is at the checkpoint, in place of the one that was. No memory is taken.
     pub(crate) fn replace(&mut self, kernel: &Kernel)
-        requires { kernel.now.settings ≡ self.old.settings }
+        requires stands { StandsForSome kernel.now }
+        requires settings { kernel.now.settings ≡ self.old.settings }
         ensures { self.new ≡ kernel.now }
     {
         self.kernel.copy_from(kernel);
@@ -79,14 +81,16 @@ impl Checkpoint {
     /// By how many ticks the kernel is later than the one at the checkpoint; `None` where the two
     /// differ in more than the tick count.
     pub(crate) fn ticks_to(&self, kernel: &Kernel) -> Option<u32>
-        ensures { (a b : Table) → StandsFor self.now a → StandsFor kernel.now b
+        ensures ticks { (a b : Table) → StandsFor self.now a → StandsFor kernel.now b
             → MatchOption result (SameShifted a b → ⊥) (λ by. IsShifted by a b) }
+        ensures word { IfSome result (λ by. by < 2 ^ 32) }
     {
-        if !self.kernel.same_shifted(kernel) {
-            return None;
+        let tick = self.kernel.tick().wrapping_add(self.later);
+        if self.kernel.same_shifted(kernel) {
+            Some(kernel.tick().wrapping_sub(tick))
+        } else {
+            None
         }
-        let own = self.kernel.tick().wrapping_add(self.later);
-        Some(kernel.tick().wrapping_sub(own))
     }
 
     /// The settings of the kernel.

@@ -1,4 +1,4 @@
-ghost use Rattle.std.specs.Prelude.{◌≡◌, ◌<◌, ◌≤◌, false, not, IfSome, MatchOption, drop, length, slice_index};
+ghost use Rattle.std.specs.Prelude.{◌≡◌, ◌⊎◌, ◌<◌, ◌≤◌, false, not, IfSome, MatchOption, drop, length, slice_index};
 ghost use Rattle.bench_model.specs.Equal.{StandsFor};
 ghost use Rattle.bench_model.specs.Shifted.{is_met, some_delays_until};
 ghost use Rattle.bench_model.specs.Table.{Table};
@@ -56,9 +56,14 @@ pub fn met_by<K: Tracing>(
     requires known { IfSome known.old (IsUnreadFrom segments.now) }
     ensures known { IfSome known.new (IsUnreadFrom segments.now) }
     ensures met { IsMeetingAt segments.now index kernel.now result }
+    ensures unread { IfSome result (λ by. (by ≡ 0)
+        ⊎ (some_delays_until (all_steps (drop index segments.now)) ≡ false)) }
 {
     let by = segments[index].ticks_to(kernel)?;
-    if by == 0 || is_unread(known, segments, index) {
+    if by == 0 {
+        return Some(by);
+    }
+    if is_unread(known, segments, index) {
         Some(by)
     } else {
         None

@@ -1,4 +1,4 @@
-ghost use Rattle.std.specs.Prelude.{◌≡◌, ◌≢◌, suc, ◌<◌, ◌≤◌, All, true, false, Ok, Some, None, IfOk, OnOk, OnErr, MatchOption, length, take, option_and_then, slice_get};
+ghost use Rattle.std.specs.Prelude.{◌≡◌, ◌≢◌, suc, ◌<◌, ◌^◌, ◌≤◌, All, true, false, Ok, Some, None, IfOk, IfSome, OnOk, OnErr, MatchOption, length, take, option_and_then, slice_get};
 ghost use Rattle.std.specs.Vec.{vec_capacity};
 ghost use Rattle.bench_types.specs.Limits.{max_cores, max_steps};
 ghost use Rattle.bench_types.specs.Step.{IsCheckedStep};
@@ -204,8 +204,9 @@ impl<K: Tracing> Segment<K> {
     /// By how many ticks the kernel is later than the one before the first step; `None` where the
     /// two differ in more than the tick count.
     pub fn ticks_to(&self, kernel: &Kernel) -> Option<u32>
-        ensures { (a b : Table) → StandsFor self.now.kernel a → StandsFor kernel.now b
+        ensures ticks { (a b : Table) → StandsFor self.now.kernel a → StandsFor kernel.now b
             → MatchOption result (SameShifted a b → ⊥) (λ by. IsShifted by a b) }
+        ensures word { IfSome result (λ by. by < 2 ^ 32) }
     {
         self.kernel.ticks_to(kernel)
     }

@@ -298,7 +298,7 @@ module _ (items : ℕ) (named named_back : List ℕ) (homes : List (Option Home)
   }
 
   -- the list that it left is the one that changed
-  gone_from : set lists l (xs ++ ys) ≡ map (without_item item) lists
+  pub gone_from : set lists l (xs ++ ys) ≡ map (without_item item) lists
   gone_from = ext_get_or [] (set lists l (xs ++ ys)) (map (without_item item) lists) (length-set lists l (xs ++ ys) ∙ sym (length-map lists (without_item item)))
       (λ k within. each_row (λ k row. row ≡ row_at (map (without_item item) lists) k) lists l (xs ++ ys) low
       (here ∙ sym (get_or-map (without_item item) lists l [] [] low))

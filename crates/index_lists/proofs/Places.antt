@@ -1,5 +1,5 @@
 -- The place of an item among the keys of a list, found from the front.
-use Rattle.std.proofs.Common.{◌≡◌, ℕ, ◌+◌, ◌<◌, ◌≤◌, Bool, true, false, cond, eqb, ltb, List, ◌∷◌, ◌++◌, length, get_or, take, drop, Option, Some, None, sym, ap, subst, ◌∙◌, arith}
+use Rattle.std.proofs.Common.{◌≡◌, ℕ, ◌+◌, ◌<◌, ◌≤◌, Bool, true, false, cond, eqb, ltb, List, [], ◌∷◌, ◌++◌, length, map, set, get_or, take, drop, Option, Some, None, refl, sym, ap, subst, ◌∙◌, arith}
 use Rattle.std.specs.List.{prefix_len}
 use Rattle.std.specs.Option.{option_eq}
 use Rattle.std.proofs.lemmas.List.{drop_more, drop_all, get_or_past, get_or_read, get_or-map, take_all, take_more_same, take-append-drop}
@@ -8,13 +8,13 @@ use Rattle.std.proofs.lemmas.Bool.Decides.{nat_tests}
 use Rattle.std.proofs.lemmas.Option.{same_Some}
 use Rattle.list_orders.proofs.Ranks.{IsRank}
 use Rattle.index_lists.specs.declared.links.Home.{Home}
-use Rattle.index_lists.specs.Listed.{Listed, items_of, has_item, key_of, first_of, lowest_first}
+use Rattle.index_lists.specs.Listed.{Listed, items_of, has_item, without_item, key_of, first_of, lowest_first}
 use Rattle.index_lists.specs.Rings.{IsRing, first_or}
 use Rattle.index_lists.specs.Shape.{home_at, StandFor}
 use Rattle.index_lists.proofs.Paths.{ring_next}
 use Rattle.index_lists.proofs.Fields.{row_at, item_low, lens_at, lens_length}
 use Rattle.index_lists.proofs.Looks.{item_or_none, key_of_home}
-use Rattle.index_lists.proofs.Moves.{items_of-append, has-parts}
+use Rattle.index_lists.proofs.Moves.{items_of-append, has-parts, gone_from}
 
 abbrev pub none : Listed
 none = record { item = 0; key = 0 }
@@ -120,3 +120,13 @@ same_entry a b item key = ap (λ n. record { item = n; key = a.key }) item ∙ a
 
 pub same_keys : (a b : Option ℕ) (x y : ℕ) → a ≡ Some x → b ≡ Some y → option_eq eqb a b ≡ eqb x y
 same_keys a b x y here there = ap (λ o. option_eq eqb o b) here ∙ ap (option_eq eqb (Some x)) there
+
+module _ (items : ℕ) (named named_back : List ℕ) (homes : List (Option Home)) (lens : List ℕ) (lists : List (List Listed)) (stand : StandFor items named named_back homes lens lists)
+    (l : ℕ) (low : l < length lists) where
+  -- without its first item a list is the rest of it, and no other list changes
+  pub first_gone : (item : ℕ) → first_of (row_at lists l) ≡ Some item → map (without_item item) lists ≡ set lists l (drop 1 (row_at lists l))
+  first_gone item first = at (row_at lists l) refl first
+    where
+      at : (row : List Listed) → row_at lists l ≡ row → first_of row ≡ Some item → map (without_item item) lists ≡ set lists l (drop 1 row)
+      at [] is first = absurd (cc (first))
+      at (e ∷ row) is first = ap (λ i. map (without_item i) lists) (sym (same_Some e.item item first)) ∙ sym (gone_from items named named_back homes lens lists stand l e.item e.key [] row low is)

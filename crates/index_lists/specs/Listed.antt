@@ -58,6 +58,11 @@ abbrev pub first_of : List Listed → Option ℕ
 first_of [] = None
 first_of (entry ∷ rest) = Some entry.item
 
+-- the first item of the list and its key
+abbrev pub first_entry : List Listed → Option (ℕ × ℕ)
+first_entry [] = None
+first_entry (entry ∷ rest) = Some (entry.item, entry.key)
+
 -- the item that stands right after this one in its list
 abbrev pub next_of : ℕ → ListsView → Option ℕ
 next_of item view = first_of

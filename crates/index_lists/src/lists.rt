@@ -1,7 +1,7 @@
 ghost use Rattle.std.specs.Prelude.{◌≡◌, ◌↔◌, ℕ, ◌+◌, ◌<◌, ◌≤◌, ◌^◌, ◌∷◌, ◌++◌, [], Some, None, is_some, true, nat_lt, if◌then◌else◌, length, map, drop, slice_index, IsTrue, IfOk, IfSome, nat_le};
 ghost use Rattle.std.specs.List.{prefix_len, insert};
 ghost use Rattle.list_orders.specs.Search.{placed, ranked};
-ghost use Rattle.index_lists.specs.Listed.{empty_lists, list_at, with_list, has_item, list_of, key_of, without_item, items_of, first_of, next_of, lowest_first, EachInOneList};
+ghost use Rattle.index_lists.specs.Listed.{empty_lists, list_at, with_list, has_item, list_of, key_of, without_item, items_of, first_of, first_entry, next_of, lowest_first, EachInOneList};
 ghost use Rattle.index_lists.specs.Rings.{first_or};
 
 use crate::links::{Home, Link, link_before, lone_nodes, move_before, no_homes, no_lens, unlink};
@@ -94,7 +94,19 @@ impl Lists {
             ≡ with_list list (list_at self.old list ++ record { item = item; key = 0 } ∷ [])
             self.old }
     {
-        self.insert(Home { list, key: 0 }, item, self.end_of(list));
+        self.push_keyed(list, item, 0);
+    }
+
+    /// The item goes to the end of the list, with the key.
+    pub fn push_keyed(&mut self, list: u32, item: u32, key: u32)
+        requires list { list < length self.old.lists }
+        requires item { item < self.old.items }
+        requires free { list_of item self.old ≡ None }
+        ensures { self.new
+            ≡ with_list list (list_at self.old list ++ record { item = item; key = key } ∷ [])
+            self.old }
+    {
+        self.insert(Home { list, key }, item, self.end_of(list));
     }
 
     /// The item, which is in the list, goes to the end of it, with key 0.
@@ -139,6 +151,21 @@ impl Lists {
             self.homes[item as usize] = None;
             self.lens[home.list as usize] -= 1;
         }
+    }
+
+    /// The first item of the list leaves it, and is given with the key that it had; none where the
+    /// list is empty.
+    pub fn pop_first(&mut self, list: u32) -> Option<(u32, u32)>
+        requires { list < length self.old.lists }
+        ensures first { result ≡ first_entry (list_at self.old list) }
+        ensures rest { self.new ≡ with_list list (drop 1 (list_at self.old list)) self.old }
+        ensures free { IfSome result (λ entry. list_of entry.0 self.new ≡ None) }
+        ensures item { IfSome result (λ entry. entry.0 < self.old.items) }
+    {
+        let item = self.first(list)?;
+        let home = self.homes[item as usize]?;
+        self.remove(item);
+        Some((item, home.key))
     }
 
     /// The first item of the list; none where it is empty.

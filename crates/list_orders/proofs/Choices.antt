@@ -1,11 +1,11 @@
 -- What a search finds in an ordered list is the best of all.
-use Rattle.std.proofs.Common.{◌≡◌, ℕ, zero, suc, ◌<◌, Bool, true, false, cond, not, eqb, ltb, leb, ◌&&◌, ◌||◌, List, [], ◌∷◌, ◌++◌, refl, sym, arith, inl, inr}
+use Rattle.std.proofs.Common.{◌≡◌, ℕ, zero, suc, ◌<◌, Bool, true, false, cond, not, eqb, ltb, leb, ◌&&◌, ◌||◌, List, [], ◌∷◌, ◌++◌, refl, sym, ap, ◌∙◌, arith, inl, inr}
 use Rattle.std.specs.Prelude.{◌⊎◌}
 use Rattle.std.specs.List.{filter, fold, find, list_all, AllByRecursion}
 use Rattle.std.proofs.lemmas.Bool.{cases_Bool}
 use Rattle.std.proofs.lemmas.Bool.Decides.{nat_tests}
 use Rattle.list_orders.specs.Search.{numbers, best, by_stamp, placed, ranked, has}
-use Rattle.list_orders.proofs.Filters.{All-filter, All-filter_passes, All-append, All-weaker, All-both, All_each, All-has, find_unique, find_none, list_all_from, list_all_each}
+use Rattle.list_orders.proofs.Filters.{filter_none, All-filter, All-filter_passes, All-append, All-weaker, All-both, All_each, All-has, find_unique, find_none, list_all_from, list_all_each}
 use Rattle.list_orders.proofs.Ranks.{All-placed, IsRank}
 use Rattle.list_orders.proofs.Stamped.{numbers_below, numbers_have}
 
@@ -30,6 +30,17 @@ module _ {X : Type 0} (goes_before : X → X → Bool) where
   IsOrdered-weaker other P weaker [] all ordered = tt
   IsOrdered-weaker other P weaker (x ∷ xs) all ordered =
       (All-weaker (λ y. P y × (goes_before x y ≡ true)) (λ y. other x y ≡ true) (λ y h. weaker x y all.0 h.0 h.1) xs (All-both P (λ y. goes_before x y ≡ true) xs all.1 ordered.0), IsOrdered-weaker other P weaker xs all.1 ordered.1)
+
+-- a list in which all that pass a test stand in front of the others is those that pass and then the others
+pub ordered_parts : {X : Type 0} (p : X → Bool) (xs : List X) → IsOrdered (λ x y. p x || not (p y)) xs → filter p xs ++ filter (λ x. not (p x)) xs ≡ xs
+ordered_parts p [] ordered = refl
+ordered_parts {X} p (x ∷ xs) ordered = at (p x) refl (ordered_parts p xs ordered.1)
+  where
+    at : (b : Bool) → p x ≡ b → filter p xs ++ filter (λ y. not (p y)) xs ≡ xs → cond b (x ∷ filter p xs) (filter p xs) ++ cond (not b) (x ∷ filter (λ y. not (p y)) xs) (filter (λ y. not (p y)) xs) ≡ x ∷ xs
+    at true passes rest = ap (λ ys. x ∷ ys) rest
+    at false fails rest =
+        let none = filter_none p xs (All-weaker (λ y. (p x || not (p y)) ≡ true) (λ y. p y ≡ false) (λ y h. grind (arith, fails, h)) xs ordered.0) in
+        ap (λ ys. ys ++ x ∷ filter (λ y. not (p y)) xs) none ∙ ap (λ ys. x ∷ ys) (ap (λ ys. ys ++ filter (λ y. not (p y)) xs) (sym none) ∙ rest)
 
 -- Items in the order of a rank, and in one rank in another order.
 module _ {X : Type 0} (front order : X → X → Bool) where

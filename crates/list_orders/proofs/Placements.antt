@@ -21,10 +21,14 @@ module _ {X : Type 0} (front : X → X → Bool) (rank : IsRank front) where
   none_before [] = tt
   none_before (x ∷ xs) = (tt, none_before xs)
 
+  -- a list in order stays as it is
+  pub ranked-ordered : (xs : List X) → IsOrdered front xs → ranked front xs ≡ xs
+  unfolding ranked
+  ranked-ordered xs ordered = fold_ordered [] xs (none_before xs) ordered
+
   -- ranking a list twice is ranking it once
   ranked_twice : (xs : List X) → ranked front (ranked front xs) ≡ ranked front xs
-  unfolding ranked
-  ranked_twice xs = fold_ordered [] (ranked front xs) (none_before (ranked front xs)) (ordered-ranked front rank xs)
+  ranked_twice xs = ranked-ordered (ranked front xs) (ordered-ranked front rank xs)
 
   -- a list in order stays so when an item is placed
   pub ranked-placed : (x : X) (xs : List X) → ranked front xs ≡ xs → ranked front (placed front x xs) ≡ placed front x xs

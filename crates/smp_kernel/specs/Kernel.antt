@@ -136,8 +136,15 @@ pub record FindsItsTask (view : View) (core task : ℕ) (call : Call) : Type 0 w
 abbrev pub StandsForSome : View → Type 0
 StandsForSome view = (table : Table) × StandsFor view table
 
--- two kernels have equal cores and control blocks, holders of mutexes and orders of tasks
+-- what can be seen but for the tick count and the tasks with ticks left
+abbrev pub but_for_delays : View → View
+but_for_delays view = record view { orders = record view.orders { tick = 0; delayed = [] } }
+
+-- two kernels have equal cores and control blocks, holders of mutexes, and orders of tasks but for
+-- those with ticks left
 pub record HasSameOrders (one other : View) : Type 0 where
   pub control : one.control ≡ other.control
   pub holders : one.holders ≡ other.holders
-  pub orders : one.orders ≡ other.orders
+  pub ready : one.orders.ready ≡ other.orders.ready
+  pub waiters : one.orders.waiters ≡ other.orders.waiters
+  pub deadlines : one.orders.deadlines ≡ other.orders.deadlines

@@ -9,6 +9,7 @@ ghost use Rattle.bench_model.specs.Start.{start};
 ghost use Rattle.bench_model.specs.Looks.{note_look, task_look};
 ghost use Rattle.bench_model.specs.Session.{step_of};
 ghost use Rattle.bench_model.specs.Equal.{Same, StandsFor};
+ghost use Rattle.bench_model.specs.Shifted.{SameShifted, shifted};
 ghost use Rattle.bench_model.specs.Seek.{effective};
 ghost use Rattle.bench_model.specs.Lists.{is_ready};
 ghost use Rattle.bench_model.specs.Tally.{is_current};
@@ -115,6 +116,27 @@ impl Kernel {
             → ((result ≡ true) ↔ Same a b) }
     {
         self.scheduler.same(&other.scheduler)
+    }
+
+    /// Whether the two kernels are equal but for their tick counts, and so reply alike to every step
+    /// from now on but a delay until a tick count.
+    ///
+    /// Compared is all that `same` compares, the ticks left of delays and of deadlines too, but not
+    /// the tick counts.
+    pub fn same_shifted(&self, other: &Kernel) -> bool
+        ensures { (a b : Table) → StandsFor self.now a → StandsFor other.now b
+            → ((result ≡ true) ↔ SameShifted a b) }
+    {
+        self.scheduler.same_shifted(&other.scheduler)
+    }
+
+    /// The kernel is moved in time: its tick count is so many ticks later, modulo 2^32, and nothing
+    /// else that can be seen changes. Each wake and deadline moves with it, so that as many ticks
+    /// are left to it. No memory is taken.
+    pub fn shift(&mut self, by: u32)
+        ensures { self.new ≡ shifted by self.old }
+    {
+        self.scheduler.shift(by);
     }
 
     /// Makes a step, counts it on the meter, refused or not, and gives its reply.

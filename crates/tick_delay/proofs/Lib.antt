@@ -1,3 +1,5 @@
+mod Moved
 mod Pair
 mod Turns
 mod Waits
+mod Walks

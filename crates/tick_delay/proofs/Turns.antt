@@ -48,13 +48,13 @@ abbrev passes_item : ℕ → Listed → Bool
 passes_item task entry = eqb entry.item task
 
 -- in one turn the order of ticks left is that of wakes
-this_order_kept : (tick : ℕ) (a b : Listed) → InThis tick a → InThis tick b → wakes_first (delayed_at tick a) (delayed_at tick b) ≡ lowest_first a b
+pub this_order_kept : (tick : ℕ) (a b : Listed) → InThis tick a → InThis tick b → wakes_first (delayed_at tick a) (delayed_at tick b) ≡ lowest_first a b
 this_order_kept tick a b h k =
     let left = this_left tick a.key h.0 h.1 in
     let other = this_left tick b.key k.0 k.1 in
     ap (λ n. leb n (ticks_to tick b.key)) left ∙ ap (leb (a.key - tick)) other ∙ grind (arith, nat_tests, h.0, k.0)
 
-next_order_kept : (tick : ℕ) → tick < 2 ^ 32 → (a b : Listed) → InNext tick a → InNext tick b → wakes_first (delayed_at tick a) (delayed_at tick b) ≡ lowest_first a b
+pub next_order_kept : (tick : ℕ) → tick < 2 ^ 32 → (a b : Listed) → InNext tick a → InNext tick b → wakes_first (delayed_at tick a) (delayed_at tick b) ≡ lowest_first a b
 next_order_kept tick tick_low a b h k =
     let left = next_left tick a.key tick_low h in
     let other = next_left tick b.key tick_low k in

@@ -13,7 +13,7 @@ use Rattle.list_orders.proofs.Filters.{filter-map}
 use Rattle.tick_delay.specs.Parts.{is_waiting}
 use Rattle.list_orders.specs.Listings.{IsListing}
 
-abbrev task_of : Delayed → ℕ
+abbrev pub task_of : Delayed → ℕ
 task_of entry = entry.task
 
 abbrev elapsed : Delayed → Bool

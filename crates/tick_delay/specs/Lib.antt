@@ -1,2 +1,3 @@
+pub mod Later
 pub mod Parts
 pub mod Shape

@@ -1,9 +1,10 @@
 -- What can be seen of the tick count and the tasks that wait, and what each call makes of it.
-use Rattle.std.specs.Prelude.{◌≡◌, ◌==◌, ◌+◌, ◌-◌, ◌<◌, ◌%◌, ◌^◌, ◌++◌, nat_lt, length, map, filter, ℕ, List, [], Bool, true, false, if◌then◌else◌}
+use Rattle.std.specs.Prelude.{◌≡◌, ◌==◌, ◌+◌, ◌-◌, ◌<◌, ◌%◌, ◌^◌, ◌++◌, nat_lt, length, map, filter, ℕ, List, [], ◌∷◌, Option, Some, None, Bool, true, false, if◌then◌else◌}
 use Rattle.std.specs.List.{list_any}
 use Rattle.bench_types.specs.declared.kernel_data.Delayed.{Delayed}
 use Rattle.index_lists.specs.Listed.{Listed, ListsView, list_at}
 use Rattle.bench_model.specs.Lists.{with_delay, one_tick_less, next_tick}
+use Rattle.bench_model.specs.Shifted.{later_tick}
 use Rattle.bench_model.specs.Until.{next_wake, is_ahead, ticks_to}
 
 pub record DelayView : Type 0 where
@@ -24,6 +25,15 @@ no_delays tick tasks = record { tasks = tasks; tick = tick; turn = 0; delayed = 
 -- what is seen of the delays but for which list is this turn's
 abbrev pub but_for_turn : DelayView → DelayView
 but_for_turn view = record view { turn = 0 }
+
+-- what is seen of the delays but for the tick count and for which list is this turn's
+abbrev pub but_for_time : DelayView → DelayView
+but_for_time view = record view { tick = 0; turn = 0 }
+
+-- the first of the entries is this task's
+abbrev pub first_task : List Delayed → Option ℕ
+first_task [] = None
+first_task (entry ∷ rest) = Some entry.task
 
 -- some entry is the task's
 abbrev pub is_waiting : ℕ → List Delayed → Bool
@@ -51,6 +61,11 @@ advanced view = let tick = next_tick view.tick in record view {
   turn = if tick == 0 then other_list view.turn else view.turn;
   delayed = map one_tick_less view.delayed;
 }
+
+-- The tick count is so many ticks later, and wraps; no ticks left change, and the list of this turn
+-- is the same one.
+abbrev pub shifted_delays : ℕ → DelayView → DelayView
+shifted_delays by view = record view { tick = later_tick by view.tick }
 
 -- a task that waits, and its wake, a tick count
 abbrev pub listed_at : ℕ → Delayed → Listed

@@ -3,6 +3,8 @@ ghost use Rattle.bench_model.specs.Lists.{without_delay, due_tasks};
 ghost use Rattle.bench_model.specs.Looks.{left_in};
 ghost use Rattle.tick_delay.specs.Parts.{no_delays, but_for_turn, is_waiting, delayed_for, until_delayed, advanced, AreInTurn};
 
+mod shift;
+
 use bench_model::until::{is_ahead, next_wake};
 use index_lists::Lists;
 use std::alloc::{AllocError, Global};

@@ -1,6 +1,7 @@
-//! Copies of kernels, and whether two are equal.
+//! Copies of kernels, kernels at another tick count, and whether two are equal.
 ghost use Rattle.std.specs.Prelude.{◌≡◌, ◌↔◌, IsTrue, IfOk};
-ghost use Rattle.smp_kernel.specs.Kernel.{HasSameOrders};
+ghost use Rattle.bench_model.specs.Shifted.{untimed, shifted};
+ghost use Rattle.smp_kernel.specs.Kernel.{HasSameOrders, but_for_delays};
 
 use super::Scheduler;
 use crate::deadlines::Deadlines;
@@ -51,11 +52,28 @@ impl Scheduler {
     {
         // The tick counts first, since a tick more or less keeps them apart from there on. Nested,
         // so that each test is proved where those before it hold.
-        self.tick_count() == other.tick_count() && self.has_same_parts(other)
+        self.tick_count() == other.tick_count()
+            && (self.has_same_rest(other) && self.delays.same(&other.delays))
     }
 
-    fn has_same_parts(&self, other: &Self) -> bool
-        ensures { IsTrue result ↔ (self.now ≡ other.now) }
+    /// Whether all that can be seen of the two but the tick counts is equal.
+    pub fn same_shifted(&self, other: &Self) -> bool
+        ensures { IsTrue result ↔ (untimed self.now ≡ untimed other.now) }
+    {
+        // Nested, so that the second test is proved where the first holds.
+        self.has_same_rest(other) && self.delays.same_shifted(&other.delays)
+    }
+
+    /// The tick count is so many ticks later, and wraps; nothing else changes. No memory is taken.
+    pub fn shift(&mut self, by: u32)
+        ensures { self.new ≡ shifted by self.old }
+    {
+        self.delays.shift(by);
+    }
+
+    // Whether all but the tick count and the delays is equal.
+    fn has_same_rest(&self, other: &Self) -> bool
+        ensures { IsTrue result ↔ (but_for_delays self.now ≡ but_for_delays other.now) }
     {
         have_same_settings(self.settings, other.settings)
             && (have_same_hold(self.hold, other.hold)
@@ -63,16 +81,15 @@ impl Scheduler {
                     && (self.notes.same(&other.notes) && self.has_same_orders(other))))
     }
 
-    // Whether the cores, the control blocks and the orders of tasks are equal, and the holders of
-    // mutexes.
+    // Whether the cores, the control blocks and the orders of tasks but that of delays are equal,
+    // and the holders of mutexes.
     fn has_same_orders(&self, other: &Self) -> bool
         requires { self.now.settings ≡ other.now.settings }
         ensures { IsTrue result ↔ HasSameOrders self.now other.now }
     {
         // Nested, so that each test is proved where those before it hold.
         self.cores.same(&other.cores)
-            && (self.mutexes.same(&other.mutexes)
-                && (self.delays.same(&other.delays) && self.deadlines.same(&other.deadlines)))
+            && (self.mutexes.same(&other.mutexes) && self.deadlines.same(&other.deadlines))
     }
 }
 

@@ -281,7 +281,10 @@ impl Kernel {
 
     /// The tick count, in ticks, as a number of 32 bits.
     pub fn tick(&self) -> u32
-        ensures { (table : Table) → StandsFor self.now table → result ≡ table.orders.tick % 2 ^ 32 }
+        ensures ticks { (table : Table) → StandsFor self.now table
+            → result ≡ table.orders.tick % 2 ^ 32 }
+        ensures seen { result ≡ self.now.orders.tick }
+        ensures sound { StandsForSome self.now }
     {
         self.scheduler.tick_count()
     }

@@ -8,4 +8,4 @@ mod Shifting
 pub mod Tallied
 mod Traces
 pub mod Unmet
-mod Unread
+pub mod Unread

@@ -302,6 +302,7 @@ impl Segment {
         ensures tallies { (table : Table) → StandsFor self.now.kernel table
             → result.now ≡ part_tallies self.now.kernel.settings table self.now.steps }
         ensures sizes { shape result.now ≡ shape_of self.now.kernel.settings }
+        ensures stands { StandsForSome self.now.kernel }
     {
         &self.kept.tallies
     }

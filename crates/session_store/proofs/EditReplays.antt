@@ -1,5 +1,5 @@
 -- The replay of an edit: what its parts need, and what it makes.
-use Rattle.std.proofs.Common.{◌≡◌, ℕ, ◌+◌, ◌-◌, ◌^◌, ◌<◌, ◌≤◌, Bool, List, ◌++◌, length, take, drop, Ok, refl, sym, ap, ap₂, subst, ◌∙◌, arith}
+use Rattle.std.proofs.Common.{◌≡◌, ◌⊎◌, ℕ, false, ◌+◌, ◌-◌, ◌^◌, ◌<◌, ◌≤◌, Bool, List, ◌++◌, length, take, drop, Ok, refl, sym, ap, ap₂, subst, ◌∙◌, arith}
 use Rattle.std.specs.Prelude.{All, ◌==◌}
 use Rattle.std.proofs.lemmas.Bool.Decides.{nat_tests}
 use Rattle.std.proofs.Math.Seq.{drop-append-add}
@@ -20,19 +20,21 @@ use Rattle.bench_model.specs.Equal.{StandsFor}
 use Rattle.bench_model.specs.Lists.{View}
 use Rattle.bench_model.specs.Meeting.{met, replayed, replayed_from}
 use Rattle.bench_model.specs.Session.{state_after, state_at}
+use Rattle.bench_model.specs.Shifted.{some_delays_until}
 use Rattle.bench_model.specs.Start.{start}
 use Rattle.bench_model.specs.Table.{Table}
 use Rattle.bench_model.specs.Tallied.{part_tallies, shape, shape_of}
 use Rattle.bench_model.specs.Tally.{TaskTally, tallies}
 use Rattle.segment_laws.specs.EditedSegments.{cut, has_none, AreReplayed}
 use Rattle.segment_laws.specs.SegmentLaws.{IsEdited}
-use Rattle.segment_laws.specs.Segments.{SegmentView, steps_of, all_steps, AreSegments}
-use Rattle.segment_laws.proofs.EditedSegments.{edited_segments_stand, unequal_are_replayed}
+use Rattle.segment_laws.specs.Segments.{SegmentView, steps_of, all_steps, later_segments, AreSegments}
+use Rattle.segment_laws.proofs.EditedSegments.{edited_segments_stand, unmet_are_replayed}
 use Rattle.segment_laws.proofs.EditedPlaces.{begins_there}
 use Rattle.segment_laws.proofs.EditedSteps.{made_steps, parted_steps}
 use Rattle.segment_laws.proofs.Following.{All_front, all_more, all_parted}
 use Rattle.step_laws.proofs.Along.{start_settings}
 use Rattle.segment_laws.proofs.Reading.{state_front, front_settings, back_checked}
+use Rattle.segment_laws.proofs.LaterSegments.{later_steps}
 use Rattle.segment_laws.proofs.Shifts.{shifts}
 use Rattle.session_segments.specs.Again.{AreReplayedFrom, HasSettings, IsReplayOf}
 use Rattle.session_segments.specs.Counting.{meter_after, CountsUpTo}
@@ -41,7 +43,7 @@ use Rattle.smp_kernel.specs.Kernel.{StandsForSome}
 use Rattle.session_store.specs.Kept.{kept_of, session_of, IsKept}
 use Rattle.session_store.specs.Outcomes.{outcome_of}
 use Rattle.session_store.specs.Replays.{AreMade, AreRemade, IsParting, IsEditReplay}
-use Rattle.session_store.specs.Trials.{tallies_after, AreTalliedAfter, IsMeeting}
+use Rattle.session_store.specs.Trials.{tallies_after, AreTalliedAfter, IsMeeting, StayLater}
 use Rattle.session_store.proofs.EditTold.{kept_parts}
 use Rattle.session_store.proofs.GoingOn.{cut_some, goes_on, made_are_steps, none_left}
 use Rattle.session_store.proofs.Parted.{follow_settings}
@@ -133,7 +135,7 @@ module _ (header : Header) (span : ℕ) (segments : List SegmentView) (edit : Ed
     -- no more steps are edited than are replayed
     part_within : length steps ≤ replayed (kept_of header span segments) edit
     part_within =
-        let within = unequal_are_replayed (kept_of header span segments) edit segments front steps rest 0 accepts some_span kept.checkpoints are parting.parted (λ i segment old below. absurd (omega arith)) in
+        let within = unmet_are_replayed (kept_of header span segments) edit segments front steps rest 0 accepts some_span kept.checkpoints are parting.parted (λ i segment old below. absurd (omega arith)) in
         omega (arith, within, front_is)
 
     -- where the edited steps were replayed, all or some
@@ -143,16 +145,16 @@ module _ (header : Header) (span : ℕ) (segments : List SegmentView) (edit : Ed
     pub gave_up : (given : List Step) (old new : ℕ) → given ≡ steps → new ≡ meter_after (length given) old → CountsUpTo (replayed (kept_of header span segments) edit) old new
     gave_up given old new same counts = (length given, omega (arith, part_within, ap length same), counts)
 
-    module _ (made : List SegmentView) (count : ℕ) (runs : AreReplayed span begin steps rest made count) where
+    module _ (made : List SegmentView) (count by : ℕ) (runs : AreReplayed span begin steps rest made count by) where
       pub made_length : length (all_steps made) ≡ length steps + length (all_steps (take count rest))
-      made_length = ap length (made_steps span begin steps rest made count runs) ∙ length-append steps (all_steps (take count rest))
+      made_length = ap length (made_steps span begin steps rest made count by runs) ∙ length-append steps (all_steps (take count rest))
 
       -- the replay ends within the edited session
       pub made_few : length (all_steps front) + length (all_steps made) ≤ max_steps
       made_few = omega (arith, made_length, lengths_whole, next_few, front_rest count)
 
-      edited_is : IsEdited (kept_of header span segments) edit front made (drop count rest)
-      edited_is = edited_segments_stand (kept_of header span segments) edit segments front steps rest made count kept.session words accepts some_span kept.checkpoints are parting.parted runs
+      edited_is : IsEdited (kept_of header span segments) edit front made (later_segments by (drop count rest))
+      edited_is = edited_segments_stand (kept_of header span segments) edit segments front steps rest made count by kept.session words accepts some_span kept.checkpoints are parting.parted runs
 
       pub met_is : length (all_steps front) + length (all_steps made) ≡ met (kept_of header span segments) edit
       met_is = edited_is.met
@@ -163,11 +165,11 @@ module _ (header : Header) (span : ℕ) (segments : List SegmentView) (edit : Ed
       pub replayed_is : length (all_steps made) ≡ replayed (kept_of header span segments) edit
       replayed_is = omega (arith, met_is, from_is)
 
-      pub edit_replay : IsEditReplay (kept_of header span segments) edit segments made before (after + count)
+      pub edit_replay : IsEditReplay (kept_of header span segments) edit segments made before (after + count) by
       edit_replay = record {
         order = omega (arith, parting.order);
         within = omega (arith, parting.within, runs.within, length-drop after segments);
-        edited = subst (IsEdited (kept_of header span segments) edit front made) (drop-drop count after segments) edited_is;
+        edited = subst (λ behind. IsEdited (kept_of header span segments) edit front made (later_segments by behind)) (drop-drop count after segments) edited_is;
       }
 
       pub counted : (given : List Step) (later : List SegmentView) (old new : ℕ) → given ≡ steps → later ≡ rest → new ≡ meter_after (length given + length (all_steps (take count later))) old → new ≡ meter_after (replayed (kept_of header span segments) edit) old
@@ -240,8 +242,12 @@ module _ (header : Header) (span : ℕ) (segments : List SegmentView) (edit : Ed
           abbrev remade : List SegmentView
           remade = cut_made ++ replay.made
 
-          remade_runs : AreReplayed span begin steps rest remade count
-          remade_runs = goes_on begin steps rest span cut_made replay.made count cut_is (subst (λ xs. IsReplayOf (state_after begin steps) xs replay.made count) rest_is replay.replay)
+          remade_runs : AreReplayed span begin steps rest remade count replay.by
+          remade_runs = goes_on begin steps rest span cut_made replay.made count replay.by cut_is (subst (λ xs. IsReplayOf (state_after begin steps) xs replay.made count replay.by) rest_is replay.replay)
+
+          -- those where it did not go
+          abbrev behind : List SegmentView
+          behind = later_segments replay.by (drop (after + count) segments)
 
           end_is : end ≡ length (front ++ cut_made) + count
           end_is = omega (arith, start_is, replay.order)
@@ -250,18 +256,19 @@ module _ (header : Header) (span : ℕ) (segments : List SegmentView) (edit : Ed
           back_is =
               ap₂ (λ n xs. drop n xs) end_is parts_are ∙ drop-append-add (front ++ cut_made) rest count ∙ drop-drop count after segments
 
-          whole_new : new ≡ front ++ remade ++ drop (after + count) segments
+          whole_new : new ≡ front ++ remade ++ behind
           whole_new =
-              replay.replaced ∙ ap₂ (λ xs ys. xs ++ replay.made ++ ys) front_are back_is
-              ∙ ap (λ xs. xs ++ drop (after + count) segments) (append_assoc front cut_made replay.made)
+              replay.replaced ∙ ap₂ (λ xs ys. xs ++ replay.made ++ later_segments replay.by ys) front_are back_is
+              ∙ ap (λ xs. xs ++ behind) (append_assoc front cut_made replay.made)
 
           pub are_remade : AreRemade (kept_of header span segments) edit segments new
           are_remade = record {
             made = remade;
             before = before;
             after = after + count;
+            by = replay.by;
             whole = whole_new;
-            replay = edit_replay remade count remade_runs;
+            replay = edit_replay remade count replay.by remade_runs;
           }
 
           later_length : length replay.made ≡ count
@@ -277,30 +284,30 @@ module _ (header : Header) (span : ℕ) (segments : List SegmentView) (edit : Ed
           slice_is =
               let from : before ≡ length front = sym front_size in
               let size : end - before ≡ length remade = omega (arith, end_is, front_size, length-append front cut_made, length-append cut_made replay.made, later_length) in
-              ap (λ xs. take (end - before) (drop before xs)) (whole_new ∙ append_assoc front remade (drop (after + count) segments))
-              ∙ ap (take (end - before)) (ap (λ n. drop n (front ++ (remade ++ drop (after + count) segments))) from ∙ drop_at front (remade ++ drop (after + count) segments) (length front) refl)
-              ∙ ap (λ n. take n (remade ++ drop (after + count) segments)) size ∙ take_at remade (drop (after + count) segments) (length remade) refl
+              ap (λ xs. take (end - before) (drop before xs)) (whole_new ∙ append_assoc front remade (behind))
+              ∙ ap (take (end - before)) (ap (λ n. drop n (front ++ (remade ++ behind))) from ∙ drop_at front (remade ++ behind) (length front) refl)
+              ∙ ap (λ n. take n (remade ++ behind)) size ∙ take_at remade (behind) (length remade) refl
 
           pub slice_within : (before ≤ end) × (end ≤ length new)
           slice_within = (
             omega (arith, end_is, front_size, length-append front cut_made),
-            omega (arith, end_is, front_size, length-append front cut_made, later_length, ap length whole_new, length-append (front ++ remade) (drop (after + count) segments), length-append front remade, length-append cut_made replay.made),
+            omega (arith, end_is, front_size, length-append front cut_made, later_length, ap length whole_new, length-append (front ++ remade) (behind), length-append front remade, length-append cut_made replay.made),
           )
 
           pub slice_few : length (all_steps front) + length (all_steps (take (end - before) (drop before new))) ≤ max_steps
-          slice_few = omega (arith, made_few remade count remade_runs, ap (λ (xs : List SegmentView). length (all_steps xs)) slice_is)
+          slice_few = omega (arith, made_few remade count replay.by remade_runs, ap (λ (xs : List SegmentView). length (all_steps xs)) slice_is)
 
           pub remade_counted : (old middle last : ℕ) → middle ≡ meter_after (length given) old → last ≡ meter_after (length (all_steps (take (end - start) (drop start parts)))) middle → last ≡ meter_after (replayed (kept_of header span segments) edit) old
           remade_counted old middle last first second =
-              counted remade count remade_runs given (drop start parts) old last same rest_is
+              counted remade count replay.by remade_runs given (drop start parts) old last same rest_is
               (second ∙ ap (meter_after (length (all_steps (take count (drop start parts))))) first ∙ counted_twice (length given) (length (all_steps (take count (drop start parts)))) old)
 
           pub remade_outcome : (from more : ℕ) → from ≡ length (all_steps front) → more ≡ length (all_steps (take (end - before) (drop before new))) → record { from = from; met = from + more; replayed = more } ≡ outcome_of (kept_of header span segments) edit
-          remade_outcome from more begins are_made = outcome_is remade count remade_runs from more begins (are_made ∙ ap (λ (xs : List SegmentView). length (all_steps xs)) slice_is)
+          remade_outcome from more begins are_made = outcome_is remade count replay.by remade_runs from more begins (are_made ∙ ap (λ (xs : List SegmentView). length (all_steps xs)) slice_is)
 
     -- only the tallies of the replay are kept, by what was lent of the steps and of the segments
     module _ (given : List Step) (later : List SegmentView) (count : ℕ) (same : given ≡ steps) (there : later ≡ rest) (told : (table : Table) → StandsFor kernel table → IsMeeting table given later count) where
-      meets : IsMeeting begin steps rest count
+      pub meets : IsMeeting begin steps rest count
       meets = subst (λ segments. IsMeeting begin steps segments count) there (subst (λ steps. IsMeeting begin steps later count) same (told begin parting.stands))
 
       -- segments that it could have made
@@ -315,7 +322,7 @@ module _ (header : Header) (span : ℕ) (segments : List SegmentView) (edit : Ed
           subst (λ settings. All (IsCheckedStep settings) (steps ++ all_steps (take count rest))) (sym begin_next)
           (All_front (IsCheckedStep own) (steps ++ all_steps (take count rest)) (all_steps (drop count rest)) all)
 
-      pub traced_runs : AreReplayed span begin steps rest traced count
+      pub traced_runs : AreReplayed span begin steps rest traced count meets.by
       traced_runs = meeting_replayed span begin steps rest count parting.stands.sound traced_checked meets
 
       pub traced_within : count ≤ length later
@@ -325,27 +332,45 @@ module _ (header : Header) (span : ℕ) (segments : List SegmentView) (edit : Ed
       pub traced_length : length given + length (all_steps (take count later)) ≡ length (all_steps traced)
       traced_length =
           ap₂ (λ (ss : List Step) (after : List SegmentView). length ss + length (all_steps (take count after))) same there
-          ∙ sym (made_length traced count traced_runs)
+          ∙ sym (made_length traced count meets.by traced_runs)
 
       pub traced_few : length (all_steps front) + (length given + length (all_steps (take count later))) ≤ max_steps
-      traced_few = omega (arith, traced_length, made_few traced count traced_runs)
+      traced_few = omega (arith, traced_length, made_few traced count meets.by traced_runs)
 
-      pub traced_replay : IsEditReplay (kept_of header span segments) edit segments traced before (after + count)
-      traced_replay = edit_replay traced count traced_runs
+      pub traced_replay : IsEditReplay (kept_of header span segments) edit segments traced before (after + count) meets.by
+      traced_replay = edit_replay traced count meets.by traced_runs
+
+      -- those where it did not go
+      abbrev traced_behind : List SegmentView
+      traced_behind = later_segments meets.by (drop (after + count) segments)
+
+      pub stay_later : StayLater traced_behind (drop (after + count) segments)
+      stay_later = record {
+        by = meets.by;
+        unread = subst (λ (ss : List SegmentView). (meets.by ≡ 0) ⊎ (some_delays_until (all_steps ss) ≡ false)) (drop-drop count after segments) meets.unread;
+        are = refl;
+      }
 
       abbrev pub traced_tallies : (replayed : List TaskTally) → ((table : Table) → StandsFor kernel table → replayed ≡ part_tallies kernel.settings table (given ++ all_steps (take count later))) → shape replayed ≡ shape_of kernel.settings → AreTalliedAfter front replayed
       traced_tallies replayed counts sized = record {
         header = next.header;
         made = traced;
-        later = drop (after + count) segments;
-        replay = replay_of next.header span (front ++ traced ++ drop (after + count) segments) (kept_parts header span segments edit kept words accepts traced before (after + count) traced_replay next.header refl);
+        later = traced_behind;
+        replay = replay_of next.header span (front ++ traced ++ traced_behind) (kept_parts header span segments edit kept words accepts traced before (after + count) meets.by traced_replay next.header refl);
         counts =
             counts begin parting.stands
             ∙ ap₂ (λ (ss : List Step) (after : List SegmentView). part_tallies kernel.settings begin (ss ++ all_steps (take count after))) same there
-            ∙ ap (part_tallies kernel.settings begin) (sym (made_steps span begin steps rest traced count traced_runs))
+            ∙ ap (part_tallies kernel.settings begin) (sym (made_steps span begin steps rest traced count meets.by traced_runs))
             ∙ ap₂ (λ (settings : Settings) (table : Table). part_tallies settings table (all_steps traced)) kernel_next begin_is;
         sizes = sized ∙ ap shape_of kernel_next;
       }
 
+      -- no segment has other steps than it had
+      behind_steps : all_steps (front ++ traced ++ drop (after + count) segments) ≡ all_steps (front ++ traced ++ traced_behind)
+      behind_steps =
+          all_more (front ++ traced) (drop (after + count) segments)
+          ∙ ap (λ xs. all_steps (front ++ traced) ++ xs) (sym (later_steps meets.by (drop (after + count) segments)))
+          ∙ sym (all_more (front ++ traced) traced_behind)
+
       pub traced_total : (total : List TaskTally) → total ≡ tallies next.header (all_steps (front ++ traced ++ drop (after + count) segments)) → total ≡ tallies_after edit (session_of header segments)
-      traced_total total is = is ∙ ap (tallies next.header) traced_replay.edited.segments.steps
+      traced_total total is = is ∙ ap (tallies next.header) (behind_steps ∙ traced_replay.edited.segments.steps)

@@ -15,7 +15,7 @@ use Rattle.bench_model.specs.Meeting.{last_place, next_checkpoints, kept_after}
 use Rattle.session_laws.proofs.EditedSessions.{edited_session, edited_room}
 use Rattle.meeting_laws.specs.CheckpointLaws.{AreCheckpoints}
 use Rattle.meeting_laws.proofs.Checkpoints.{next_fit}
-use Rattle.segment_laws.specs.Segments.{SegmentView, steps_of, all_steps, lengths, starts, AreSegments}
+use Rattle.segment_laws.specs.Segments.{SegmentView, steps_of, all_steps, later_segments, lengths, starts, AreSegments}
 use Rattle.segment_laws.proofs.Following.{all_more}
 use Rattle.session_store.specs.Kept.{kept_of, session_of, IsKept}
 use Rattle.session_store.specs.Replays.{IsEditReplay}
@@ -46,12 +46,12 @@ some_begins : (segments : List SegmentView) (places : List ℕ) → starts 0 (le
 some_begins [] places are first = absurd (cc (are, first))
 some_begins (segment ∷ segments) places are first = omega arith
 
-module _ (header : Header) (span : ℕ) (segments : List SegmentView) (edit : Edit) (kept : IsKept header span segments) (words : IsEditOfWords edit) (accepts : accepted (session_of header segments) edit ≡ Ok tt) (made : List SegmentView) (before after : ℕ) (replay : IsEditReplay (kept_of header span segments) edit segments made before after) where
+module _ (header : Header) (span : ℕ) (segments : List SegmentView) (edit : Edit) (kept : IsKept header span segments) (words : IsEditOfWords edit) (accepts : accepted (session_of header segments) edit ≡ Ok tt) (made : List SegmentView) (before after by : ℕ) (replay : IsEditReplay (kept_of header span segments) edit segments made before after by) where
   abbrev next : Session
   next = edited edit (session_of header segments)
 
   abbrev parts : List SegmentView
-  parts = take before segments ++ made ++ drop after segments
+  parts = take before segments ++ made ++ later_segments by (drop after segments)
 
   are : AreSegments (kept_after edit (kept_of header span segments)) parts
   are = replay.edited.segments

@@ -1,5 +1,4 @@
--- Segments that are replayed after edited steps, up to the first that begins with the kernel that
--- the replay comes to.
+-- Segments that are replayed after edited steps, up to the first that the replay meets.
 use Rattle.std.proofs.Common.{◌≡◌, ℕ, ◌+◌, ◌*◌, ◌<◌, Bool, true, false, cond, not, ◌&&◌, leb, List, [], ◌∷◌, ◌++◌, length, take, drop, refl, sym, ap, ap₂, subst, ◌∙◌, arith}
 use Rattle.std.specs.Prelude.{All, ◌==◌}
 use Rattle.std.proofs.Math.Dec.{eqb-suc-zero}
@@ -8,10 +7,11 @@ use Rattle.std.proofs.lemmas.List.Elements.{All-same}
 use Rattle.bench_types.specs.declared.kernel_data.Settings.{Settings}
 use Rattle.bench_types.specs.declared.step.Step.{Step}
 use Rattle.bench_types.specs.Step.{IsCheckedStep}
-use Rattle.bench_model.specs.Equal.{Same}
 use Rattle.bench_model.specs.Session.{state_after}
+use Rattle.bench_model.specs.Shifted.{is_met}
 use Rattle.bench_model.specs.Table.{Table}
-use Rattle.segment_laws.specs.EditedSegments.{cut, has_none, is_empty, AreUnequal, AreReplayed}
+use Rattle.meeting_laws.specs.RunLaws.{MeetBy}
+use Rattle.segment_laws.specs.EditedSegments.{cut, has_none, is_empty, AreUnmet, AreReplayed, IsMetAt}
 use Rattle.segment_laws.specs.Segments.{SegmentView, steps_of, all_steps, Follow}
 use Rattle.segment_laws.proofs.EditedSteps.{cut_joined}
 use Rattle.segment_laws.proofs.Following.{state_append, follow_append}
@@ -34,16 +34,19 @@ module _ (table : Table) (steps : List Step) (after : List SegmentView) where
   pub state_later : (i : ℕ) → state_after table (steps ++ all_steps (take i after)) ≡ state_after (state_after table steps) (all_steps (take i after))
   state_later i = state_append table steps (all_steps (take i after))
 
-  pub unequal_later : (count : ℕ) → AreUnequal (state_after table steps) [] after count → AreUnequal table steps after count
-  unequal_later count unequal = λ i segment old below found stands same. unequal i segment old below found stands (subst (Same old) (state_later i) same)
+  pub unmet_later : (count : ℕ) → AreUnmet (state_after table steps) [] after count → AreUnmet table steps after count
+  unmet_later count unmet = λ i segment old below found stands. ap (λ (table : Table). is_met old table (all_steps (drop i after))) (state_later i) ∙ unmet i segment old below found stands
 
-  pub goes_on : (span : ℕ) (first later : List SegmentView) (count : ℕ) → AreMade table (cut span (has_none after) steps) first → IsReplayOf (state_after table steps) after later count → AreReplayed span table steps after (first ++ later) count
-  goes_on span first later count begun replay = record {
+  pub met_later : (count by : ℕ) → IsMetAt (state_after table steps) [] after count by → IsMetAt table steps after count by
+  met_later count by met = λ segment old found stands. subst (λ table. MeetBy by old table (all_steps (drop count after))) (sym (state_later count)) (met segment old found stands)
+
+  pub goes_on : (span : ℕ) (first later : List SegmentView) (count by : ℕ) → AreMade table (cut span (has_none after) steps) first → IsReplayOf (state_after table steps) after later count by → AreReplayed span table steps after (first ++ later) count by
+  goes_on span first later count by begun replay = record {
     within = replay.within;
     parts = map-append steps_of first later ∙ ap₂ (λ xs ys. xs ++ ys) begun.parts_are replay.parts_are;
     follow = follow_append first later table begun.follow (subst (λ passed. Follow (state_after table passed) later) (sym (made_are_steps span table steps after first begun)) replay.follow);
-    unequal = unequal_later count replay.unequal;
-    equal = λ segment old found stands. subst (Same old) (sym (state_later count)) (replay.equal segment old found stands);
+    unmet = unmet_later count replay.unmet;
+    met = met_later count by replay.met;
   }
 
 -- no segments come after the steps

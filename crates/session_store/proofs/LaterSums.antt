@@ -1,15 +1,18 @@
 -- Sums of the tallies of a replay's last segments.
-use Rattle.std.proofs.Common.{◌≡◌, ℕ, zero, suc, ◌+◌, ◌-◌, ◌*◌, ◌≤◌, ◌^◌, List, [], ◌∷◌, ◌++◌, length, take, drop, Some, refl, sym, ap, subst, ◌∙◌, arith}
+use Rattle.std.proofs.Common.{◌≡◌, ◌⊎◌, inl, inr, ⊎_elim, false, ◌||◌, ℕ, zero, suc, ◌+◌, ◌-◌, ◌*◌, ◌≤◌, ◌^◌, List, [], ◌∷◌, ◌++◌, length, take, drop, Some, refl, sym, ap, subst, ◌∙◌, arith}
 use Rattle.std.specs.Prelude.{All, reverse, slice_get}
 use Rattle.std.proofs.lemmas.List.{append_assoc, append-nil, drop_all, drop-drop, length-append, length-drop, reverse-append, take_all, take-append-drop}
+use Rattle.std.proofs.lemmas.Bool.{or_parts}
+use Rattle.std.proofs.lemmas.List.Folds.{list_any-append}
 use Rattle.std.proofs.lemmas.Option.{same_Some}
 use Rattle.bench_types.specs.declared.header.Header.{Header}
 use Rattle.bench_types.specs.declared.kernel_data.Settings.{Settings}
 use Rattle.bench_types.specs.declared.step.Step.{Step}
 use Rattle.bench_types.specs.Step.{settings_of, IsCheckedStep}
-use Rattle.bench_model.specs.Equal.{Same, StandsFor}
+use Rattle.bench_model.specs.Equal.{StandsFor}
 use Rattle.bench_model.specs.Lists.{View}
 use Rattle.bench_model.specs.Session.{step_of, state_after}
+use Rattle.bench_model.specs.Shifted.{delays_until, some_delays_until}
 use Rattle.bench_model.specs.Sound.{IsSound}
 use Rattle.bench_model.specs.Start.{start}
 use Rattle.bench_model.specs.Table.{Table, stamp_queues}
@@ -17,16 +20,19 @@ use Rattle.bench_model.specs.Tallied.{added, added_tally, moment_of, part_tallie
 use Rattle.bench_model.specs.Tally.{TaskTally}
 use Rattle.session_laws.proofs.Shapes.{tallied_shape}
 use Rattle.session_laws.proofs.Tallies.{numbers_so, part_few, parts_added}
-use Rattle.meeting_laws.proofs.Runs.{run_alike}
+use Rattle.meeting_laws.specs.RunLaws.{MeetBy}
+use Rattle.meeting_laws.proofs.Meets.{met_run_alike}
 use Rattle.bench_reports.proofs.Additions.{run_lengths, same_length}
 use Rattle.bench_reports.proofs.Rooms.{first_shape, wider_room}
-use Rattle.segment_laws.specs.Segments.{SegmentView, all_steps, AreSegments, Follow}
+use Rattle.segment_laws.specs.Segments.{SegmentView, all_steps, later_segments, AreSegments, Follow}
 use Rattle.segment_laws.proofs.Following.{All_front, all_more, all_parted, follow_back, kernel_at, segment_follows, state_append, take_with}
+use Rattle.segment_laws.proofs.LaterSegments.{later_steps}
 use Rattle.segment_laws.proofs.Reading.{back_checked, front_settings, front_sound, segment_kernel_settings}
 use Rattle.session_store.specs.Kept.{kept_of, session_of}
 use Rattle.session_store.specs.Sums.{block, IsSumFrom}
-use Rattle.session_store.specs.Trials.{AreTallied, AreTalliedBefore, AreTalliedFrom, IsReplay}
-use Rattle.session_store.proofs.StoreTallies.{first_of, first_there, run_fits, run_goes, run_shapes, Counts}
+use Rattle.session_store.specs.Trials.{AreTallied, AreTalliedFrom, AreTalliedLater, IsReplay}
+use Rattle.session_store.proofs.LaterTallies.{later_append, later_found, later_one, one_shifted}
+use Rattle.session_store.proofs.StoreTallies.{first_of, first_there, run_fits, run_goes, run_shapes, tallied_alike, Counts}
 
 -- ---- lists
 
@@ -188,24 +194,29 @@ module _ (header : Header) (segments : List SegmentView) (replay : IsReplay head
       (All_front (IsCheckedStep (settings_of header)) (all_steps later) (all_steps rest)
       (subst (All (IsCheckedStep (settings_of header))) (all_more later rest) (back_checked (session_of header segments) (all_steps front) (all_steps (later ++ rest)) replay.session parted_steps)))
 
--- a sum of them in one is that in the other
+-- a sum of them in one is that in the other, where they are so many ticks later
 module _ (header : Header) (segments : List SegmentView) (replay : IsReplay header segments) (front later rest : List SegmentView) (whole : segments ≡ front ++ later ++ rest)
-    (other : Header) (others : List SegmentView) (replayed : IsReplay other others) (before more : List SegmentView) (parts : others ≡ before ++ later ++ more) (first : SegmentView) (found : slice_get later 0 ≡ Some first) where
-  later_alike : (total : List TaskTally) → AreTalliedFrom header front later total → AreTalliedFrom other before later total
+    (by : ℕ) (unread : (by ≡ 0) ⊎ (some_delays_until (all_steps later) ≡ false))
+    (other : Header) (others : List SegmentView) (replayed : IsReplay other others) (before more : List SegmentView) (parts : others ≡ before ++ later_segments by later ++ more) (first : SegmentView) (found : slice_get later 0 ≡ Some first) where
+  later_alike : (total : List TaskTally) → AreTalliedFrom header front later total → AreTalliedFrom other before (later_segments by later) total
   later_alike total tallied =
       let a = state_after (start header) (all_steps front) in
       let b = state_after (start other) (all_steps before) in
+      let moved = later_segments by later in
       let steps = all_steps later in
+      let there = later_found by later 0 first found in
       let one = begin_stands header segments replay front later rest whole first found in
-      let two = begin_stands other others replayed before later more parts first found in
-      let same : Same a b = one.shows ∙ sym two.shows in
+      let two = begin_stands other others replayed before moved more parts (later_one by first) there in
+      let meet : MeetBy by a b steps = record { later = one_shifted by first a b one two; unread = unread } in
       let own = begin_settings header segments replay front later rest whole first found in
-      let settings : a.settings ≡ settings_of other = ap (λ (view : View). view.settings) same ∙ begin_settings other others replayed before later more parts first found in
+      let settings : a.settings ≡ settings_of other = sym (ap (λ (view : View). view.settings) meet.later) ∙ begin_settings other others replayed before moved more parts (later_one by first) there in
       let run =
-      run_alike a b steps (begin_sound header segments replay front later rest whole first found) (begin_sound other others replayed before later more parts first found) same
+      met_run_alike by a b steps (begin_sound header segments replay front later rest whole first found) (begin_sound other others replayed before moved more parts (later_one by first) there) meet
       (begin_checked header segments replay front later rest whole first found) in
       record {
-        counts = tallied.counts ∙ ap (λ (s : Settings). part_tallies s a steps) (sym own) ∙ run.tallies ∙ ap (λ (s : Settings). part_tallies s b steps) settings;
+        counts =
+            tallied.counts ∙ ap (λ (s : Settings). part_tallies s a steps) (sym own) ∙ run.tallies ∙ ap (λ (s : Settings). part_tallies s b steps) settings
+            ∙ ap (part_tallies (settings_of other) b) (sym (later_steps by later));
         sizes = tallied.sizes ∙ ap shape_of (sym own ∙ settings);
       }
 
@@ -216,7 +227,7 @@ all_lent segments from total next = subst (λ (xs : List SegmentView). Counts to
 
 -- ---- the last segments, up to a checkpoint and from there on
 
-module _ (segments : List SegmentView) (from next : ℕ) (total sum : List TaskTally) (found : IsSumFrom segments from sum next) (known : AreTalliedBefore total (drop from segments)) where
+module _ (segments : List SegmentView) (from next : ℕ) (total sum : List TaskTally) (found : IsSumFrom segments from sum next) (known : AreTalliedLater total (drop from segments)) where
   abbrev pub near : List SegmentView
   near = take (next - from) (drop from segments)
 
@@ -226,36 +237,72 @@ module _ (segments : List SegmentView) (from next : ℕ) (total sum : List TaskT
   cut_there : drop from segments ≡ near ++ far
   cut_there = drop_cut segments from next found.order
 
-  pub near_whole : known.earlier ++ drop from segments ++ known.later ≡ known.earlier ++ near ++ far ++ known.later
-  near_whole = ap (λ xs. known.earlier ++ xs ++ known.later) cut_there ∙ ap (λ xs. xs ++ known.later) (sym (append_assoc known.earlier near far))
+  pub unread_parts : (known.by ≡ 0) ⊎ ((some_delays_until (all_steps near) ≡ false) × (some_delays_until (all_steps far) ≡ false))
+  unread_parts = ⊎_elim
+      (λ none. inl none)
+      (λ unread.
+      let parts : (some_delays_until (all_steps near) || some_delays_until (all_steps far)) ≡ false =
+      sym (ap some_delays_until (ap all_steps cut_there ∙ all_more near far) ∙ list_any-append delays_until (all_steps near) (all_steps far)) ∙ unread in
+      inr (or_parts (some_delays_until (all_steps near)) (some_delays_until (all_steps far)) parts))
+      known.unread
 
-  abbrev pub before_near : AreTalliedBefore total near
+  abbrev moved_near : List SegmentView
+  moved_near = later_segments known.by near
+
+  abbrev moved_far : List SegmentView
+  moved_far = later_segments known.by far
+
+  pub near_whole : known.before.earlier ++ later_segments known.by (drop from segments) ++ known.before.later ≡ known.before.earlier ++ moved_near ++ moved_far ++ known.before.later
+  near_whole =
+      ap (λ xs. known.before.earlier ++ xs ++ known.before.later) (ap (later_segments known.by) cut_there ∙ later_append known.by near far)
+      ∙ ap (λ xs. xs ++ known.before.later) (sym (append_assoc known.before.earlier moved_near moved_far))
+
+  abbrev pub before_near : AreTalliedLater total near
   before_near = record {
-    header = known.header;
-    earlier = known.earlier;
-    later = far ++ known.later;
-    replay = subst (IsReplay known.header) (near_whole ∙ append_assoc (known.earlier ++ near) far known.later) known.replay;
-    tallied = known.tallied;
+    by = known.by;
+    unread = ⊎_elim (λ none. inl none) (λ (both : (some_delays_until (all_steps near) ≡ false) × (some_delays_until (all_steps far) ≡ false)). inr both.0) unread_parts;
+    before = record {
+      header = known.before.header;
+      earlier = known.before.earlier;
+      later = moved_far ++ known.before.later;
+      replay = subst (IsReplay known.before.header) (near_whole ∙ append_assoc (known.before.earlier ++ moved_near) moved_far known.before.later) known.before.replay;
+      tallied = known.before.tallied;
+    };
   }
 
   module _ (total_1 : List TaskTally) (counted : Counts total near total_1) where
-    near_tallied : AreTallied known.header (known.earlier ++ near) total_1
-    near_tallied = counted before_near
+    abbrev all : List SegmentView
+    all = known.before.earlier ++ later_segments known.by (drop from segments) ++ known.before.later
 
-    far_tallied : AreTalliedFrom known.header (known.earlier ++ near) far sum
+    near_tallied : AreTallied known.before.header (known.before.earlier ++ moved_near) total_1
+    near_tallied =
+        tallied_alike known.before.header (known.before.earlier ++ near) (known.before.earlier ++ moved_near) total_1
+        (all_more known.before.earlier near ∙ ap (λ xs. all_steps known.before.earlier ++ xs) (sym (later_steps known.by near)) ∙ sym (all_more known.before.earlier moved_near))
+        (counted before_near)
+
+    far_tallied : AreTalliedFrom known.before.header (known.before.earlier ++ moved_near) moved_far sum
     far_tallied =
         let first = first_of far (omega (arith, found.within, length-drop next segments)) in
         let parted : segments ≡ take next segments ++ far ++ [] = sym (append-nil (take next segments ++ far) ∙ take-append-drop next segments) in
-        later_alike found.header segments found.replay (take next segments) far [] parted known.header (known.earlier ++ drop from segments ++ known.later) known.replay (known.earlier ++ near) known.later near_whole
+        later_alike found.header segments found.replay (take next segments) far [] parted known.by
+        (⊎_elim (λ none. inl none) (λ (both : (some_delays_until (all_steps near) ≡ false) × (some_delays_until (all_steps far) ≡ false)). inr both.1) unread_parts)
+        known.before.header all known.before.replay (known.before.earlier ++ moved_near) known.before.later near_whole
         first.0 first.1 sum found.tallied
 
     pub far_shapes : shape total_1 ≡ shape sum
-    far_shapes = run_shapes known.header (known.earlier ++ drop from segments ++ known.later) known.replay (known.earlier ++ near) far known.later near_whole sum total_1 far_tallied.counts near_tallied far_tallied.sizes
+    far_shapes = run_shapes known.before.header all known.before.replay (known.before.earlier ++ moved_near) moved_far known.before.later near_whole sum total_1 far_tallied.counts near_tallied far_tallied.sizes
 
     pub far_fits : AllCountsBelow (2 ^ 32) (added total_1 sum)
-    far_fits = run_fits known.header (known.earlier ++ drop from segments ++ known.later) known.replay (known.earlier ++ near) far known.later near_whole sum total_1 far_tallied.counts near_tallied
+    far_fits = run_fits known.before.header all known.before.replay (known.before.earlier ++ moved_near) moved_far known.before.later near_whole sum total_1 far_tallied.counts near_tallied
 
-    pub far_added : (total_2 : List TaskTally) → total_2 ≡ added total_1 sum → shape total_2 ≡ shape total_1 → AreTallied known.header (known.earlier ++ drop from segments) total_2
+    pub far_added : (total_2 : List TaskTally) → total_2 ≡ added total_1 sum → shape total_2 ≡ shape total_1 → AreTallied known.before.header (known.before.earlier ++ drop from segments) total_2
     far_added total_2 is kept =
-        subst (λ (xs : List SegmentView). AreTallied known.header xs total_2) (append_assoc known.earlier near far ∙ ap (λ xs. known.earlier ++ xs) (sym cut_there))
-        (run_goes known.header (known.earlier ++ drop from segments ++ known.later) known.replay (known.earlier ++ near) far known.later near_whole sum total_1 far_tallied.counts near_tallied total_2 is kept)
+        tallied_alike known.before.header (known.before.earlier ++ moved_near ++ moved_far) (known.before.earlier ++ drop from segments) total_2 steps_there
+        (run_goes known.before.header all known.before.replay (known.before.earlier ++ moved_near) moved_far known.before.later near_whole sum total_1 far_tallied.counts near_tallied total_2 is kept)
+      where
+        steps_there : all_steps (known.before.earlier ++ moved_near ++ moved_far) ≡ all_steps (known.before.earlier ++ drop from segments)
+        steps_there =
+            ap all_steps (append_assoc known.before.earlier moved_near moved_far ∙ ap (λ xs. known.before.earlier ++ xs) (sym (ap (later_segments known.by) cut_there ∙ later_append known.by near far)))
+            ∙ all_more known.before.earlier (later_segments known.by (drop from segments))
+            ∙ ap (λ xs. all_steps known.before.earlier ++ xs) (later_steps known.by (drop from segments))
+            ∙ sym (all_more known.before.earlier (drop from segments))

@@ -3,6 +3,7 @@ mod EditReplays
 mod EditTold
 mod GoingOn
 mod LaterSums
+mod LaterTallies
 mod Opened
 mod Openings
 pub mod Parted

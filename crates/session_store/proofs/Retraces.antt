@@ -1,73 +1,81 @@
 -- Replays of edited steps and of the segments after them of which nothing is kept but the tallies.
-use Rattle.std.proofs.Common.{◌≡◌, ℕ, suc, ◌+◌, ◌<◌, ◌≤◌, List, [], ◌∷◌, ◌++◌, length, map, take, drop, refl, sym, ap, ap₂, subst, ◌∙◌, arith}
+use Rattle.std.proofs.Common.{◌≡◌, ◌⊎◌, inl, ℕ, suc, false, ◌+◌, ◌<◌, ◌≤◌, List, [], ◌∷◌, ◌++◌, length, map, take, drop, refl, sym, ap, ap₂, subst, ◌∙◌, arith}
 use Rattle.std.specs.Prelude.{All, Some, slice_get}
 use Rattle.std.proofs.lemmas.Grind.{flat_map-append}
 use Rattle.std.proofs.lemmas.List.{length-append}
 use Rattle.std.proofs.lemmas.Option.{same_Some, slice_get_past}
 use Rattle.bench_types.specs.declared.step.Step.{Step}
 use Rattle.bench_types.specs.Step.{IsCheckedStep}
-use Rattle.bench_model.specs.Equal.{Same, StandsFor}
+use Rattle.bench_model.specs.Equal.{StandsFor}
 use Rattle.bench_model.specs.Lists.{View, view_of}
 use Rattle.bench_model.specs.Session.{step_of, state_after}
+use Rattle.bench_model.specs.Shifted.{some_delays_until}
 use Rattle.bench_model.specs.Sound.{IsSound}
 use Rattle.bench_model.specs.Table.{Table, stamp_queues}
 use Rattle.bench_model.specs.Tallied.{first_tallies, moment_of, part_tallies, tallied, tallied_after, AllCountsBelow}
 use Rattle.bench_model.specs.Tally.{TaskTally}
 use Rattle.step_laws.proofs.Along.{settings_along, sound_along}
-use Rattle.segment_laws.specs.EditedSegments.{cut, has_none, AreReplayed, AreUnequal}
+use Rattle.segment_laws.specs.EditedSegments.{cut, has_none, AreReplayed, AreUnmet}
 use Rattle.segment_laws.specs.Segments.{SegmentView, steps_of, all_steps, Follow}
 use Rattle.segment_laws.proofs.EditedSteps.{cut_joined}
 use Rattle.segment_laws.proofs.Following.{All_back, All_front, all_split, state_append}
 use Rattle.session_segments.proofs.Tallied.{first_stands}
 use Rattle.session_store.specs.Trials.{IsMeeting}
-use Rattle.session_segments.proofs.Again.{joined, more_length, more_steps, own_steps, unequal_more, BeginsAlike, BeginsOtherwise}
-use Rattle.session_store.proofs.GoingOn.{state_later, unequal_later}
+use Rattle.session_segments.proofs.Again.{joined, more_length, more_steps, own_steps, unmet_more, IsMetBy, IsUnmet}
+use Rattle.session_store.proofs.GoingOn.{met_later, unmet_later}
 
 -- ---- one segment after another
 
--- the replay came past so many of the segments, none of which begins with its kernel
+-- the replay came past so many of the segments, none of which it met
 pub record IsPast (table : Table) (after : List SegmentView) (count : ℕ) (kernel : View) : Type 0 where
-  pub unequal : AreUnequal table [] after count
+  pub unmet : AreUnmet table [] after count
   pub stands : StandsFor kernel (state_after table (all_steps (take count after)))
 
 pub past_none : (table : Table) (after : List SegmentView) (kernel : View) → StandsFor kernel table → IsPast table after 0 kernel
 past_none table after kernel stands = record {
-  unequal = λ i segment first below. absurd (omega arith);
+  unmet = λ i segment first below. absurd (omega arith);
   stands = stands;
 }
 
-pub past_one : (table : Table) (after : List SegmentView) (count : ℕ) (kernel moved : View) (segment : SegmentView) → slice_get after count ≡ Some segment → ((begun : Table) → StandsFor kernel begun → StandsFor moved (state_after begun segment.steps)) → BeginsOtherwise segment kernel
+pub past_one : (table : Table) (after : List SegmentView) (count : ℕ) (kernel moved : View) (segment : SegmentView) → slice_get after count ≡ Some segment → ((begun : Table) → StandsFor kernel begun → StandsFor moved (state_after begun segment.steps)) → IsUnmet segment kernel (all_steps (drop count after))
     → IsPast table after count kernel → IsPast table after (count + 1) moved
 past_one table after count kernel moved segment found moves otherwise past = record {
-  unequal = unequal_more table after count segment kernel found otherwise past.stands past.unequal;
+  unmet = unmet_more table after count segment kernel found otherwise past.stands past.unmet;
   stands =
       subst (StandsFor moved)
       (sym (ap (state_after table) (more_steps after count segment found) ∙ state_append table (all_steps (take count after)) segment.steps))
       (moves (state_after table (all_steps (take count after))) past.stands);
 }
 
-pub meets_at : (table : Table) (after : List SegmentView) (count : ℕ) (kernel : View) (segment : SegmentView) → slice_get after count ≡ Some segment → count < length after → BeginsAlike segment kernel → IsPast table after count kernel → IsMeeting table [] after count
-meets_at table after count kernel segment found early alike past = record {
+pub meets_at : (table : Table) (after : List SegmentView) (count by : ℕ) (kernel : View) (segment : SegmentView) → slice_get after count ≡ Some segment → count < length after → (by ≡ 0) ⊎ (some_delays_until (all_steps (drop count after)) ≡ false)
+    → IsMetBy by segment kernel (all_steps (drop count after)) → IsPast table after count kernel → IsMeeting table [] after count
+meets_at table after count by kernel segment found early unread meets past = record {
   within = omega arith;
-  unequal = past.unequal;
-  equal = λ one first there begins.
-      alike first (state_after table (all_steps (take count after)))
+  by = by;
+  unread = unread;
+  unmet = past.unmet;
+  met = λ one first there begins.
+      meets first (state_after table (all_steps (take count after)))
       (subst (λ (view : SegmentView). StandsFor view.kernel first) (same_Some one segment (sym there ∙ found)) begins) past.stands;
 }
 
 pub meets_none : (table : Table) (after : List SegmentView) (count : ℕ) (kernel : View) → count ≡ length after → IsPast table after count kernel → IsMeeting table [] after count
 meets_none table after count kernel all past = record {
   within = omega arith;
-  unequal = past.unequal;
-  equal = λ one first there begins. let past = slice_get_past after count (omega arith) in absurd (cc (there, past));
+  by = 0;
+  unread = inl refl;
+  unmet = past.unmet;
+  met = λ one first there begins. let past = slice_get_past after count (omega arith) in absurd (cc (there, past));
 }
 
 -- after the edited steps
 pub meeting_later : (table : Table) (steps : List Step) (after : List SegmentView) (count : ℕ) → IsMeeting (state_after table steps) [] after count → IsMeeting table steps after count
 meeting_later table steps after count meeting = record {
   within = meeting.within;
-  unequal = unequal_later table steps after count meeting.unequal;
-  equal = λ segment old found stands. subst (Same old) (sym (state_later table steps after count)) (meeting.equal segment old found stands);
+  by = meeting.by;
+  unread = meeting.unread;
+  unmet = unmet_later table steps after count meeting.unmet;
+  met = met_later table steps after count meeting.by meeting.met;
 }
 
 -- ---- tallies
@@ -134,11 +142,11 @@ module _ (span : ℕ) (table : Table) (steps : List Step) (after : List SegmentV
       flat_map-append (λ (part : List Step). part) (cut span (has_none after) steps) (map steps_of (take count after))
       ∙ ap₂ (λ xs ys. xs ++ ys) (cut_joined span (has_none after) steps) (own_steps (take count after))
 
-  pub meeting_replayed : IsSound table → All (IsCheckedStep table.settings) (steps ++ all_steps (take count after)) → IsMeeting table steps after count → AreReplayed span table steps after made_from count
+  pub meeting_replayed : IsSound table → All (IsCheckedStep table.settings) (steps ++ all_steps (take count after)) → (meeting : IsMeeting table steps after count) → AreReplayed span table steps after made_from count meeting.by
   meeting_replayed sound all meeting = record {
     within = meeting.within;
     parts = parts_from table replayed_parts;
     follow = follow_from table replayed_parts sound (subst (All (IsCheckedStep table.settings)) (sym replayed_steps) all);
-    unequal = meeting.unequal;
-    equal = meeting.equal;
+    unmet = meeting.unmet;
+    met = meeting.met;
   }

@@ -23,9 +23,9 @@ use Rattle.step_laws.proofs.Along.{start_settings}
 use Rattle.segment_laws.proofs.Starts.{starts_at}
 use Rattle.session_store.specs.Kept.{kept_of, session_of}
 use Rattle.session_store.specs.Sums.{block, tallies_from, AreSums, AreSumsBefore, AreSumsOf, CheckpointSums, HasSums, HasSumsInFront}
-use Rattle.session_store.specs.Trials.{AreTallied, AreTalliedAfter, AreTalliedBefore, IsReplay}
+use Rattle.session_store.specs.Trials.{AreTallied, AreTalliedAfter, AreTalliedLater, IsReplay}
 use Rattle.session_store.proofs.LaterSums.{part_shape}
-use Rattle.session_store.proofs.StoreTallies.{first_there, run_fits, run_goes, run_shapes, sum_fits, sum_shapes, tallied_goes, Counts}
+use Rattle.session_store.proofs.StoreTallies.{first_there, not_later, run_fits, run_goes, run_shapes, sum_fits, sum_shapes, tallied_goes, Counts}
 
 -- ---- one segment more
 
@@ -179,14 +179,14 @@ module _ (front : List SegmentView) (replayed : List TaskTally) (known : AreTall
       ap (λ xs. take count front ++ xs) (lent_is ∙ take_all (length front - count) (drop count front) (omega (arith, length-drop count front)))
       ∙ take-append-drop count front
 
-  abbrev pub before_lent_front : AreTalliedBefore total lent
-  before_lent_front = record {
+  abbrev pub before_lent_front : AreTalliedLater total lent
+  before_lent_front = not_later total lent (record {
     header = known.header;
     earlier = take count front;
     later = known.made ++ known.later;
     replay = subst (IsReplay known.header) (append_assoc front known.made known.later ∙ ap (λ xs. xs ++ (known.made ++ known.later)) (sym whole)) known.replay;
     tallied = begun;
-  }
+  })
 
   module _ (total_1 : List TaskTally) (counted : Counts total lent total_1) where
     front_tallied : AreTallied known.header front total_1

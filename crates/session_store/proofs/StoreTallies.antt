@@ -1,5 +1,5 @@
 -- The tallies of a session, one segment after another.
-use Rattle.std.proofs.Common.{◌≡◌, ℕ, suc, ◌+◌, ◌^◌, ◌<◌, ◌≤◌, List, [], ◌∷◌, ◌++◌, length, take, drop, Some, refl, sym, ap, subst, ◌∙◌, arith, add-one}
+use Rattle.std.proofs.Common.{◌≡◌, ◌⊎◌, inl, false, ℕ, suc, ◌+◌, ◌^◌, ◌<◌, ◌≤◌, List, [], ◌∷◌, ◌++◌, length, take, drop, Some, refl, sym, ap, subst, ◌∙◌, arith, add-one}
 use Rattle.std.specs.Prelude.{slice_get, true, ◌==◌}
 use Rattle.std.proofs.Math.Dec.{eqb-suc-zero}
 use Rattle.std.proofs.lemmas.List.{take_all, append_assoc, append-nil, length-append}
@@ -11,17 +11,19 @@ use Rattle.bench_model.specs.Control.{Control}
 use Rattle.bench_model.specs.Equal.{StandsFor}
 use Rattle.bench_model.specs.Lists.{View}
 use Rattle.bench_model.specs.Session.{state_after}
+use Rattle.bench_model.specs.Shifted.{some_delays_until}
 use Rattle.bench_model.specs.Start.{start}
 use Rattle.bench_model.specs.Table.{Table}
 use Rattle.bench_model.specs.Tallied.{first_tallies, part_tallies, added, shape, shape_of, AllCountsBelow}
 use Rattle.bench_model.specs.Tally.{TaskTally, tallies}
 use Rattle.session_laws.proofs.Tallies.{part_few, parts_added, stepwise}
 use Rattle.bench_reports.proofs.Rooms.{wider_room}
-use Rattle.segment_laws.specs.Segments.{SegmentView, all_steps, AreSegments, Follow}
+use Rattle.segment_laws.specs.Segments.{SegmentView, all_steps, later_segments, AreSegments, Follow}
 use Rattle.segment_laws.proofs.Following.{all_more, follow_back, split_at, take_with}
+use Rattle.segment_laws.proofs.LaterSegments.{later_steps}
 use Rattle.segment_laws.proofs.Reading.{kernel_settings, segment_kernel_settings}
 use Rattle.session_store.specs.Kept.{kept_of, IsKept}
-use Rattle.session_store.specs.Trials.{AreTallied, AreTalliedAfter, AreTalliedBefore, IsReplay}
+use Rattle.session_store.specs.Trials.{AreTallied, AreTalliedAfter, AreTalliedBefore, AreTalliedLater, IsReplay, StayLater}
 
 pub replay_of : (header : Header) (span : ℕ) (segments : List SegmentView) → IsKept header span segments → IsReplay header segments
 replay_of header span segments kept = record { session = kept.session; few_steps = kept.few_steps; follow = kept.follow }
@@ -123,18 +125,29 @@ ends_tallied header earlier segments count total all so = subst (λ (xs : List S
 
 -- what a call that counts the segments promises
 abbrev pub Counts : List TaskTally → List SegmentView → List TaskTally → Type 0
-Counts old segments new = (known : AreTalliedBefore old segments) → AreTallied known.header (known.earlier ++ segments) new
+Counts old segments new = (known : AreTalliedLater old segments) → AreTallied known.before.header (known.before.earlier ++ segments) new
+
+-- segments of a replay as it stands
+abbrev pub not_later : (total : List TaskTally) (segments : List SegmentView) → AreTalliedBefore total segments → AreTalliedLater total segments
+not_later total segments known = record { by = 0; unread = inl refl; before = known }
+
+-- tallies are told by the steps alone
+pub tallied_alike : (header : Header) (segments others : List SegmentView) (total : List TaskTally) → all_steps segments ≡ all_steps others → AreTallied header segments total → AreTallied header others total
+tallied_alike header segments others total same so = record {
+  counts = so.counts ∙ ap (part_tallies (settings_of header) (start header)) same;
+  sizes = so.sizes;
+}
 
 -- all segments of a replay are counted, as a slice lends them
 module _ (header : Header) (segments : List SegmentView) (replay : IsReplay header segments) (lent : List SegmentView) (total : List TaskTally) where
-  abbrev pub before_lent : lent ≡ segments → AreTallied header [] total → AreTalliedBefore total lent
-  before_lent are none = record {
+  abbrev pub before_lent : lent ≡ segments → AreTallied header [] total → AreTalliedLater total lent
+  before_lent are none = not_later total lent (record {
     header = header;
     earlier = [];
     later = [];
     replay = subst (IsReplay header) (sym (append-nil lent ∙ are)) replay;
     tallied = none;
-  }
+  })
 
   pub counted_all : (next : List TaskTally) → lent ≡ segments → AreTallied header [] total → Counts total lent next → next ≡ tallies header (all_steps segments)
   counted_all next are none counted =
@@ -166,26 +179,40 @@ module _ (front : List SegmentView) (replayed : List TaskTally) (known : AreTall
   }
 
 -- the segments that come after them, as a slice tells them
-module _ (segments lent : List SegmentView) (before after : ℕ) (replayed : List TaskTally) (known : AreTalliedAfter (take before segments) replayed) (later : known.later ≡ drop after segments) (there : lent ≡ segments) where
+module _ (segments lent : List SegmentView) (before after : ℕ) (replayed : List TaskTally) (known : AreTalliedAfter (take before segments) replayed) (later : StayLater known.later (drop after segments)) (there : lent ≡ segments) where
   abbrev pub back : List SegmentView
   back = drop after lent
 
-  pub back_is : back ≡ known.later
-  back_is = ap (λ (xs : List SegmentView). drop after xs) there ∙ sym later
+  pub back_there : back ≡ drop after segments
+  back_there = ap (λ (xs : List SegmentView). drop after xs) there
+
+  pub back_is : later_segments later.by back ≡ known.later
+  back_is = ap (later_segments later.by) back_there ∙ sym later.are
 
   module _ (total : List TaskTally) (so_far : AreTallied known.header (take before segments ++ known.made) total) where
-    abbrev pub before_back : AreTalliedBefore total back
+    abbrev pub before_back : AreTalliedLater total back
     before_back = record {
-      header = known.header;
-      earlier = take before segments ++ known.made;
-      later = [];
-      replay =
-          subst (IsReplay known.header) (ap (λ (xs : List SegmentView). take before segments ++ known.made ++ xs) (sym back_is) ∙ sym (append-nil (take before segments ++ known.made ++ back))) known.replay;
-      tallied = so_far;
+      by = later.by;
+      unread = subst (λ (ss : List SegmentView). (later.by ≡ 0) ⊎ (some_delays_until (all_steps ss) ≡ false)) (sym back_there) later.unread;
+      before = record {
+        header = known.header;
+        earlier = take before segments ++ known.made;
+        later = [];
+        replay =
+            subst (IsReplay known.header) (ap (λ (xs : List SegmentView). take before segments ++ known.made ++ xs) (sym back_is) ∙ sym (append-nil (take before segments ++ known.made ++ later_segments later.by back))) known.replay;
+        tallied = so_far;
+      };
     }
+
+    steps_there : all_steps (take before segments ++ known.made ++ known.later) ≡ all_steps (take before segments ++ known.made ++ drop after segments)
+    steps_there =
+        all_more (take before segments ++ known.made) known.later
+        ∙ ap (λ xs. all_steps (take before segments ++ known.made) ++ xs) (ap all_steps later.are ∙ later_steps later.by (drop after segments))
+        ∙ sym (all_more (take before segments ++ known.made) (drop after segments))
 
     pub all_counted : (next : List TaskTally) → Counts total back next → next ≡ tallies known.header (all_steps (take before segments ++ known.made ++ drop after segments))
     all_counted next counted =
         all_tallied known.header (take before segments ++ known.made ++ known.later) known.replay next
-        (subst (λ (xs : List SegmentView). AreTallied known.header (take before segments ++ known.made ++ xs) next) back_is (counted before_back))
-        ∙ ap (λ (xs : List SegmentView). tallies known.header (all_steps (take before segments ++ known.made ++ xs))) later
+        (tallied_alike known.header (take before segments ++ known.made ++ drop after segments) (take before segments ++ known.made ++ known.later) next (sym steps_there)
+        (subst (λ (xs : List SegmentView). AreTallied known.header (take before segments ++ known.made ++ xs) next) back_there (counted before_back)))
+        ∙ ap (tallies known.header) steps_there

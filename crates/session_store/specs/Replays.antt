@@ -12,7 +12,7 @@ use Rattle.bench_model.specs.Meeting.{CheckpointedSession}
 use Rattle.bench_model.specs.Session.{state_at}
 use Rattle.bench_model.specs.Table.{Table}
 use Rattle.segment_laws.specs.EditedSegments.{AreParted}
-use Rattle.segment_laws.specs.Segments.{SegmentView, steps_of, all_steps, lengths, Follow}
+use Rattle.segment_laws.specs.Segments.{SegmentView, steps_of, all_steps, later_segments, lengths, Follow}
 use Rattle.segment_laws.specs.SegmentLaws.{IsEdited}
 
 -- segments of these steps, each from the state that the one before it left
@@ -61,12 +61,14 @@ pub record IsParting (session : Session) (edit : Edit) (segments : List SegmentV
       (length (all_steps (take before segments))))
   pub settings : kernel.settings ≡ settings_of session.header
 
--- the segments that take the place of those between the two indices
+-- the segments that take the place of those between the two indices; those behind are so many ticks
+-- later
 pub record IsEditReplay (kept : CheckpointedSession) (edit : Edit)
-    (segments made : List SegmentView) (before after : ℕ) : Type 0 where
+    (segments made : List SegmentView) (before after by : ℕ) : Type 0 where
   pub order : before ≤ after
   pub within : after ≤ length segments
-  pub edited : IsEdited kept edit (take before segments) made (drop after segments)
+  pub edited : 
+      IsEdited kept edit (take before segments) made (later_segments by (drop after segments))
 
 -- the segments of an edited session: those that stay, and the ones that were replayed
 pub record AreRemade (kept : CheckpointedSession) (edit : Edit) (old new : List SegmentView)
@@ -74,5 +76,6 @@ pub record AreRemade (kept : CheckpointedSession) (edit : Edit) (old new : List 
   pub made : List SegmentView
   pub before : ℕ
   pub after : ℕ
-  pub whole : new ≡ take before old ++ made ++ drop after old
-  pub replay : IsEditReplay kept edit old made before after
+  pub by : ℕ
+  pub whole : new ≡ take before old ++ made ++ later_segments by (drop after old)
+  pub replay : IsEditReplay kept edit old made before after by

@@ -1,5 +1,5 @@
 -- What an edit that is tried is answered, and how the tallies of segments add up.
-use Rattle.std.specs.Prelude.{◌≡◌, ◌↔◌, ◌≤◌, ℕ, List, ◌++◌, length, Result, Err, IfOk}
+use Rattle.std.specs.Prelude.{◌≡◌, ◌⊎◌, ◌↔◌, ◌≤◌, ℕ, false, drop, List, ◌++◌, length, Result, Err, IfOk}
 use Rattle.bench_types.specs.declared.edit.Edit.{Edit}
 use Rattle.bench_types.specs.declared.edit.EditFault.{EditFault}
 use Rattle.bench_types.specs.declared.header.Header.{Header}
@@ -9,13 +9,14 @@ use Rattle.bench_types.specs.Step.{settings_of}
 use Rattle.bench_model.specs.Edits.{accepted, edited}
 use Rattle.bench_model.specs.Meeting.{CheckpointedSession}
 use Rattle.bench_model.specs.Session.{state_after}
+use Rattle.bench_model.specs.Shifted.{some_delays_until}
 use Rattle.bench_model.specs.Start.{start}
 use Rattle.bench_model.specs.Tallied.{part_tallies, shape, shape_of}
 use Rattle.bench_model.specs.Table.{Table}
 use Rattle.bench_model.specs.Tally.{TaskTally, tallies}
 use Rattle.bench_types.specs.declared.step.Step.{Step}
-use Rattle.segment_laws.specs.EditedSegments.{AreUnequal, IsEqualAt}
-use Rattle.segment_laws.specs.Segments.{SegmentView, all_steps, Follow}
+use Rattle.segment_laws.specs.EditedSegments.{AreUnmet, IsMetAt}
+use Rattle.segment_laws.specs.Segments.{SegmentView, all_steps, later_segments, Follow}
 use Rattle.session_store.specs.declared.fault.StoreFault.{StoreFault}
 use Rattle.session_store.specs.declared.fault.StoreFault.TheVariants as fault
 use Rattle.session_store.specs.declared.outcome.Outcome.{Outcome}
@@ -64,13 +65,27 @@ pub record AreTalliedBefore (total : List TaskTally) (segments : List SegmentVie
   pub replay : IsReplay header (earlier ++ segments ++ later)
   pub tallied : AreTallied header earlier total
 
+-- the same of a replay in which these segments are so many ticks later
+pub record AreTalliedLater (total : List TaskTally) (segments : List SegmentView) : Type 0 where
+  pub by : ℕ
+  pub unread : (by ≡ 0) ⊎ (some_delays_until (all_steps segments) ≡ false)
+  pub before : AreTalliedBefore total (later_segments by segments)
+
+-- these segments are others so many ticks later
+pub record StayLater (later segments : List SegmentView) : Type 0 where
+  pub by : ℕ
+  pub unread : (by ≡ 0) ⊎ (some_delays_until (all_steps segments) ≡ false)
+  pub are : later ≡ later_segments by segments
+
 -- A replay of the steps from a table on and of so many of the segments after them ended at the
--- first of these that begins with the kernel it came to, or after the last.
+-- first of these that it meets, so many ticks later, or after the last.
 pub record IsMeeting (table : Table) (steps : List Step) (after : List SegmentView)
     (count : ℕ) : Type 0 where
   pub within : count ≤ length after
-  pub unequal : AreUnequal table steps after count
-  pub equal : IsEqualAt table steps after count
+  pub by : ℕ
+  pub unread : (by ≡ 0) ⊎ (some_delays_until (all_steps (drop count after)) ≡ false)
+  pub unmet : AreUnmet table steps after count
+  pub met : IsMetAt table steps after count by
 
 -- the tallies of what is replayed in an edited session after its first segments
 pub record AreTalliedAfter (front : List SegmentView) (replayed : List TaskTally) : Type 0 where

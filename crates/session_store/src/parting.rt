@@ -81,7 +81,7 @@ fn parted_at_step<K: Tracing>(
     let (index, from) = segments.locate(place);
     let part = &segments.as_slice()[index];
     Ok(Parting {
-        kernel: part.kernel().copy(alloc)?,
+        kernel: part.copy_kernel(alloc)?,
         steps: edited_part(alloc, part.steps(), edit, from)?,
         from,
         before: index,

@@ -398,7 +398,7 @@ impl Store {
             (λ tallied. tallied ≡ tallies self.now.session.header self.now.session.steps) }
     {
         let segments = self.segments.as_slice();
-        let mut total = Tallies::begin(alloc, segments[0].kernel())?;
+        let mut total = segments[0].first_tallies(alloc)?;
         add_segments(&mut total, segments);
         Ok(total)
     }

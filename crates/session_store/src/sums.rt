@@ -37,7 +37,7 @@ fn sums_before(alloc: Global, segments: &[Segment]) -> Result<Vec<Tallies>, Allo
         → AreSumsBefore header segments.now sums.items) }
 {
     let mut before = Vec::new(alloc);
-    let mut total = Tallies::begin(alloc, segments[0].kernel())?;
+    let mut total = segments[0].first_tallies(alloc)?;
     for (index, segment) in segments.iter().enumerate() {
         if index % BLOCK == 0 {
             before.push(total.copy(alloc)?)?;
@@ -115,7 +115,7 @@ pub(crate) fn begun(
 {
     match sums {
         Some(sums) => summed(alloc, sums, front),
-        None => Ok((Tallies::begin(alloc, front[0].kernel())?, 0)),
+        None => Ok((front[0].first_tallies(alloc)?, 0)),
     }
 }
 

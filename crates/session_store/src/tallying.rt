@@ -2,7 +2,7 @@ ghost use Rattle.std.specs.Prelude.{◌≡◌, ◌++◌, ◌≤◌, IfOk, IfSome
 ghost use Rattle.bench_model.specs.Tally.{tallies};
 ghost use Rattle.segment_laws.specs.Segments.{all_steps};
 ghost use Rattle.session_store.specs.Sums.{HasSums, HasSumsInFront};
-ghost use Rattle.session_store.specs.Trials.{AreTallied, AreTalliedAfter, AreTalliedBefore};
+ghost use Rattle.session_store.specs.Trials.{AreTallied, AreTalliedAfter, AreTalliedLater, StayLater};
 
 use crate::sums::{Sums, begun, sum_from};
 use bench_reports::Tallies;
@@ -11,9 +11,9 @@ use std::alloc::{AllocError, Global};
 
 /// Adds how the tasks fared in segments, which come after those that are counted.
 pub(crate) fn add_segments(total: &mut Tallies, segments: &[Segment])
-    requires { AreTalliedBefore total.old segments.now }
-    ensures { (known : AreTalliedBefore total.old segments.now)
-        → AreTallied known.header (known.earlier ++ segments.now) total.new }
+    requires { AreTalliedLater total.old segments.now }
+    ensures { (known : AreTalliedLater total.old segments.now)
+        → AreTallied known.before.header (known.before.earlier ++ segments.now) total.new }
 {
     for segment in segments {
         total.add(segment.tallies());
@@ -47,9 +47,9 @@ fn tallies_up_to(
 fn add_rest(total: &mut Tallies, sums: Option<&Sums>, segments: &[Segment], from: usize)
     requires sums { IfSome sums (λ sums. HasSums segments.now sums.now) }
     requires within { from ≤ length segments.now }
-    requires counted { AreTalliedBefore total.old (drop from segments.now) }
-    ensures { (known : AreTalliedBefore total.old (drop from segments.now))
-        → AreTallied known.header (known.earlier ++ drop from segments.now) total.new }
+    requires counted { AreTalliedLater total.old (drop from segments.now) }
+    ensures { (known : AreTalliedLater total.old (drop from segments.now))
+        → AreTallied known.before.header (known.before.earlier ++ drop from segments.now) total.new }
 {
     match sum_from(sums, segments, from) {
         Some((sum, next)) => {
@@ -74,10 +74,10 @@ pub(crate) fn tallies_after(
     requires order { before ≤ after }
     requires within { after ≤ length segments.now }
     requires replayed { (known : AreTalliedAfter (take before segments.now) replayed)
-        × (known.later ≡ drop after segments.now) }
+        × StayLater known.later (drop after segments.now) }
     ensures { IfOk result
         (λ total. (known : AreTalliedAfter (take before segments.now) replayed)
-        → known.later ≡ drop after segments.now →
+        → StayLater known.later (drop after segments.now) →
         total
         ≡ tallies known.header
         (all_steps (take before segments.now ++ known.made ++ drop after segments.now))) }

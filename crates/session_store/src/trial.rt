@@ -24,12 +24,12 @@ use crate::sums::Sums;
 use crate::tallying::tallies_after;
 use bench_reports::Tallies;
 use bench_types::{Edit, Header, Step};
-use session_segments::{Segment, Segments, tally_steps};
+use session_segments::{Segment, Segments, met_by, tally_steps};
 use smp_kernel::{Kernel, Meter};
 use std::alloc::{AllocError, Global};
 
-// Replays and counts the steps of the segments, up to the first that begins with a kernel that is
-// equal to the one that the replay has come to, and returns how many it replayed.
+// Replays and counts the steps of the segments, up to the first that the replay meets, and returns
+// how many it replayed.
 fn tally_segments(
     kernel: &mut Kernel,
     tallies: &mut Tallies,
@@ -48,8 +48,9 @@ fn tally_segments(
     ensures sizes { shape tallies.new ≡ shape_of kernel.old.settings }
     ensures meter { meter.new ≡ meter_after (length (all_steps (take result after.now))) meter.old }
 {
+    let mut known = None;
     for (count, segment) in after.iter().enumerate() {
-        if segment.begins_with(kernel) {
+        if met_by(&mut known, after, count, kernel).is_some() {
             return count;
         }
         tally_steps(kernel, tallies, segment.steps(), meter);

@@ -30,8 +30,8 @@ returns-clause-parting g c =
     let part = c.index-as_slice-index.result in
     let is = index_there (starts 0 (lengths segments)) c.args.place (place_of edit) index from c.requires.place c.locate-index.ensures.index in
     let found = segment_there segments c.as_slice.result.now index part c.as_slice.ensures.segments c.locate-index.ensures.within c.index-as_slice-index.is in
-    parting_at_step header segments edit index from part c.requires.follow c.requires.accepted is found c.in_ok-copy.field-0 c.in_ok-edited_part.field-0.items c.requires.session c.requires.step
-    (c.in_ok-copy.ensures ∙ c.kernel.ensures.kernel)
+    parting_at_step header segments edit index from part c.requires.follow c.requires.accepted is found c.in_ok-copy_kernel.field-0 c.in_ok-edited_part.field-0.items c.requires.session c.requires.step
+    c.in_ok-copy_kernel.ensures.kernel
     (c.in_ok-edited_part.ensures ∙ ap (edited_part edit from) c.steps.ensures.steps)
 
 pub returns-clause-from : goal.returns-clause-from

@@ -18,7 +18,7 @@ loop-index-init c =
     let found = slice_get_read segments (length segments) 0 first refl c.requires.some c.index-segments-0.is in
     let none = ap (λ (sums : List (List TaskTally)). length sums) c.new-before.ensures.items in
     record {
-      total = λ header replay. none_tallied header segments replay first c.kernel.result.now c.in_ok-total.total (sym found) c.kernel.ensures.kernel c.in_ok-total.ensures.tallies c.in_ok-total.ensures.shape;
+      total = λ header replay. none_tallied header segments replay first first.kernel c.in_ok-total.total (sym found) refl c.in_ok-total.ensures.tallies c.in_ok-total.ensures.shape;
       each = λ header replay k sum found. let none = ap (λ (sums : List (List TaskTally)). slice_get sums k) c.new-before.ensures.items in absurd (cc (found, none));
       many = omega arith;
       few = omega (arith, none);

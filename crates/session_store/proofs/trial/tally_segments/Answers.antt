@@ -1,4 +1,5 @@
-use Rattle.std.proofs.Common.{◌≡◌, ◌+◌, ◌-◌, ◌^◌, ◌≤◌, ℕ, List, [], length, take, refl, ap, subst, ◌∙◌, arith}
+use Rattle.std.proofs.Common.{◌≡◌, ◌⊎◌, ◌+◌, ◌-◌, ◌^◌, ◌≤◌, ℕ, true, false, Option, None, Some, List, [], length, take, drop, refl, sym, ap, subst, ◌∙◌, arith}
+use Rattle.std.specs.Prelude.{IfSome, is_some}
 use Rattle.std.proofs.lemmas.Option.{slice_get_read}
 use Rattle.bench_types.specs.declared.step.Step.{Step}
 use Rattle.bench_model.specs.Equal.{StandsFor}
@@ -12,15 +13,30 @@ use Rattle.session_store.specs.Trials.{IsMeeting}
 use Rattle.session_segments.proofs.Again.{later_counted}
 use Rattle.session_store.proofs.GoingOn.{checked_alike}
 use Rattle.session_store.proofs.Retraces.{meets_at, meets_none, own_steps_fit, past_one, tallied_one, room_one}
+use Rattle.bench_model.specs.Shifted.{some_delays_until}
+use Rattle.session_segments.specs.Meetings.{IsMeetingAt}
 use Rattle.session_store.proofs.trial.tally_segments.Goals as goal
 
-pub returns-then-begins_with-clause-meeting : goal.returns-then-begins_with-clause-meeting
-returns-then-begins_with-clause-meeting c =
+-- the number that there is
+the_number : (found : Option ℕ) → is_some found ≡ true → (by : ℕ) × (found ≡ Some by)
+the_number None is = absurd (cc is)
+the_number (Some by) is = (by, refl)
+
+-- there is none
+no_number : (found : Option ℕ) → is_some found ≡ false → found ≡ None
+no_number None is = refl
+no_number (Some by) is = absurd (cc is)
+
+pub returns-then-is_some-clause-meeting : goal.returns-then-is_some-clause-meeting
+returns-then-is_some-clause-meeting c =
     let after = c.args.after.now in
     let count = c.loop-count.count in
     let segment = c.index-after-count.result in
-    λ table stands. meets_at table after count c.loop-count.kernel segment (slice_get_read after (length after) count segment refl c.loop-count-test.true c.index-after-count.is) c.loop-count-test.true
-    (λ a b one other. (c.begins_with.ensures a b one other).0 c.if-begins_with.true) (c.loop-count.invariant.past table stands)
+    let found = slice_get_read after (length after) count segment refl c.loop-count-test.true c.index-after-count.is in
+    let by = the_number c.met_by.result (sym c.is_some.ensures ∙ c.if-is_some.true) in
+    let unread = subst (λ found. IfSome found (λ by. (by ≡ 0) ⊎ (some_delays_until (all_steps (drop count after)) ≡ false))) by.1 c.met_by.ensures.unread in
+    let met = subst (IsMeetingAt after count c.loop-count.kernel) by.1 c.met_by.ensures.met in
+    λ table stands. meets_at table after count by.0 c.loop-count.kernel segment found c.loop-count-test.true unread (λ a b one other. met segment a b found one other) (c.loop-count.invariant.past table stands)
 
 pub tally_steps-requires-clause-steps : goal.tally_steps-requires-clause-steps
 tally_steps-requires-clause-steps c =
@@ -53,11 +69,13 @@ loop-count-preserved c =
     let moves = subst (λ (steps : List Step). (begun : Table) → StandsFor kernel begun → StandsFor moved (state_after begun steps)) lends c.tally_steps.ensures.state in
     let counts = subst (λ (steps : List Step). (begun : Table) → StandsFor kernel begun → new ≡ tallied_after begun steps old) lends c.tally_steps.ensures.counted in
     let grown = subst (λ (steps : List Step). (bound : ℕ) → AllCountsBelow bound old → AllCountsBelow (bound + length steps) new) lends c.tally_steps.ensures.grown in
+    let none = no_number c.met_by.result (sym c.is_some.ensures ∙ c.if-is_some.false) in
+    let met = subst (IsMeetingAt after count kernel) none c.met_by.ensures.met in
     let meters = subst (λ (steps : List Step). c.tally_steps.new.meter ≡ meter_after (length steps) c.loop-count.meter) lends c.tally_steps.ensures.meter in
     record {
       past = λ table stands.
           past_one table after count kernel moved segment found moves
-          (λ a b one other same. let begins = (c.begins_with.ensures a b one other).1 same in absurd (cc (begins, c.if-begins_with.false)))
+          (λ a b one other. met segment a b found one other)
           (so_far.past table stands);
       counted = λ table stands.
           tallied_one table after count segment c.args.tallies.now old new found (so_far.counted table stands) (counts (state_after table (all_steps (take count after))) (so_far.past table stands).stands);
@@ -65,6 +83,7 @@ loop-count-preserved c =
       sizes = c.tally_steps.ensures.sizes ∙ ap shape_of so_far.settings;
       room = room_one after count segment (2 ^ 32 - length (all_steps after)) new found (grown (2 ^ 32 - length (all_steps after) + length (all_steps (take count after))) so_far.room);
       tops = c.tally_steps.ensures.tops;
+      known = c.met_by.ensures.known;
       meter = later_counted after count c.args.meter.now c.loop-count.meter c.tally_steps.new.meter segment found so_far.meter meters;
     }
 

@@ -1,10 +1,12 @@
 use Rattle.std.proofs.Common.{◌≡◌, ◌+◌, ◌-◌, ◌^◌, length, take}
+use Rattle.std.specs.Prelude.{IfSome}
 use Rattle.bench_model.specs.Equal.{StandsFor}
 use Rattle.bench_model.specs.Table.{Table}
 use Rattle.bench_model.specs.Tallied.{shape, shape_of, tallied_after, AllCountsBelow}
 use Rattle.bench_reports.specs.Tops.{HasTops}
 use Rattle.segment_laws.specs.Segments.{all_steps}
 use Rattle.session_segments.specs.Counting.{meter_after}
+use Rattle.session_segments.specs.Meetings.{IsUnreadFrom}
 use Rattle.session_store.proofs.Retraces.{IsPast}
 use Rattle.session_store.proofs.trial.tally_segments.Given as goal
 
@@ -16,5 +18,6 @@ invariant-loop-count l = record {
   sizes : shape l.tallies ≡ shape_of l.fn.kernel.settings;
   room : AllCountsBelow (2 ^ 32 - length (all_steps l.after) + length (all_steps (take l.count l.after))) l.tallies;
   tops : HasTops l.kernel.control l.tallies;
+  known : IfSome l.known (IsUnreadFrom l.after);
   meter : l.meter ≡ meter_after (length (all_steps (take l.count l.after))) l.fn.meter;
 }

@@ -7,7 +7,7 @@ use Rattle.bench_model.specs.Meeting.{replayed}
 use Rattle.session_store.specs.Kept.{kept_of}
 use Rattle.session_store.proofs.EditTold.{counts_err}
 use Rattle.session_segments.specs.Again.{HasSettings}
-use Rattle.session_store.proofs.EditReplays.{all_few, part_checked, rest_settings, counted, outcome_is, traced, traced_few, traced_length, traced_runs, traced_tallies, traced_total}
+use Rattle.session_store.proofs.EditReplays.{all_few, part_checked, rest_settings, counted, meets, outcome_is, stay_later, traced, traced_few, traced_length, traced_runs, traced_tallies, traced_total}
 use Rattle.session_store.proofs.trial.try_from.Goals as goal
 
 pub retrace-requires-clause-steps : goal.retrace-requires-clause-steps
@@ -81,7 +81,10 @@ tallies_after-requires-clause-replayed c =
     let count = c.in_ok-tallies.count in
     let same = c.as_slice-steps.ensures.value in
     let there = c.later-rest.ensures.rest in
-    (traced_tallies c.args.header.now c.args.span c.args.segments.now c.args.edit.now c.requires.kept words accepts parting.kernel parting.steps.items parting.before parting.after c.requires.parting given later count same there c.in_ok-tallies.ensures.meeting c.in_ok-tallies.tallies c.in_ok-tallies.ensures.tallies c.in_ok-tallies.ensures.sizes, refl)
+    (
+      traced_tallies c.args.header.now c.args.span c.args.segments.now c.args.edit.now c.requires.kept words accepts parting.kernel parting.steps.items parting.before parting.after c.requires.parting given later count same there c.in_ok-tallies.ensures.meeting c.in_ok-tallies.tallies c.in_ok-tallies.ensures.tallies c.in_ok-tallies.ensures.sizes,
+      stay_later c.args.header.now c.args.span c.args.segments.now c.args.edit.now c.requires.kept words accepts parting.kernel parting.steps.items parting.before parting.after c.requires.parting given later count same there c.in_ok-tallies.ensures.meeting,
+    )
 
 pub returns-in_err-total-clause-some : goal.returns-in_err-total-clause-some
 returns-in_err-total-clause-some c =
@@ -93,7 +96,7 @@ returns-in_err-total-clause-some c =
     let count = c.in_ok-tallies.count in
     let same = c.as_slice-steps.ensures.value in
     let there = c.later-rest.ensures.rest in
-    let meters = counted c.args.header.now c.args.span c.args.segments.now c.args.edit.now c.requires.kept words accepts parting.kernel parting.steps.items parting.before parting.after c.requires.parting (traced c.args.header.now c.args.span c.args.segments.now c.args.edit.now c.requires.kept words accepts parting.kernel parting.steps.items parting.before parting.after c.requires.parting given later count same there c.in_ok-tallies.ensures.meeting) count (traced_runs c.args.header.now c.args.span c.args.segments.now c.args.edit.now c.requires.kept words accepts parting.kernel parting.steps.items parting.before parting.after c.requires.parting given later count same there c.in_ok-tallies.ensures.meeting) given later c.args.meter.now c.retrace.new.meter same there c.in_ok-tallies.ensures.meter in
+    let meters = counted c.args.header.now c.args.span c.args.segments.now c.args.edit.now c.requires.kept words accepts parting.kernel parting.steps.items parting.before parting.after c.requires.parting (traced c.args.header.now c.args.span c.args.segments.now c.args.edit.now c.requires.kept words accepts parting.kernel parting.steps.items parting.before parting.after c.requires.parting given later count same there c.in_ok-tallies.ensures.meeting) count (meets c.args.header.now c.args.span c.args.segments.now c.args.edit.now c.requires.kept words accepts parting.kernel parting.steps.items parting.before parting.after c.requires.parting given later count same there c.in_ok-tallies.ensures.meeting).by (traced_runs c.args.header.now c.args.span c.args.segments.now c.args.edit.now c.requires.kept words accepts parting.kernel parting.steps.items parting.before parting.after c.requires.parting given later count same there c.in_ok-tallies.ensures.meeting) given later c.args.meter.now c.retrace.new.meter same there c.in_ok-tallies.ensures.meter in
     let at_most : replayed (kept_of c.args.header.now c.args.span c.args.segments.now) c.args.edit.now ≤ replayed (kept_of c.args.header.now c.args.span c.args.segments.now) c.args.edit.now = omega arith in
     counts_err c.from_residual-in_err-total.result
     (replayed (kept_of c.args.header.now c.args.span c.args.segments.now) c.args.edit.now, at_most, meters)
@@ -122,7 +125,7 @@ returns-clause-outcome c =
     let same = c.as_slice-steps.ensures.value in
     let there = c.later-rest.ensures.rest in
     let steps : length given + c.count_steps.result ≡ length given + length (all_steps (take count later)) = omega (arith, c.count_steps.ensures) in
-    outcome_is c.args.header.now c.args.span c.args.segments.now c.args.edit.now c.requires.kept words accepts parting.kernel parting.steps.items parting.before parting.after c.requires.parting (traced c.args.header.now c.args.span c.args.segments.now c.args.edit.now c.requires.kept words accepts parting.kernel parting.steps.items parting.before parting.after c.requires.parting given later count same there c.in_ok-tallies.ensures.meeting) count (traced_runs c.args.header.now c.args.span c.args.segments.now c.args.edit.now c.requires.kept words accepts parting.kernel parting.steps.items parting.before parting.after c.requires.parting given later count same there c.in_ok-tallies.ensures.meeting) parting.from (length given + c.count_steps.result) c.requires.from (steps ∙ traced_length c.args.header.now c.args.span c.args.segments.now c.args.edit.now c.requires.kept words accepts parting.kernel parting.steps.items parting.before parting.after c.requires.parting given later count same there c.in_ok-tallies.ensures.meeting)
+    outcome_is c.args.header.now c.args.span c.args.segments.now c.args.edit.now c.requires.kept words accepts parting.kernel parting.steps.items parting.before parting.after c.requires.parting (traced c.args.header.now c.args.span c.args.segments.now c.args.edit.now c.requires.kept words accepts parting.kernel parting.steps.items parting.before parting.after c.requires.parting given later count same there c.in_ok-tallies.ensures.meeting) count (meets c.args.header.now c.args.span c.args.segments.now c.args.edit.now c.requires.kept words accepts parting.kernel parting.steps.items parting.before parting.after c.requires.parting given later count same there c.in_ok-tallies.ensures.meeting).by (traced_runs c.args.header.now c.args.span c.args.segments.now c.args.edit.now c.requires.kept words accepts parting.kernel parting.steps.items parting.before parting.after c.requires.parting given later count same there c.in_ok-tallies.ensures.meeting) parting.from (length given + c.count_steps.result) c.requires.from (steps ∙ traced_length c.args.header.now c.args.span c.args.segments.now c.args.edit.now c.requires.kept words accepts parting.kernel parting.steps.items parting.before parting.after c.requires.parting given later count same there c.in_ok-tallies.ensures.meeting)
 
 pub returns-clause-tallies : goal.returns-clause-tallies
 returns-clause-tallies c =
@@ -134,7 +137,7 @@ returns-clause-tallies c =
     let count = c.in_ok-tallies.count in
     let same = c.as_slice-steps.ensures.value in
     let there = c.later-rest.ensures.rest in
-    traced_total c.args.header.now c.args.span c.args.segments.now c.args.edit.now c.requires.kept words accepts parting.kernel parting.steps.items parting.before parting.after c.requires.parting given later count same there c.in_ok-tallies.ensures.meeting c.in_ok-total.total (c.in_ok-total.ensures (traced_tallies c.args.header.now c.args.span c.args.segments.now c.args.edit.now c.requires.kept words accepts parting.kernel parting.steps.items parting.before parting.after c.requires.parting given later count same there c.in_ok-tallies.ensures.meeting c.in_ok-tallies.tallies c.in_ok-tallies.ensures.tallies c.in_ok-tallies.ensures.sizes) refl)
+    traced_total c.args.header.now c.args.span c.args.segments.now c.args.edit.now c.requires.kept words accepts parting.kernel parting.steps.items parting.before parting.after c.requires.parting given later count same there c.in_ok-tallies.ensures.meeting c.in_ok-total.total (c.in_ok-total.ensures (traced_tallies c.args.header.now c.args.span c.args.segments.now c.args.edit.now c.requires.kept words accepts parting.kernel parting.steps.items parting.before parting.after c.requires.parting given later count same there c.in_ok-tallies.ensures.meeting c.in_ok-tallies.tallies c.in_ok-tallies.ensures.tallies c.in_ok-tallies.ensures.sizes) (stay_later c.args.header.now c.args.span c.args.segments.now c.args.edit.now c.requires.kept words accepts parting.kernel parting.steps.items parting.before parting.after c.requires.parting given later count same there c.in_ok-tallies.ensures.meeting))
 
 pub returns-clause-meter : goal.returns-clause-meter
 returns-clause-meter c =
@@ -146,4 +149,4 @@ returns-clause-meter c =
     let count = c.in_ok-tallies.count in
     let same = c.as_slice-steps.ensures.value in
     let there = c.later-rest.ensures.rest in
-    counted c.args.header.now c.args.span c.args.segments.now c.args.edit.now c.requires.kept words accepts parting.kernel parting.steps.items parting.before parting.after c.requires.parting (traced c.args.header.now c.args.span c.args.segments.now c.args.edit.now c.requires.kept words accepts parting.kernel parting.steps.items parting.before parting.after c.requires.parting given later count same there c.in_ok-tallies.ensures.meeting) count (traced_runs c.args.header.now c.args.span c.args.segments.now c.args.edit.now c.requires.kept words accepts parting.kernel parting.steps.items parting.before parting.after c.requires.parting given later count same there c.in_ok-tallies.ensures.meeting) given later c.args.meter.now c.retrace.new.meter same there c.in_ok-tallies.ensures.meter
+    counted c.args.header.now c.args.span c.args.segments.now c.args.edit.now c.requires.kept words accepts parting.kernel parting.steps.items parting.before parting.after c.requires.parting (traced c.args.header.now c.args.span c.args.segments.now c.args.edit.now c.requires.kept words accepts parting.kernel parting.steps.items parting.before parting.after c.requires.parting given later count same there c.in_ok-tallies.ensures.meeting) count (meets c.args.header.now c.args.span c.args.segments.now c.args.edit.now c.requires.kept words accepts parting.kernel parting.steps.items parting.before parting.after c.requires.parting given later count same there c.in_ok-tallies.ensures.meeting).by (traced_runs c.args.header.now c.args.span c.args.segments.now c.args.edit.now c.requires.kept words accepts parting.kernel parting.steps.items parting.before parting.after c.requires.parting given later count same there c.in_ok-tallies.ensures.meeting) given later c.args.meter.now c.retrace.new.meter same there c.in_ok-tallies.ensures.meter

@@ -13,5 +13,5 @@ invariant_of-self-2 g c =
     let count : length (all_steps c.self.inside.segments) ≡ c.len.result = ap (λ (kept : CheckpointedSession). length kept.session.steps) c.self.view_is ∙ sym c.len.ensures.steps in
     let accepts : accepted (session_of c.self.inside.header c.self.inside.segments) c.args.edit ≡ Ok tt = sym (c.check_edit.ensures.value (all_steps c.self.inside.segments) count) ∙ c.in_ok-check_edit.was in
     let remade = c.in_ok-outcome.ensures.replay in
-    kept_next c.self.inside.header c.self.inside.span c.self.inside.segments c.args.edit c.self.invariant words accepts remade.made remade.before remade.after remade.replay c.in_ok-next.next c.remake.new.segments
+    kept_next c.self.inside.header c.self.inside.span c.self.inside.segments c.args.edit c.self.invariant words accepts remade.made remade.before remade.after remade.by remade.replay c.in_ok-next.next c.remake.new.segments
     (c.in_ok-next.ensures (all_steps c.self.inside.segments)) remade.whole

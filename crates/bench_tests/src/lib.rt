@@ -21,6 +21,8 @@ mod samples;
 #[cfg(test)]
 mod segments;
 #[cfg(test)]
+mod shifts;
+#[cfg(test)]
 mod spans;
 #[cfg(test)]
 mod store_edits;

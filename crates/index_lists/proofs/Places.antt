@@ -129,4 +129,6 @@ module _ (items : ℕ) (named named_back : List ℕ) (homes : List (Option Home)
     where
       at : (row : List Listed) → row_at lists l ≡ row → first_of row ≡ Some item → map (without_item item) lists ≡ set lists l (drop 1 row)
       at [] is first = absurd (cc (first))
-      at (e ∷ row) is first = ap (λ i. map (without_item i) lists) (sym (same_Some e.item item first)) ∙ sym (gone_from items named named_back homes lens lists stand l e.item e.key [] row low is)
+      at (e ∷ row) is first =
+          ap (λ i. map (without_item i) lists) (sym (same_Some e.item item first))
+          ∙ sym (gone_from items named named_back homes lens lists stand l e.item e.key [] row low is)

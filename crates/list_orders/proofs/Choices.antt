@@ -36,7 +36,8 @@ pub ordered_parts : {X : Type 0} (p : X → Bool) (xs : List X) → IsOrdered (�
 ordered_parts p [] ordered = refl
 ordered_parts {X} p (x ∷ xs) ordered = at (p x) refl (ordered_parts p xs ordered.1)
   where
-    at : (b : Bool) → p x ≡ b → filter p xs ++ filter (λ y. not (p y)) xs ≡ xs → cond b (x ∷ filter p xs) (filter p xs) ++ cond (not b) (x ∷ filter (λ y. not (p y)) xs) (filter (λ y. not (p y)) xs) ≡ x ∷ xs
+    at : (b : Bool) → p x ≡ b → filter p xs ++ filter (λ y. not (p y)) xs ≡ xs
+        → cond b (x ∷ filter p xs) (filter p xs) ++ cond (not b) (x ∷ filter (λ y. not (p y)) xs) (filter (λ y. not (p y)) xs) ≡ x ∷ xs
     at true passes rest = ap (λ ys. x ∷ ys) rest
     at false fails rest =
         let none = filter_none p xs (All-weaker (λ y. (p x || not (p y)) ≡ true) (λ y. p y ≡ false) (λ y h. grind (arith, fails, h)) xs ordered.0) in

@@ -23,6 +23,10 @@ use Rattle.tick_delay.specs.Parts.{from_list, listed_at, wakes_this_turn, shifte
 use Rattle.tick_delay.specs.Shape.{delayed_at, seen_delays, IsTwoTurns, IsDelayShape}
 use Rattle.tick_delay.proofs.Turns.{this_left, next_left, this_order_kept, next_order_kept, tasks_seen}
 
+-- the entries with later wakes that pass a test
+abbrev later_of : ℕ → (Listed → Bool) → List Listed → List Listed
+later_of by p xs = map (later_wake by) (filter (λ e. p (later_wake by e)) xs)
+
 -- ---- the first entries of a list, each in turn
 module _ (by tick turn list : ℕ) where
   abbrev one : ListsView → ListsView
@@ -66,21 +70,28 @@ module _ (by tick turn list : ℕ) where
   some_items (suc count) lists = one_items (some count lists) ∙ some_items count lists
 
 -- Each entry of the front of one list comes to stand in it again or in the other.
-module _ (by tick turn list other : ℕ) (apart : other ≢ list) (stays : Listed → Bool) (home : (entry : Listed) → list_for tick turn entry ≡ cond (stays entry) list other) where
+module _ (by tick turn list other : ℕ) (apart : other ≢ list) (stays : Listed → Bool)
+    (home : (entry : Listed) → list_for tick turn entry ≡ cond (stays entry) list other) where
   abbrev later : Listed → Listed
   later entry = later_wake by entry
 
   abbrev kept : List Listed → List Listed
-  kept front = map later (filter (λ e. stays (later e)) front)
+  kept front = later_of by stays front
 
   abbrev gone : List Listed → List Listed
-  gone front = map later (filter (λ e. not (stays (later e))) front)
+  gone front = later_of by (λ e. not (stays e)) front
+
+  -- those of the others that pass the test, and before them an entry where this says so
+  abbrev one_more : Listed → List Listed → Bool → (Listed → Bool) → List Listed
+  one_more entry others b p = map later (cond b (entry ∷ filter (λ e. p (later e)) others) (filter (λ e. p (later e)) others))
 
   abbrev moved : ℕ → ListsView → ListsView
   moved count lists = first_ones_later by tick turn list count lists
 
-  one_of : (entry : Listed) (rest : List Listed) (lists : ListsView) → list < length lists.lists → other < length lists.lists → list_at lists list ≡ entry ∷ rest
-      → (list_at (first_later by tick turn list lists) list ≡ cond (stays (later entry)) (rest ++ later entry ∷ []) rest) × (list_at (first_later by tick turn list lists) other ≡ cond (stays (later entry)) (list_at lists other) (list_at lists other ++ later entry ∷ []))
+  one_of : (entry : Listed) (rest : List Listed) (lists : ListsView) → list < length lists.lists → other < length lists.lists
+      → list_at lists list ≡ entry ∷ rest
+      → (list_at (first_later by tick turn list lists) list ≡ cond (stays (later entry)) (rest ++ later entry ∷ []) rest)
+      × (list_at (first_later by tick turn list lists) other ≡ cond (stays (later entry)) (list_at lists other) (list_at lists other ++ later entry ∷ []))
   unfolding first_later
   one_of entry rest lists low low2 is =
       let x = later entry in
@@ -99,7 +110,8 @@ module _ (by tick turn list other : ℕ) (apart : other ≢ list) (stays : Liste
       there : list_at cut other ≡ list_at lists other
       there = get_or-set_other lists.lists list other rest [] apart
 
-      at : (b : Bool) → (list_at (with_last (cond b list other) (later entry) cut) list ≡ cond b (rest ++ later entry ∷ []) rest) × (list_at (with_last (cond b list other) (later entry) cut) other ≡ cond b (list_at lists other) (list_at lists other ++ later entry ∷ []))
+      at : (b : Bool) → (list_at (with_last (cond b list other) (later entry) cut) list ≡ cond b (rest ++ later entry ∷ []) rest)
+          × (list_at (with_last (cond b list other) (later entry) cut) other ≡ cond b (list_at lists other) (list_at lists other ++ later entry ∷ []))
       at true = (
         get_or-set_same cut.lists list (list_at cut list ++ later entry ∷ []) [] (low_cut list low) ∙ ap (λ es. es ++ later entry ∷ []) here,
         get_or-set_other cut.lists list other (list_at cut list ++ later entry ∷ []) [] apart ∙ there,
@@ -130,26 +142,30 @@ module _ (by tick turn list other : ℕ) (apart : other ≢ list) (stays : Liste
       turned : (l : ℕ) → list_at (moved (length (entry ∷ front)) lists) l ≡ list_at (moved (length front) next) l
       turned l = ap (λ (v : ListsView). list_at v l) (sym (some_more by tick turn list (length front) lists))
 
-      stepped : (list_at next list ≡ cond (stays x) ((front ++ rest) ++ x ∷ []) (front ++ rest)) × (list_at next other ≡ cond (stays x) (list_at lists other) (list_at lists other ++ x ∷ []))
+      stepped : (list_at next list ≡ cond (stays x) ((front ++ rest) ++ x ∷ []) (front ++ rest))
+          × (list_at next other ≡ cond (stays x) (list_at lists other) (list_at lists other ++ x ∷ []))
       stepped = one_of entry (front ++ rest) lists low low2 is
 
       at : (b : Bool) → stays x ≡ b
-          → ((more : List Listed) → list_at next list ≡ front ++ more → (list_at (moved (length front) next) list ≡ more ++ kept front) × (list_at (moved (length front) next) other ≡ list_at next other ++ gone front))
-          → (list_at (moved (length (entry ∷ front)) lists) list ≡ rest ++ kept (entry ∷ front)) × (list_at (moved (length (entry ∷ front)) lists) other ≡ list_at lists other ++ gone (entry ∷ front))
+          → ((more : List Listed) → list_at next list ≡ front ++ more → (list_at (moved (length front) next) list ≡ more ++ kept front)
+          × (list_at (moved (length front) next) other ≡ list_at next other ++ gone front))
+          → (list_at (moved (length (entry ∷ front)) lists) list ≡ rest ++ kept (entry ∷ front))
+          × (list_at (moved (length (entry ∷ front)) lists) other ≡ list_at lists other ++ gone (entry ∷ front))
       at true is_kept others_of =
           let first = stepped.0 ∙ ap (λ b. cond b ((front ++ rest) ++ x ∷ []) (front ++ rest)) is_kept ∙ append_assoc front rest (x ∷ []) in
           let second = stepped.1 ∙ ap (λ b. cond b (list_at lists other) (list_at lists other ++ x ∷ [])) is_kept in
           let others = others_of (rest ++ x ∷ []) first in (
-            turned list ∙ others.0 ∙ append_assoc rest (x ∷ []) (kept front) ∙ ap (λ b. rest ++ map later (cond b (entry ∷ filter (λ e. stays (later e)) front) (filter (λ e. stays (later e)) front))) (sym is_kept),
-            turned other ∙ others.1 ∙ ap (λ es. es ++ gone front) second ∙ ap (λ b. list_at lists other ++ map later (cond (not b) (entry ∷ filter (λ e. not (stays (later e))) front) (filter (λ e. not (stays (later e))) front))) (sym is_kept),
+            turned list ∙ others.0 ∙ append_assoc rest (x ∷ []) (kept front) ∙ ap (λ b. rest ++ one_more entry front b stays) (sym is_kept),
+            turned other ∙ others.1 ∙ ap (λ es. es ++ gone front) second
+                ∙ ap (λ b. list_at lists other ++ one_more entry front (not b) (λ e. not (stays e))) (sym is_kept),
           )
       at false is_gone others_of =
           let first = stepped.0 ∙ ap (λ b. cond b ((front ++ rest) ++ x ∷ []) (front ++ rest)) is_gone in
           let second = stepped.1 ∙ ap (λ b. cond b (list_at lists other) (list_at lists other ++ x ∷ [])) is_gone in
           let others = others_of rest first in (
-            turned list ∙ others.0 ∙ ap (λ b. rest ++ map later (cond b (entry ∷ filter (λ e. stays (later e)) front) (filter (λ e. stays (later e)) front))) (sym is_gone),
+            turned list ∙ others.0 ∙ ap (λ b. rest ++ one_more entry front b stays) (sym is_gone),
             turned other ∙ others.1 ∙ ap (λ es. es ++ gone front) second ∙ append_assoc (list_at lists other) (x ∷ []) (gone front)
-                ∙ ap (λ b. list_at lists other ++ map later (cond (not b) (entry ∷ filter (λ e. not (stays (later e))) front) (filter (λ e. not (stays (later e))) front))) (sym is_gone),
+                ∙ ap (λ b. list_at lists other ++ one_more entry front (not b) (λ e. not (stays e))) (sym is_gone),
           )
 
 -- ---- one wake
@@ -173,14 +189,18 @@ module _ (by tick : ℕ) (tick_low : tick < 2 ^ 32) where
   listed_later : (xs : List Listed) → AllByRecursion (λ e. e.key < 2 ^ 32) xs → map (listed_at now) (map (delayed_at tick) xs) ≡ map (later_wake by) xs
   listed_later [] low = refl
   listed_later (x ∷ xs) low =
-      ap (λ n. record { item = x.item; key = n } ∷ map (listed_at now) (map (delayed_at tick) xs)) (wake_kept by tick x.key tick_low low.0) ∙ ap (λ es. later_wake by x ∷ es) (listed_later xs low.1)
+      ap (λ n. record { item = x.item; key = n } ∷ map (listed_at now) (map (delayed_at tick) xs)) (wake_kept by tick x.key tick_low low.0)
+      ∙ ap (λ es. later_wake by x ∷ es) (listed_later xs low.1)
 
   -- those that pass a test of their later wakes are those that pass it by their ticks left
-  passed_later : (p : Listed → Bool) (q : Delayed → Bool) → ((e : Listed) → e.key < 2 ^ 32 → p (later_wake by e) ≡ q (delayed_at tick e)) → (xs : List Listed) → AllByRecursion (λ e. e.key < 2 ^ 32) xs
-      → map (later_wake by) (filter (λ e. p (later_wake by e)) xs) ≡ map (listed_at now) (filter q (map (delayed_at tick) xs))
+  passed_later : (p : Listed → Bool) (q : Delayed → Bool) → ((e : Listed) → e.key < 2 ^ 32 → p (later_wake by e) ≡ q (delayed_at tick e)) → (xs : List Listed)
+      → AllByRecursion (λ e. e.key < 2 ^ 32) xs
+      → later_of by p xs ≡ map (listed_at now) (filter q (map (delayed_at tick) xs))
   passed_later p q same xs low =
       sym (listed_later (filter (λ e. p (later_wake by e)) xs) (All-filter (λ e. e.key < 2 ^ 32) (λ e. p (later_wake by e)) xs low))
-      ∙ ap (λ es. map (listed_at now) (map (delayed_at tick) es)) (filter_agrees (λ e. p (later_wake by e)) (λ e. q (delayed_at tick e)) xs (All-weaker (λ e. e.key < 2 ^ 32) (λ e. p (later_wake by e) ≡ q (delayed_at tick e)) same xs low))
+      ∙ ap (λ es. map (listed_at now) (map (delayed_at tick) es))
+      (filter_agrees (λ e. p (later_wake by e)) (λ e. q (delayed_at tick e)) xs
+      (All-weaker (λ e. e.key < 2 ^ 32) (λ e. p (later_wake by e) ≡ q (delayed_at tick e)) same xs low))
       ∙ ap (map (listed_at now)) (sym (filter-map q (delayed_at tick) xs))
 
 -- ---- both lists
@@ -223,40 +243,50 @@ module _ (by tick turn : ℕ) (lists : ListsView) (tick_low : tick < 2 ^ 32) (tu
       at false = refl
 
   twice : (xs : List Listed) → filter (λ e. not (ahead (later_wake by e))) xs ≡ filter (λ e. passed (later_wake by e)) xs
-  twice xs = filter_agrees (λ e. not (ahead (later_wake by e))) (λ e. passed (later_wake by e)) xs (All_each (λ e. not (ahead (later_wake by e)) ≡ passed (later_wake by e)) (λ e. grind arith) xs)
+  twice xs = filter_agrees (λ e. not (ahead (later_wake by e))) (λ e. passed (later_wake by e)) xs
+      (All_each (λ e. not (ahead (later_wake by e)) ≡ passed (later_wake by e)) (λ e. grind arith) xs)
 
-  first_half : (list_at half turn ≡ map (later_wake by) (filter (λ e. ahead (later_wake by e)) this)) × (list_at half (1 - turn) ≡ next ++ map (later_wake by) (filter (λ e. passed (later_wake by e)) this))
+  first_half : (list_at half turn ≡ later_of by ahead this) × (list_at half (1 - turn) ≡ next ++ later_of by passed this)
   first_half =
-      let both = all_of by then turn turn (1 - turn) apart ahead home this [] lists (omega (arith, turn_low, two)) (omega (arith, two)) (sym (append-nil this)) in
+      let both = all_of by then turn turn (1 - turn) apart ahead home this [] lists (omega (arith, turn_low, two)) (omega (arith, two))
+      (sym (append-nil this)) in
       (both.0, both.1 ∙ ap (λ es. next ++ map (later_wake by) es) (twice this))
 
-  second_half : (list_at after (1 - turn) ≡ map (later_wake by) (filter (λ e. passed (later_wake by e)) this) ++ map (later_wake by) (filter (λ e. passed (later_wake by e)) next)) × (list_at after turn ≡ map (later_wake by) (filter (λ e. ahead (later_wake by e)) this) ++ map (later_wake by) (filter (λ e. ahead (later_wake by e)) next))
+  second_half : (list_at after (1 - turn) ≡ later_of by passed this ++ later_of by passed next)
+      × (list_at after turn ≡ later_of by ahead this ++ later_of by ahead next)
   second_half =
       let sized = some_two by then turn turn (length this) lists in
-      let both = all_of by then turn (1 - turn) turn (λ same. apart (sym same)) passed (λ e. refl) next (map (later_wake by) (filter (λ e. passed (later_wake by e)) this)) half (omega (arith, two, sized)) (omega (arith, turn_low, two, sized)) first_half.1 in
-      (both.0, both.1 ∙ ap (λ es. es ++ map (later_wake by) (filter (λ e. ahead (later_wake by e)) next)) first_half.0)
+      let both = all_of by then turn (1 - turn) turn (λ same. apart (sym same)) passed (λ e. refl) next (later_of by passed this) half
+      (omega (arith, two, sized)) (omega (arith, turn_low, two, sized)) first_half.1 in
+      (both.0, both.1 ∙ ap (λ es. es ++ later_of by ahead next) first_half.0)
 
   abbrev seen : List Delayed
   seen = map (delayed_at tick) (this ++ next)
 
-  joined : (p : Listed → Bool) → map (later_wake by) (filter (λ e. p (later_wake by e)) this) ++ map (later_wake by) (filter (λ e. p (later_wake by e)) next) ≡ map (later_wake by) (filter (λ e. p (later_wake by e)) (this ++ next))
-  joined p = sym (ap (map (later_wake by)) (filter-append (λ e. p (later_wake by e)) this next) ∙ map-append (later_wake by) (filter (λ e. p (later_wake by e)) this) (filter (λ e. p (later_wake by e)) next))
+  joined : (p : Listed → Bool) → later_of by p this ++ later_of by p next ≡ later_of by p (this ++ next)
+  joined p = sym (ap (map (later_wake by)) (filter-append (λ e. p (later_wake by e)) this next)
+      ∙ map-append (later_wake by) (filter (λ e. p (later_wake by e)) this) (filter (λ e. p (later_wake by e)) next))
 
   low_both : AllByRecursion (λ e. e.key < 2 ^ 32) (this ++ next)
   low_both = All-append (λ e. e.key < 2 ^ 32) this next low low2
 
   -- each list has the tasks that wake in its turn
   pub this_later : list_at after turn ≡ map (listed_at then) (filter (wakes_this_turn then) seen)
-  this_later = second_half.1 ∙ joined ahead ∙ passed_later by tick tick_low ahead (wakes_this_turn then) (λ e few. turn_kept by tick e.key tick_low few) (this ++ next) low_both
+  this_later = second_half.1 ∙ joined ahead
+      ∙ passed_later by tick tick_low ahead (wakes_this_turn then) (λ e few. turn_kept by tick e.key tick_low few) (this ++ next) low_both
 
   pub next_later : list_at after (1 - turn) ≡ map (listed_at then) (filter (λ d. not (wakes_this_turn then d)) seen)
-  next_later = second_half.0 ∙ joined passed ∙ passed_later by tick tick_low passed (λ d. not (wakes_this_turn then d)) (λ e few. sym (grind (arith, turn_kept by tick e.key tick_low few))) (this ++ next) low_both
+  next_later = second_half.0 ∙ joined passed
+      ∙ passed_later by tick tick_low passed (λ d. not (wakes_this_turn then d)) (λ e few. sym (grind (arith, turn_kept by tick e.key tick_low few)))
+      (this ++ next) low_both
 
 -- ---- the delays that two lists stand for are in the order of ticks left
 module _ (tasks tick : ℕ) (this next : List Listed) (tick_low : tick < 2 ^ 32) (turns : IsTwoTurns tasks tick this next) where
-  in_turn : (P : Listed → Type 0) → ((a b : Listed) → P a → P b → wakes_first (delayed_at tick a) (delayed_at tick b) ≡ lowest_first a b) → (xs : List Listed) → AllByRecursion P xs → ranked lowest_first xs ≡ xs → IsOrdered wakes_first (map (delayed_at tick) xs)
+  in_turn : (P : Listed → Type 0) → ((a b : Listed) → P a → P b → wakes_first (delayed_at tick a) (delayed_at tick b) ≡ lowest_first a b) → (xs : List Listed)
+      → AllByRecursion P xs → ranked lowest_first xs ≡ xs → IsOrdered wakes_first (map (delayed_at tick) xs)
   in_turn P keeps xs all order =
-      subst (IsOrdered wakes_first) (sym (map-ranked lowest_first wakes_first (delayed_at tick) P keeps xs all) ∙ ap (map (delayed_at tick)) order) (ordered-ranked wakes_first wakes_first-IsRank (map (delayed_at tick) xs))
+      subst (IsOrdered wakes_first) (sym (map-ranked lowest_first wakes_first (delayed_at tick) P keeps xs all) ∙ ap (map (delayed_at tick)) order)
+      (ordered-ranked wakes_first wakes_first-IsRank (map (delayed_at tick) xs))
 
   abbrev InThisTurn : Listed → Type 0
   InThisTurn e = (tick ≤ e.key) × (e.key < 2 ^ 32)
@@ -264,7 +294,9 @@ module _ (tasks tick : ℕ) (this next : List Listed) (tick_low : tick < 2 ^ 32)
   across : (e : Listed) → InThisTurn e → AllByRecursion (λ y. wakes_first (delayed_at tick e) y ≡ true) (map (delayed_at tick) next)
   across e here =
       All-map (λ y. wakes_first (delayed_at tick e) y ≡ true) (delayed_at tick) next
-      (All-weaker (λ y. y.key < tick) (λ y. wakes_first (delayed_at tick e) (delayed_at tick y) ≡ true) (λ y there. ap (λ n. leb n (ticks_to tick y.key)) (this_left tick e.key here.0 here.1) ∙ ap (leb (e.key - tick)) (next_left tick y.key tick_low there) ∙ grind (arith, nat_tests, here.0, here.1, there)) next turns.next_turn)
+      (All-weaker (λ y. y.key < tick) (λ y. wakes_first (delayed_at tick e) (delayed_at tick y) ≡ true)
+      (λ y there. ap (λ n. leb n (ticks_to tick y.key)) (this_left tick e.key here.0 here.1) ∙ ap (leb (e.key - tick)) (next_left tick y.key tick_low there)
+      ∙ grind (arith, nat_tests, here.0, here.1, there)) next turns.next_turn)
 
   pub seen_ordered : IsOrdered wakes_first (map (delayed_at tick) (this ++ next))
   seen_ordered =
@@ -272,10 +304,13 @@ module _ (tasks tick : ℕ) (this next : List Listed) (tick_low : tick < 2 ^ 32)
       (IsOrdered-append wakes_first (map (delayed_at tick) this) (map (delayed_at tick) next)
       (in_turn InThisTurn (this_order_kept tick) this turns.this_turn turns.this_order)
       (in_turn (λ e. e.key < tick) (next_order_kept tick tick_low) next turns.next_turn turns.next_order)
-      (All-map (λ x. AllByRecursion (λ y. wakes_first x y ≡ true) (map (delayed_at tick) next)) (delayed_at tick) this (All-weaker InThisTurn (λ e. AllByRecursion (λ y. wakes_first (delayed_at tick e) y ≡ true) (map (delayed_at tick) next)) across this turns.this_turn)))
+      (All-map (λ x. AllByRecursion (λ y. wakes_first x y ≡ true) (map (delayed_at tick) next)) (delayed_at tick) this
+      (All-weaker InThisTurn (λ e. AllByRecursion (λ y. wakes_first (delayed_at tick e) y ≡ true)
+      (map (delayed_at tick) next)) across this turns.this_turn)))
 
 -- ---- two lists that are made of such delays
-module _ (tasks tick : ℕ) (delayed : List Delayed) (tick_low : tick < 2 ^ 32) (waiting : IsListing tasks (map (λ (e : Delayed). e.task) delayed)) (few : AllByRecursion (λ (e : Delayed). e.left < 2 ^ 32) delayed) (ordered : IsOrdered wakes_first delayed) where
+module _ (tasks tick : ℕ) (delayed : List Delayed) (tick_low : tick < 2 ^ 32) (waiting : IsListing tasks (map (λ (e : Delayed). e.task) delayed))
+    (few : AllByRecursion (λ (e : Delayed). e.left < 2 ^ 32) delayed) (ordered : IsOrdered wakes_first delayed) where
   abbrev now_this : List Delayed
   now_this = filter (wakes_this_turn tick) delayed
 
@@ -286,7 +321,8 @@ module _ (tasks tick : ℕ) (delayed : List Delayed) (tick_low : tick < 2 ^ 32) 
   in_parts : now_this ++ now_next ≡ delayed
   in_parts =
       ordered_parts (wakes_this_turn tick) delayed
-      (IsOrdered-weaker wakes_first (λ x y. wakes_this_turn tick x || not (wakes_this_turn tick y)) (λ (e : Delayed). e.left < 2 ^ 32) (λ x y h k first. sooner x y first) delayed few ordered)
+      (IsOrdered-weaker wakes_first (λ x y. wakes_this_turn tick x || not (wakes_this_turn tick y)) (λ (e : Delayed). e.left < 2 ^ 32)
+      (λ x y h k first. sooner x y first) delayed few ordered)
     where
       sooner : (x y : Delayed) → wakes_first x y ≡ true → (wakes_this_turn tick x || not (wakes_this_turn tick y)) ≡ true
       sooner x y first = grind (arith, nat_tests, first)
@@ -302,12 +338,14 @@ module _ (tasks tick : ℕ) (delayed : List Delayed) (tick_low : tick < 2 ^ 32) 
   IsNext d = (d.left < 2 ^ 32) × (not (wakes_this_turn tick d) ≡ true)
 
   all_this : AllByRecursion IsThis now_this
-  all_this = All-both (λ (d : Delayed). d.left < 2 ^ 32) (λ d. wakes_this_turn tick d ≡ true) now_this (All-filter (λ (d : Delayed). d.left < 2 ^ 32) (wakes_this_turn tick) delayed few) (All-filter_passes (wakes_this_turn tick) delayed)
+  all_this = All-both (λ (d : Delayed). d.left < 2 ^ 32) (λ d. wakes_this_turn tick d ≡ true) now_this
+      (All-filter (λ (d : Delayed). d.left < 2 ^ 32) (wakes_this_turn tick) delayed few) (All-filter_passes (wakes_this_turn tick) delayed)
 
   all_next : AllByRecursion IsNext now_next
   all_next =
       All-both (λ (d : Delayed). d.left < 2 ^ 32) (λ d. not (wakes_this_turn tick d) ≡ true) now_next
-      (All-filter (λ (d : Delayed). d.left < 2 ^ 32) (λ d. not (wakes_this_turn tick d)) delayed few) (All-filter_passes (λ d. not (wakes_this_turn tick d)) delayed)
+      (All-filter (λ (d : Delayed). d.left < 2 ^ 32) (λ d. not (wakes_this_turn tick d)) delayed few)
+      (All-filter_passes (λ d. not (wakes_this_turn tick d)) delayed)
 
   soon : (d : Delayed) → IsThis d → tick + d.left < 2 ^ 32
   soon d h = grind (arith, nat_tests, h.1)
@@ -330,16 +368,23 @@ module _ (tasks tick : ℕ) (delayed : List Delayed) (tick_low : tick < 2 ^ 32) 
       let t = late b k in
       ap (λ n. leb n (listed_at tick b).key) (late_key a h) ∙ ap (leb (tick + a.left - 2 ^ 32)) (late_key b k) ∙ grind (arith, nat_tests, s, t)
 
-  still_ranked : (p : Delayed → Bool) (P : Delayed → Type 0) → ((a b : Delayed) → P a → P b → lowest_first (listed_at tick a) (listed_at tick b) ≡ wakes_first a b) → AllByRecursion P (filter p delayed) → ranked lowest_first (map (listed_at tick) (filter p delayed)) ≡ map (listed_at tick) (filter p delayed)
+  still_ranked : (p : Delayed → Bool) (P : Delayed → Type 0)
+      → ((a b : Delayed) → P a → P b → lowest_first (listed_at tick a) (listed_at tick b) ≡ wakes_first a b) → AllByRecursion P (filter p delayed)
+      → ranked lowest_first (map (listed_at tick) (filter p delayed)) ≡ map (listed_at tick) (filter p delayed)
   still_ranked p P keeps all =
       sym (map-ranked wakes_first lowest_first (listed_at tick) P keeps (filter p delayed) all)
       ∙ ap (map (listed_at tick)) (ranked-ordered wakes_first wakes_first-IsRank (filter p delayed) (IsOrdered-filter wakes_first p delayed ordered))
 
   pub turns_of : IsTwoTurns tasks tick (map (listed_at tick) now_this) (map (listed_at tick) now_next)
   turns_of = record {
-    waiting_tasks = subst (IsListing tasks) (sym (ap items_of (sym (map-append (listed_at tick) now_this now_next) ∙ ap (map (listed_at tick)) in_parts) ∙ items_listed delayed)) waiting;
-    this_turn = All-map (λ e. (tick ≤ e.key) × (e.key < 2 ^ 32)) (listed_at tick) now_this (All-weaker IsThis (λ d. (tick ≤ (listed_at tick d).key) × ((listed_at tick d).key < 2 ^ 32)) (λ d h. let is = soon_key d h in let s = soon d h in (omega (arith, is), omega (arith, is, s))) now_this all_this);
-    next_turn = All-map (λ e. e.key < tick) (listed_at tick) now_next (All-weaker IsNext (λ d. (listed_at tick d).key < tick) (λ d h. let is = late_key d h in let s = late d h in omega (arith, is, s, h.0)) now_next all_next);
+    waiting_tasks = subst (IsListing tasks) (sym
+        (ap items_of (sym (map-append (listed_at tick) now_this now_next) ∙ ap (map (listed_at tick)) in_parts) ∙ items_listed delayed)) waiting;
+    this_turn = All-map (λ e. (tick ≤ e.key) × (e.key < 2 ^ 32)) (listed_at tick) now_this
+        (All-weaker IsThis (λ d. (tick ≤ (listed_at tick d).key) × ((listed_at tick d).key < 2 ^ 32))
+        (λ d h. let is = soon_key d h in let s = soon d h in (omega (arith, is), omega (arith, is, s))) now_this all_this);
+    next_turn = All-map (λ e. e.key < tick) (listed_at tick) now_next
+        (All-weaker IsNext (λ d. (listed_at tick d).key < tick)
+        (λ d h. let is = late_key d h in let s = late d h in omega (arith, is, s, h.0)) now_next all_next);
     this_order = still_ranked (wakes_this_turn tick) IsThis this_so all_this;
     next_order = still_ranked (λ d. not (wakes_this_turn tick d)) IsNext next_so all_next;
   }
@@ -360,13 +405,15 @@ module _ (by tasks tick turn : ℕ) (lists : ListsView) (shape : IsDelayShape ta
   this_low = All-weaker (λ e. (tick ≤ e.key) × (e.key < 2 ^ 32)) (λ e. e.key < 2 ^ 32) (λ e h. h.1) (list_at lists turn) shape.turns.this_turn
 
   next_low : AllByRecursion (λ e. e.key < 2 ^ 32) (list_at lists (1 - turn))
-  next_low = let tick_low = shape.tick_low in All-weaker (λ e. e.key < tick) (λ e. e.key < 2 ^ 32) (λ e h. omega (arith, h, tick_low)) (list_at lists (1 - turn)) shape.turns.next_turn
+  next_low = let tick_low = shape.tick_low in All-weaker (λ e. e.key < tick) (λ e. e.key < 2 ^ 32) (λ e h. omega (arith, h, tick_low))
+      (list_at lists (1 - turn)) shape.turns.next_turn
 
   abbrev waits : List Delayed
   waits = map (delayed_at tick) (from_list turn lists)
 
   some_left : AllByRecursion (λ (d : Delayed). d.left < 2 ^ 32) waits
-  some_left = All-map (λ (d : Delayed). d.left < 2 ^ 32) (delayed_at tick) (from_list turn lists) (All_each (λ (e : Listed). ticks_to tick e.key < 2 ^ 32) (λ e. omega arith) (from_list turn lists))
+  some_left = All-map (λ (d : Delayed). d.left < 2 ^ 32) (delayed_at tick) (from_list turn lists)
+      (All_each (λ (e : Listed). ticks_to tick e.key < 2 ^ 32) (λ e. omega arith) (from_list turn lists))
 
   still_waiting : IsListing tasks (map (λ (e : Delayed). e.task) waits)
   still_waiting = subst (IsListing tasks) (sym (tasks_seen tick (from_list turn lists))) shape.turns.waiting_tasks
@@ -377,7 +424,8 @@ module _ (by tasks tick turn : ℕ) (lists : ListsView) (shape : IsDelayShape ta
   this_made : list_at (all_later by tick turn lists) turn ≡ map (listed_at (later_tick by tick)) (filter (wakes_this_turn (later_tick by tick)) waits)
   this_made = this_later by tick turn lists shape.tick_low shape.turn_low shape.both this_low next_low
 
-  next_made : list_at (all_later by tick turn lists) (1 - turn) ≡ map (listed_at (later_tick by tick)) (filter (λ d. not (wakes_this_turn (later_tick by tick) d)) waits)
+  next_made : list_at (all_later by tick turn lists) (1 - turn) ≡ map (listed_at (later_tick by tick))
+      (filter (λ d. not (wakes_this_turn (later_tick by tick) d)) waits)
   next_made = next_later by tick turn lists shape.tick_low shape.turn_low shape.both this_low next_low
 
   then_low : later_tick by tick < 2 ^ 32
@@ -387,8 +435,12 @@ module _ (by tasks tick turn : ℕ) (lists : ListsView) (shape : IsDelayShape ta
   shape_later = record {
     turn_low = shape.turn_low;
     tick_low = then_low;
-    items = some_items by (later_tick by tick) turn (1 - turn) (length (list_at lists (1 - turn))) (first_ones_later by (later_tick by tick) turn turn (length (list_at lists turn)) lists) ∙ some_items by (later_tick by tick) turn turn (length (list_at lists turn)) lists ∙ shape.items;
-    both = some_two by (later_tick by tick) turn (1 - turn) (length (list_at lists (1 - turn))) (first_ones_later by (later_tick by tick) turn turn (length (list_at lists turn)) lists) ∙ some_two by (later_tick by tick) turn turn (length (list_at lists turn)) lists ∙ shape.both;
+    items = some_items by (later_tick by tick) turn (1 - turn) (length (list_at lists (1 - turn)))
+        (first_ones_later by (later_tick by tick) turn turn (length (list_at lists turn)) lists)
+        ∙ some_items by (later_tick by tick) turn turn (length (list_at lists turn)) lists ∙ shape.items;
+    both = some_two by (later_tick by tick) turn (1 - turn) (length (list_at lists (1 - turn)))
+        (first_ones_later by (later_tick by tick) turn turn (length (list_at lists turn)) lists)
+        ∙ some_two by (later_tick by tick) turn turn (length (list_at lists turn)) lists ∙ shape.both;
     turns = rw (this_made, next_made) (turns_of tasks (later_tick by tick) waits then_low still_waiting some_left in_order);
   }
 
@@ -396,5 +448,6 @@ module _ (by tasks tick turn : ℕ) (lists : ListsView) (shape : IsDelayShape ta
   seen_later =
       ap (λ ds. record { tasks = tasks; tick = later_tick by tick; turn = turn; delayed = ds })
       (ap (λ es. map (delayed_at (later_tick by tick)) (es ++ list_at (all_later by tick turn lists) (1 - turn))) this_made
-      ∙ ap (λ es. map (delayed_at (later_tick by tick)) (map (listed_at (later_tick by tick)) (filter (wakes_this_turn (later_tick by tick)) waits) ++ es)) next_made
+      ∙ ap (λ es. map (delayed_at (later_tick by tick))
+      (map (listed_at (later_tick by tick)) (filter (wakes_this_turn (later_tick by tick)) waits) ++ es)) next_made
       ∙ seen_of tasks (later_tick by tick) waits then_low still_waiting some_left in_order)

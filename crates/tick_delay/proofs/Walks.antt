@@ -47,7 +47,8 @@ pub placed_task : (ds : List Delayed) (k task : ℕ) → first_task (drop k ds) 
 placed_task ds k task first = get_or-map task_of ds k none 0 (placed_within ds k task first) ∙ task_at_place ds k task first
 
 -- the ticks left of a task at a place are those of the entry there
-left_at_place : (ds : List Delayed) (k : ℕ) → k < length ds → IsDistinct eqb (map task_of ds) → left_in (get_or ds k none).task ds ≡ Some (get_or ds k none).left
+left_at_place : (ds : List Delayed) (k : ℕ) → k < length ds → IsDistinct eqb (map task_of ds)
+    → left_in (get_or ds k none).task ds ≡ Some (get_or ds k none).left
 unfolding IsDistinct
 left_at_place [] k within once = absurd (omega arith)
 left_at_place (d ∷ ds) zero within once =
@@ -55,23 +56,28 @@ left_at_place (d ∷ ds) zero within once =
     ap (λ b. option_map (λ (e : Delayed). e.left) (cond b (Some d) (find (λ (e : Delayed). eqb e.task d.task) ds))) itself
 left_at_place (d ∷ ds) (suc k) within once =
     let low : k < length ds = omega arith in
-    let apart : eqb d.task (get_or ds k none).task ≡ false = ap (eqb d.task) (sym (get_or-map task_of ds k none 0 low)) ∙ All-from_recursion (λ n. eqb d.task n ≡ false) (map task_of ds) once.0 k 0 (omega (arith, length-map ds task_of)) in
-    ap (λ b. option_map (λ (e : Delayed). e.left) (cond b (Some d) (find (λ (e : Delayed). eqb e.task (get_or ds k none).task) ds))) apart ∙ left_at_place ds k low once.1
+    let apart : eqb d.task (get_or ds k none).task ≡ false = ap (eqb d.task) (sym (get_or-map task_of ds k none 0 low))
+    ∙ All-from_recursion (λ n. eqb d.task n ≡ false) (map task_of ds) once.0 k 0 (omega (arith, length-map ds task_of)) in
+    ap (λ b. option_map (λ (e : Delayed). e.left) (cond b (Some d) (find (λ (e : Delayed). eqb e.task (get_or ds k none).task) ds))) apart
+    ∙ left_at_place ds k low once.1
 
 same_delay : (a b : Delayed) → a.task ≡ b.task → a.left ≡ b.left → a ≡ b
 same_delay a b task left = ap (λ n. record { task = n; left = a.left }) task ∙ ap (λ n. record { task = b.task; left = n }) left
 
 module _ (ds es : List Delayed) (k : ℕ) (so_far : take k ds ≡ take k es) where
   -- the next entry is the same in both where it is one task's with the same ticks left
-  pub one_more_same : (n m task : ℕ) → IsListing n (map task_of ds) → IsListing m (map task_of es) → first_task (drop k ds) ≡ Some task → first_task (drop k es) ≡ Some task → left_in task ds ≡ left_in task es → take (k + 1) ds ≡ take (k + 1) es
+  pub one_more_same : (n m task : ℕ) → IsListing n (map task_of ds) → IsListing m (map task_of es) → first_task (drop k ds) ≡ Some task
+      → first_task (drop k es) ≡ Some task → left_in task ds ≡ left_in task es → take (k + 1) ds ≡ take (k + 1) es
   one_more_same n m task one other first first2 left =
       let within = placed_within ds k task first in
       let within2 = placed_within es k task first2 in
       let here = task_at_place ds k task first in
       let there = task_at_place es k task first2 in
       let lefts : Some (get_or ds k none).left ≡ Some (get_or es k none).left =
-      sym (left_at_place ds k within one.once) ∙ ap (λ t. left_in t ds) here ∙ left ∙ ap (λ t. left_in t es) (sym there) ∙ left_at_place es k within2 other.once in
-      take_more_same ds es k none within within2 so_far (same_delay (get_or ds k none) (get_or es k none) (here ∙ sym there) (same_Some (get_or ds k none).left (get_or es k none).left lefts))
+      sym (left_at_place ds k within one.once) ∙ ap (λ t. left_in t ds) here ∙ left ∙ ap (λ t. left_in t es) (sym there)
+      ∙ left_at_place es k within2 other.once in
+      take_more_same ds es k none within within2 so_far
+      (same_delay (get_or ds k none) (get_or es k none) (here ∙ sym there) (same_Some (get_or ds k none).left (get_or es k none).left lefts))
 
   -- two lists that were the same up to the end of both are equal
   pub same_to_end : length ds ≤ k → length es ≤ k → ds ≡ es
@@ -100,7 +106,8 @@ has_placed task zero (x ∷ xs) within is = grind (arith, nat_tests, is)
 has_placed task (suc j) (x ∷ xs) within is = grind (arith, nat_tests, has_placed task j xs (omega arith) is)
 
 -- the task at the place stands in the first of two lists or in the second, and those after it in order
-module _ (tick : ℕ) (this next : List Listed) (k task : ℕ) (within : k < length (map (delayed_at tick) (this ++ next))) (is : get_or (map task_of (map (delayed_at tick) (this ++ next))) k 0 ≡ task) where
+module _ (tick : ℕ) (this next : List Listed) (k task : ℕ) (within : k < length (map (delayed_at tick) (this ++ next)))
+    (is : get_or (map task_of (map (delayed_at tick) (this ++ next))) k 0 ≡ task) where
   place : get_or (items_of (this ++ next)) k 0 ≡ task
   place = ap (λ ns. get_or ns k 0) (sym (tasks_seen tick (this ++ next))) ∙ is
 
@@ -122,7 +129,8 @@ module _ (tick : ℕ) (this next : List Listed) (k task : ℕ) (within : k < len
   in_next past =
       let low : k - length this < length next = omega (arith, past, within, length_both) in (
         low,
-        item_at (k - length this) next low ∙ ap (λ (e : Listed). e.item) (sym (get_or-append_right this next (length this) k (record { item = 0; key = 0 }) refl past))
+        item_at (k - length this) next low ∙ ap (λ (e : Listed). e.item)
+            (sym (get_or-append_right this next (length this) k (record { item = 0; key = 0 }) refl past))
             ∙ sym (item_at k (this ++ next) (omega (arith, within, length-map (this ++ next) (delayed_at tick)))) ∙ place,
       )
 
@@ -135,7 +143,8 @@ module _ (tick : ℕ) (this next : List Listed) (k task : ℕ) (within : k < len
       after ∙ ap (λ n. first_of (drop n (this ++ next))) sum ∙ ap first_of (drop-append-add this next ((k - length this) + 1))
 
   -- another stands after it in its list
-  pub next_in_list : (n : ℕ) → ((j : ℕ) → j < length this → get_or (items_of this) j 0 ≡ task → Some n ≡ first_of (drop (j + 1) this)) → ((j : ℕ) → j < length next → get_or (items_of next) j 0 ≡ task → Some n ≡ first_of (drop (j + 1) next))
+  pub next_in_list : (n : ℕ) → ((j : ℕ) → j < length this → get_or (items_of this) j 0 ≡ task → Some n ≡ first_of (drop (j + 1) this))
+      → ((j : ℕ) → j < length next → get_or (items_of next) j 0 ≡ task → Some n ≡ first_of (drop (j + 1) next))
       → Some n ≡ first_task (drop (k + 1) (map (delayed_at tick) (this ++ next)))
   next_in_list n here there = elim (cases_lt k (length this)) [
     | inl low ↦ first_here n (drop (k + 1) this) next (here k low (in_this low)) ∙ sym (after_this low)
@@ -143,14 +152,16 @@ module _ (tick : ℕ) (this next : List Listed) (k task : ℕ) (within : k < len
   ]
 
   -- it is the last of the first list
-  pub next_in_second : ((j : ℕ) → j < length this → get_or (items_of this) j 0 ≡ task → None ≡ first_of (drop (j + 1) this)) → has_item task next ≢ true → first_of next ≡ first_task (drop (k + 1) (map (delayed_at tick) (this ++ next)))
+  pub next_in_second : ((j : ℕ) → j < length this → get_or (items_of this) j 0 ≡ task → None ≡ first_of (drop (j + 1) this)) → has_item task next ≢ true
+      → first_of next ≡ first_task (drop (k + 1) (map (delayed_at tick) (this ++ next)))
   next_in_second here away = elim (cases_lt k (length this)) [
     | inl low ↦ ap (λ xs. first_of (xs ++ next)) (sym (first_nil (drop (k + 1) this) (sym (here k low (in_this low))))) ∙ sym (after_this low)
     | inr past ↦ absurd (away (has_placed task (k - length this) next (in_next past).0 (in_next past).1))
   ]
 
   -- it is the last of the second list
-  pub none_after : ((j : ℕ) → j < length next → get_or (items_of next) j 0 ≡ task → None ≡ first_of (drop (j + 1) next)) → has_item task this ≢ true → None ≡ first_task (drop (k + 1) (map (delayed_at tick) (this ++ next)))
+  pub none_after : ((j : ℕ) → j < length next → get_or (items_of next) j 0 ≡ task → None ≡ first_of (drop (j + 1) next)) → has_item task this ≢ true
+      → None ≡ first_task (drop (k + 1) (map (delayed_at tick) (this ++ next)))
   none_after there away = elim (cases_lt k (length this)) [
     | inl low ↦ absurd (away (has_placed task k this low (in_this low)))
     | inr past ↦ there (k - length this) (in_next past).0 (in_next past).1 ∙ sym (after_next past)

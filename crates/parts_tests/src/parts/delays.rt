@@ -1,10 +1,11 @@
 //! Delays of tasks, and the parts of the rule of a delay until a tick count.
-ghost use Rattle.std.specs.Prelude.{◌≡◌, ◌<◌, [], false, MatchOption, ⊤};
+ghost use Rattle.std.specs.Prelude.{◌≡◌, ◌<◌, [], false, MatchOption, IfOk, ⊤};
 ghost use Rattle.bench_model.specs.Lists.{due_tasks};
 ghost use Rattle.tick_delay.specs.Parts.{is_waiting};
 
 use crate::expected::{expect_is, expect_same};
 use bench_model::until::{is_ahead, next_wake};
+use std::alloc::{AllocError, Global};
 use std::process::Abort;
 use std::test::Fail;
 use tick_delay::Delays;
@@ -178,5 +179,117 @@ fn delays_until_a_tick_count(rt: HostRuntime) -> Result<(), Fail> {
     );
     let mut delays = Delays::new(rt.alloc(), 3, 1)?;
     check_until(&rt, &mut delays);
+    Ok(())
+}
+
+// This task of two waits for some ticks, and then the other for some.
+#[tactic(auto, unfolding(list_orders::specs::Search::placed))]
+fn two_waits(alloc: Global, tick: u32, first: u32, ticks: (u32, u32)) -> Result<Delays, AllocError>
+    requires first { first < 2 }
+    requires some { 0 < ticks.0 }
+    requires others { 0 < ticks.1 }
+    ensures { IfOk result (λ delays. delays.tasks ≡ 2) }
+{
+    let mut delays = Delays::new(alloc, tick, 2)?;
+    delays.delay(first, ticks.0);
+    delays.delay(1 - first, ticks.1);
+    Ok(delays)
+}
+
+// Moved so many ticks, the tick count is this one, and the tasks have these wakes.
+fn check_move(
+    rt: &impl Abort,
+    delays: &mut Delays,
+    by: u32,
+    tick: u32,
+    wakes: (Option<u32>, Option<u32>),
+)
+    requires { delays.old.tasks ≡ 2 }
+    ensures { delays.new.tasks ≡ 2 }
+{
+    delays.shift(by);
+    expect_same(rt, delays.tick(), tick);
+    expect_same(rt, (delays.left(0), delays.left(1)), (Some(3), Some(8)));
+    expect_same(rt, keys(delays), wakes);
+}
+
+// Task 0 waits 3 ticks and task 1 waits 8, to the wakes 4,294,967,293 and 2 at first. Once moved
+// they wrap both, neither, and the second alone to the tick count 0.
+fn check_moves(rt: &impl Abort, delays: &mut Delays, before: &Delays)
+    requires { delays.old.tasks ≡ 2 }
+    ensures { delays.new.tasks ≡ 2 }
+{
+    check_move(rt, delays, 5, 4_294_967_295, (Some(2), Some(7)));
+    expect_is(rt, delays.same_shifted(before) && !delays.same(before));
+    check_move(rt, delays, 1, 0, (Some(3), Some(8)));
+    let last = 4_294_967_288;
+    check_move(rt, delays, last, last, (Some(4_294_967_291), Some(0)));
+    expect_is(rt, before.same_shifted(delays) && !before.same(delays));
+    check_move(rt, delays, 0, last, (Some(4_294_967_291), Some(0)));
+    let start = 4_294_967_290;
+    check_move(rt, delays, 2, start, (Some(4_294_967_293), Some(2)));
+    expect_is(rt, delays.same_shifted(before) && delays.same(before));
+}
+
+// Task 0 is due 3 ticks later, and task 1 once the tick count has wrapped.
+fn check_wakes(rt: &impl Abort, delays: &mut Delays)
+    requires { delays.old.tasks ≡ 2 }
+{
+    for _tick in 0..3 {
+        advance(rt, delays);
+    }
+    expect_same(rt, pop_due(delays), Some(0));
+    for _tick in 0..5 {
+        advance(rt, delays);
+    }
+    expect_same(rt, pop_due(delays), Some(1));
+    expect_same(rt, delays.tick(), 2);
+}
+
+#[test]
+fn delays_move_in_time(rt: HostRuntime) -> Result<(), Fail> {
+    let mut delays = two_waits(rt.alloc(), 4_294_967_290, 0, (3, 8))?;
+    let before = delays.copy(rt.alloc())?;
+    check_moves(&rt, &mut delays, &before);
+    check_wakes(&rt, &mut delays);
+    Ok(())
+}
+
+// Whether the two are the same but for their tick counts; they are not the same with these.
+fn check_same_shifted(rt: &impl Abort, delays: &Delays, others: &Delays, is_same: bool) {
+    expect_is(rt, !delays.same(others));
+    let both = (delays.same_shifted(others), others.same_shifted(delays));
+    expect_same(rt, both, (is_same, is_same));
+}
+
+#[test]
+fn delays_are_the_same_at_another_tick_count(rt: HostRuntime) -> Result<(), Fail> {
+    let delays = two_waits(rt.alloc(), 4_294_967_290, 0, (3, 8))?;
+    let elsewhere = two_waits(rt.alloc(), 4_294_967_285, 0, (3, 8))?;
+    check_same_shifted(&rt, &delays, &elsewhere, true);
+    let mut longer = two_waits(rt.alloc(), 0, 0, (3, 9))?;
+    check_same_shifted(&rt, &delays, &longer, false);
+    longer.cancel(1);
+    check_same_shifted(&rt, &delays, &longer, false);
+    let others = two_waits(rt.alloc(), 0, 1, (3, 8))?;
+    check_same_shifted(&rt, &delays, &others, false);
+    Ok(())
+}
+
+#[test]
+fn delays_in_another_order_differ(rt: HostRuntime) -> Result<(), Fail> {
+    let delays = two_waits(rt.alloc(), 4_294_967_295, 1, (5, 5))?;
+    let alike = two_waits(rt.alloc(), 0, 1, (5, 5))?;
+    check_same_shifted(&rt, &delays, &alike, true);
+    let turned = two_waits(rt.alloc(), 0, 0, (5, 5))?;
+    check_same_shifted(&rt, &delays, &turned, false);
+    Ok(())
+}
+
+#[test]
+fn delays_of_more_tasks_differ(rt: HostRuntime) -> Result<(), Fail> {
+    let delays = Delays::new(rt.alloc(), 4_294_967_295, 2)?;
+    let fewer = Delays::new(rt.alloc(), 0, 1)?;
+    check_same_shifted(&rt, &delays, &fewer, false);
     Ok(())
 }

@@ -135,3 +135,16 @@ fn lists_of_other_keys_differ(rt: HostRuntime) -> Result<(), Fail> {
     check_same(&rt, &lists, 1, &copy, 0, false);
     Ok(())
 }
+
+#[test]
+fn items_leave_at_the_front_and_come_at_the_end(rt: HostRuntime) -> Result<(), Fail> {
+    let mut lists = Lists::new(rt.alloc(), 3, 2)?;
+    lists.push_keyed(0, 2, 4_294_967_295);
+    lists.push_keyed(0, 1, 7);
+    let first = lists.pop_first(0);
+    expect_same(&rt, first, Some((2, 4_294_967_295)));
+    check_list(&rt, &lists, 0, &[1]);
+    check_gone(&rt, &lists, 2);
+    expect_same(&rt, lists.pop_first(1), None);
+    Ok(())
+}

@@ -8,8 +8,10 @@ use Rattle.tick_delay.proofs.delays.Delays.first_waiting.Goals as goal
 
 pub returns-in-Some-clause-each : goal.returns-in-Some-clause-each
 returns-in-Some-clause-each c =
-    subst (λ (view : DelayView). IsListing view.tasks (map task_of view.delayed)) c.self.view_is (subst (IsListing c.self.inside.tasks) (sym (tasks_seen _ _)) c.self.invariant.turns.waiting_tasks)
+    subst (λ (view : DelayView). IsListing view.tasks (map task_of view.delayed)) c.self.view_is
+    (subst (IsListing c.self.inside.tasks) (sym (tasks_seen _ _)) c.self.invariant.turns.waiting_tasks)
 
 pub returns-in-None-clause-each : goal.returns-in-None-clause-each
 returns-in-None-clause-each c =
-    subst (λ (view : DelayView). IsListing view.tasks (map task_of view.delayed)) c.self.view_is (subst (IsListing c.self.inside.tasks) (sym (tasks_seen _ _)) c.self.invariant.turns.waiting_tasks)
+    subst (λ (view : DelayView). IsListing view.tasks (map task_of view.delayed)) c.self.view_is
+    (subst (IsListing c.self.inside.tasks) (sym (tasks_seen _ _)) c.self.invariant.turns.waiting_tasks)

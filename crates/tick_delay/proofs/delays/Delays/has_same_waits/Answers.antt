@@ -23,8 +23,10 @@ loop-place-preserved c =
     let both = same_option _ _ (sym c.ne.ensures ∙ c.if-ne.false) in
     let there = sym c.loop-place.invariant.theirs ∙ sym both ∙ c.in-Some.is in
     let left = sym c.left.ensures ∙ same_option _ _ (sym c.ne-in-loop-place.ensures ∙ c.if-ne-2.false) ∙ c.left-in-loop-place.ensures in
+    let each = c.first_waiting-mine.ensures.each in
+    let each_too = c.first_waiting-theirs.ensures.each in
     record {
-      same = one_more_same mine theirs place c.loop-place.invariant.same _ _ task c.first_waiting-mine.ensures.each c.first_waiting-theirs.ensures.each here there left;
+      same = one_more_same mine theirs place c.loop-place.invariant.same _ _ task each each_too here there left;
       mine = c.waiting_after-mine.ensures.next place (placed_within mine place task here) (placed_task mine place task here);
       theirs = c.waiting_after-theirs.ensures.next place (placed_within theirs place task there) (placed_task theirs place task there);
       low = c.waiting_after-mine.ensures.task;
@@ -36,5 +38,8 @@ returns c =
     let theirs = c.args.other.now.delayed in
     let sized = ap (λ (view : DelayView). view.tasks) c.self.view_is in
     let most = waiting_length _ mine c.first_waiting-mine.ensures.each in
-    let most_too = waiting_length _ theirs c.first_waiting-theirs.ensures.each in
-    (λ yes. same_to_end mine theirs c.loop-place._place c.loop-place.invariant.same (omega (arith, most, sized, c.loop-place-test.false)) (omega (arith, most_too, sized, c.requires, c.loop-place-test.false)), λ same. refl)
+    let most_too = waiting_length _ theirs c.first_waiting-theirs.ensures.each in (
+      λ yes. same_to_end mine theirs c.loop-place._place c.loop-place.invariant.same (omega (arith, most, sized, c.loop-place-test.false))
+          (omega (arith, most_too, sized, c.requires, c.loop-place-test.false)),
+      λ same. refl,
+    )

@@ -10,7 +10,8 @@ use Rattle.tick_delay.proofs.delays.Delays.shift.Goals as goal
 pub make_later-requires-2-clause-two : goal.make_later-requires-2-clause-two
 make_later-requires-2-clause-two c =
     ap (λ (v : ListsView). length v.lists) c.make_later.ensures
-    ∙ some_two c.args.by (later_tick c.args.by c.self.inside.tick) c.self.inside.turn c.self.inside.turn c.len-this.result c.self.inside.lists ∙ c.self.invariant.both
+    ∙ some_two c.args.by (later_tick c.args.by c.self.inside.tick) c.self.inside.turn c.self.inside.turn c.len-this.result c.self.inside.lists
+    ∙ c.self.invariant.both
 
 -- the lists are those of which each task wakes later
 made : (c : goal.After-make_later-2) → c.make_later-2.new.lists ≡ all_later c.args.by c.self.inside.tick c.self.inside.turn c.self.inside.lists
@@ -20,7 +21,8 @@ made c =
     let turn = c.self.inside.turn in
     c.make_later-2.ensures ∙ ap (first_ones_later by tick turn (1 - turn) c.len-next.result) c.make_later.ensures
     ∙ ap (λ (n : ℕ). first_ones_later by tick turn (1 - turn) c.len-next.result (first_ones_later by tick turn turn n c.self.inside.lists)) c.len-this.ensures
-    ∙ ap (λ (n : ℕ). first_ones_later by tick turn (1 - turn) n (first_ones_later by tick turn turn (length (list_at c.self.inside.lists turn)) c.self.inside.lists)) c.len-next.ensures
+    ∙ ap (λ (n : ℕ). first_ones_later by tick turn (1 - turn) n
+    (first_ones_later by tick turn turn (length (list_at c.self.inside.lists turn)) c.self.inside.lists)) c.len-next.ensures
 
 pub invariant_of-self : goal.invariant_of-self
 invariant_of-self c = rw (made c) (shape_later c.args.by _ _ _ _ c.self.invariant)

@@ -6,7 +6,7 @@ use Rattle.bench_types.specs.declared.edit.Edit.TheVariants.{Insert, Remove, Rep
 use Rattle.bench_types.specs.declared.header.Header.{Header}
 use Rattle.bench_types.specs.declared.step.Step.{Step}
 use Rattle.bench_types.specs.declared.step.Step.TheVariants.{Tick, Switch, Call}
-use Rattle.bench_types.specs.declared.step.Call.TheVariants.{Yield, StateClear}
+use Rattle.bench_types.specs.declared.step.Call.TheVariants.{DelayUntil, Yield, StateClear}
 use Rattle.bench_model.specs.Edits.{args_of}
 use Rattle.bench_model.specs.Meeting.{CheckpointedSession, first_kept, replayed_from, met, replayed, kept_after}
 use Rattle.worked_examples.specs.Examples.{three_tasks, timed, slept}
@@ -26,6 +26,12 @@ outcomes_of kept (edit ∷ edits) = outcome_of kept edit ∷ outcomes_of (kept_a
 -- the checkpoints after edits
 abbrev pub checkpoints_after : CheckpointedSession → List Edit → List ℕ
 checkpoints_after kept edits = (fold (λ kept edit. kept_after edit kept) kept edits).checkpoints
+
+-- ticks, and then task 2 delays until tick count 7, on its core or on another, where it is refused
+abbrev pub until_seven : ℕ → CheckpointedSession
+until_seven core =
+    opened 2 three_tasks
+    (Tick ∷ Tick ∷ Tick ∷ Tick ∷ Tick ∷ Call core 2 (DelayUntil 4 3) ∷ [])
 
 -- task 2 yields and is chosen again, and then the tick count grows
 abbrev pub yields : CheckpointedSession
@@ -58,7 +64,15 @@ pub record WorkedMeetings : Type 0 where
       outcomes_of yields
       (Replace 0 (Call 0 2 (StateClear 2 0)) ∷ Insert 6 Tick ∷ Insert 7 Tick ∷ Insert 8 Tick ∷ [])
       ≡ (0, 2, 2) ∷ (4, 7, 3) ∷ (4, 8, 4) ∷ (6, 9, 3) ∷ []
-  pub removed_ticks : outcomes_of yields (Remove 2 ∷ Remove 2 ∷ []) ≡ (2, 5, 3) ∷ (2, 4, 2) ∷ []
+  -- a tick less moves what follows in time, and so a second one does
+  pub removed_ticks : outcomes_of yields (Remove 2 ∷ Remove 2 ∷ []) ≡ (2, 3, 1) ∷ (2, 2, 0) ∷ []
+  pub removed_in_front : outcome_of (ticks 2 6) (Remove 0) ≡ (0, 1, 1)
+  pub put_in_front : outcome_of (ticks 2 6) (Insert 0 Tick) ≡ (0, 3, 3)
+  -- but not where a later call reads the tick count, also one that is refused
+  pub read_later : outcome_of (until_seven 0) (Remove 0) ≡ (0, 5, 5)
+  pub refused_later : outcome_of (until_seven 1) (Remove 0) ≡ (0, 5, 5)
+  -- a call behind the place where the replay may end is not in its way
+  pub read_before : outcome_of (until_seven 0) (Replace 5 Tick) ≡ (4, 6, 2)
   -- the checkpoint after the removed step falls on the place of the edit, and is compared there
   pub meets_at_the_edit : outcome_of refused_switch (Remove 1) ≡ (1, 1, 0)
   pub meets_at_once : outcome_of (ticks 2 6) (Replace 2 Tick) ≡ (2, 4, 2)
@@ -81,6 +95,7 @@ pub record WorkedCheckpoints : Type 0 where
       ≡ 0 ∷ 2 ∷ 4 ∷ 6 ∷ []
   pub moved : checkpoints_after yields (Insert 1 Tick ∷ []) ≡ 0 ∷ 3 ∷ 5 ∷ []
   pub moved_back : checkpoints_after yields (Remove 2 ∷ []) ≡ 0 ∷ 2 ∷ 3 ∷ []
+  pub moved_in_front : checkpoints_after (ticks 2 6) (Remove 0 ∷ []) ≡ 0 ∷ 1 ∷ 3 ∷ []
   pub two_become_one : checkpoints_after yields (Remove 2 ∷ Remove 2 ∷ []) ≡ 0 ∷ 2 ∷ []
   -- a checkpoint at the last place stays, and an insertion there is replayed from it
   pub at_the_end : checkpoints_after (ticks 2 3) (Remove 2 ∷ []) ≡ 0 ∷ 2 ∷ []

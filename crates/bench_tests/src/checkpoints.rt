@@ -5,7 +5,7 @@ use crate::samples::{
 };
 use crate::spans::check_as_new;
 use crate::store_edits::change;
-use bench_types::{Edit, Step};
+use bench_types::{Call, Edit, Step};
 use session_store::Store;
 use std::alloc::Global;
 use std::process::Abort;
@@ -105,12 +105,12 @@ const NO_TICKS: Case<'static> = Case {
 /// Where checkpoints are moved with the steps after them.
 const MOVES: [Case<'static>; 4] = [
     Case {
-        edits: &[tick!(1, 0, 7)],
+        edits: &[tick!(1, 0, 3)],
         checkpoints: &[0, 3, 5],
         ..TICKS_BY_2
     },
     Case {
-        edits: &[tick!(2, 2, 7)],
+        edits: &[tick!(2, 2, 5)],
         checkpoints: &[0, 2, 5],
         ..TICKS_BY_2
     },
@@ -126,7 +126,7 @@ const MOVES: [Case<'static>; 4] = [
         ..TICKS_BY_2
     },
     Case {
-        edits: &[remove!(1, 0, 5)],
+        edits: &[remove!(1, 0, 1)],
         checkpoints: &[0, 1, 3],
         ..TICKS_BY_2
     },
@@ -143,7 +143,7 @@ const STAYS: [Case<'static>; 4] = [
         ..TICKS_BY_2
     },
     Case {
-        edits: &[tick!(4, 3, 8), tick!(5, 3, 9)],
+        edits: &[tick!(4, 3, 7), tick!(5, 3, 8)],
         checkpoints: &[0, 3, 8],
         ..TICKS_BY_3
     },
@@ -157,17 +157,17 @@ const STAYS: [Case<'static>; 4] = [
 /// Where two checkpoints come to one place.
 const JOINED: [Case<'static>; 4] = [
     Case {
-        edits: &[remove!(2, 2, 5), remove!(2, 2, 4)],
+        edits: &[remove!(2, 2, 3), remove!(2, 2, 2)],
         checkpoints: &[0, 2],
         ..TICKS_BY_2
     },
     Case {
-        edits: &[remove!(1, 0, 5), remove!(0, 0, 4)],
+        edits: &[remove!(1, 0, 1), remove!(0, 0, 0)],
         checkpoints: &[0, 2],
         ..TICKS_BY_2
     },
     Case {
-        edits: &[remove!(1, 1, 2)],
+        edits: &[remove!(1, 1, 1)],
         checkpoints: &[0, 1],
         ..TICKS_BY_1
     },
@@ -181,7 +181,7 @@ const JOINED: [Case<'static>; 4] = [
 /// Where two spans without one get a checkpoint.
 const PARTED: [Case<'static>; 7] = [
     Case {
-        edits: &[tick!(3, 2, 7), tick!(3, 2, 8)],
+        edits: &[tick!(3, 2, 5), tick!(3, 2, 6)],
         checkpoints: &[0, 2, 4, 6],
         ..TICKS_BY_2
     },
@@ -191,7 +191,7 @@ const PARTED: [Case<'static>; 7] = [
         ..TICKS_BY_2
     },
     Case {
-        edits: &[tick!(4, 3, 8), tick!(5, 3, 9), tick!(6, 3, 10)],
+        edits: &[tick!(4, 3, 7), tick!(5, 3, 8), tick!(6, 3, 9)],
         checkpoints: &[0, 3, 6, 9],
         ..TICKS_BY_3
     },
@@ -201,7 +201,7 @@ const PARTED: [Case<'static>; 7] = [
         ..TICKS_BY_1
     },
     Case {
-        edits: &[tick!(0, 0, 4)],
+        edits: &[tick!(0, 0, 2)],
         checkpoints: &[0, 1, 2, 3],
         ..TICKS_BY_1
     },
@@ -243,8 +243,62 @@ fn spans_are_parted(rt: HostRuntime) -> Result<(), Fail> {
     check_cases(&rt, &rt, &PARTED)
 }
 
+/// A call of A that delays until the tick count 7.
+const UNTIL: Step = Step::Call {
+    core: 0,
+    task: 2,
+    call: Call::DelayUntil { prev: 4, inc: 3 },
+};
+
+/// The same call on a core where A does not run.
+const REFUSED_UNTIL: Step = Step::Call {
+    core: 1,
+    task: 2,
+    call: Call::DelayUntil { prev: 4, inc: 3 },
+};
+
+/// Where the tick count is read after the edit, and where it isn't.
+const READS: [Case<'static>; 4] = [
+    Case {
+        edits: &[remove!(0, 0, 1)],
+        checkpoints: &[0, 1, 3],
+        ..TICKS_BY_2
+    },
+    Case {
+        steps: &[TICK, TICK, TICK, TICK, TICK, UNTIL],
+        edits: &[remove!(0, 0, 5)],
+        checkpoints: &[0, 1, 3],
+        ..TICKS_BY_2
+    },
+    Case {
+        steps: &[TICK, TICK, TICK, TICK, TICK, REFUSED_UNTIL],
+        edits: &[remove!(0, 0, 5)],
+        checkpoints: &[0, 1, 3],
+        ..TICKS_BY_2
+    },
+    Case {
+        steps: &[TICK, UNTIL, SWITCH_0, TICK, TICK, TICK],
+        edits: &[remove!(0, 0, 1), tick!(2, 1, 4)],
+        checkpoints: &[0, 1, 4],
+        ..TICKS_BY_2
+    },
+];
+
+#[test]
+fn a_replay_meets_where_no_step_reads_the_tick(rt: HostRuntime) -> Result<(), Fail> {
+    check_cases(&rt, &rt, &READS)
+}
+
 /// Each place, its tick count, and how many steps are counted for its state.
-const STATES: [(Case<'static>, &[(u32, u32, u64)]); 2] = [
+const STATES: [(Case<'static>, &[(u32, u32, u64)]); 3] = [
+    (
+        Case {
+            edits: &[remove!(0, 0, 1), tick!(0, 0, 2), remove!(0, 0, 1)],
+            checkpoints: &[0, 1, 3],
+            ..TICKS_BY_2
+        },
+        &[(5, 5, 2), (3, 3, 0), (1, 1, 0)],
+    ),
     (
         Case {
             checkpoints: &[0, 3, 6],
@@ -261,7 +315,7 @@ const STATES: [(Case<'static>, &[(u32, u32, u64)]); 2] = [
     ),
     (
         Case {
-            edits: &[remove!(2, 2, 5), remove!(2, 2, 4)],
+            edits: &[remove!(2, 2, 3), remove!(2, 2, 2)],
             checkpoints: &[0, 2],
             ..TICKS_BY_2
         },

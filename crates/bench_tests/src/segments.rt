@@ -143,7 +143,7 @@ fn check_segment(
     header: &Header,
     segment: &Segment,
 ) -> Result<(), Fail> {
-    check_shown(rt, segment);
+    check_shown(rt, host.alloc(), segment)?;
     check_running(rt, segment);
     check_tallies(rt, host.alloc(), header, segment)?;
     check_states(rt, host, header, segment)
@@ -155,12 +155,19 @@ const REPLIES: [(u32, Option<Reply>); 3] = [
     (5, None),
 ];
 
-fn check_shown(rt: &impl Abort, segment: &Segment) {
-    assert_same(rt, "tick", &segment.kernel().tick(), &1);
+/// The tick count of the segment's kernel.
+fn tick_of(alloc: Global, segment: &Segment) -> Result<u32, Fail> {
+    let kernel = segment.copy_kernel(alloc)?;
+    Ok(kernel.tick())
+}
+
+fn check_shown(rt: &impl Abort, alloc: Global, segment: &Segment) -> Result<(), Fail> {
+    assert_same(rt, "tick", &tick_of(alloc, segment)?, &1);
     assert_same(rt, "steps", &segment.steps(), &&STEPS[3..]);
     for (index, reply) in &REPLIES {
         assert_at(rt, "step", *index, &segment.reply(*index), reply);
     }
+    Ok(())
 }
 
 /// After so many steps, on which core, which task runs.
@@ -197,7 +204,7 @@ fn check_states(
     segment: &Segment,
 ) -> Result<(), Fail> {
     let kernel = advanced(rt, host, header)?;
-    assert_is(rt, "begins with it", segment.begins_with(&kernel));
+    assert_same(rt, "ticks to it", &segment.ticks_to(&kernel), &Some(0));
     check_after(rt, host, segment)
 }
 
@@ -220,7 +227,7 @@ fn check_after(rt: &impl Abort, host: &HostRuntime, segment: &Segment) -> Result
         &(kernel.tick(), meter.count()),
         &(2, 3),
     );
-    assert_is(rt, "begins before it", !segment.begins_with(&kernel));
+    assert_same(rt, "ticks to another", &segment.ticks_to(&kernel), &None);
     Ok(())
 }
 
@@ -249,9 +256,9 @@ fn check_twice(
     requires few_steps { length steps.now ≤ max_steps }
 {
     let mut segment: Segment = Segment::replay(alloc, kernel, steps, meter)?;
-    assert!(rt; segment.kernel().settings() == kernel.settings());
+    assert!(rt; segment.settings() == kernel.settings());
     segment.replay_again(kernel, meter);
-    let ticks = (segment.kernel().tick(), kernel.tick());
+    let ticks = (tick_of(alloc, &segment)?, kernel.tick());
     assert_same(rt, "ticks", &ticks, &(1, 2));
     assert_same(rt, "steps", &meter.count(), &6);
     assert_same(rt, "steps", &segment.steps(), &steps);
@@ -261,7 +268,7 @@ fn check_twice(
 fn has_settings(segment: &Segment, settings: Settings) -> bool
     ensures { IsTrue result → HasSettings settings segment.now }
 {
-    segment.kernel().settings() == settings
+    segment.settings() == settings
 }
 
 fn have_settings(segments: &[Segment], settings: Settings) -> bool
@@ -304,7 +311,8 @@ fn check_later(
 ) -> Result<(), Fail> {
     let kernel = &mut advanced(rt, host, header)?;
     check_replay(rt, segments, kernel, &mut Meter::new(host), (2, 8));
-    let ticks = (segments.as_slice()[0].kernel().tick(), kernel.tick());
+    let first = &segments.as_slice()[0];
+    let ticks = (tick_of(host.alloc(), first)?, kernel.tick());
     assert_same(rt, "ticks", &ticks, &(1, 3));
     Ok(())
 }

@@ -49,7 +49,11 @@ fn a_kernel_moves_round_the_tick_counts(rt: HostRuntime) -> Result<(), Fail> {
 
 fn check_round(rt: &impl Abort, moved: &mut Kernel, still: &Kernel) {
     moved.shift(0);
-    assert_is(rt, "unmoved", moved.same(still) && moved.same_shifted(still));
+    assert_is(
+        rt,
+        "unmoved",
+        moved.same(still) && moved.same_shifted(still),
+    );
     moved.shift(4_294_967_295);
     assert_ticks(rt, moved, still, (4_294_967_295, 0));
     assert_alike(rt, moved, still);

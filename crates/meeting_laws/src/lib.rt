@@ -1,5 +1,6 @@
 //! The laws by which the replay of an edited session may stop: from equal states, and from states
-//! that are equal but for a tick count that no step reads, the same steps go on alike. Each function does nothing: its contract is the laws, one a clause.
+//! that are equal but for a tick count that no step reads, the same steps go on alike. Each
+//! function does nothing: its contract is the laws, one a clause.
 #![tactic(auto)]
 
 ghost use Rattle.meeting_laws.specs.CheckpointLaws.{FirstCheckpointsFit, NextCheckpointsFit, PlacesAreNear, NextAreThese, AddedIsReplayed, AscendingAreOne, CheckpointBeforeIsLast, MovedPlacesAreWithin, LaterPlacesMoveAlike, ReplayIsWithin};

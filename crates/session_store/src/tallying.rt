@@ -49,7 +49,8 @@ fn add_rest(total: &mut Tallies, sums: Option<&Sums>, segments: &[Segment], from
     requires within { from ≤ length segments.now }
     requires counted { AreTalliedLater total.old (drop from segments.now) }
     ensures { (known : AreTalliedLater total.old (drop from segments.now))
-        → AreTallied known.before.header (known.before.earlier ++ drop from segments.now) total.new }
+        → AreTallied known.before.header
+        (known.before.earlier ++ drop from segments.now) total.new }
 {
     match sum_from(sums, segments, from) {
         Some((sum, next)) => {

@@ -1,6 +1,7 @@
 pub mod Asks
 pub mod Firsts
 pub mod Flags
+pub mod Marks
 pub mod Picks
 pub mod ReadyLists
 pub mod Seats

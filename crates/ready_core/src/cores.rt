@@ -6,7 +6,7 @@ ghost use Rattle.std.specs.List.{range_with_len};
 ghost use Rattle.list_orders.specs.Listings.{IsListing};
 ghost use Rattle.list_orders.specs.Search.{numbers, placed, without, has};
 ghost use Rattle.index_lists.specs.Listed.{list_at, items_of};
-ghost use Rattle.bench_model.specs.Control.{core_at, task_at, current, in_mask, is_allowed, is_idle, is_elsewhere, may_select, ask, asked_by, run_on, runs_on, ask_its_core};
+ghost use Rattle.bench_model.specs.Control.{core_at, task_at, current, in_mask, is_allowed, is_due, is_idle, is_elsewhere, may_select, ask, asked_by, run_on, runs_on, ask_its_core};
 ghost use Rattle.bench_model.specs.State.{after_select};
 ghost use Rattle.bench_model.specs.Lists.{list_queues, outranks};
 ghost use Rattle.bench_model.specs.Start.{first_lists, unstarted};
@@ -40,6 +40,8 @@ pub struct Cores {
     seats: Vec<u32>,
     /// Per task whether it is ready and on no core.
     waiting: Vec<bool>,
+    /// The bits of the cores that are not due.
+    undue: u32,
 }
 
 // Written out, so that whoever drops one has one call to prove, and not one for each list in it.
@@ -54,6 +56,7 @@ impl Drop for Cores {
             listed: _,
             seats: _,
             waiting: _,
+            undue: _,
         } = self;
     }
 }
@@ -69,7 +72,7 @@ impl Model for Cores {
         (control_from of.cores.items of.tasks.items) of.lists };
 
     ghost invariant = { λ of. IsKept of.priorities of.cores.items of.tasks.items of.lists
-        of.listed of.seats.items of.waiting.items };
+        of.listed of.seats.items of.waiting.items of.undue };
 }
 
 impl Cores {
@@ -101,6 +104,7 @@ impl Cores {
             listed: self.listed,
             seats: Vec::from_slice(alloc, &self.seats)?,
             waiting: Vec::from_slice(alloc, &self.waiting)?,
+            undue: self.undue,
         })
     }
 
@@ -119,6 +123,7 @@ impl Cores {
         self.listed = other.listed;
         self.seats.copy_from_slice(&other.seats);
         self.waiting.copy_from_slice(&other.waiting);
+        self.undue = other.undue;
     }
 
     /// Whether all that can be seen of the two is equal.
@@ -295,6 +300,9 @@ impl Cores {
         requires { core < length self.old.control.cores }
         ensures { self.new ≡ record self.old { control = ask acting core self.old.control } }
     {
+        // Which says that there are fewer cores than bits.
+        let _cores = self.core_numbers();
+        self.undue &= !(1 << core);
         if core == acting {
             self.cores[core as usize].pend = true;
         } else {
@@ -381,8 +389,11 @@ impl Cores {
         ensures { self.new ≡ cores_rule (sliced list_queues) self.old }
     {
         if self.slicing {
-            for core in 0..self.core_numbers().end {
+            let mut rest = self.undue;
+            while rest != 0 {
+                let core = rest.trailing_zeros();
                 self.end_slice(core);
+                rest &= !(1 << core);
             }
         }
     }
@@ -448,6 +459,7 @@ impl Cores {
             listed: 0,
             seats: first_seats(alloc, cores, cores + users)?,
             waiting: none_waiting(alloc, cores + users)?,
+            undue: cores_of_mask(cores, u32::MAX),
         })
     }
 
@@ -752,6 +764,7 @@ impl Cores {
             pend: false,
             asked: false,
         };
+        self.undue |= 1 << core;
     }
 
     // The switch without the seek.
@@ -799,27 +812,28 @@ impl Cores {
         self.ready(task) & (self.lists.len(self.in_use(task)) > 1)
     }
 
-    // Whether the core is not due, and its task has preemption on and stands in a ready list of
-    // more than one. All three are asked each time: `&` leaves none out.
+    // Whether the task of a core that is not due has preemption on and stands in a ready list of
+    // more than one. Both are asked each time: `&` leaves none out.
     fn shares_its_time(&self, core: u32) -> bool
-        requires { core < length self.now.control.cores }
+        requires core { core < length self.now.control.cores }
+        requires undue { is_due self.now.control core ≡ false }
         ensures { result ≡ shares_its_time list_queues (bare_view self.now) core }
     {
-        let look = self.flags(core);
         let runs = self.running(core);
-        let is_due = look.pend | look.asked;
-        !is_due & self.preempt(runs) & self.has_company(runs)
+        self.preempt(runs) & self.has_company(runs)
     }
 
-    // The core is asked where its task has to share its time, without a jump.
+    // A core that is not due is asked where its task has to share its time, without a jump.
     fn end_slice(&mut self, core: u32)
-        requires { core < length self.old.control.cores }
+        requires core { core < length self.old.control.cores }
+        requires undue { is_due self.old.control core ≡ false }
         ensures { self.new
             ≡ (if shares_its_time list_queues (bare_view self.old) core
             then record self.old { control = ask 0 core self.old.control } else self.old) }
     {
         let shares = self.shares_its_time(core);
         ask_where(shares, core, &mut self.cores[core as usize]);
+        self.undue &= !(u32::from(shares) << core);
     }
 }
 

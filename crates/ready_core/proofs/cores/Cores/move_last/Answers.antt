@@ -27,6 +27,7 @@ invariant_of-self c =
     rw c.move_last.ensures (record {
       shape = shape_turned _ _ _ _ _ _ c.self.invariant.shape c.args.task c.in_use-priority.result is low (omega (arith, c.requires.task, ap (λ (v : CoresView). length v.control.tasks) view)) here;
       flags = flags_kept _ _ _ _ c.self.invariant.flags _ (λ s. ap (has s) turned ∙ has_placed_again (outranks control) c.args.task s (ready_below c.self.inside.lists.lists c.self.inside.priorities) ready);
+      marks = c.self.invariant.marks;
     })
 
 pub returns : goal.returns

@@ -34,6 +34,7 @@ invariant_of-self c =
     rw c.push_last.ensures (record {
       shape = shape_push _ _ _ _ _ _ c.self.invariant.shape c.args.task c.in_use-priority.result is low under free;
       flags = flags_pushed _ _ _ _ c.self.invariant.flags c.args.task c.index.result.now _ (get_or_read c.self.inside.seats.items c.args.task c.index.result.now seated c.index.ensures 0) seated (λ s. ap (has s) last ∙ list_any-placed (outranks control) (λ m. eqb m s) c.args.task (ready_below c.self.inside.lists.lists c.self.inside.priorities));
+      marks = c.self.invariant.marks;
     })
 
 pub returns : goal.returns

@@ -20,6 +20,7 @@ invariant_of-self c =
     record {
       shape = shape_changed _ _ tasks _ _ _ c.self.invariant.shape c.args.task (record c.index_mut.result.now { in_use = c.args.priority }) (omega (arith, c.requires.priority, ap (λ (v : CoresView). v.priorities) view)) kept (ap (λ (v : CoresView). has c.args.task v.ready) view ∙ c.requires.free);
       flags = c.self.invariant.flags;
+      marks = c.self.invariant.marks;
     }
 
 abbrev no_task : TaskControl

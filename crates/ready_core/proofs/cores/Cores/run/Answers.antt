@@ -1,4 +1,4 @@
-use Rattle.std.proofs.Common.{◌≡◌, ◌*◌, ◌%◌, ◌^◌, ◌<◌, ◌∙◌, bit_and, w32, length, get_or, ap, sym, arith}
+use Rattle.std.proofs.Common.{◌≡◌, ◌*◌, ◌%◌, ◌^◌, ◌<◌, ◌∙◌, bit_and, w32, length, get_or, ap, refl, sym, arith}
 use Rattle.std.specs.Prelude.{slice_set}
 use Rattle.std.specs.Int.{bit_not}
 use Rattle.std.proofs.lemmas.List.{get_or_read, get_or-set_same, length-set}
@@ -8,6 +8,7 @@ use Rattle.ready_core.specs.Fields.{control_from, ready_below}
 use Rattle.list_orders.specs.Search.{has}
 use Rattle.ready_core.proofs.Shapes.{shape_run}
 use Rattle.ready_core.proofs.Flags.{flags_run}
+use Rattle.ready_core.proofs.Marks.{marks_free}
 use Rattle.ready_core.proofs.Seats.{bit_there}
 use Rattle.ready_core.proofs.cores.Cores.run.Goals as goal
 
@@ -35,4 +36,5 @@ invariant_of-self c =
     (record {
       shape = shape_run _ _ _ _ _ _ c.self.invariant.shape core task low below c.index_mut.result.now c.index_mut-3.result.now (one ∙ ap (λ t. get_or seats t 0) left) (other ∙ ap (λ t. get_or (slice_set seats t cleared) task 0) left);
       flags = flags_run _ _ _ _ c.self.invariant.flags (current control core) task _ _ _ (omega (arith, low_left, left)) low_task (ready ∙ ap (λ t. has t (ready_below c.self.inside.lists.lists c.self.inside.priorities)) left) (bit_there c.index_mut-3.result.now core word);
+      marks = marks_free _ _ c.self.invariant.marks c.self.invariant.shape.few_cores core low _ refl;
     })

@@ -20,4 +20,5 @@ invariant_of-self c =
     record {
       shape = shape_kept _ _ tasks _ _ _ c.self.invariant.shape task (record old { mask = c.cores_of_mask-cut.result }) below (ap (λ (b : TaskControl). b.in_use) block) (ap (λ (b : TaskControl). b.base) block);
       flags = c.self.invariant.flags;
+      marks = c.self.invariant.marks;
     }

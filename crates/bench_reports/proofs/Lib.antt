@@ -1,6 +1,7 @@
 pub mod Additions
 pub mod Begins
 pub mod InPlace
+pub mod Inversions
 pub mod Parts
 pub mod Rooms
 pub mod Runs

@@ -21,7 +21,8 @@ use Rattle.bench_model.specs.Tally.{TaskTally, Moment, is_tick, is_finish_of, is
 use Rattle.bench_model.specs.Tallied.{no_counts, one_if, tally_at, tally_after, tallied, CountsBelow, AllCountsBelow}
 use Rattle.smp_kernel.specs.Kernel.{StandsForSome}
 use Rattle.session_laws.proofs.Tallies.{numbers_so, length_each, each_at, own_items}
-use Rattle.bench_reports.specs.Counting.{found, found_tally, left_by, event_of, event_of_switch, event_of_call, is_finish, task_of, is_switch_in, is_displaced_call, is_run_out, event_tally, with_event, top_tally, topped, is_waiting, HasEventRoom}
+use Rattle.smp_kernel.specs.Kernel.{wants_core}
+use Rattle.bench_reports.specs.Counting.{found, found_tally, left_by, event_of, event_of_switch, event_of_call, is_finish, task_of, is_switch_in, is_displaced_call, is_run_out, event_tally, with_event, top_tally, topped, HasEventRoom}
 use Rattle.bench_reports.proofs.TickCounts.{same_counts}
 use Rattle.bench_reports.proofs.TickFinds.{cores_stand}
 use Rattle.bench_reports.specs.declared.event.Event.{Event}
@@ -210,8 +211,8 @@ no_tick_adds before step task tally none =
     let found : Bool → TaskTally = λ b. record {
       run = map (λ core. get_or tally.run core 0 + one_if (b && current before.control core == task)) (numbers (length tally.run));
       counts = record tally.counts {
-        wait = tally.counts.wait + one_if (b && is_waiting before task);
-        inverted = tally.counts.inverted + one_if ((b && is_waiting before task) && outranks_some before.control task);
+        wait = tally.counts.wait + one_if (b && wants_core before task);
+        inverted = tally.counts.inverted + one_if ((b && wants_core before task) && outranks_some before.control task);
       };
     } in
     ap found none

@@ -15,7 +15,7 @@ shape_length tallies settings same =
 
 -- a tally as long as the task's turn has not come
 module _ (f : ℕ → TaskTally) (old now : List TaskTally) (task : ℕ) (x : TaskTally) where
-  kept : IsSetTo f nothing old task now → task < length old → x ≡ get_or now task x → x ≡ tally_at old task
+  pub kept : IsSetTo f nothing old task now → task < length old → x ≡ get_or now task x → x ≡ tally_at old task
   kept set low is = is ∙ get_or_default now task x nothing (omega (arith, low, set.size)) ∙ set.others task (omega arith)
 
   pub kept_wait_room : All HasWaitRoom old → IsSetTo f nothing old task now → task < length old → x ≡ get_or now task x → HasWaitRoom x

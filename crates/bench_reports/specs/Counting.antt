@@ -1,6 +1,6 @@
 -- A step is counted in three parts: what a tick finds, the one event of another step, and the
 -- priorities in use after it.
-use Rattle.std.specs.Prelude.{ℕ, ◌+◌, ◌-◌, ◌^◌, ◌≤◌, ◌<◌, max, List, length, map, Bool, true, false, not, ◌&&◌, ◌==◌, nat_lt, Option, Some, None, if◌then◌else◌, slice_index_or}
+use Rattle.std.specs.Prelude.{ℕ, ◌+◌, ◌-◌, ◌^◌, ◌≤◌, ◌<◌, max, List, length, map, Bool, true, false, ◌&&◌, ◌==◌, nat_lt, Option, Some, None, if◌then◌else◌, slice_index_or}
 use Rattle.bench_types.specs.declared.reply.Reply.{Reply}
 use Rattle.bench_types.specs.declared.step.Call.{Call as KernelCall}
 use Rattle.bench_types.specs.declared.step.Call.TheVariants.{Finish}
@@ -8,31 +8,29 @@ use Rattle.bench_types.specs.declared.step.Step.{Step}
 use Rattle.bench_types.specs.declared.step.Step.TheVariants.{Switch, Call}
 use Rattle.list_orders.specs.Search.{numbers}
 use Rattle.bench_model.specs.Control.{Control, task_at, current}
-use Rattle.bench_model.specs.Lists.{View, is_ready}
+use Rattle.bench_model.specs.Lists.{View}
 use Rattle.bench_model.specs.Seek.{effective}
-use Rattle.bench_model.specs.Tally.{TaskTally, is_tick, is_current, outranks_some, is_displacement, says_run_out}
+use Rattle.bench_model.specs.Tally.{TaskTally, is_tick, outranks_some, is_displacement, says_run_out}
 use Rattle.bench_model.specs.Tallied.{run_at, tally_at, one_if}
+use Rattle.ready_core.specs.Fields.{has_priority}
+use Rattle.smp_kernel.specs.Kernel.{wants_core}
 use Rattle.bench_reports.specs.declared.event.Event.{Event}
 use Rattle.bench_reports.specs.declared.event.Event.TheVariants.{SwitchedIn, Displaced, RanOut}
-use Rattle.bench_reports.specs.declared.found.Found.{Found}
-use Rattle.bench_reports.specs.declared.found.Found.TheVariants.{Running, Waiting, Blocked}
 
--- how a tick finds the task
-abbrev pub found_as : View → ℕ → Found
-found_as before task =
-    if is_current before.control task then Running
-    else if is_ready task before.orders then Waiting (outranks_some before.control task)
-    else Blocked
+-- the tally with one tick more in which the task waited, where it did
+abbrev pub with_wait : Bool → TaskTally → TaskTally
+with_wait waits tally =
+    record tally { counts = record tally.counts { wait = tally.counts.wait + one_if waits } }
 
--- the task's tally with a tick that found it so, but for the core that it was on
-abbrev pub waited_as : Found → TaskTally → TaskTally
-waited_as (Waiting inverted) tally = record tally {
-  counts = record tally.counts {
-    wait = tally.counts.wait + 1;
-    inverted = tally.counts.inverted + one_if inverted;
-  };
+-- the tally with one tick more of an inverted wait, where it was one
+abbrev pub with_inversion : Bool → TaskTally → TaskTally
+with_inversion inverted tally = record tally {
+  counts = record tally.counts { inverted = tally.counts.inverted + one_if inverted };
 }
-waited_as found tally = tally
+
+-- the task waits while a core that it may run on has a task of lower effective priority
+abbrev pub is_inverted : View → ℕ → Bool
+is_inverted before task = wants_core before task && outranks_some before.control task
 
 -- the ticks that each core ran, with one more where the task is its current one
 abbrev pub runs_after : Control → ℕ → List ℕ → List ℕ
@@ -50,12 +48,21 @@ ran control tallies =
 -- the tallies with one tick more of each task that waits
 unfoldable pub waited : View → List TaskTally → List TaskTally
 waited before tallies =
-    map (λ task. waited_as (found_as before task) (tally_at tallies task))
+    map (λ task. with_wait (wants_core before task) (tally_at tallies task))
     (numbers (length tallies))
 
--- the task is ready and on no core
-abbrev pub is_waiting : View → ℕ → Bool
-is_waiting before task = is_ready task before.orders && not (is_current before.control task)
+-- the tallies with one tick more of each task of the priority whose wait is inverted
+unfoldable pub inverted_in : View → ℕ → List TaskTally → List TaskTally
+inverted_in before priority tallies =
+    map (λ task. with_inversion
+    (has_priority before.control priority task && is_inverted before task) (tally_at tallies task))
+    (numbers (length tallies))
+
+-- the tallies with one tick more of each task whose wait is inverted
+unfoldable pub inverted : View → List TaskTally → List TaskTally
+inverted before tallies =
+    map (λ task. with_inversion (is_inverted before task) (tally_at tallies task))
+    (numbers (length tallies))
 
 -- the tally of the task with what the step finds, if it is a tick
 unfoldable pub found_tally : View → Step → ℕ → TaskTally → TaskTally
@@ -63,9 +70,9 @@ found_tally before step task tally = record {
   run = map (λ core. run_at tally core
       + one_if (is_tick step && current before.control core == task)) (numbers (length tally.run));
   counts = record tally.counts {
-    wait = tally.counts.wait + one_if (is_tick step && is_waiting before task);
+    wait = tally.counts.wait + one_if (is_tick step && wants_core before task);
     inverted = tally.counts.inverted
-        + one_if ((is_tick step && is_waiting before task) && outranks_some before.control task);
+        + one_if ((is_tick step && wants_core before task) && outranks_some before.control task);
   };
 }
 

@@ -1,11 +1,10 @@
 ghost use Rattle.std.specs.Prelude.{◌≡◌, ◌<◌, ◌≤◌, ◌+◌, ◌-◌, ◌^◌, Some, length, replicate, slice_set, All, IfOk};
 ghost use Rattle.bench_types.specs.Limits.{max_cores};
 ghost use Rattle.bench_model.specs.Tallied.{added_tally, no_counts, run_at, CountsBelow};
-ghost use Rattle.bench_reports.specs.Counting.{event_tally, task_of, top_tally, waited_as, HasEventRoom, HasWaitRoom};
+ghost use Rattle.bench_reports.specs.Counting.{event_tally, task_of, top_tally, with_inversion, with_wait, HasEventRoom};
 ghost use Rattle.bench_reports.specs.Sums.{sums_of};
 
 use crate::event::Event;
-use crate::found::Found;
 use arrayvec::ArrayVec;
 use bench_types::{MAX_CORES, Tally};
 use smp_kernel::Kernel;
@@ -83,15 +82,20 @@ impl TaskCounts {
         self.run[core as usize] += 1;
     }
 
-    /// Adds a tick that found the task so, but for the core that it was on.
-    pub(crate) fn add_wait(&mut self, found: Found)
-        requires { HasWaitRoom self.old }
-        ensures { self.new ≡ waited_as found self.old }
+    /// Adds a tick in which the task waited, where it did.
+    pub(crate) fn add_wait(&mut self, waits: bool)
+        requires { self.old.counts.wait < 2 ^ 32 - 1 }
+        ensures { self.new ≡ with_wait waits self.old }
     {
-        if let Found::Waiting(inverted) = found {
-            self.counts.wait += 1;
-            self.counts.inverted += u32::from(inverted);
-        }
+        self.counts.wait += u32::from(waits);
+    }
+
+    /// Adds a tick of an inverted wait, where it was one.
+    pub(crate) fn add_inversion(&mut self, inverted: bool)
+        requires { self.old.counts.inverted < 2 ^ 32 - 1 }
+        ensures { self.new ≡ with_inversion inverted self.old }
+    {
+        self.counts.inverted += u32::from(inverted);
     }
 
     /// Adds an event of the task.

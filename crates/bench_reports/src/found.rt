@@ -1,21 +1,10 @@
-ghost use Rattle.std.specs.Prelude.{◌≡◌, ◌<◌, ◌≤◌, length};
+ghost use Rattle.std.specs.Prelude.{◌≡◌, ◌<◌, length, true};
+ghost use Rattle.bench_model.specs.Lists.{is_ready};
 ghost use Rattle.bench_model.specs.Seek.{effective};
 ghost use Rattle.bench_model.specs.Tally.{outranks_some};
-ghost use Rattle.bench_reports.specs.Counting.{found_as, IsLowest};
+ghost use Rattle.bench_reports.specs.Counting.{is_inverted, IsLowest};
 
 use smp_kernel::Kernel;
-
-/// How a tick finds a task.
-#[derive(Clone, Copy)]
-pub(crate) enum Found {
-    /// It is the current task of a core.
-    Running,
-    /// It is ready and on no core; whether a core that it may run on has a task of lower effective
-    /// priority.
-    Waiting(bool),
-    /// It is neither ready nor on a core.
-    Blocked,
-}
 
 // The effective priority of the task: an idle task has 0, and the priorities in use count from 1.
 fn effective(kernel: &Kernel, task: u32) -> u64
@@ -41,33 +30,14 @@ pub(crate) fn lowest_current(kernel: &Kernel) -> u64
     lowest
 }
 
-/// How a tick finds the task. Where no current task stands lower than this one, none of the cores
-/// is looked at.
-pub(crate) fn found_as(kernel: &Kernel, lowest: u64, task: u32) -> Found
+/// Whether the ready task waits while a core that it may run on has a task of lower effective
+/// priority.
+pub(crate) fn is_inverted(kernel: &Kernel, task: u32) -> bool
     requires task { task < kernel.now.settings.tasks }
-    requires lowest { IsLowest kernel.now.control kernel.now.settings.cores lowest }
-    requires cores { length kernel.now.control.cores ≡ kernel.now.settings.cores }
-    ensures { result ≡ found_as kernel.now task }
+    requires ready { is_ready task kernel.now.orders ≡ true }
+    ensures { result ≡ is_inverted kernel.now task }
 {
-    if kernel.is_current(task) {
-        Found::Running
-    } else if kernel.ready(task) {
-        Found::Waiting(outranks_some(kernel, lowest, task))
-    } else {
-        Found::Blocked
-    }
-}
-
-fn outranks_some(kernel: &Kernel, lowest: u64, task: u32) -> bool
-    requires task { task < kernel.now.settings.tasks }
-    requires lowest { IsLowest kernel.now.control kernel.now.settings.cores lowest }
-    requires cores { length kernel.now.control.cores ≡ kernel.now.settings.cores }
-    ensures { result ≡ outranks_some kernel.now.control task }
-{
-    if effective(kernel, task) <= lowest {
-        return false;
-    }
-    has_lower_core(kernel, task)
+    !kernel.is_current(task) && has_lower_core(kernel, task)
 }
 
 fn has_lower_core(kernel: &Kernel, task: u32) -> bool

@@ -1,4 +1,4 @@
-ghost use Rattle.std.specs.Prelude.{◌≡◌, ℕ, suc, ◌+◌, ◌-◌, ◌<◌, ◌^◌, All, Ok, length, min, string_bytes, IfOk, IfSome};
+ghost use Rattle.std.specs.Prelude.{◌≡◌, ℕ, suc, ◌+◌, ◌-◌, ◌<◌, ◌^◌, All, Ok, length, min, true, string_bytes, IfOk, IfSome};
 ghost use Rattle.bench_types.specs.Step.{step_check};
 ghost use Rattle.bench_types.specs.declared.step.Step.TheVariants.{Tick};
 ghost use Rattle.bench_model.specs.Equal.{StandsFor};
@@ -6,14 +6,15 @@ ghost use Rattle.bench_model.specs.Lists.{list_queues};
 ghost use Rattle.bench_model.specs.Session.{step_of};
 ghost use Rattle.bench_model.specs.Table.{Table};
 ghost use Rattle.bench_model.specs.Tallied.{added, first_tallies, run_at, shape, shape_of, tallied, tally_at, AllCountsBelow};
+ghost use Rattle.ready_core.specs.Fields.{has_priority};
 ghost use Rattle.smp_kernel.specs.Kernel.{StandsForSome};
-ghost use Rattle.bench_reports.specs.Counting.{found, ran, topped, waited, with_event, HasEventRoom, HasWaitRoom};
+ghost use Rattle.bench_reports.specs.Counting.{found, inverted, inverted_in, ran, topped, waited, with_event, HasEventRoom, HasWaitRoom};
 ghost use Rattle.bench_reports.specs.Lines.{tally_lines};
 ghost use Rattle.bench_reports.specs.Tops.{HasTops, HasOtherTops};
 
 use crate::counts::TaskCounts;
 use crate::event::{Event, event_of, left_by};
-use crate::found::{found_as, lowest_current};
+use crate::found::{is_inverted, lowest_current};
 use crate::lines::push_tallies;
 use bench_types::{Header, Reply, Step, Tally};
 use smp_kernel::{Kernel, Meter};
@@ -265,6 +266,7 @@ fn add_tick(tasks: &mut [TaskCounts], kernel: &Kernel)
 {
     add_runs(tasks, kernel);
     add_waits(tasks, kernel);
+    add_inversions(tasks, kernel);
 }
 
 // Each core's task ran for one tick more.
@@ -286,9 +288,45 @@ fn add_waits(tasks: &mut [TaskCounts], kernel: &Kernel)
     requires room { All HasWaitRoom tasks.old }
     ensures { tasks.new ≡ waited kernel.now tasks.old }
 {
-    let lowest = lowest_current(kernel);
-    for task in 0..kernel.settings().tasks {
-        tasks[task as usize].add_wait(found_as(kernel, lowest, task));
+    let waiting = kernel.waiting();
+    for task in 0..tasks.len() {
+        tasks[task].add_wait(waiting[task]);
+    }
+}
+
+// Each task whose wait is inverted was so for one tick more. A task whose priority in use is below
+// the lowest effective priority of a current task stands above none.
+fn add_inversions(tasks: &mut [TaskCounts], kernel: &Kernel)
+    requires tasks { length tasks.old ≡ kernel.now.settings.tasks }
+    requires room { (task : ℕ) → task < length tasks.old
+        → (tally_at tasks.old task).counts.inverted < 2 ^ 32 - 1 }
+    ensures { tasks.new ≡ inverted kernel.now tasks.old }
+{
+    let priorities = kernel.settings().priorities;
+    let lowest = lowest_current(kernel).min(u64::from(priorities)) as u32;
+    for priority in lowest..priorities {
+        add_inversions_in(tasks, kernel, priority);
+    }
+}
+
+// The same for the tasks of one priority.
+fn add_inversions_in(tasks: &mut [TaskCounts], kernel: &Kernel, priority: u32)
+    requires tasks { length tasks.old ≡ kernel.now.settings.tasks }
+    requires priority { priority < kernel.now.settings.priorities }
+    requires room { (task : ℕ) → task < length tasks.old
+        → has_priority kernel.now.control priority task ≡ true
+        → (tally_at tasks.old task).counts.inverted < 2 ^ 32 - 1 }
+    ensures { tasks.new ≡ inverted_in kernel.now priority tasks.old }
+{
+    let mut next = kernel.first_ready(priority);
+    for _place in 0..kernel.settings().tasks {
+        match next {
+            Some(task) => {
+                tasks[task as usize].add_inversion(is_inverted(kernel, task));
+                next = kernel.next_ready(task);
+            }
+            None => return,
+        }
     }
 }
 

@@ -45,7 +45,7 @@ no_tasks lists p = elim (cases_lt p lists) [
   | inr past ↦ ap items_of (get_or_past (replicate lists []) p [] (omega (arith, past, length-replicate {A = List Listed} lists [])))
 ]
 
-none_ready : (lists n : ℕ) → ready_below (replicate lists []) n ≡ []
+pub none_ready : (lists n : ℕ) → ready_below (replicate lists []) n ≡ []
 none_ready lists zero = refl
 none_ready lists (suc n) = ap (λ xs. xs ++ ready_below (replicate lists []) n) (no_tasks lists n) ∙ none_ready lists n
 

@@ -1,8 +1,11 @@
 pub mod Asks
 pub mod Firsts
+pub mod Flags
+pub mod Marks
 pub mod Picks
 pub mod ReadyLists
 pub mod Seats
 pub mod Shapes
 pub mod Slices
 pub mod Switches
+pub mod Walks

@@ -1,10 +1,10 @@
 -- Words of bits, and the cores that have a task.
-use Rattle.std.proofs.Common.{◌≡◌, ℕ, ◌*◌, ◌<◌, ◌≤◌, ◌%◌, ◌^◌, Bool, true, false, not, eqb, ltb, ◌&&◌, List, [], ◌∷◌, length, bit_and, w32, min, refl, sym, ap, ◌∙◌, arith, inl, inr}
+use Rattle.std.proofs.Common.{◌≡◌, ℕ, ◌*◌, ◌<◌, ◌≤◌, ◌%◌, ◌^◌, Bool, true, false, not, eqb, ltb, ◌&&◌, List, [], ◌∷◌, length, bit_and, bit_or, w32, min, refl, sym, ap, ◌∙◌, arith, inl, inr}
 use Rattle.std.specs.Int.{bit_at, bit_not}
 use Rattle.std.specs.List.{list_any, AllByRecursion}
 use Rattle.std.proofs.lemmas.Bool.{cases_eq, cases_lt}
 use Rattle.std.proofs.lemmas.Bool.Decides.{nat_tests}
-use Rattle.std.proofs.lemmas.Nat.Bits.{bit_at_and, bit_at-zero, bit_at-lt, bit_at_clear_same, bit_at_clear_other, same_from_bits}
+use Rattle.std.proofs.lemmas.Nat.Bits.{bit_at_and, bit_at-zero, bit_at-lt, bit_at_set_same, bit_at_clear_same, bit_at_clear_other, same_from_bits}
 use Rattle.list_orders.specs.Search.{numbers, has}
 use Rattle.list_orders.proofs.Filters.{All-weaker}
 use Rattle.list_orders.proofs.Stamped.{numbers_below, numbers_have}
@@ -72,3 +72,13 @@ not_running control task none =
   where
     idle : (c : ℕ) → c < length control.cores → (eqb (current control c) task && not (core_at control c).asked) ≡ false
     idle c low = ap (λ b. b && not (core_at control c).asked) (any_none (λ core. eqb (current control core) task) c (numbers (length control.cores)) none (numbers_have (length control.cores) c low))
+
+-- a word with a bit that is set is not 0
+pub bit_there : (b place : ℕ) → place < 32 → eqb (bit_or b (1 * 2 ^ place % 4294967296)) 0 ≡ false
+bit_there b place low = elim (cases_eq (bit_or b (1 * 2 ^ place % 4294967296)) 0) [
+  | inl none ↦
+      let on : is_set (bit_or b (1 * 2 ^ place % 4294967296)) place ≡ true = ap (λ d. eqb d 1) (bit_at_set_same w32 b place low) ∙ grind (arith, nat_tests) in
+      let off : is_set (bit_or b (1 * 2 ^ place % 4294967296)) place ≡ false = ap (λ m. is_set m place) none ∙ ap (λ d. eqb d 1) (bit_at-zero place) ∙ grind (arith, nat_tests) in
+      absurd (cc (on, off))
+  | inr some ↦ grind (arith, nat_tests, some)
+]

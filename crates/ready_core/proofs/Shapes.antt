@@ -313,3 +313,30 @@ module _ (priorities : ℕ) (cores : List CoreLook) (tasks : List TaskControl) (
             | inl same ↦ rw same (its_bit ∙ sym (ap (λ b. eqb b 1) (bit_at_set_same w32 bits r bit_low)))
             | inr away ↦ sym (others p under away) ∙ sym (ap (λ b. eqb b 1) (bit_at_set_other w32 bits r bit_low p away))
           ]
+
+-- another look of a core with the same task
+pub shape_looked : (priorities : ℕ) (cores : List CoreLook) (tasks : List TaskControl) (view : ListsView) (listed : ℕ) (seats : List ℕ) → IsShape priorities cores tasks view listed seats → (core : ℕ) (look : CoreLook) → core < length cores → look.current ≡ current (control_from cores tasks) core → IsShape priorities (slice_set cores core look) tasks view listed seats
+shape_looked priorities cores tasks view listed seats shape core look low same = record {
+  few_cores = omega (arith, sized, shape.few_cores);
+  few_tasks = shape.few_tasks;
+  few_priorities = shape.few_priorities;
+  running = All-set (λ (at : CoreLook). at.current < length tasks) cores core look (omega (arith, same, All-get_or (λ (at : CoreLook). at.current < length tasks) cores core no_look low shape.running)) shape.running;
+  in_use = shape.in_use;
+  base = shape.base;
+  items = shape.items;
+  each = shape.each;
+  at_home = shape.at_home;
+  listings = shape.listings;
+  bits = shape.bits;
+  seated = shape.seated;
+  at_core = λ t under c. shape.at_core t under c ∙ grind (arith, nat_tests, sized, kept c);
+}
+  where
+    sized : length (slice_set cores core look) ≡ length cores
+    sized = length-set cores core look
+
+    kept : (c : ℕ) → current (control_from (slice_set cores core look) tasks) c ≡ current (control_from cores tasks) c
+    kept c = elim (cases_eq c core) [
+      | inl here ↦ rw here (ap (λ (at : CoreLook). at.current) (get_or-set_same cores core look no_look low) ∙ same)
+      | inr away ↦ ap (λ (at : CoreLook). at.current) (get_or-set_other cores core c look no_look away)
+    ]

@@ -7,17 +7,13 @@ use Rattle.std.proofs.lemmas.List.{ext_get_or, length-set, get_or-set_same, get_
 use Rattle.std.proofs.lemmas.List.FromFn.{get_or-map-range_with_len, length-map-range_with_len}
 use Rattle.bench_types.specs.declared.kernel_data.CoreLook.{CoreLook}
 use Rattle.list_orders.specs.Search.{numbers, without, has}
-use Rattle.bench_model.specs.Control.{Control, core_at, task_at, ask, asked_by, asked_where, ask_each}
+use Rattle.bench_model.specs.Control.{Control, core_at, task_at, is_due, ask, asked_by, asked_where, ask_each}
 use Rattle.bench_model.specs.Lists.{list_queues}
 use Rattle.bench_model.specs.Seek.{ready_in, shares_its_time, sliced}
 use Rattle.bench_model.specs.Cores.{CoresView, cores_of, bare_view, cores_rule}
 use Rattle.list_orders.proofs.Filters.{filter-filter, filter_none, has-filter, All-weaker}
 use Rattle.ready_core.specs.Fields.{ready_list}
 use Rattle.list_orders.proofs.Stamped.{numbers_have, numbers_one}
-
--- the cores that pass the test, of those below n
-abbrev pub below : ℕ → (ℕ → Bool) → ℕ → Bool
-below n test core = ltb core n && test core
 
 module _ (acting : ℕ) (control : Control) where
   abbrev no_look : CoreLook
@@ -38,53 +34,30 @@ module _ (acting : ℕ) (control : Control) where
   same_looks : (test : ℕ → Bool) (others : List CoreLook) → length others ≡ length control.cores → ((i : ℕ) → i < length control.cores → get_or others i no_look ≡ look_by i (test i)) → others ≡ looks test
   same_looks test others sized same = ext_get_or no_look others (looks test) (sized ∙ sym (looks_length test)) (λ i low. same i (omega (arith, low, sized)) ∙ sym (look_at test i (omega (arith, low, sized))))
 
-  pub asked_none : (test : ℕ → Bool) → ask_each acting (below 0 test) control ≡ control
-  asked_none test = ap (λ (cores : List CoreLook). record control { cores = cores }) (sym (same_looks (below 0 test) control.cores refl (λ i low. ap (look_by i) (none i))))
+  -- tests that agree ask the same cores
+  pub asked_alike : (p q : ℕ → Bool) → ((i : ℕ) → i < length control.cores → p i ≡ q i) → ask_each acting p control ≡ ask_each acting q control
+  asked_alike p q same = ap (λ (cores : List CoreLook). record control { cores = cores }) (same_looks q (looks p) (looks_length p) (λ i low. look_at p i low ∙ ap (look_by i) (same i low)))
+
+  -- no core is asked
+  pub asked_none : (p : ℕ → Bool) → ((i : ℕ) → i < length control.cores → p i ≡ false) → control ≡ ask_each acting p control
+  asked_none p none = ap (λ (cores : List CoreLook). record control { cores = cores }) (same_looks p control.cores refl (λ i low. ap (look_by i) (sym (none i low))))
+
+  -- one more core is asked
+  pub asked_one : (p q : ℕ → Bool) (n : ℕ) → n < length control.cores → p n ≡ false → q n ≡ true → ((i : ℕ) → i < length control.cores → i ≢ n → p i ≡ q i) → ask acting n (ask_each acting p control) ≡ ask_each acting q control
+  asked_one p q n low before after others = ap (λ (cores : List CoreLook). record control { cores = cores }) (same_looks q _ (length-set (looks p) n _ ∙ looks_length p) each)
     where
-      none : (i : ℕ) → false ≡ below 0 test i
-      none i = grind (arith, nat_tests)
+      here : asked_by acting n (core_at (ask_each acting p control) n) ≡ look_by n (q n)
+      here = ap (asked_by acting n) (look_at p n low ∙ ap (look_by n) before) ∙ ap (look_by n) (sym after)
 
-  later : (test : ℕ → Bool) (n i : ℕ) → i ≢ n → below n test i ≡ below (n + 1) test i
-  later test n i away = grind (arith, nat_tests, away)
-
-  -- one more core that passes is asked
-  pub asked_one : (test : ℕ → Bool) (n : ℕ) → n < length control.cores → test n ≡ true → ask acting n (ask_each acting (below n test) control) ≡ ask_each acting (below (n + 1) test) control
-  asked_one test n low passes = ap (λ (cores : List CoreLook). record control { cores = cores }) (same_looks (below (n + 1) test) _ (length-set (looks (below n test)) n _ ∙ looks_length (below n test)) each)
-    where
-      here : asked_by acting n (core_at (ask_each acting (below n test) control) n) ≡ look_by n (below (n + 1) test n)
-      here =
-          let now : below n test n ≡ false = grind (arith, nat_tests) in
-          let then : below (n + 1) test n ≡ true = grind (arith, nat_tests, passes) in
-          ap (asked_by acting n) (look_at (below n test) n low ∙ ap (look_by n) now) ∙ ap (look_by n) (sym then)
-
-      each : (i : ℕ) → i < length control.cores → get_or (ask acting n (ask_each acting (below n test) control)).cores i no_look ≡ look_by i (below (n + 1) test i)
+      each : (i : ℕ) → i < length control.cores → get_or (ask acting n (ask_each acting p control)).cores i no_look ≡ look_by i (q i)
       each i within = elim (cases_eq i n) [
-        | inl same ↦ rw same (get_or-set_same (looks (below n test)) n _ no_look (omega (arith, looks_length (below n test), low)) ∙ here)
-        | inr away ↦ get_or-set_other (looks (below n test)) n i _ no_look away ∙ look_at (below n test) i within ∙ ap (look_by i) (later test n i away)
+        | inl same ↦ rw same (get_or-set_same (looks p) n _ no_look (omega (arith, looks_length p, low)) ∙ here)
+        | inr away ↦ get_or-set_other (looks p) n i _ no_look away ∙ look_at p i within ∙ ap (look_by i) (others i within away)
       ]
 
-  -- one more core that does not pass is not
-  pub asked_not : (test : ℕ → Bool) (n : ℕ) → test n ≡ false → ask_each acting (below n test) control ≡ ask_each acting (below (n + 1) test) control
-  asked_not test n fails = ap (λ (cores : List CoreLook). record control { cores = cores }) (same_looks (below (n + 1) test) (looks (below n test)) (looks_length (below n test)) (λ i within. look_at (below n test) i within ∙ ap (look_by i) (each i)))
-    where
-      each : (i : ℕ) → below n test i ≡ below (n + 1) test i
-      each i = elim (cases_eq i n) [
-        | inl same ↦ rw same (grind (arith, nat_tests, fails))
-        | inr away ↦ later test n i away
-      ]
-
-  -- all cores were looked at
-  pub asked_all : (test : ℕ → Bool) → ask_each acting (below (length control.cores) test) control ≡ ask_each acting test control
-  asked_all test = ap (λ (cores : List CoreLook). record control { cores = cores }) (same_looks test (looks (below (length control.cores) test)) (looks_length (below (length control.cores) test)) (λ i within. look_at (below (length control.cores) test) i within ∙ ap (look_by i) (each i within)))
-    where
-      each : (i : ℕ) → i < length control.cores → below (length control.cores) test i ≡ test i
-      each i within = grind (arith, nat_tests, within)
-
-  -- a core that was not looked at is as it was
-  pub look_stays : (test : ℕ → Bool) (n : ℕ) → n < length control.cores → core_at (ask_each acting (below n test) control) n ≡ core_at control n
-  look_stays test n low =
-      let not_yet : below n test n ≡ false = grind (arith, nat_tests) in
-      look_at (below n test) n low ∙ ap (look_by n) not_yet
+  -- a core that was not asked is as it was
+  pub look_stays : (p : ℕ → Bool) (n : ℕ) → n < length control.cores → p n ≡ false → core_at (ask_each acting p control) n ≡ core_at control n
+  look_stays p n low before = look_at p n low ∙ ap (look_by n) before
 
 -- whether a core's task shares its time depends on that core alone, of the cores
 pub shares_stays : (view : CoresView) (cores : List CoreLook) (core : ℕ) → core_at (record view.control { cores = cores }) core ≡ core_at view.control core → shares_its_time list_queues (bare_view (record view { control = record view.control { cores = cores } })) core ≡ shares_its_time list_queues (bare_view view) core
@@ -183,25 +156,69 @@ company view row task is once low within ready =
     ∙ sym (some_kept other row)
     ∙ grind (arith, nat_tests, sizes, sole)
 
--- a core that was looked at too
-pub slice_more : (view later : CoresView) (core : ℕ) → core < length view.control.cores → later ≡ record view { control = ask_each 0 (below core (shares_its_time list_queues (bare_view view))) view.control } →
-    cond (shares_its_time list_queues (bare_view later) core) (record later { control = ask 0 core later.control }) later ≡ record view { control = ask_each 0 (below (core + 1) (shares_its_time list_queues (bare_view view))) view.control }
-slice_more view later core low is = subst (λ v. cond (shares_its_time list_queues (bare_view v) core) (record v { control = ask 0 core v.control }) v ≡ record view { control = ask_each 0 (below (core + 1) test) view.control }) (sym is)
-    (ap (λ b. cond b (record before { control = ask 0 core before.control }) before) (shares_stays view (looks 0 view.control (below core test)) core (look_stays 0 view.control test core low)) ∙ at (test core) refl)
+-- of the cores, those that are looked at and whose task shares its time are asked
+abbrev pub sliced_where : (ℕ → Bool) → CoresView → CoresView
+sliced_where seen view =
+    record view { control = ask_each 0 (λ core. seen core && shares_its_time list_queues (bare_view view) core) view.control }
+
+pub size_stays : (view later : CoresView) (seen : ℕ → Bool) → later ≡ sliced_where seen view → length later.control.cores ≡ length view.control.cores
+size_stays view later seen is = ap (λ (v : CoresView). length v.control.cores) is ∙ looks_length 0 view.control (λ core. seen core && shares_its_time list_queues (bare_view view) core)
+
+-- a core that was not looked at is as it was
+pub due_stays : (view later : CoresView) (seen : ℕ → Bool) (core : ℕ) → core < length view.control.cores → later ≡ sliced_where seen view → seen core ≡ false → is_due later.control core ≡ is_due view.control core
+due_stays view later seen core low is unseen =
+    let test : ℕ → Bool = λ core. seen core && shares_its_time list_queues (bare_view view) core in
+    ap (λ (v : CoresView). is_due v.control core) is
+    ∙ ap (λ (look : CoreLook). look.pend || look.asked) (look_stays 0 view.control test core low (ap (λ b. b && shares_its_time list_queues (bare_view view) core) unseen))
+
+-- one more core is looked at
+pub slice_more : (view later : CoresView) (seen next : ℕ → Bool) (core : ℕ) → core < length view.control.cores → later ≡ sliced_where seen view → seen core ≡ false → next core ≡ true → ((c : ℕ) → c ≢ core → seen c ≡ next c) →
+    cond (shares_its_time list_queues (bare_view later) core) (record later { control = ask 0 core later.control }) later ≡ sliced_where next view
+slice_more view later seen next core low is unseen then others = subst (λ v. cond (shares_its_time list_queues (bare_view v) core) (record v { control = ask 0 core v.control }) v ≡ sliced_where next view) (sym is)
+    (ap (λ b. cond b (record before { control = ask 0 core before.control }) before) (shares_stays view (looks 0 view.control p) core (look_stays 0 view.control p core low p_here)) ∙ at (test core) refl)
   where
     test : ℕ → Bool
     test = shares_its_time list_queues (bare_view view)
 
+    p : ℕ → Bool
+    p c = seen c && test c
+
+    q : ℕ → Bool
+    q c = next c && test c
+
     before : CoresView
-    before = record view { control = ask_each 0 (below core test) view.control }
+    before = sliced_where seen view
 
-    at : (b : Bool) → test core ≡ b → cond b (record before { control = ask 0 core before.control }) before ≡ record view { control = ask_each 0 (below (core + 1) test) view.control }
-    at true passes = ap (λ (control : Control). record view { control = control }) (asked_one 0 view.control test core low passes)
-    at false fails = ap (λ (control : Control). record view { control = control }) (asked_not 0 view.control test core fails)
+    p_here : p core ≡ false
+    p_here = ap (λ b. b && test core) unseen
 
-pub sliced_on : (view : CoresView) → view.slicing ≡ true → record view { control = ask_each 0 (below (length view.control.cores) (shares_its_time list_queues (bare_view view))) view.control } ≡ cores_rule (sliced list_queues) view
+    q_here : q core ≡ test core
+    q_here = ap (λ b. b && test core) then
+
+    away : (c : ℕ) → c ≢ core → p c ≡ q c
+    away c apart = ap (λ b. b && test c) (others c apart)
+
+    at : (b : Bool) → test core ≡ b → cond b (record before { control = ask 0 core before.control }) before ≡ sliced_where next view
+    at true passes = ap (λ (control : Control). record view { control = control }) (asked_one 0 view.control p q core low p_here (q_here ∙ passes) (λ c within apart. away c apart))
+    at false fails = ap (λ (control : Control). record view { control = control }) (asked_alike 0 view.control p q (λ c within. elim (cases_eq c core) [
+      | inl same ↦ rw same (p_here ∙ sym (q_here ∙ fails))
+      | inr apart ↦ away c apart
+    ]))
+
+-- no core whose task may share its time is looked at yet
+pub slice_none : (view : CoresView) (seen : ℕ → Bool) → ((c : ℕ) → c < length view.control.cores → seen c ≡ true → is_due view.control c ≡ true) → view ≡ sliced_where seen view
+slice_none view seen due = ap (λ (control : Control). record view { control = control }) (asked_none 0 view.control (λ c. seen c && shares_its_time list_queues (bare_view view) c) each)
+  where
+    each : (c : ℕ) → c < length view.control.cores → (seen c && shares_its_time list_queues (bare_view view) c) ≡ false
+    each c low = at (seen c) refl
+      where
+        at : (b : Bool) → seen c ≡ b → (b && shares_its_time list_queues (bare_view view) c) ≡ false
+        at true looked = ap (λ (d : Bool). not d && (task_at view.control (core_at view.control c).current).preempt && has (core_at view.control c).current view.ready && ltb 1 (length (ready_in list_queues (task_at view.control (core_at view.control c).current).in_use (bare_view view)))) (due c low looked)
+        at false _ = refl
+
+pub sliced_on : (view : CoresView) (seen : ℕ → Bool) → view.slicing ≡ true → ((c : ℕ) → seen c ≡ true) → sliced_where seen view ≡ cores_rule (sliced list_queues) view
 unfolding sliced
-sliced_on view on = ap (λ (control : Control). record view { control = control }) (asked_all 0 view.control (shares_its_time list_queues (bare_view view)))
+sliced_on view seen on all = ap (λ (control : Control). record view { control = control }) (asked_alike 0 view.control (λ c. seen c && shares_its_time list_queues (bare_view view) c) (shares_its_time list_queues (bare_view view)) (λ c low. ap (λ b. b && shares_its_time list_queues (bare_view view) c) (all c)))
     ∙ ap (λ b. cores_of (cond b (record (bare_view view) { control = ask_each 0 (shares_its_time list_queues (bare_view view)) view.control }) (bare_view view))) (sym on)
 
 pub sliced_off : (view : CoresView) → view.slicing ≡ false → view ≡ cores_rule (sliced list_queues) view

@@ -1,16 +1,17 @@
 -- The fields of cores and ready lists, and what they show.
-use Rattle.std.specs.Prelude.{ℕ, zero, suc, ◌^◌, List, [], ◌++◌, length, filter, fold, Bool, ◌&&◌, ◌==◌, nat_lt, if◌then◌else◌, slice_index_or}
+use Rattle.std.specs.Prelude.{ℕ, zero, suc, ◌^◌, List, [], ◌++◌, length, filter, fold, Bool, ◌&&◌, ◌==◌, nat_lt, not, if◌then◌else◌, slice_index_or}
 use Rattle.std.specs.Int.{bit_at}
 use Rattle.bench_types.specs.declared.header.Header.{Header}
 use Rattle.bench_types.specs.declared.kernel_data.CoreLook.{CoreLook}
 use Rattle.bench_types.specs.declared.kernel_data.TaskControl.{TaskControl}
-use Rattle.list_orders.specs.Search.{placed}
+use Rattle.list_orders.specs.Search.{placed, has}
 use Rattle.index_lists.specs.Listed.{Listed, ListsView, items_of}
 use Rattle.bench_model.specs.Control.{Control, task_at, current}
 use Rattle.bench_model.specs.Lists.{outranks}
 use Rattle.bench_model.specs.Seek.{effective, is_preemptible_by}
 use Rattle.bench_model.specs.Start.{first_lists, unstarted}
 use Rattle.bench_model.specs.Cores.{CoresView, cores_of}
+use Rattle.bench_model.specs.Tally.{is_current}
 
 abbrev pub control_from : List CoreLook → List TaskControl → Control
 control_from cores tasks = record { cores = cores; tasks = tasks }
@@ -41,6 +42,10 @@ has_priority control priority task = (task_at control task).in_use == priority
 -- the ready list of the priority
 abbrev pub ready_list : ℕ → CoresView → List ℕ
 ready_list priority view = filter (has_priority view.control priority) view.ready
+
+-- the task is ready and on no core
+abbrev pub wants_core : CoresView → ℕ → Bool
+wants_core view task = has task view.ready && not (is_current view.control task)
 
 -- the bit is set
 abbrev pub is_set : ℕ → ℕ → Bool

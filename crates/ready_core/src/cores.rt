@@ -1,11 +1,12 @@
-ghost use Rattle.std.specs.Prelude.{◌≡◌, ℕ, ◌↔◌, ◌-◌, ◌<◌, ◌≤◌, ◌==◌, ◌&&◌, nat_lt, if◌then◌else◌, length, true, false, not, find, unwrap_or, IsTrue, IfOk, IfSome, Ok};
+ghost use Rattle.std.specs.Prelude.{◌≡◌, ℕ, ◌↔◌, ◌+◌, ◌-◌, ◌<◌, ◌≤◌, ◌==◌, ◌&&◌, nat_lt, if◌then◌else◌, length, true, false, not, find, map, unwrap_or, slice_get, IsTrue, IfOk, IfSome, Ok, Some};
 ghost use Rattle.std.specs.Option.{ForSome};
 ghost use Rattle.bench_types.specs.Header.{header_check};
 ghost use Rattle.bench_types.specs.Limits.{max_cores};
 ghost use Rattle.std.specs.List.{range_with_len};
-ghost use Rattle.list_orders.specs.Search.{placed, without, has};
+ghost use Rattle.list_orders.specs.Listings.{IsListing};
+ghost use Rattle.list_orders.specs.Search.{numbers, placed, without, has};
 ghost use Rattle.index_lists.specs.Listed.{list_at, items_of};
-ghost use Rattle.bench_model.specs.Control.{core_at, task_at, current, in_mask, is_allowed, is_idle, is_elsewhere, may_select, ask, asked_by, run_on, runs_on, ask_its_core};
+ghost use Rattle.bench_model.specs.Control.{core_at, task_at, current, in_mask, is_allowed, is_due, is_idle, is_elsewhere, may_select, ask, asked_by, run_on, runs_on, ask_its_core};
 ghost use Rattle.bench_model.specs.State.{after_select};
 ghost use Rattle.bench_model.specs.Lists.{list_queues, outranks};
 ghost use Rattle.bench_model.specs.Start.{first_lists, unstarted};
@@ -14,9 +15,9 @@ ghost use Rattle.bench_model.specs.ControlFields.{with_base, with_in_use, with_a
 ghost use Rattle.bench_model.specs.Tally.{is_current};
 ghost use Rattle.bench_model.specs.Cores.{cores_of, bare_view, cores_rule, has_core};
 ghost use Rattle.list_orders.specs.Scans.{better_of};
-ghost use Rattle.ready_core.specs.Fields.{ready_list, is_set, has_seat, unlisted, all_placed, may_be_asked, stays_asked};
+ghost use Rattle.ready_core.specs.Fields.{ready_list, is_set, wants_core, has_seat, unlisted, all_placed, may_be_asked, stays_asked};
 
-use crate::first::{first_controls, first_looks, first_seats};
+use crate::first::{first_controls, first_looks, first_seats, none_waiting};
 use bench_types::{CoreLook, Header, TaskControl, cores_of_mask};
 use index_lists::Lists;
 use std::alloc::{AllocError, Global};
@@ -37,6 +38,10 @@ pub struct Cores {
     listed: u32,
     /// Per task the bits of the cores that have it as current task (V11 tasks.c, `xTaskRunState`).
     seats: Vec<u32>,
+    /// Per task whether it is ready and on no core.
+    waiting: Vec<bool>,
+    /// The bits of the cores that are not due.
+    undue: u32,
 }
 
 // Written out, so that whoever drops one has one call to prove, and not one for each list in it.
@@ -50,6 +55,8 @@ impl Drop for Cores {
             lists: _,
             listed: _,
             seats: _,
+            waiting: _,
+            undue: _,
         } = self;
     }
 }
@@ -57,15 +64,15 @@ impl Drop for Cores {
 impl Model for Cores {
     ghost use Rattle.bench_model.specs.Cores.{CoresView};
     ghost use Rattle.ready_core.specs.Fields.{control_from, seen_of};
-    ghost use Rattle.ready_core.specs.Shape.{IsShape};
+    ghost use Rattle.ready_core.specs.Shape.{IsKept};
 
     ghost Value = { CoresView };
 
     ghost view = { λ of. seen_of of.priorities of.slicing
         (control_from of.cores.items of.tasks.items) of.lists };
 
-    ghost invariant = { λ of. IsShape of.priorities of.cores.items of.tasks.items of.lists
-        of.listed of.seats.items };
+    ghost invariant = { λ of. IsKept of.priorities of.cores.items of.tasks.items of.lists
+        of.listed of.seats.items of.waiting.items of.undue };
 }
 
 impl Cores {
@@ -96,6 +103,8 @@ impl Cores {
             lists: self.lists.copy(alloc)?,
             listed: self.listed,
             seats: Vec::from_slice(alloc, &self.seats)?,
+            waiting: Vec::from_slice(alloc, &self.waiting)?,
+            undue: self.undue,
         })
     }
 
@@ -113,6 +122,8 @@ impl Cores {
         self.lists.copy_from(&other.lists);
         self.listed = other.listed;
         self.seats.copy_from_slice(&other.seats);
+        self.waiting.copy_from_slice(&other.waiting);
+        self.undue = other.undue;
     }
 
     /// Whether all that can be seen of the two is equal.
@@ -132,6 +143,29 @@ impl Cores {
             → items_of (list_at result.now p) ≡ ready_list p self.now }
     {
         &self.lists
+    }
+
+    /// The first task of the ready list of the priority, if it has one. None is in it twice.
+    pub fn first_ready(&self, priority: u32) -> Option<u32>
+        requires { priority < self.now.priorities }
+        ensures first { result ≡ slice_get (ready_list priority self.now) 0 }
+        ensures once { IsListing (length self.now.control.tasks) (ready_list priority self.now) }
+        ensures task { IfSome result (λ task. task < length self.now.control.tasks) }
+    {
+        self.lists.first(priority)
+    }
+
+    /// The task that stands right after this one, which is in a ready list; none where it is the
+    /// last one.
+    pub fn next_ready(&self, task: u32) -> Option<u32>
+        requires task { task < length self.now.control.tasks }
+        requires ready { has task self.now.ready ≡ true }
+        ensures next { (p k : ℕ) → p < self.now.priorities
+            → slice_get (ready_list p self.now) k ≡ Some task
+            → result ≡ slice_get (ready_list p self.now) (k + 1) }
+        ensures task { IfSome result (λ task. task < length self.now.control.tasks) }
+    {
+        self.lists.next_listed(task)
     }
 
     /// Whether there is such a core.
@@ -223,6 +257,14 @@ impl Cores {
         self.seats(task) != 0
     }
 
+    /// For each task whether it is ready and on no core.
+    pub fn waiting(&self) -> &[bool]
+        ensures { result.now
+            ≡ map (wants_core self.now) (numbers (length self.now.control.tasks)) }
+    {
+        self.waiting.as_slice()
+    }
+
     /// Whether the effective priority of one task is below that of the other: an idle task stands
     /// below all others, and else the priorities in use decide.
     pub fn stands_below(&self, task: u32, other: u32) -> bool
@@ -258,6 +300,9 @@ impl Cores {
         requires { core < length self.old.control.cores }
         ensures { self.new ≡ record self.old { control = ask acting core self.old.control } }
     {
+        // Which says that there are fewer cores than bits.
+        let _cores = self.core_numbers();
+        self.undue &= !(1 << core);
         if core == acting {
             self.cores[core as usize].pend = true;
         } else {
@@ -315,6 +360,7 @@ impl Cores {
     {
         let priority = self.in_use(task);
         self.lists.remove(task);
+        self.waiting[task as usize] = false;
         if self.lists.len(priority) == 0 {
             self.listed &= !(1 << priority);
         }
@@ -343,8 +389,11 @@ impl Cores {
         ensures { self.new ≡ cores_rule (sliced list_queues) self.old }
     {
         if self.slicing {
-            for core in 0..self.core_numbers().end {
+            let mut rest = self.undue;
+            while rest != 0 {
+                let core = rest.trailing_zeros();
                 self.end_slice(core);
+                rest &= !(1 << core);
             }
         }
     }
@@ -409,6 +458,8 @@ impl Cores {
             lists: Lists::new(alloc, cores + users, header.config.priorities)?,
             listed: 0,
             seats: first_seats(alloc, cores, cores + users)?,
+            waiting: none_waiting(alloc, cores + users)?,
+            undue: cores_of_mask(cores, u32::MAX),
         })
     }
 
@@ -437,6 +488,7 @@ impl Cores {
         let priority = self.in_use(task);
         self.lists.push_last(priority, task);
         self.listed |= 1 << priority;
+        self.waiting[task as usize] = self.seats[task as usize] == 0;
     }
 
     // The priority in use of a task that is not ready becomes this one.
@@ -702,13 +754,17 @@ impl Cores {
         ensures { self.new ≡ record self.old { control = run_on core task self.old.control } }
     {
         let left = self.running(core);
+        let is_ready = self.ready(left);
         self.seats[left as usize] &= !(1 << core);
+        self.waiting[left as usize] = is_ready & (self.seats[left as usize] == 0);
         self.seats[task as usize] |= 1 << core;
+        self.waiting[task as usize] = false;
         self.cores[core as usize] = CoreLook {
             current: task,
             pend: false,
             asked: false,
         };
+        self.undue |= 1 << core;
     }
 
     // The switch without the seek.
@@ -756,27 +812,28 @@ impl Cores {
         self.ready(task) & (self.lists.len(self.in_use(task)) > 1)
     }
 
-    // Whether the core is not due, and its task has preemption on and stands in a ready list of
-    // more than one. All three are asked each time: `&` leaves none out.
+    // Whether the task of a core that is not due has preemption on and stands in a ready list of
+    // more than one. Both are asked each time: `&` leaves none out.
     fn shares_its_time(&self, core: u32) -> bool
-        requires { core < length self.now.control.cores }
+        requires core { core < length self.now.control.cores }
+        requires undue { is_due self.now.control core ≡ false }
         ensures { result ≡ shares_its_time list_queues (bare_view self.now) core }
     {
-        let look = self.flags(core);
         let runs = self.running(core);
-        let is_due = look.pend | look.asked;
-        !is_due & self.preempt(runs) & self.has_company(runs)
+        self.preempt(runs) & self.has_company(runs)
     }
 
-    // The core is asked where its task has to share its time, without a jump.
+    // A core that is not due is asked where its task has to share its time, without a jump.
     fn end_slice(&mut self, core: u32)
-        requires { core < length self.old.control.cores }
+        requires core { core < length self.old.control.cores }
+        requires undue { is_due self.old.control core ≡ false }
         ensures { self.new
             ≡ (if shares_its_time list_queues (bare_view self.old) core
             then record self.old { control = ask 0 core self.old.control } else self.old) }
     {
         let shares = self.shares_its_time(core);
         ask_where(shares, core, &mut self.cores[core as usize]);
+        self.undue &= !(u32::from(shares) << core);
     }
 }
 

@@ -1,5 +1,5 @@
 //! The cores and control blocks of a start, before any core has selected.
-ghost use Rattle.std.specs.Prelude.{◌≡◌, ◌≤◌, map, replicate, IfOk};
+ghost use Rattle.std.specs.Prelude.{◌≡◌, ◌≤◌, false, map, replicate, IfOk};
 ghost use Rattle.bench_types.specs.Limits.{max_cores};
 ghost use Rattle.list_orders.specs.Search.{numbers};
 ghost use Rattle.bench_model.specs.Start.{first_look, idle_control, first_control};
@@ -80,4 +80,11 @@ fn first_seat(cores: u32, task: u32) -> u32
     ensures { result ≡ first_seat cores task }
 {
     if task < cores { 1 << task } else { 0 }
+}
+
+// No task is ready.
+pub(crate) fn none_waiting(alloc: Global, tasks: u32) -> Result<Vec<bool>, AllocError>
+    ensures { IfOk result (λ waiting. waiting.items ≡ replicate tasks false) }
+{
+    vec![in alloc; false; tasks as usize]
 }

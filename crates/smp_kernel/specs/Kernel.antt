@@ -1,5 +1,5 @@
 -- A kernel's parts together, and what a step needs of them.
-use Rattle.std.specs.Prelude.{◌≡◌, ℕ, ◌<◌, ◌≤◌, ◌==◌, List, [], length, true, false, Option, Some, None, Ok}
+use Rattle.std.specs.Prelude.{◌≡◌, ℕ, ◌<◌, ◌≤◌, ◌==◌, ◌&&◌, Bool, not, filter, List, [], length, true, false, Option, Some, None, Ok}
 use Rattle.std.specs.List.{list_any}
 use Rattle.std.specs.Option.{ForSome}
 use Rattle.bench_types.specs.declared.kernel_data.Delayed.{Delayed}
@@ -16,7 +16,9 @@ use Rattle.bench_model.specs.Holds.{depth_of}
 use Rattle.bench_model.specs.Refusals.{give_refusal}
 use Rattle.bench_model.specs.State.{call_at}
 use Rattle.bench_model.specs.Table.{Table}
-use Rattle.bench_model.specs.Lists.{View, due_tasks}
+use Rattle.bench_model.specs.Lists.{View, due_tasks, is_ready}
+use Rattle.bench_model.specs.Tally.{is_current}
+use Rattle.ready_core.specs.Fields.{has_priority}
 use Rattle.bench_model.specs.Equal.{StandsFor}
 use Rattle.bench_model.specs.Cores.{CoresView}
 use Rattle.mutex_inherit.specs.Parts.{MutexPart}
@@ -131,6 +133,14 @@ pub record FindsItsTask (view : View) (core task : ℕ) (call : Call) : Type 0 w
   pub own : give_refusal view.holders task call ≡ None
   pub depth : depth_of view.hold ≤ max_depth
   pub calls : HasCheckedCalls view
+
+-- the task is ready and on no core
+abbrev pub wants_core : View → ℕ → Bool
+wants_core view task = is_ready task view.orders && not (is_current view.control task)
+
+-- the tasks of the ready list of the priority
+abbrev pub ready_list : View → ℕ → List ℕ
+ready_list view priority = filter (has_priority view.control priority) view.orders.ready
 
 -- there is a sound table that a kernel of which this can be seen stands for
 abbrev pub StandsForSome : View → Type 0

@@ -1,7 +1,9 @@
-ghost use Rattle.std.specs.Prelude.{◌≡◌, ◌+◌, ◌-◌, ◌<◌, ◌≤◌, ◌%◌, ◌^◌, ◌↔◌, nat_lt, true, option_map, IsErr, IfOk, IfSome, Ok, Err, min};
+ghost use Rattle.std.specs.Prelude.{◌≡◌, ℕ, ◌+◌, ◌-◌, ◌<◌, ◌≤◌, ◌%◌, ◌^◌, ◌↔◌, nat_lt, map, slice_get, Some, true, option_map, IsErr, IfOk, IfSome, Ok, Err, min};
 ghost use Rattle.bench_types.specs.Header.{header_check};
 ghost use Rattle.bench_types.specs.Limits.{max_cores};
 ghost use Rattle.bench_types.specs.Step.{settings_of, step_check};
+ghost use Rattle.list_orders.specs.Listings.{IsListing};
+ghost use Rattle.list_orders.specs.Search.{numbers};
 ghost use Rattle.bench_model.specs.Control.{core_at, current, is_allowed, task_at};
 ghost use Rattle.bench_model.specs.State.{holder_at};
 ghost use Rattle.bench_model.specs.Table.{Table};
@@ -13,7 +15,7 @@ ghost use Rattle.bench_model.specs.Shifted.{SameShifted, shifted};
 ghost use Rattle.bench_model.specs.Seek.{effective};
 ghost use Rattle.bench_model.specs.Lists.{is_ready};
 ghost use Rattle.bench_model.specs.Tally.{is_current};
-ghost use Rattle.smp_kernel.specs.Kernel.{StandsForSome};
+ghost use Rattle.smp_kernel.specs.Kernel.{wants_core, ready_list, StandsForSome};
 ghost use Rattle.smp_kernel.specs.Raised.{raised_by, KeepsOthers};
 
 use crate::Meter;
@@ -246,6 +248,36 @@ impl Kernel {
         ensures { result ≡ is_ready task self.now.orders }
     {
         self.scheduler.ready(task)
+    }
+
+    /// For each task whether it is ready and on no core.
+    pub fn waiting(&self) -> &[bool]
+        ensures { result.now ≡ map (wants_core self.now) (numbers self.now.settings.tasks) }
+    {
+        self.scheduler.waiting()
+    }
+
+    /// The first task of the ready list of the priority, if it has one. None is in it twice.
+    pub fn first_ready(&self, priority: u32) -> Option<u32>
+        requires { priority < self.now.settings.priorities }
+        ensures first { result ≡ slice_get (ready_list self.now priority) 0 }
+        ensures once { IsListing self.now.settings.tasks (ready_list self.now priority) }
+        ensures task { IfSome result (λ task. task < self.now.settings.tasks) }
+    {
+        self.scheduler.first_ready(priority)
+    }
+
+    /// The task that stands right after this one, which is in a ready list; none where it is the
+    /// last one.
+    pub fn next_ready(&self, task: u32) -> Option<u32>
+        requires task { task < self.now.settings.tasks }
+        requires ready { is_ready task self.now.orders ≡ true }
+        ensures next { (p k : ℕ) → p < self.now.settings.priorities
+            → slice_get (ready_list self.now p) k ≡ Some task
+            → result ≡ slice_get (ready_list self.now p) (k + 1) }
+        ensures task { IfSome result (λ task. task < self.now.settings.tasks) }
+    {
+        self.scheduler.next_ready(task)
     }
 
     /// The task whose priority in use the step may raise, if there is one. Every other keeps its

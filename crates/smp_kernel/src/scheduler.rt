@@ -1,4 +1,4 @@
-ghost use Rattle.std.specs.Prelude.{◌≡◌, ◌<◌, ◌≤◌, nat_lt, [], true, false, IfOk, IfSome, Ok, Some, None, replicate};
+ghost use Rattle.std.specs.Prelude.{◌≡◌, ℕ, ◌+◌, ◌<◌, ◌≤◌, nat_lt, map, slice_get, [], true, false, IfOk, IfSome, Ok, Some, None, replicate};
 ghost use Rattle.std.specs.Option.{option_map_or};
 ghost use Rattle.bench_types.specs.Header.{header_check};
 ghost use Rattle.bench_types.specs.Step.{call_check, step_check, IsStepOfWords};
@@ -7,7 +7,8 @@ ghost use Rattle.bench_types.specs.declared.step.Call.TheVariants.{Delay};
 ghost use Rattle.bench_types.specs.declared.step.Step.TheVariants.{Tick, Switch, Interrupt};
 ghost use Rattle.bench_types.specs.declared.step.Step.TheVariants as steps;
 ghost use Rattle.bench_types.specs.declared.step.Unfinished.TheVariants.{Made};
-ghost use Rattle.list_orders.specs.Search.{placed, has};
+ghost use Rattle.list_orders.specs.Listings.{IsListing};
+ghost use Rattle.list_orders.specs.Search.{numbers, placed, has};
 ghost use Rattle.bench_model.specs.Control.{core_at, current, is_allowed, task_at};
 ghost use Rattle.bench_model.specs.Holds.{depth_of};
 ghost use Rattle.bench_model.specs.Refusals.{give_refusal};
@@ -19,7 +20,7 @@ ghost use Rattle.bench_model.specs.Lists.{list_queues, is_ready, wakes_first, ad
 ghost use Rattle.bench_model.specs.Looks.{look_in, note_look};
 ghost use Rattle.bench_model.specs.Tally.{is_current};
 ghost use Rattle.tick_delay.specs.Parts.{is_waiting};
-ghost use Rattle.smp_kernel.specs.Kernel.{HasCheckedCalls, IsSettled};
+ghost use Rattle.smp_kernel.specs.Kernel.{wants_core, ready_list, HasCheckedCalls, IsSettled};
 
 mod equal;
 mod first;
@@ -213,6 +214,36 @@ impl Scheduler {
         ensures { result ≡ is_ready task self.now.orders }
     {
         self.cores.ready(task)
+    }
+
+    /// For each task whether it is ready and on no core.
+    pub fn waiting(&self) -> &[bool]
+        ensures { result.now ≡ map (wants_core self.now) (numbers self.now.settings.tasks) }
+    {
+        self.cores.waiting()
+    }
+
+    /// The first task of the ready list of the priority, if it has one. None is in it twice.
+    pub fn first_ready(&self, priority: u32) -> Option<u32>
+        requires { priority < self.now.settings.priorities }
+        ensures first { result ≡ slice_get (ready_list self.now priority) 0 }
+        ensures once { IsListing self.now.settings.tasks (ready_list self.now priority) }
+        ensures task { IfSome result (λ task. task < self.now.settings.tasks) }
+    {
+        self.cores.first_ready(priority)
+    }
+
+    /// The task that stands right after this one, which is in a ready list; none where it is the
+    /// last one.
+    pub fn next_ready(&self, task: u32) -> Option<u32>
+        requires task { task < self.now.settings.tasks }
+        requires ready { is_ready task self.now.orders ≡ true }
+        ensures next { (p k : ℕ) → p < self.now.settings.priorities
+            → slice_get (ready_list self.now p) k ≡ Some task
+            → result ≡ slice_get (ready_list self.now p) (k + 1) }
+        ensures task { IfSome result (λ task. task < self.now.settings.tasks) }
+    {
+        self.cores.next_ready(task)
     }
 
     /// The task that holds the mutex, if there is one.

@@ -1,23 +1,36 @@
-use Rattle.std.proofs.Common.{ap, sym, arith}
-use Rattle.bench_types.specs.declared.kernel_data.Settings.{Settings}
+use Rattle.std.proofs.Common.{◌≡◌, ℕ, ◌+◌, ◌∙◌, slice_set, false, get_or, length, sym, ap, subst, arith}
+use Rattle.session_laws.proofs.Tallies.{each_at, length_each}
+use Rattle.smp_kernel.specs.Kernel.{wants_core}
+use Rattle.bench_model.specs.Tally.{TaskTally}
 use Rattle.bench_model.specs.Tallied.{tally_at}
-use Rattle.bench_reports.specs.Counting.{found_as, waited, waited_as}
+use Rattle.bench_reports.specs.Counting.{waited, with_wait}
 use Rattle.bench_reports.proofs.Additions.{nothing}
-use Rattle.bench_reports.proofs.InPlace.{set_all}
-use Rattle.bench_reports.proofs.TickLoop.{kept_wait_room}
+use Rattle.bench_reports.proofs.InPlace.{IsSetTo, set_all, set_more}
+use Rattle.bench_reports.proofs.TickLoop.{kept}
 use Rattle.bench_reports.proofs.tallies.add_waits.Goals as goal
 
-pub add_wait-requires : goal.add_wait-requires
-add_wait-requires c =
+pub bounds-waiting-task : goal.bounds-waiting-task
+bounds-waiting-task c =
+    let kernel = c.args.kernel.now in
+    omega (arith, c.loop-task-test.true, c.requires.tasks, ap length c.waiting-waiting.ensures, length_each (wants_core kernel) kernel.settings.tasks)
+
+pub loop-task-preserved : goal.loop-task-preserved
+loop-task-preserved c =
     let kernel = c.args.kernel.now in
     let old = c.args.tasks.now in
-    rw (sym c.index-tasks-task.is) (kept_wait_room (λ task. waited_as (found_as kernel task) (tally_at old task)) old c.loop-task.tasks c.loop-task.task c.index-tasks-task.result c.requires.room c.loop-task.invariant
-    (omega (arith, c.loop-task-test.true, ap (λ (s : Settings). s.tasks) c.settings-task-end.ensures.settings, c.requires.tasks)) c.index-tasks-task.is)
+    let now = c.loop-task.tasks in
+    let task = c.loop-task.task in
+    let f : ℕ → TaskTally = λ task. with_wait (wants_core kernel task) (tally_at old task) in
+    let waits : get_or c.waiting-waiting.result.now task false ≡ wants_core kernel task =
+    ap (λ flags. get_or flags task false) c.waiting-waiting.ensures ∙ each_at (wants_core kernel) kernel.settings.tasks task false (omega (arith, c.loop-task-test.true, c.requires.tasks)) in
+    let tally = kept f old now task c.index-tasks-task.result c.loop-task.invariant c.loop-task-test.true c.index-tasks-task.is in
+    let made : c.add_wait.new.self ≡ f task =
+    c.add_wait.ensures ∙ ap (λ b. with_wait b (get_or now task c.index-tasks-task.result)) waits ∙ ap (with_wait (wants_core kernel task)) (sym c.index-tasks-task.is ∙ tally) in
+    subst (λ x. IsSetTo f nothing old (task + 1) (slice_set now task x)) (sym made) (set_more f nothing old now task c.loop-task.invariant (omega (arith, c.loop-task-test.true, c.loop-task.invariant.size)))
 
 pub returns : goal.returns
 unfolding waited
 returns c =
     let kernel = c.args.kernel.now in
     let old = c.args.tasks.now in
-    set_all (λ task. waited_as (found_as kernel task) (tally_at old task)) nothing old c.loop-task.tasks c.loop-task.task c.loop-task.invariant
-    (omega (arith, c.loop-task-test.false, ap (λ (s : Settings). s.tasks) c.settings-task-end.ensures.settings, c.requires.tasks))
+    set_all (λ task. with_wait (wants_core kernel task) (tally_at old task)) nothing old c.loop-task.tasks c.loop-task.task c.loop-task.invariant c.loop-task-test.false

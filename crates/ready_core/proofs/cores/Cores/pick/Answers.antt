@@ -7,7 +7,7 @@ use Rattle.ready_core.proofs.cores.Cores.pick.Goals as goal
 pub loop-list-init : goal.loop-list-init
 loop-list-init c =
     let passes = may_select c.args.self.now.control c.args.core in
-    subst (λ (v : CoresView). IsLeft v passes 0 c.self.inside.listed) c.self.view_is (left_first _ c.self.inside.slicing _ _ _ _ _ c.self.invariant passes)
+    subst (λ (v : CoresView). IsLeft v passes 0 c.self.inside.listed) c.self.view_is (left_first _ c.self.inside.slicing _ _ _ _ _ c.self.invariant.shape passes)
 
 pub returns-in_err-priority-clause-first : goal.returns-in_err-priority-clause-first
 returns-in_err-priority-clause-first c =

@@ -16,8 +16,12 @@ invariant_of-self c =
     let view = c.self.view_is in
     let tasks = c.self.inside.tasks.items in
     let below : c.args.task < length tasks = omega (arith, c.requires.task, ap (λ (v : CoresView). length v.control.tasks) view) in
-    let kept = subst (λ (old : TaskControl). old.base < c.self.inside.priorities) (sym c.index_mut.ensures.value) (All-get_or (λ (old : TaskControl). old.base < c.self.inside.priorities) tasks c.args.task c.index_mut.result.now below c.self.invariant.base) in
-    shape_changed _ _ tasks _ _ _ c.self.invariant c.args.task (record c.index_mut.result.now { in_use = c.args.priority }) (omega (arith, c.requires.priority, ap (λ (v : CoresView). v.priorities) view)) kept (ap (λ (v : CoresView). has c.args.task v.ready) view ∙ c.requires.free)
+    let kept = subst (λ (old : TaskControl). old.base < c.self.inside.priorities) (sym c.index_mut.ensures.value) (All-get_or (λ (old : TaskControl). old.base < c.self.inside.priorities) tasks c.args.task c.index_mut.result.now below c.self.invariant.shape.base) in
+    record {
+      shape = shape_changed _ _ tasks _ _ _ c.self.invariant.shape c.args.task (record c.index_mut.result.now { in_use = c.args.priority }) (omega (arith, c.requires.priority, ap (λ (v : CoresView). v.priorities) view)) kept (ap (λ (v : CoresView). has c.args.task v.ready) view ∙ c.requires.free);
+      flags = c.self.invariant.flags;
+      marks = c.self.invariant.marks;
+    }
 
 abbrev no_task : TaskControl
 no_task = record { base = 0; in_use = 0; mask = 0; preempt = false }

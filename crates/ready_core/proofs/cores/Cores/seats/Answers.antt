@@ -9,5 +9,5 @@ returns c = λ core.
     let task = c.args.task in
     let seats = c.self.inside.seats.items in
     let low : task < length c.self.inside.tasks.items = omega (arith, c.requires, ap (λ (v : CoresView). length v.control.tasks) c.self.view_is) in
-    ap (λ m. is_set m core) (get_or_read seats task c.index.result.now (omega (arith, low, c.self.invariant.seated)) c.index.ensures 0)
-    ∙ c.self.invariant.at_core task low core ∙ ap (λ (v : CoresView). has_seat v.control task core) c.self.view_is
+    ap (λ m. is_set m core) (get_or_read seats task c.index.result.now (omega (arith, low, c.self.invariant.shape.seated)) c.index.ensures 0)
+    ∙ c.self.invariant.shape.at_core task low core ∙ ap (λ (v : CoresView). has_seat v.control task core) c.self.view_is

@@ -17,4 +17,8 @@ invariant_of-self c =
     let old = c.index_mut.result.now in
     let below : task < length tasks = omega (arith, c.requires, ap (λ (v : CoresView). length v.control.tasks) c.self.view_is) in
     let block : old ≡ task_at (control_from c.self.inside.cores.items tasks) task = c.index_mut.ensures.value ∙ get_or_default tasks task old no_task below in
-    shape_kept _ _ tasks _ _ _ c.self.invariant task (record old { mask = c.cores_of_mask-cut.result }) below (ap (λ (b : TaskControl). b.in_use) block) (ap (λ (b : TaskControl). b.base) block)
+    record {
+      shape = shape_kept _ _ tasks _ _ _ c.self.invariant.shape task (record old { mask = c.cores_of_mask-cut.result }) below (ap (λ (b : TaskControl). b.in_use) block) (ap (λ (b : TaskControl). b.base) block);
+      flags = c.self.invariant.flags;
+      marks = c.self.invariant.marks;
+    }

@@ -1,13 +1,15 @@
-use Rattle.std.proofs.Common.{◌≡◌}
-use Rattle.bench_model.specs.Control.{ask_each}
-use Rattle.bench_model.specs.Lists.{list_queues}
-use Rattle.bench_model.specs.Seek.{shares_its_time}
-use Rattle.bench_model.specs.Cores.{bare_view}
-use Rattle.ready_core.proofs.Slices.{below}
+use Rattle.std.proofs.Common.{◌≡◌, ◌<◌, ℕ, length, not, true, false}
+use Rattle.bench_model.specs.Control.{is_due}
+use Rattle.ready_core.specs.Fields.{is_set}
+use Rattle.ready_core.proofs.Slices.{sliced_where}
 use Rattle.ready_core.proofs.cores.Cores.slice.Given as goal
 
--- of the cores that were looked at, those whose task shares its time were asked
-abbrev pub invariant-loop-core : goal.invariant-loop-core
-invariant-loop-core l =
-    let before = l.initial.self in
-    l.self ≡ record before { control = ask_each 0 (below l.core (shares_its_time list_queues (bare_view before))) before.control }
+-- of the cores that are not left, those whose task shares its time were asked; none that is left is due
+abbrev pub invariant-loop-rest : goal.invariant-loop-rest
+invariant-loop-rest l = record {
+  so_far : l.self ≡ sliced_where (λ core. not (is_set l.rest core)) l.initial.self;
+  left : (core : ℕ) → is_set l.rest core ≡ true → (core < length l.initial.self.control.cores) × (is_due l.initial.self.control core ≡ false);
+}
+
+abbrev pub decreases-loop-rest : goal.decreases-loop-rest
+decreases-loop-rest l = l.rest

@@ -40,7 +40,11 @@ impl Model for Checkpoint {
 
     ghost Value = { View };
 
+    ghost use Rattle.smp_kernel.specs.Kernel.{StandsForSome};
+
     ghost view = { λ checkpoint. shifted checkpoint.later checkpoint.kernel };
+
+    ghost invariant = { λ checkpoint. StandsForSome checkpoint.kernel };
 }
 
 impl Checkpoint {
@@ -67,7 +71,9 @@ impl Checkpoint {
         ensures { IfOk result (λ kernel. kernel ≡ self.now) }
     {
         let mut kernel = self.kernel.copy(alloc)?;
-        kernel.shift(self.later);
+        if self.later > 0 {
+            kernel.shift(self.later);
+        }
         Ok(kernel)
     }
 

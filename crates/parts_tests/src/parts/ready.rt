@@ -117,6 +117,19 @@ fn expect_list(rt: &impl Abort, cores: &Cores, priority: u32, tasks: &[u32]) {
     }
 }
 
+/// The same, by the walk along the ready list.
+fn expect_walk(rt: &impl Abort, cores: &Cores, priority: u32, tasks: &[u32]) {
+    need_priority(rt, cores, priority);
+    let mut next = cores.first_ready(priority);
+    for task in tasks {
+        expect_same(rt, next, Some(*task));
+        need_task(rt, cores, *task);
+        assert!(rt; cores.ready(*task));
+        next = cores.next_ready(*task);
+    }
+    expect_same(rt, next, None);
+}
+
 pub(crate) fn expect_mask(rt: &impl Abort, cores: &Cores, task: u32, mask: u32) {
     need_task(rt, cores, task);
     expect_same(rt, cores.mask(task), mask);
@@ -459,4 +472,20 @@ fn each_priority_has_its_list(rt: HostRuntime) -> Result<(), Fail> {
             List(2, &[2, 4]),
         ],
     )
+}
+
+fn check_walks(rt: &impl Abort, cores: &Cores) {
+    expect_walk(rt, cores, 0, &[0, 1]);
+    expect_walk(rt, cores, 1, &[4]);
+    expect_walk(rt, cores, 2, &[2]);
+    let waiting = [true, true, false, false, true];
+    expect_is(rt, *cores.waiting() == *waiting.as_slice());
+}
+
+#[test]
+fn ready_tasks_one_after_another(rt: HostRuntime) -> Result<(), Fail> {
+    let mut cores = started(&rt, rt.alloc(), false, &[(2, 3), (1, 3), (1, 3)])?;
+    unready(&rt, &mut cores, 3);
+    check_walks(&rt, &cores);
+    Ok(())
 }

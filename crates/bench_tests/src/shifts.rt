@@ -1,4 +1,6 @@
 //! Two kernels of one header, of which one is moved in time.
+ghost use Rattle.std.specs.Prelude.{◌≡◌};
+
 use crate::samples::{A_DELAYS, SWITCH_0, SWITCH_1, Started, assert_is, assert_same};
 use bench_samples::low_and_high;
 use bench_types::{Call, Reply, Step};
@@ -47,9 +49,15 @@ fn a_kernel_moves_round_the_tick_counts(rt: HostRuntime) -> Result<(), Fail> {
     Ok(())
 }
 
-fn check_round(rt: &impl Abort, moved: &mut Kernel, still: &Kernel) {
+fn check_round(rt: &impl Abort, moved: &mut Kernel, still: &Kernel)
+    ensures { moved.new.settings ≡ moved.old.settings }
+{
     moved.shift(0);
-    assert_is(rt, "unmoved", moved.same(still) && moved.same_shifted(still));
+    assert_is(
+        rt,
+        "unmoved",
+        moved.same(still) && moved.same_shifted(still),
+    );
     moved.shift(4_294_967_295);
     assert_ticks(rt, moved, still, (4_294_967_295, 0));
     assert_alike(rt, moved, still);

@@ -118,8 +118,8 @@ impl Kernel {
         self.scheduler.same(&other.scheduler)
     }
 
-    /// Whether the two kernels are equal but for their tick counts, and so reply alike to every step
-    /// from now on but a delay until a tick count.
+    /// Whether the two kernels are equal but for their tick counts, and so reply alike to every
+    /// step from now on but a delay until a tick count.
     ///
     /// Compared is all that `same` compares, the ticks left of delays and of deadlines too, but not
     /// the tick counts.

@@ -1,4 +1,6 @@
 //! Two kernels of one header, of which one is moved in time.
+ghost use Rattle.std.specs.Prelude.{◌≡◌};
+
 use crate::samples::{A_DELAYS, SWITCH_0, SWITCH_1, Started, assert_is, assert_same};
 use bench_samples::low_and_high;
 use bench_types::{Call, Reply, Step};
@@ -47,7 +49,9 @@ fn a_kernel_moves_round_the_tick_counts(rt: HostRuntime) -> Result<(), Fail> {
     Ok(())
 }
 
-fn check_round(rt: &impl Abort, moved: &mut Kernel, still: &Kernel) {
+fn check_round(rt: &impl Abort, moved: &mut Kernel, still: &Kernel)
+    ensures { moved.new.settings ≡ moved.old.settings }
+{
     moved.shift(0);
     assert_is(
         rt,

@@ -6,6 +6,8 @@ use Rattle.smp_kernel.proofs.kernel.Kernel.shift.Goals as goal
 
 pub invariant_of-self : goal.invariant_of-self
 invariant_of-self c =
-    let table = c.self.invariant.0 in
-    (later c.args.by table, subst (λ view. StandsFor view (later c.args.by table)) (sym c.shift.ensures)
-    (shifted_stands c.args.by c.self.inside.scheduler table c.self.invariant.1))
+    let table = c.self.invariant.0 in (
+      later c.args.by table,
+      subst (λ view. StandsFor view (later c.args.by table)) (sym c.shift.ensures)
+          (shifted_stands c.args.by c.self.inside.scheduler table c.self.invariant.1),
+    )

@@ -121,7 +121,7 @@ const MOVES: [Case<'static>; 4] = [
                 step: SWITCH_0,
             },
             2,
-            6,
+            4,
         )],
         ..TICKS_BY_2
     },

@@ -1,2 +1,3 @@
 pub mod Pieces
+pub mod Settlings
 pub mod Timely

@@ -182,21 +182,17 @@ all_ends table =
     (All-weaker (λ core. Below core × Runs core) (λ core. is_end table (finish_on table core)) (λ core both. (core, both.0, grind (arith, nat_tests, both.1), refl)) cores
     (both_each Below Runs cores (All-filter Below (runs_user_task table) (numbers table.settings.cores) (numbers_below table.settings.cores)) (All-filter_passes (runs_user_task table) (numbers table.settings.cores))))
 
--- what is next, by what each search finds
-next_of : Option Step → Option Step → Option Step → Option Step
-next_of switch finish call = option_or switch (option_or finish call)
+abbrev pub IsPiece : (WaitingCall → Type 0) → Table → List WaitingCall → Step → Type 0
+IsPiece P table waiting step = SwitchMade table step ⊎ FinishMade table step ⊎ CallMade P table waiting step
 
 module _ (P : WaitingCall → Type 0) (begin : (waits : WaitingCall) → P waits → is_finish waits.call ≡ false) (table : Table) (waiting : List WaitingCall) (step : Step) where
-  pub IsPiece : Type 0
-  IsPiece = SwitchMade table step ⊎ FinishMade table step ⊎ CallMade P table waiting step
-
-  pub piece_of : AllByRecursion P waiting → quiet_step table waiting ≡ Some step → IsPiece
-  unfolding quiet_step IsPiece is_switch is_end
+  pub piece_of : AllByRecursion P waiting → quiet_step table waiting ≡ Some step → IsPiece P table waiting step
+  unfolding quiet_step is_switch is_end
   piece_of all made = at (find (is_open table) (switches table)) refl (find (is_open table) (finishes table)) refl (find (is_timely table) (map (on_its_core table) waiting)) refl made
     where
       at :
           (a : Option Step) → find (is_open table) (switches table) ≡ a → (b : Option Step) → find (is_open table) (finishes table) ≡ b
-          → (c : Option Step) → find (is_timely table) (map (on_its_core table) waiting) ≡ c → option_or a (option_or b c) ≡ Some step → IsPiece
+          → (c : Option Step) → find (is_timely table) (map (on_its_core table) waiting) ≡ c → option_or a (option_or b c) ≡ Some step → IsPiece P table waiting step
       at (Some it) first b second c third made =
           let same : find (is_open table) (switches table) ≡ Some step = first ∙ made in
           let which = find_among (is_open table) (is_switch table) (switches table) step (all_switches table) same in

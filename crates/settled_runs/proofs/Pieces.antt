@@ -54,7 +54,7 @@ pub each_unmap : {X Y : Type 0} (f : X → Y) (P : Y → Type 0) (xs : List X) �
 each_unmap f P [] all = tt
 each_unmap f P (x ∷ xs) all = (all.0, each_unmap f P xs all.1)
 
-both_each : {X : Type 0} (P Q : X → Type 0) (xs : List X) → AllByRecursion P xs → AllByRecursion Q xs → AllByRecursion (λ x. P x × Q x) xs
+pub both_each : {X : Type 0} (P Q : X → Type 0) (xs : List X) → AllByRecursion P xs → AllByRecursion Q xs → AllByRecursion (λ x. P x × Q x) xs
 both_each P Q [] one other = tt
 both_each P Q (x ∷ xs) one other = ((one.0, other.0), both_each P Q xs one.1 other.1)
 

@@ -374,7 +374,7 @@ once_before (Switch core) table run is none settled = absurd (cc (is))
 once_before (Interrupt core note) table run is none settled = ([], run, refl, none, settled)
 once_before (steps.Call core task call) table run is none settled = settled
 
-quiet_rests : (made : List Step) (table : Table) (waiting : List WaitingCall) → IsQuietWork table waiting made → quiet_step (state_after table made) (still_waiting waiting made) ≡ None
+pub quiet_rests : (made : List Step) (table : Table) (waiting : List WaitingCall) → IsQuietWork table waiting made → quiet_step (state_after table made) (still_waiting waiting made) ≡ None
 quiet_rests [] table waiting quiet = quiet
 quiet_rests (step ∷ made) table waiting quiet = quiet_rests made (step_of step table).1 (waiting_after waiting step) quiet.1
 

@@ -1,5 +1,5 @@
 -- The laws of settled runs. Each is a clause of a public function.
-use Rattle.std.specs.Prelude.{◌≡◌, ℕ, ◌<◌, ◌≤◌, List, [], ◌∷◌, ◌++◌, length, filter, flat_map, All, Bool, true, false, not, ◌&&◌, ◌==◌, Some, if◌then◌else◌}
+use Rattle.std.specs.Prelude.{◌≡◌, ℕ, ◌^◌, ◌<◌, ◌≤◌, List, [], ◌∷◌, ◌++◌, length, filter, flat_map, All, Bool, true, false, not, ◌&&◌, ◌==◌, Some, if◌then◌else◌}
 use Rattle.bench_types.specs.declared.header.Header.{Header}
 use Rattle.bench_types.specs.declared.kernel_data.Settings.{Settings}
 use Rattle.bench_types.specs.declared.reply.Refusal.{Refusal}
@@ -37,7 +37,7 @@ QuietWorkLessens =
 -- so it ends: there is quiet work after whose last step there is none
 abbrev pub QuietWorkEnds : Type 0
 QuietWorkEnds =
-    (table : Table) (waiting : List WaitingCall) → IsSound table
+    (table : Table) (waiting : List WaitingCall) → IsSound table → table.settings.cores < 2 ^ 32
     → All (MayWait table.settings) waiting → (made : List Step) × IsQuietWork table waiting made
 
 -- ---- settled runs

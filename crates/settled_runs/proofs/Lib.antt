@@ -1,4 +1,6 @@
 pub mod Pieces
 pub mod Rests
 pub mod Settlings
+pub mod Sums
+pub mod Switches
 pub mod Timely

@@ -1,3 +1,4 @@
+pub mod Finishes
 pub mod Pieces
 pub mod Rests
 pub mod Settlings

@@ -1,13 +1,11 @@
 -- A `finish` leaves its task with no call to finish: the call is over, or the task waits again. All others stand as they did.
-use Rattle.std.proofs.Common.{◌≡◌, ℕ, ◌<◌, ◌≤◌, ◌≢◌, Bool, true, false, cond, not, eqb, ltb, ◌&&◌, List, length, Option, Some, None, refl, sym, ap, subst, ◌∙◌, inl, inr, arith}
+use Rattle.std.proofs.Common.{◌≡◌, ℕ, ◌<◌, ◌≢◌, Bool, true, false, cond, not, eqb, ltb, ◌&&◌, length, Option, Some, None, refl, sym, ap, subst, ◌∙◌, arith}
 use Rattle.std.specs.Prelude.{is_some, slice_set}
 use Rattle.std.specs.Option.{option_map_or}
-use Rattle.std.proofs.lemmas.Bool.{cases_eq}
 use Rattle.std.proofs.lemmas.List.{get_or-set_same, get_or-set_other, length-set}
 use Rattle.bench_types.specs.declared.kernel_data.MutexWait.{MutexWait}
 use Rattle.bench_types.specs.declared.reply.Reply.{Reply}
 use Rattle.bench_types.specs.declared.reply.Reply.TheVariants.{Done, Blocked, Flag}
-use Rattle.bench_types.specs.declared.step.Step.{Step}
 use Rattle.bench_types.specs.declared.step.Step.TheVariants as steps
 use Rattle.bench_types.specs.declared.step.Call.{Call}
 use Rattle.bench_types.specs.declared.step.Call.TheVariants.{Finish}
@@ -15,9 +13,9 @@ use Rattle.bench_types.specs.declared.step.Unfinished.{Unfinished}
 use Rattle.bench_types.specs.declared.step.Unfinished.TheVariants.{Made, Take}
 use Rattle.bench_types.specs.Step.{IsCheckedStep}
 use Rattle.bench_model.specs.declared.row.TaskState.TheVariants as standings
-use Rattle.bench_model.specs.Control.{Control, current, task_at, in_mask, ask_its_core}
-use Rattle.bench_model.specs.ControlFields.{with_in_use, in_use_set}
-use Rattle.bench_model.specs.Mutexes.{held_by, is_marked, taken, inherited, waited_at, owed, after_disinherit, timed_out, take_finished}
+use Rattle.bench_model.specs.Control.{Control, task_at, in_mask}
+use Rattle.bench_model.specs.ControlFields.{in_use_set}
+use Rattle.bench_model.specs.Mutexes.{held_by, taken, inherited, waited_at, after_disinherit, timed_out, take_finished}
 use Rattle.bench_model.specs.Notifying.{completed}
 use Rattle.bench_model.specs.Refusals.{call_refusal}
 use Rattle.bench_model.specs.Seek.{seek}

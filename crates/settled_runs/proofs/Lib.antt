@@ -1,3 +1,4 @@
+pub mod Endings
 pub mod Finishes
 pub mod Pieces
 pub mod Rests

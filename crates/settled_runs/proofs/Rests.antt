@@ -1,5 +1,5 @@
 -- The steps of settled runs are checked, and after the last the kernel is at rest.
-use Rattle.std.proofs.Common.{◌≡◌, ℕ, ◌^◌, ◌<◌, ◌≤◌, Bool, true, false, cond, eqb, ltb, leb, ◌&&◌, List, [], ◌∷◌, ◌++◌, length, map, take, Option, Some, None, Result, Ok, Err, refl, sym, ap, subst, ◌∙◌, inl, inr, append_assoc, arith}
+use Rattle.std.proofs.Common.{◌≡◌, ℕ, ◌^◌, ◌<◌, ◌≤◌, Bool, true, false, cond, eqb, ltb, leb, ◌&&◌, List, [], ◌∷◌, ◌++◌, length, map, Option, Some, None, Result, Ok, Err, refl, sym, ap, subst, ◌∙◌, inl, inr, append_assoc, arith}
 use Rattle.std.specs.Prelude.{All, unwrap_or}
 use Rattle.std.specs.List.{find, filter, AllByRecursion}
 use Rattle.std.proofs.lemmas.Bool.{cases_eq}
@@ -9,7 +9,6 @@ use Rattle.std.proofs.lemmas.List.Sums.{fold-append}
 use Rattle.std.proofs.Math.Seq.{take-length}
 use Rattle.bench_types.specs.declared.fault.Fault.{Fault}
 use Rattle.bench_types.specs.declared.fault.Fault.TheVariants.{BadCore, BadTask}
-use Rattle.bench_types.specs.declared.header.Header.{Header}
 use Rattle.bench_types.specs.declared.kernel_data.Settings.{Settings}
 use Rattle.bench_types.specs.declared.step.Step.{Step}
 use Rattle.bench_types.specs.declared.step.Step.TheVariants.{Tick, Switch, Interrupt}
@@ -33,7 +32,7 @@ use Rattle.step_laws.proofs.Steps.{after_sound}
 use Rattle.settled_runs.specs.declared.waiting_call.WaitingCall.{WaitingCall}
 use Rattle.settled_runs.specs.Settled.{is_event, is_finish, is_open, is_timely, switches, finishes, finish_on, runs_user_task, core_running, on_its_core, quiet_step, waiting_after, still_waiting, waiting_with, made_at_once, events_of, IsQuietWork, IsSettledFrom, IsSettled}
 use Rattle.settled_runs.specs.SettleLaws.{MayWait, IsAtRest}
-use Rattle.settled_runs.proofs.Pieces.{SwitchMade, FinishMade, CallMade, IsPiece, piece_of, none_found, find_fails, find_among, each_unmap, both_each}
+use Rattle.settled_runs.proofs.Pieces.{IsPiece, piece_of, none_found, find_fails, find_among, each_unmap, both_each}
 use Rattle.settled_runs.proofs.Settlings.{Events, after_all, still_all, with_all, event_begins, events_are, quiet_rests}
 use Rattle.settled_runs.proofs.Timely.{closed_elsewhere, untimely_elsewhere}
 
@@ -76,16 +75,18 @@ running_below table task sound = at (find runs (numbers table.settings.cores)) r
     at (Some core) found =
         find_among (λ core. eqb (current table.control core) task) (λ core. core < table.settings.cores) (numbers table.settings.cores) core (numbers_below table.settings.cores) found
 
+pub finish_checked : (table : Table) (core : ℕ) → IsSound table → core < table.settings.cores → table.settings.cores ≤ current table.control core → IsCheckedStep table.settings (finish_on table core)
+finish_checked table core sound below user =
+    let sized = sound.consistent.sized in
+    let on = sound.consistent.in_place.is_task core (omega (arith, sized.cores, below)) in
+    checked_as table.settings core (current table.control core) Finish below user (omega (arith, on, sized.rows)) (record { passes = refl; words = tt })
+
 pub piece_checked : (table : Table) (waiting : List WaitingCall) (step : Step) → IsGood table waiting → quiet_step table waiting ≡ Some step → IsCheckedStep table.settings step
 piece_checked table waiting step good made = at (piece_of (MayWait table.settings) (begin_waits table.settings) table waiting step good.may made)
   where
     at : IsPiece (MayWait table.settings) table waiting step → IsCheckedStep table.settings step
     at (inl it) = subst (IsCheckedStep table.settings) (sym it.is) (record { passes = pass_core table.settings it.core it.below; words = omega (arith, it.below, good.few) })
-    at (inr (inl it)) =
-        let sized = good.sound.consistent.sized in
-        let on = good.sound.consistent.in_place.is_task it.core (omega (arith, sized.cores, it.below)) in
-        subst (IsCheckedStep table.settings) (sym it.is)
-        (checked_as table.settings it.core (current table.control it.core) Finish it.below it.user (omega (arith, on, sized.rows)) (record { passes = refl; words = tt }))
+    at (inr (inl it)) = subst (IsCheckedStep table.settings) (sym it.is) (finish_checked table it.core good.sound it.below it.user)
     at (inr (inr it)) =
         subst (IsCheckedStep table.settings) (sym it.is)
         (checked_as table.settings (core_running table it.waits.task) it.waits.task it.waits.call (running_below table it.waits.task good.sound) it.may.task.0 it.may.task.1 it.may.checked)

@@ -1,7 +1,7 @@
 -- What a settled run keeps of its session: there is one alone, and its calls, ticks and interrupts are the session's.
 use Rattle.std.proofs.Common.{◌≡◌, ℕ, zero, suc, Bool, true, false, cond, not, eqb, ◌&&◌, List, [], ◌∷◌, ◌++◌, take, Option, Some, None, refl, sym, ap, subst, ◌∙◌, inl, inr, append_assoc, arith}
-use Rattle.std.specs.Prelude.{◌⊎◌, flat_map, option_map, slice_get}
-use Rattle.std.specs.List.{filter, fold, AllByRecursion}
+use Rattle.std.specs.Prelude.{option_map, slice_get}
+use Rattle.std.specs.List.{filter, AllByRecursion}
 use Rattle.std.proofs.lemmas.Grind.{flat_map-append}
 use Rattle.std.proofs.lemmas.Bool.Decides.{nat_tests}
 use Rattle.std.proofs.lemmas.List.{append-nil}
@@ -22,10 +22,10 @@ use Rattle.bench_model.specs.Session.{step_of, state_after, state_at, reply_at}
 use Rattle.bench_model.specs.Start.{start}
 use Rattle.bench_model.specs.Table.{Table, stamp_queues}
 use Rattle.settled_runs.specs.declared.waiting_call.WaitingCall.{WaitingCall}
-use Rattle.settled_runs.specs.Settled.{is_finish, is_timely, is_event, events_of, quiet_step, without_first, waiting_after, still_waiting, waiting_with, made_at_once, on_its_core, finish_on, IsQuietWork, IsSettledFrom, IsSettled}
+use Rattle.settled_runs.specs.Settled.{is_finish, is_timely, is_event, events_of, quiet_step, without_first, waiting_after, still_waiting, waiting_with, made_at_once, on_its_core, IsQuietWork, IsSettledFrom, IsSettled}
 use Rattle.settled_runs.specs.SettleLaws.{call_of, calls_of, waiting_of, comes_from_outside, is_answer}
 use Rattle.settled_runs.proofs.Timely.{answered, open_answered, timely_answered, told_answered}
-use Rattle.settled_runs.proofs.Pieces.{SwitchMade, FinishMade, CallMade, IsPiece, piece_of, none_alone, without_all}
+use Rattle.settled_runs.proofs.Pieces.{IsPiece, piece_of, none_alone, without_all}
 
 -- ---- one run
 

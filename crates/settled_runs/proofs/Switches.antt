@@ -1,12 +1,11 @@
 -- A switch of a due core leaves the due cores less weight, and all else of the work as it was.
-use Rattle.std.proofs.Common.{◌≡◌, ℕ, suc, ◌+◌, ◌<◌, ◌≤◌, ◌≢◌, Bool, true, false, cond, not, eqb, ltb, ◌&&◌, ◌||◌, List, length, Option, Some, None, refl, sym, ap, subst, ◌∙◌, inl, inr, arith}
+use Rattle.std.proofs.Common.{◌≡◌, ℕ, suc, ◌+◌, ◌<◌, ◌≤◌, ◌≢◌, Bool, true, false, cond, not, eqb, ltb, ◌&&◌, ◌||◌, length, Option, Some, None, refl, sym, ap, subst, ◌∙◌, inl, inr, arith}
 use Rattle.std.specs.Prelude.{is_some, is_none, unwrap_or, slice_index_or}
 use Rattle.std.specs.List.{sum_by}
 use Rattle.std.specs.Option.{option_map_or}
 use Rattle.std.proofs.lemmas.Bool.{cases_eq, and_parts}
 use Rattle.std.proofs.lemmas.Bool.Decides.{nat_tests}
 use Rattle.bench_types.specs.declared.kernel_data.CoreLook.{CoreLook}
-use Rattle.bench_types.specs.declared.kernel_data.TaskControl.{TaskControl}
 use Rattle.bench_types.specs.declared.reply.Refusal.{Refusal}
 use Rattle.bench_types.specs.declared.reply.Refusal.TheVariants.{Held, NotDue}
 use Rattle.bench_types.specs.declared.reply.Reply.{Reply}
@@ -15,10 +14,9 @@ use Rattle.bench_types.specs.declared.step.Step.{Step}
 use Rattle.bench_types.specs.declared.step.Step.TheVariants.{Switch}
 use Rattle.list_orders.specs.Search.{numbers}
 use Rattle.bench_model.specs.declared.row.TaskState.TheVariants.{Ready}
-use Rattle.bench_model.specs.declared.row.TaskState.{TaskState}
-use Rattle.bench_model.specs.Control.{Control, current, is_due, is_idle, task_at, core_at, ask, asked_by, run_on, with_core}
+use Rattle.bench_model.specs.Control.{Control, current, is_due, task_at, core_at, ask, asked_by, run_on}
 use Rattle.bench_model.specs.Refusals.{refusal}
-use Rattle.bench_model.specs.Seek.{effective, is_running, is_preemptible_by, core_to_yield, seek, may_move, after_eviction, after_switch}
+use Rattle.bench_model.specs.Seek.{effective, is_running, core_to_yield, seek, may_move, after_eviction, after_switch}
 use Rattle.bench_model.specs.Session.{step_of}
 use Rattle.bench_model.specs.Sound.{IsSound}
 use Rattle.bench_model.specs.State.{selected, queued, after_select}
@@ -27,7 +25,7 @@ use Rattle.bench_model.specs.Table.{Stamps, Table, stamp_queues, is_ready, add_t
 use Rattle.order_laws.specs.AskedCores.{IsAnswer}
 use Rattle.order_laws.proofs.AskedCores.{best_core}
 use Rattle.order_laws.proofs.SoundMutexes.{standing_same, standing_other}
-use Rattle.order_laws.proofs.SoundSteps.{IsAskedMore, asked_is_due, asked_more, look_same, look_other, cores_length}
+use Rattle.order_laws.proofs.SoundSteps.{asked_is_due, asked_more, look_same, look_other, cores_length}
 use Rattle.settled_runs.specs.Settled.{is_open}
 use Rattle.settled_runs.specs.Work.{weight_at}
 use Rattle.settled_runs.proofs.Sums.{one_sum}
@@ -49,7 +47,7 @@ none_refused table step free = at (refusal stamp_queues step table) free
     at None none = refl
     at (Some why) none = absurd (cc (none))
 
-switch_due : (table : Table) (core : ℕ) → is_open table (Switch core) ≡ true → is_due table.control core ≡ true
+pub switch_due : (table : Table) (core : ℕ) → is_open table (Switch core) ≡ true → is_due table.control core ≡ true
 unfolding is_open refusal
 switch_due table core free = at (is_some table.hold) (is_due table.control core) free
   where

@@ -11,7 +11,7 @@ use Rattle.bench_types.specs.declared.step.Step.TheVariants as steps
 use Rattle.bench_types.specs.declared.step.Call.{Call}
 use Rattle.bench_types.specs.declared.step.Call.TheVariants.{Finish}
 use Rattle.bench_types.specs.Session.{Session, IsSession}
-use Rattle.bench_types.specs.Step.{settings_of, IsCheckedCall, IsCheckedStep}
+use Rattle.bench_types.specs.Step.{IsCheckedCall}
 use Rattle.bench_model.specs.Session.{step_of, state_at, reply_at}
 use Rattle.bench_model.specs.Sound.{IsSound}
 use Rattle.bench_model.specs.Table.{Table}

@@ -116,7 +116,7 @@ quiet_good (step ∷ made) table waiting good quiet =
     record { checked = cons_checked table step made good.sound first rest.checked; last = rest.last }
 
 -- an event that is made or waits
-event_waits : (settings : Settings) (event : Step) → is_event event ≡ true → IsCheckedStep settings event → (core task : ℕ) (call : Call) → event ≡ steps.Call core task call → MayWait settings (record { task = task; call = call })
+pub event_waits : (settings : Settings) (event : Step) → is_event event ≡ true → IsCheckedStep settings event → (core task : ℕ) (call : Call) → event ≡ steps.Call core task call → MayWait settings (record { task = task; call = call })
 event_waits settings event is checked core task call same =
     let here : IsCheckedStep settings (steps.Call core task call) = subst (IsCheckedStep settings) same checked in
     let last = both_pass (core_check settings core >> task_check settings task) (call_check settings call) here.passes in

@@ -329,7 +329,7 @@ refusals_are_answers header session run left place why settled told =
 -- ---- settled runs of settled runs
 
 -- a piece of quiet work before a settled run
-before : (events : List Step) (table : Table) (waiting : List WaitingCall) (step : Step) (run : List Step) (left : List WaitingCall) → quiet_step table waiting ≡ Some step → IsSettledFrom (step_of step table).1 (waiting_after waiting step) events run left → IsSettledFrom table waiting events (step ∷ run) left
+pub before : (events : List Step) (table : Table) (waiting : List WaitingCall) (step : Step) (run : List Step) (left : List WaitingCall) → quiet_step table waiting ≡ Some step → IsSettledFrom (step_of step table).1 (waiting_after waiting step) events run left → IsSettledFrom table waiting events (step ∷ run) left
 before [] table waiting step run left made settled = ((made, settled.0), settled.1)
 before (event ∷ events) table waiting step run left made settled = (step ∷ settled.0, settled.1, (λ i. step ∷ settled.2 i), (made, settled.3), settled.4)
 

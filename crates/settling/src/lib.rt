@@ -1,0 +1,2 @@
+//! Settling a session: the run that a target makes of its calls, ticks and interrupts.
+#![tactic(auto)]

@@ -209,6 +209,19 @@ module _ (session : Session) (is : IsSession session) where
       steps = subst (λ settings. All (IsCheckedStep settings) run) (start_settings session.header) run_good.checked;
     }
 
+-- the core that runs a core's current task is that core
+pub runs_core : (table : Table) (core : ℕ) → IsSound table → core < table.settings.cores → core_running table (current table.control core) ≡ core
+runs_core table core sound below =
+    let place = sound.consistent.in_place in
+    let same = sound.consistent.sized.cores in
+    let cores = numbers table.settings.cores in
+    let runs = λ (other : ℕ). eqb (current table.control other) (current table.control core) in
+    let own = λ (other : ℕ) (low : other < table.settings.cores) (here : runs other ≡ true).
+    place.on_one_core other core (omega (arith, same, low)) (omega (arith, same, below)) (grind (arith, nat_tests, here)) in
+    let one = find_unique runs core cores (numbers_have table.settings.cores core below) (grind (arith, nat_tests))
+    (All-weaker (λ other. other < table.settings.cores) (λ other. runs other ≡ true → other ≡ core) own cores (numbers_below table.settings.cores)) in
+    ap (λ o. unwrap_or o 0) one
+
 -- ---- at rest
 
 module _ (table : Table) (left : List WaitingCall) (good : IsGood table left) (none : quiet_step table left ≡ None) where
@@ -235,20 +248,10 @@ module _ (table : Table) (left : List WaitingCall) (good : IsGood table left) (n
     | inr other ↦ closed_elsewhere table core task Finish (grind (arith, nat_tests, other))
   ]
 
-  runs_on : (core : ℕ) → core < table.settings.cores → core_running table (current table.control core) ≡ core
-  unfolding cores
-  runs_on core below =
-      let place = good.sound.consistent.in_place in
-      let same = good.sound.consistent.sized.cores in
-      let runs = λ (other : ℕ). eqb (current table.control other) (current table.control core) in
-      let one = find_unique runs core cores (numbers_have table.settings.cores core below) (grind (arith, nat_tests))
-      (All-weaker (λ other. other < table.settings.cores) (λ other. runs other ≡ true → other ≡ core) (λ other low here. place.on_one_core other core (omega (arith, same, low)) (omega (arith, same, below)) (grind (arith, nat_tests, here))) cores (numbers_below table.settings.cores)) in
-      ap (λ o. unwrap_or o 0) one
-
   no_call : (core : ℕ) → core < table.settings.cores → (waits : WaitingCall) → (is_timely table (on_its_core table waits) ≡ false) × MayWait table.settings waits → is_timely table (steps.Call core waits.task waits.call) ≡ false
   no_call core below waits both = elim (cases_eq (current table.control core) waits.task) [
     | inl same ↦
-        let here : core_running table waits.task ≡ core = subst (λ task. core_running table task ≡ core) same (runs_on core below) in
+        let here : core_running table waits.task ≡ core = subst (λ task. core_running table task ≡ core) same (runs_core table core good.sound below) in
         subst (λ core. is_timely table (steps.Call core waits.task waits.call) ≡ false) here both.0
     | inr other ↦ untimely_elsewhere table core waits.task waits.call both.1.begins (grind (arith, nat_tests, other))
   ]

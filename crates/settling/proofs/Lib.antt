@@ -1,2 +1,3 @@
+pub mod Finds
 pub mod Places
 pub mod Ways

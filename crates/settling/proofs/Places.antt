@@ -23,7 +23,7 @@ use Rattle.settled_runs.specs.declared.waiting_call.WaitingCall.{WaitingCall}
 use Rattle.settled_runs.specs.Settled.{is_event, is_finish, is_timely, on_its_core, waiting_with, without_first}
 use Rattle.settled_runs.specs.SettleLaws.{MayWait}
 use Rattle.settled_runs.proofs.Rests.{event_waits}
-use Rattle.settling.specs.Places.{step_at, call_in, begins, is_call_of, IsNext, is_waiting, waiting_at, AreQueues}
+use Rattle.settling.specs.Places.{step_at, call_in, begins, is_call_of, IsNext, is_waiting, waiting_at, made_from, can_come, AreQueues}
 
 -- ---- searches over numbers
 
@@ -260,8 +260,7 @@ module _ (session : List Step) (come tasks : ℕ) (heads next : List ℕ) (queue
             let none = front_own h (omega arith) in
             let gone : without_first task (all ++ call ∷ []) ≡ all
             = without_append task all (call ∷ []) ∙ ap (λ b. cond b (without_first task all ++ call ∷ []) (all ++ without_first task (call ∷ []))) none
-            ∙ ap (λ b. all ++ cond b [] (call ∷ [])) is ∙ append-nil all in
-            (
+            ∙ ap (λ b. all ++ cond b [] (call ∷ [])) is ∙ append-nil all in (
               after ∙ sym gone ∙ ap (without_first task) (sym before),
               ap (list_any own) before ∙ list_any-append own all (call ∷ []) ∙ (λ i. none i || (is i || false)),
             )
@@ -273,8 +272,7 @@ module _ (session : List Step) (come tasks : ℕ) (heads next : List ℕ) (queue
             let after : waiting_at later_heads session (suc j) ≡ without_first task all ++ one
             = waiting_suc later_heads session j ∙ (λ i. made.0 i ++ cond (same_waiting j away i) (call_in (step_at session j) ∷ []) []) in
             let gone : without_first task (all ++ one) ≡ without_first task all ++ one
-            = without_append task all one ∙ ap (λ b. cond b (without_first task all ++ one) (all ++ without_first task one)) made.1 in
-            (
+            = without_append task all one ∙ ap (λ b. cond b (without_first task all ++ one) (all ++ without_first task one)) made.1 in (
               after ∙ sym gone ∙ ap (without_first task) (sym (waiting_suc heads session j)),
               ap (list_any own) (waiting_suc heads session j) ∙ list_any-append own all one ∙ ap (λ b. b || list_any own one) made.1,
             )
@@ -290,22 +288,15 @@ option_map_or_else f None other = refl
 option_map_or_else f (Some x) other = refl
 
 module _ (table : Table) (heads : List ℕ) (session : List Step) where
-  -- the call at a place, on the core that runs its task
-  abbrev pub made_from : ℕ → Step
-  made_from place = on_its_core table (call_in (step_at session place))
-
-  abbrev pub can_come : ℕ → Bool
-  can_come place = is_waiting heads session place && is_timely table (on_its_core table (call_in (step_at session place)))
-
-  found_one : (waits : Bool) (place : ℕ) → find (is_timely table) (map (on_its_core table) (cond waits (call_in (step_at session place) ∷ []) [])) ≡ option_map made_from (cond (waits && is_timely table (on_its_core table (call_in (step_at session place)))) (Some place) None)
+  found_one : (waits : Bool) (place : ℕ) → find (is_timely table) (map (on_its_core table) (cond waits (call_in (step_at session place) ∷ []) [])) ≡ option_map (made_from table session) (cond (waits && is_timely table (on_its_core table (call_in (step_at session place)))) (Some place) None)
   found_one false place = refl
   found_one true place = at (is_timely table (on_its_core table (call_in (step_at session place))))
     where
-      at : (b : Bool) → cond b (Some (on_its_core table (call_in (step_at session place)))) None ≡ option_map made_from (cond b (Some place) None)
+      at : (b : Bool) → cond b (Some (on_its_core table (call_in (step_at session place)))) None ≡ option_map (made_from table session) (cond b (Some place) None)
       at true = refl
       at false = refl
 
-  pub found_place : (come : ℕ) → find (is_timely table) (map (on_its_core table) (waiting_at heads session come)) ≡ option_map made_from (find can_come (numbers come))
+  pub found_place : (come : ℕ) → find (is_timely table) (map (on_its_core table) (waiting_at heads session come)) ≡ option_map (made_from table session) (find (can_come table heads session) (numbers come))
   unfolding waiting_at
   found_place zero = refl
   found_place (suc place) =
@@ -313,8 +304,8 @@ module _ (table : Table) (heads : List ℕ) (session : List Step) where
       ap (find (is_timely table)) (map-append (on_its_core table) (waiting_at heads session place) one)
       ∙ find-append (is_timely table) (map (on_its_core table) (waiting_at heads session place)) (map (on_its_core table) one)
       ∙ (λ i. option_or (found_place place i) (found_one (is_waiting heads session place) place i))
-      ∙ sym (option_map_or_else made_from (find can_come (numbers place)) (cond (can_come place) (Some place) None))
-      ∙ ap (option_map made_from) (sym (find_suc can_come place))
+      ∙ sym (option_map_or_else (made_from table session) (find (can_come table heads session) (numbers place)) (cond (can_come table heads session place) (Some place) None))
+      ∙ ap (option_map (made_from table session)) (sym (find_suc (can_come table heads session) place))
 
 -- ---- calls that wait are checked
 

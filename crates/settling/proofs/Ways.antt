@@ -16,8 +16,6 @@ begun header session = record { forward = λ rest left settled. settled; backwar
 
 -- a settled run begins with the next piece of quiet work
 
-
-
 quiet_behind : (table : Table) (waiting : List WaitingCall) (step : Step) (made : List Step) → quiet_step table waiting ≡ Some step → IsQuietWork table waiting made → (rest : List Step) × (made ≡ step ∷ rest) × IsQuietWork (step_of step table).1 (waiting_after waiting step) rest
 quiet_behind table waiting step [] next quiet = absurd (cc (next, quiet))
 quiet_behind table waiting step (first ∷ rest) next quiet =

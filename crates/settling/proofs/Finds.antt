@@ -1,0 +1,213 @@
+-- What the searches for the next piece of quiet work find.
+use Rattle.std.proofs.Common.{◌≡◌, ℕ, suc, ◌+◌, ◌<◌, ◌≤◌, ◌≢◌, Bool, true, false, cond, not, eqb, leb, ◌&&◌, List, [], ◌∷◌, length, map, Option, Some, None, refl, sym, ap, subst, ◌∙◌, inl, inr, arith}
+use Rattle.std.specs.Prelude.{◌⊎◌, All, option_map, is_none, slice_index}
+use Rattle.std.specs.List.{find, filter}
+use Rattle.std.specs.Option.{option_or, option_map_or}
+use Rattle.std.proofs.lemmas.Bool.{cases_eq, cases_lt, and_parts}
+use Rattle.std.proofs.lemmas.Bool.Decides.{nat_tests}
+use Rattle.std.proofs.lemmas.List.Elements.{All-get_or}
+use Rattle.bench_types.specs.declared.kernel_data.Settings.{Settings}
+use Rattle.bench_types.specs.declared.reply.Refusal.{Refusal}
+use Rattle.bench_types.specs.declared.step.Step.{Step}
+use Rattle.bench_types.specs.declared.step.Step.TheVariants.{Tick, Switch}
+use Rattle.bench_types.specs.declared.step.Step.TheVariants as steps
+use Rattle.bench_types.specs.declared.step.Call.TheVariants.{Finish}
+use Rattle.bench_types.specs.Step.{IsCheckedStep}
+use Rattle.list_orders.specs.Search.{numbers}
+use Rattle.bench_model.specs.Control.{current}
+use Rattle.bench_model.specs.Equal.{StandsFor}
+use Rattle.bench_model.specs.Lists.{View, view_of}
+use Rattle.bench_model.specs.Refusals.{refusal}
+use Rattle.bench_model.specs.Sound.{IsSound}
+use Rattle.bench_model.specs.Table.{Table, stamp_queues}
+use Rattle.settled_runs.specs.declared.waiting_call.WaitingCall.{WaitingCall}
+use Rattle.settled_runs.specs.Settled.{is_early, is_finish, is_open, is_timely, switches, finishes, finish_on, runs_user_task, core_running, on_its_core, quiet_step}
+use Rattle.settled_runs.proofs.Rests.{running_below, runs_core}
+use Rattle.settled_runs.proofs.Timely.{timely_same, timely_runs}
+use Rattle.settling.specs.Places.{step_at, call_in, begins, is_call_of, is_waiting, on_core, waiting_at, made_from, can_come, AreQueues, IsSearched}
+use Rattle.settling.proofs.Places.{none_of_numbers, one_of_numbers, found_place}
+
+pub same_settings : (kernel : View) (table : Table) → StandsFor kernel table → table.settings ≡ kernel.settings
+same_settings kernel table stands = ap (λ (view : View). view.settings) stands.shows
+
+pub same_cores : (kernel : View) (table : Table) → StandsFor kernel table → table.settings.cores ≡ kernel.settings.cores
+same_cores kernel table stands = ap (λ (settings : Settings). settings.cores) (same_settings kernel table stands)
+
+-- ---- switches and calls of `finish`
+
+find_map : {X Y : Type 0} (f : X → Y) (q : Y → Bool) (xs : List X) → find q (map f xs) ≡ option_map f (find (λ x. q (f x)) xs)
+find_map f q [] = refl
+find_map f q (x ∷ xs) = at (q (f x)) (find_map f q xs)
+  where
+    at : (b : Bool) → find q (map f xs) ≡ option_map f (find (λ x. q (f x)) xs) → cond b (Some (f x)) (find q (map f xs)) ≡ option_map f (cond b (Some x) (find (λ x. q (f x)) xs))
+    at true rest = refl
+    at false rest = rest
+
+find_kept : {X : Type 0} (p q : X → Bool) (xs : List X) → find q (filter p xs) ≡ find (λ x. p x && q x) xs
+find_kept p q [] = refl
+find_kept p q (x ∷ xs) = at (p x) (q x) (find_kept p q xs)
+  where
+    at : (b d : Bool) → find q (filter p xs) ≡ find (λ x. p x && q x) xs → find q (cond b (x ∷ filter p xs) (filter p xs)) ≡ cond (b && q x) (Some x) (find (λ x. p x && q x) xs)
+    at true d rest = ap (λ o. cond (q x) (Some x) o) rest
+    at false d rest = rest
+
+pub open_told : (table : Table) (step : Step) (why : Option Refusal) (free : Bool) → why ≡ refusal stamp_queues step table → is_none why ≡ free → is_open table step ≡ free
+unfolding is_open
+open_told table step why free same told = ap is_none (sym same) ∙ told
+
+pub switch_found : (table : Table) (core : ℕ) → core < table.settings.cores → is_open table (Switch core) ≡ true → ((k : ℕ) → k < core → is_open table (Switch k) ≡ false) → Some (Switch core) ≡ find (is_open table) (switches table)
+switch_found table core below free others =
+    sym (find_map Switch (is_open table) (numbers table.settings.cores) ∙ ap (option_map Switch) (one_of_numbers (λ k. is_open table (Switch k)) core table.settings.cores below free others))
+
+pub no_switch_found : (table : Table) → ((k : ℕ) → k < table.settings.cores → is_open table (Switch k) ≡ false) → None ≡ find (is_open table) (switches table)
+no_switch_found table others = sym (find_map Switch (is_open table) (numbers table.settings.cores) ∙ ap (option_map Switch) (none_of_numbers (λ k. is_open table (Switch k)) table.settings.cores others))
+
+finishes_as : (table : Table) → find (is_open table) (finishes table) ≡ option_map (finish_on table) (find (λ k. runs_user_task table k && is_open table (finish_on table k)) (numbers table.settings.cores))
+finishes_as table =
+    find_map (finish_on table) (is_open table) (filter (runs_user_task table) (numbers table.settings.cores))
+    ∙ ap (option_map (finish_on table)) (find_kept (runs_user_task table) (λ k. is_open table (finish_on table k)) (numbers table.settings.cores))
+
+pub finish_found : (table : Table) (core : ℕ) → core < table.settings.cores → (runs_user_task table core && is_open table (finish_on table core)) ≡ true → ((k : ℕ) → k < core → (runs_user_task table k && is_open table (finish_on table k)) ≡ false) → Some (finish_on table core) ≡ find (is_open table) (finishes table)
+finish_found table core below free others =
+    sym (finishes_as table ∙ ap (option_map (finish_on table)) (one_of_numbers (λ k. runs_user_task table k && is_open table (finish_on table k)) core table.settings.cores below free others))
+
+pub no_finish_found : (table : Table) → ((k : ℕ) → k < table.settings.cores → (runs_user_task table k && is_open table (finish_on table k)) ≡ false) → None ≡ find (is_open table) (finishes table)
+no_finish_found table others =
+    sym (finishes_as table ∙ ap (option_map (finish_on table)) (none_of_numbers (λ k. runs_user_task table k && is_open table (finish_on table k)) table.settings.cores others))
+
+pub timely_told : (table : Table) (step : Step) (why : Option Refusal) → why ≡ refusal stamp_queues step table → option_map_or (λ why. not (is_early why)) why true ≡ is_timely table step
+unfolding is_timely
+timely_told table step why same = ap (λ why. option_map_or (λ why. not (is_early why)) why true) same
+
+pub next_told : (table : Table) (waiting : List WaitingCall) (switch finish call : Option Step) → switch ≡ find (is_open table) (switches table) → finish ≡ find (is_open table) (finishes table) → call ≡ find (is_timely table) (map (on_its_core table) waiting) → option_or switch (option_or finish call) ≡ quiet_step table waiting
+unfolding quiet_step
+next_told table waiting switch finish call first second third = λ i. option_or (first i) (option_or (second i) (third i))
+
+-- ---- calls that wait
+
+-- a call that begins
+begin_call : (step : Step) → begins step ≡ true → is_finish (call_in step).call ≡ false
+begin_call Tick is = absurd (cc (is))
+begin_call (Switch core) is = absurd (cc (is))
+begin_call (steps.Interrupt core note) is = absurd (cc (is))
+begin_call (steps.Call core task call) is = at (is_finish call) is
+  where
+    at : (b : Bool) → not b ≡ true → b ≡ false
+    at true none = absurd (cc (none))
+    at false none = refl
+
+-- a call of the task
+module _ (task : ℕ) (step : Step) (is : is_call_of task step ≡ true) where
+  both_are : (begins step ≡ true) × (eqb (call_in step).task task ≡ true)
+  both_are = and_parts (begins step) (eqb (call_in step).task task) is
+
+  pub its_task : (call_in step).task ≡ task
+  its_task = grind (arith, nat_tests, both_are.1)
+
+  pub it_begins : is_finish (call_in step).call ≡ false
+  it_begins = begin_call step both_are.0
+
+module _ (table : Table) (heads next : List ℕ) (session : List Step) (come : ℕ) (sound : IsSound table) (queues : AreQueues session come table.settings.tasks heads next) where
+  running_task : (core : ℕ) → core < table.settings.cores → current table.control core < table.settings.tasks
+  running_task core below = let sized = sound.consistent.sized in omega (arith, sized.rows, sound.consistent.in_place.is_task core (omega (arith, sized.cores, below)))
+
+  -- the first call of all: nothing before it can come
+  none_before : (cores first : ℕ) (found : Option Step) → cores ≡ table.settings.cores → IsSearched table heads session come cores first found → (k : ℕ) → k < first → can_come table heads session k ≡ false
+  none_before cores first found all searched k low = at (can_come table heads session k) refl
+    where
+      at : (b : Bool) → can_come table heads session k ≡ b → b ≡ false
+      at false none = refl
+      at true can = absurd (let step = step_at session k in
+          let task = (call_in step).task in
+          let both = and_parts (is_waiting heads session k) (is_timely table (made_from table session k)) can in
+          let waits = and_parts (begins step) (leb (slice_index heads task) k) both.0 in
+          let begin = begin_call step waits.0 in
+          let core = core_running table task in
+          let below = running_below table task sound in
+          let runs : current table.control core ≡ task = (let test = timely_runs table core task (call_in step).call begin both.1 in grind (arith, nat_tests, test)) in
+          let head = slice_index heads task in
+          let least : head ≤ k = grind (arith, nat_tests, waits.1) in
+          let user : task < table.settings.tasks = subst (λ task. task < table.settings.tasks) runs (running_task core below) in
+          let is_head = queues.calls task user (omega (arith, least, low, searched.within, queues.reached)) in
+          let here : slice_index heads (current table.control core) ≡ head = ap (slice_index heads) runs in
+          let early = searched.others core (omega (arith, below, all)) (omega (arith, here, least, low)) in
+          let first_step = step_at session head in
+          let same_place = ap (λ place. is_timely table (on_core core (step_at session place))) here in
+          let there : is_timely table (steps.Call core (call_in first_step).task (call_in first_step).call) ≡ false = sym same_place ∙ early in
+          let own = ap (λ task. is_timely table (steps.Call core task (call_in first_step).call)) (its_task task first_step is_head) in
+          let like = timely_same table core task (call_in step).call (call_in first_step).call begin (it_begins task first_step is_head) in
+          cc (both.1, there, own, like))
+
+  pub search_ends : (cores first : ℕ) (found : Option Step) → cores ≡ table.settings.cores → IsSearched table heads session come cores first found → found ≡ find (is_timely table) (map (on_its_core table) (waiting_at heads session come))
+  search_ends cores first found all searched =
+      let before = none_before cores first found all searched in
+      elim (cases_lt first come) [
+        | inl low ↦
+            let some = searched.some low in
+            some.1 ∙ sym (found_place table heads session come ∙ ap (option_map (made_from table session)) (one_of_numbers (can_come table heads session) first come low some.0 before))
+        | inr high ↦
+            let same : first ≡ come = omega (arith, high, searched.within) in
+            searched.none same
+            ∙ sym (found_place table heads session come ∙ ap (option_map (made_from table session)) (none_of_numbers (can_come table heads session) come (λ k low. before k (omega (arith, low, same)))))
+      ]
+
+  -- the search begins, and goes over one more core
+  pub search_begins : IsSearched table heads session come 0 come None
+  search_begins = record {
+    within = omega arith;
+    none = λ same. refl;
+    some = λ low. absurd (omega (arith, low));
+    others = λ core below. absurd (omega (arith, below));
+  }
+
+  module _ (core first : ℕ) (found : Option Step) (below : core < table.settings.cores) (searched : IsSearched table heads session come core first found) where
+    -- the next call of the core's task is behind, or has not come, or its task has not come to it
+    pub search_passes : (first ≤ slice_index heads (current table.control core)) ⊎ (is_timely table (on_core core (step_at session (slice_index heads (current table.control core)))) ≡ false) → IsSearched table heads session come (suc core) first found
+    search_passes why = record {
+      within = searched.within;
+      none = searched.none;
+      some = searched.some;
+      others = λ other low early. elim (cases_eq other core) as (λ _. is_timely table (on_core other (step_at session (slice_index heads (current table.control other)))) ≡ false) [
+        | inl same ↦ subst (λ core. is_timely table (on_core core (step_at session (slice_index heads (current table.control core)))) ≡ false) (sym same) (at why (subst (λ core. slice_index heads (current table.control core) < first) same early))
+        | inr away ↦ searched.others other (omega (arith, low, away)) early
+      ];
+    }
+      where
+        at : (first ≤ slice_index heads (current table.control core)) ⊎ (is_timely table (on_core core (step_at session (slice_index heads (current table.control core)))) ≡ false) → slice_index heads (current table.control core) < first → is_timely table (on_core core (step_at session (slice_index heads (current table.control core)))) ≡ false
+        at (inl behind) early = absurd (omega (arith, behind, early))
+        at (inr untimely) early = untimely
+
+    -- it is before what was found, and may be made
+    pub search_finds :
+        slice_index heads (current table.control core) < first → is_timely table (on_core core (step_at session (slice_index heads (current table.control core)))) ≡ true
+        → IsSearched table heads session come (suc core) (slice_index heads (current table.control core)) (Some (on_core core (step_at session (slice_index heads (current table.control core)))))
+    search_finds early timely = record {
+      within = omega (arith, early, searched.within);
+      none = λ same. absurd (omega (arith, same, early, searched.within));
+      some = λ low. (can, ap Some (sym made));
+      others = λ other low before. elim (cases_eq other core) as (λ _. is_timely table (on_core other (step_at session (slice_index heads (current table.control other)))) ≡ false) [
+        | inl same ↦ absurd (omega (arith, ap (λ core. slice_index heads (current table.control core)) same, before))
+        | inr away ↦ searched.others other (omega (arith, low, away)) (omega (arith, before, early))
+      ];
+    }
+      where
+        is_own : is_call_of (current table.control core) (step_at session (slice_index heads (current table.control core))) ≡ true
+        is_own = queues.calls (current table.control core) (running_task core below) (omega (arith, early, searched.within, queues.reached))
+
+        task_is : (call_in (step_at session (slice_index heads (current table.control core)))).task ≡ current table.control core
+        task_is = its_task (current table.control core) (step_at session (slice_index heads (current table.control core))) is_own
+
+        made : made_from table session (slice_index heads (current table.control core)) ≡ on_core core (step_at session (slice_index heads (current table.control core)))
+        made =
+            let step = step_at session (slice_index heads (current table.control core)) in
+            ap (λ core. steps.Call core (call_in step).task (call_in step).call) (ap (core_running table) task_is ∙ runs_core table core sound below)
+
+        can : can_come table heads session (slice_index heads (current table.control core)) ≡ true
+        can =
+            let head = slice_index heads (current table.control core) in
+            let step = step_at session head in
+            let begin = (both_are (current table.control core) step is_own).0 in
+            let low : leb head head ≡ true = grind (arith, nat_tests) in
+            let least : leb (slice_index heads (call_in step).task) head ≡ true = ap (λ task. leb (slice_index heads task) head) task_is ∙ low in
+            let may : is_timely table (made_from table session head) ≡ true = ap (is_timely table) made ∙ timely in
+            (λ i. (begin i && least i) && may i)

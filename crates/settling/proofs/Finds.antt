@@ -1,11 +1,13 @@
 -- What the searches for the next piece of quiet work find.
-use Rattle.std.proofs.Common.{◌≡◌, ℕ, suc, ◌+◌, ◌<◌, ◌≤◌, ◌≢◌, Bool, true, false, cond, not, eqb, leb, ◌&&◌, List, [], ◌∷◌, length, map, Option, Some, None, refl, sym, ap, subst, ◌∙◌, inl, inr, arith}
-use Rattle.std.specs.Prelude.{◌⊎◌, All, option_map, is_none, slice_index}
+use Rattle.std.proofs.Common.{◌≡◌, ℕ, suc, ◌+◌, ◌-◌, ◌<◌, ◌≤◌, ◌≢◌, Bool, true, false, cond, not, eqb, leb, ◌&&◌, List, [], ◌∷◌, length, get_or, map, Option, Some, None, refl, sym, ap, subst, ◌∙◌, inl, inr, arith}
+use Rattle.std.specs.Prelude.{◌⊎◌, All, option_map, is_none, is_some, replicate, slice_index, slice_set}
 use Rattle.std.specs.List.{find, filter}
 use Rattle.std.specs.Option.{option_or, option_map_or}
 use Rattle.std.proofs.lemmas.Bool.{cases_eq, cases_lt, and_parts}
 use Rattle.std.proofs.lemmas.Bool.Decides.{nat_tests}
+use Rattle.std.proofs.lemmas.List.{get_or_read, get_or-set_other, get_or-set_same, length-set, length-replicate, get_or-replicate}
 use Rattle.std.proofs.lemmas.List.Elements.{All-get_or}
+use Rattle.std.proofs.Math.Numerals.{add-one}
 use Rattle.bench_types.specs.declared.kernel_data.Settings.{Settings}
 use Rattle.bench_types.specs.declared.reply.Refusal.{Refusal}
 use Rattle.bench_types.specs.declared.step.Step.{Step}
@@ -24,7 +26,7 @@ use Rattle.settled_runs.specs.declared.waiting_call.WaitingCall.{WaitingCall}
 use Rattle.settled_runs.specs.Settled.{is_early, is_finish, is_open, is_timely, switches, finishes, finish_on, runs_user_task, core_running, on_its_core, quiet_step}
 use Rattle.settled_runs.proofs.Rests.{running_below, runs_core}
 use Rattle.settled_runs.proofs.Timely.{timely_same, timely_runs}
-use Rattle.settling.specs.Places.{step_at, call_in, begins, is_call_of, is_waiting, on_core, waiting_at, made_from, can_come, AreQueues, IsSearched}
+use Rattle.settling.specs.Places.{step_at, call_in, begins, is_call_of, is_waiting, on_core, waiting_at, made_from, can_come, AreLinked, AreQueues, HasCallers, IsNext, IsSearched}
 use Rattle.settling.proofs.Places.{none_of_numbers, one_of_numbers, found_place}
 
 pub same_settings : (kernel : View) (table : Table) → StandsFor kernel table → table.settings ≡ kernel.settings
@@ -51,9 +53,15 @@ find_kept p q (x ∷ xs) = at (p x) (q x) (find_kept p q xs)
     at true d rest = ap (λ o. cond (q x) (Some x) o) rest
     at false d rest = rest
 
-pub open_told : (table : Table) (step : Step) (why : Option Refusal) (free : Bool) → why ≡ refusal stamp_queues step table → is_none why ≡ free → is_open table step ≡ free
+pub open_told : (table : Table) (step : Step) (why : Option Refusal) (free : Bool) → why ≡ refusal stamp_queues step table → is_some why ≡ not free → is_open table step ≡ free
 unfolding is_open
-open_told table step why free same told = ap is_none (sym same) ∙ told
+open_told table step why free same told = ap is_none (sym same) ∙ at why free told
+  where
+    at : (why : Option Refusal) (free : Bool) → is_some why ≡ not free → is_none why ≡ free
+    at None true told = refl
+    at None false told = absurd (cc (told))
+    at (Some why) true told = absurd (cc (told))
+    at (Some why) false told = refl
 
 pub switch_found : (table : Table) (core : ℕ) → core < table.settings.cores → is_open table (Switch core) ≡ true → ((k : ℕ) → k < core → is_open table (Switch k) ≡ false) → Some (Switch core) ≡ find (is_open table) (switches table)
 switch_found table core below free others =
@@ -82,6 +90,15 @@ timely_told table step why same = ap (λ why. option_map_or (λ why. not (is_ear
 pub next_told : (table : Table) (waiting : List WaitingCall) (switch finish call : Option Step) → switch ≡ find (is_open table) (switches table) → finish ≡ find (is_open table) (finishes table) → call ≡ find (is_timely table) (map (on_its_core table) waiting) → option_or switch (option_or finish call) ≡ quiet_step table waiting
 unfolding quiet_step
 next_told table waiting switch finish call first second third = λ i. option_or (first i) (option_or (second i) (third i))
+
+pub next_at_switch : (table : Table) (waiting : List WaitingCall) (step : Step) → Some step ≡ find (is_open table) (switches table) → Some step ≡ quiet_step table waiting
+next_at_switch table waiting step first = next_told table waiting (Some step) (find (is_open table) (finishes table)) (find (is_timely table) (map (on_its_core table) waiting)) first refl refl
+
+pub next_at_finish : (table : Table) (waiting : List WaitingCall) (step : Step) → None ≡ find (is_open table) (switches table) → Some step ≡ find (is_open table) (finishes table) → Some step ≡ quiet_step table waiting
+next_at_finish table waiting step first second = next_told table waiting None (Some step) (find (is_timely table) (map (on_its_core table) waiting)) first second refl
+
+pub next_at_call : (table : Table) (waiting : List WaitingCall) (call : Option Step) → None ≡ find (is_open table) (switches table) → None ≡ find (is_open table) (finishes table) → call ≡ find (is_timely table) (map (on_its_core table) waiting) → call ≡ quiet_step table waiting
+next_at_call table waiting call first second third = next_told table waiting None None call first second third
 
 -- ---- calls that wait
 
@@ -211,3 +228,177 @@ module _ (table : Table) (heads next : List ℕ) (session : List Step) (come : �
             let least : leb (slice_index heads (call_in step).task) head ≡ true = ap (λ task. leb (slice_index heads task) head) task_is ∙ low in
             let may : is_timely table (made_from table session head) ≡ true = ap (is_timely table) made ∙ timely in
             (λ i. (begin i && least i) && may i)
+
+no_both : (b : Bool) → (b && false) ≡ false
+no_both true = refl
+no_both false = refl
+
+pub and_left : (b d : Bool) → b ≡ false → (b && d) ≡ false
+and_left true d none = absurd (cc (none))
+and_left false d none = refl
+
+-- the core's user task may finish, or not
+pub user_told : (table : Table) (core task : ℕ) (free : Bool) → task ≡ current table.control core → table.settings.cores ≤ task → is_open table (steps.Call core task Finish) ≡ free → (runs_user_task table core && is_open table (finish_on table core)) ≡ free
+user_told table core task free runs user told =
+    let is : leb table.settings.cores task ≡ true = grind (arith, nat_tests, user) in
+    let here : leb table.settings.cores (current table.control core) ≡ true = ap (leb table.settings.cores) (sym runs) ∙ is in
+    ap (λ b. b && is_open table (finish_on table core)) here ∙ subst (λ task. is_open table (steps.Call core task Finish) ≡ free) runs told
+
+-- the next core's task, where its next call is at this place
+module _ (table : Table) (heads next : List ℕ) (session : List Step) (come : ℕ) (sound : IsSound table) (queues : AreQueues session come table.settings.tasks heads next)
+         (core first place : ℕ) (found : Option Step) (below : core < table.settings.cores) (searched : IsSearched table heads session come core first found)
+         (head : place ≡ slice_index heads (current table.control core)) where
+  pub passes_as : (first ≤ place) ⊎ (is_timely table (on_core core (step_at session place)) ≡ false) → IsSearched table heads session come (core + 1) first found
+  passes_as why =
+      let there = subst (λ place. (first ≤ place) ⊎ (is_timely table (on_core core (step_at session place)) ≡ false)) head why in
+      subst (λ cores. IsSearched table heads session come cores first found) (sym (add-one core)) (search_passes table heads next session come sound queues core first found below searched there)
+
+  pub finds_as : (step : Step) → step ≡ on_core core (step_at session place) → place < first → is_timely table step ≡ true → IsSearched table heads session come (core + 1) place (Some step)
+  finds_as step same early timely =
+      let at = same ∙ ap (λ place. on_core core (step_at session place)) head in
+      let all = search_finds table heads next session come sound queues core first found below searched (omega (arith, head, early)) (ap (is_timely table) (sym at) ∙ timely) in
+      let moved = subst (λ cores. IsSearched table heads session come cores (slice_index heads (current table.control core)) (Some (on_core core (step_at session (slice_index heads (current table.control core)))))) (sym (add-one core)) all in
+      let placed = subst (λ place. IsSearched table heads session come (core + 1) place (Some (on_core core (step_at session (slice_index heads (current table.control core)))))) (sym head) moved in
+      subst (λ step. IsSearched table heads session come (core + 1) place (Some step)) (sym at) placed
+
+pub moved :
+    (table : Table) (heads : List ℕ) (session : List Step) (come cores first place : ℕ) (found step : Option Step) → first ≡ place → found ≡ step
+    → IsSearched table heads session come cores place step → IsSearched table heads session come cores first found
+moved table heads session come cores first place found step same like searched =
+    subst (λ first. IsSearched table heads session come cores first found) (sym same) (subst (λ found. IsSearched table heads session come cores place found) (sym like) searched)
+
+-- ---- each task's calls in a row
+
+pub linked_start : (session : List Step) (tasks : ℕ) (heads next : List ℕ) → heads ≡ replicate tasks (length session) → next ≡ replicate (length session) (length session) → AreLinked session (length session) tasks heads next
+linked_start session tasks heads next first second = record {
+  reached = omega arith;
+  head_each = ap length first ∙ length-replicate tasks (length session);
+  next_each = ap length second ∙ length-replicate (length session) (length session);
+  first = λ task user.
+      let here : slice_index heads task ≡ length session = ap (λ heads. slice_index heads task) first ∙ get_or-replicate tasks task (length session) 0 user in
+      record {
+        low = omega (arith, here);
+        high = omega (arith, here);
+        call = λ low. absurd (omega (arith, here, low));
+        between = λ other past low. absurd (omega (arith, here, past, low));
+      };
+  after = λ task place past low is. absurd (omega (arith, past, low));
+}
+
+module _ (session : List Step) (from tasks : ℕ) (heads next : List ℕ) (linked : AreLinked session (suc from) tasks heads next) where
+  here_low : from < length session
+  here_low = omega (arith, linked.reached)
+
+  -- the next calls from one place earlier on, where that is none of the task
+  earlier : (task place : ℕ) → is_call_of task (step_at session from) ≡ false → IsNext session task (suc from) place → IsNext session task from place
+  earlier task place none later = record {
+    low = omega (arith, later.low);
+    high = later.high;
+    call = later.call;
+    between = λ other past low. elim (cases_eq other from) [
+      | inl same ↦ ap (λ other. is_call_of task (step_at session other)) same ∙ none
+      | inr away ↦ later.between other (omega (arith, past, away)) low
+    ];
+  }
+
+  -- a step that is no call that begins
+  pub linked_other : begins (step_at session from) ≡ false → AreLinked session from tasks heads next
+  linked_other none = record {
+    reached = omega (arith, linked.reached);
+    head_each = linked.head_each;
+    next_each = linked.next_each;
+    first = λ task user. earlier task (slice_index heads task) (ap (λ b. b && eqb (call_in (step_at session from)).task task) none) (linked.first task user);
+    after = λ task place past low is. elim (cases_eq place from) [
+      | inl same ↦ absurd (cc (is, same, ap (λ b. b && eqb (call_in (step_at session from)).task task) none))
+      | inr away ↦ linked.after task place (omega (arith, past, away)) low is
+    ];
+  }
+
+  -- a call of the task
+  module _ (task : ℕ) (user : task < tasks) (is : is_call_of task (step_at session from) ≡ true) where
+    pub linked_call : AreLinked session from tasks (slice_set heads task from) (slice_set next from (slice_index heads task))
+    linked_call = record {
+      reached = omega (arith, linked.reached);
+      head_each = length-set heads task from ∙ linked.head_each;
+      next_each = length-set next from (slice_index heads task) ∙ linked.next_each;
+      first = λ other low. elim (cases_eq other task) [
+        | inl same ↦ subst (λ other. IsNext session other from (slice_index (slice_set heads task from) other)) (sym same) own
+        | inr away ↦ subst (IsNext session other from) (sym (get_or-set_other heads task other from 0 away)) (earlier other (slice_index heads other) (not_own other away) (linked.first other low))
+      ];
+      after = λ other place past low call. elim (cases_eq place from) [
+        | inl same ↦ subst (λ place. IsNext session other (suc place) (slice_index (slice_set next from (slice_index heads task)) place)) (sym same) (first_after other (ap (λ place. is_call_of other (step_at session place)) (sym same) ∙ call))
+        | inr away ↦ subst (IsNext session other (suc place)) (sym (get_or-set_other next from place (slice_index heads task) 0 away)) (linked.after other place (omega (arith, past, away)) low call)
+      ];
+    }
+      where
+        own : IsNext session task from (slice_index (slice_set heads task from) task)
+        own = subst (IsNext session task from) (sym (get_or-set_same heads task from 0 (omega (arith, user, linked.head_each)))) (record {
+          low = omega arith;
+          high = omega (arith, linked.reached);
+          call = λ low. is;
+          between = λ other past low. absurd (omega (arith, past, low));
+        })
+
+        caller_is : (call_in (step_at session from)).task ≡ task
+        caller_is = its_task task (step_at session from) is
+
+        not_own : (other : ℕ) → other ≢ task → is_call_of other (step_at session from) ≡ false
+        not_own other away =
+            let apart : eqb (call_in (step_at session from)).task other ≡ false = grind (arith, nat_tests, caller_is, away) in
+            ap (λ b. begins (step_at session from) && b) apart ∙ no_both (begins (step_at session from))
+
+        first_after : (other : ℕ) → is_call_of other (step_at session from) ≡ true → IsNext session other (suc from) (slice_index (slice_set next from (slice_index heads task)) from)
+        first_after other call =
+            let same : task ≡ other = sym caller_is ∙ its_task other (step_at session from) call in
+            let here = get_or-set_same next from (slice_index heads task) 0 (omega (arith, linked.reached, linked.next_each)) in
+            subst (IsNext session other (suc from)) (sym here) (subst (λ other. IsNext session other (suc from) (slice_index heads task)) same (linked.first task user))
+
+-- before any step has come
+pub queues_begin : (session : List Step) (tasks : ℕ) (heads next : List ℕ) → AreLinked session 0 tasks heads next → AreQueues session 0 tasks heads next
+queues_begin session tasks heads next linked = record {
+  reached = omega arith;
+  head_each = linked.head_each;
+  next_each = linked.next_each;
+  few = λ task user. (linked.first task user).high;
+  calls = λ task user. (linked.first task user).call;
+  later = λ task place user past low is. elim (cases_lt place (slice_index heads task)) [
+    | inl early ↦ absurd (cc (is, (linked.first task user).between place past early))
+    | inr late ↦ late
+  ];
+  after = λ task place low is. linked.after task place (omega arith) low is;
+}
+
+caller_told : (step : Step) (task : ℕ) → Some task ≡ cond (begins step) (Some (call_in step).task) None → is_call_of task step ≡ true
+caller_told step task told = at (begins step) refl told
+  where
+    at : (b : Bool) → begins step ≡ b → Some task ≡ cond b (Some (call_in step).task) None → is_call_of task step ≡ true
+    at true is told =
+        let same : task ≡ (call_in step).task = cc (told) in
+        let own : eqb (call_in step).task task ≡ true = grind (arith, nat_tests, same) in
+        (λ i. is i && own i)
+    at false none told = absurd (cc (told))
+
+none_told : (step : Step) → None ≡ cond (begins step) (Some (call_in step).task) None → begins step ≡ false
+none_told step told = at (begins step) told
+  where
+    at : (b : Bool) → None ≡ cond b (Some (call_in step).task) None → b ≡ false
+    at true told = absurd (cc (told))
+    at false told = refl
+
+-- one place earlier on
+module _ (session : List Step) (place tasks : ℕ) (heads next : List ℕ) (some : 0 < place) (linked : AreLinked session place tasks heads next) where
+  before_it : AreLinked session (suc (place - 1)) tasks heads next
+  before_it = let same : place ≡ suc (place - 1) = omega (arith, some) in subst (λ place. AreLinked session place tasks heads next) same linked
+
+  pub linked_none : None ≡ cond (begins (step_at session (place - 1))) (Some (call_in (step_at session (place - 1))).task) None → AreLinked session (place - 1) tasks heads next
+  linked_none told = linked_other session (place - 1) tasks heads next before_it (none_told (step_at session (place - 1)) told)
+
+  pub linked_some : (task old : ℕ) → HasCallers session tasks → old ≡ get_or heads task old → Some task ≡ cond (begins (step_at session (place - 1))) (Some (call_in (step_at session (place - 1))).task) None → AreLinked session (place - 1) tasks (slice_set heads task (place - 1)) (slice_set next (place - 1) old)
+  linked_some task old callers read told =
+      let step = step_at session (place - 1) in
+      let is = caller_told step task told in
+      let begin = (both_are task step is).0 in
+      let user : task < tasks = subst (λ task. task < tasks) (its_task task step is) (callers (place - 1) (omega (arith, some, linked.reached)) begin) in
+      let here : old ≡ slice_index heads task = get_or_read heads task old (omega (arith, user, linked.head_each)) read 0 in
+      subst (λ old. AreLinked session (place - 1) tasks (slice_set heads task (place - 1)) (slice_set next (place - 1) old)) (sym here)
+      (linked_call session (place - 1) tasks heads next before_it task user is)

@@ -3,3 +3,6 @@
 
 mod queues;
 mod searches;
+mod settle;
+
+pub use settle::{SettleFault, Settled};

@@ -1,18 +1,23 @@
 //! Settling: events come in turn, each followed by quiet work.
-ghost use Rattle.std.specs.Prelude.{◌≡◌, ◌<◌, ◌≤◌, ◌+◌, All, IfOk, length, List, Some};
+ghost use Rattle.std.specs.Prelude.{◌≡◌, ◌<◌, ◌≤◌, ◌+◌, ◌∷◌, ◌++◌, [], All, IfOk, OnOk, Ok, Err, length, List, Some, slice_index, slice_index_or};
+ghost use Rattle.bench_types.specs.declared.header.Header.{Header};
 ghost use Rattle.bench_types.specs.declared.step.Step.{Step};
 ghost use Rattle.bench_types.specs.Limits.{max_steps};
 ghost use Rattle.bench_types.specs.Session.{IsSession};
+ghost use Rattle.bench_types.specs.Step.{step_check};
+ghost use Rattle.bench_model.specs.Equal.{StandsFor};
+ghost use Rattle.bench_model.specs.Session.{step_of};
+ghost use Rattle.bench_model.specs.Table.{Table};
 ghost use Rattle.settled_runs.specs.declared.waiting_call.WaitingCall.{WaitingCall};
-ghost use Rattle.settled_runs.specs.Settled.{IsSettled};
-ghost use Rattle.settling.specs.Progress.{IsAt, IsAtPiece, IsTooLong};
+ghost use Rattle.settled_runs.specs.Settled.{quiet_step, IsSettled};
+ghost use Rattle.settling.specs.Places.{step_at, waiting_at};
+ghost use Rattle.settling.specs.Progress.{waiting_in, IsAt, IsResting, IsTooLong, IsUnderRest, IsUnderWay};
 
-use crate::queues::{Queues, caller};
-use crate::searches::next_piece;
-use bench_types::{Call, Fault, Header, MAX_STEPS, Step};
+use crate::queues::Queues;
+use bench_types::{MAX_STEPS, Step};
 use settled_runs::WaitingCall;
-use smp_kernel::{Kernel, Meter, StartFault};
-use std::alloc::{AllocError, Global};
+use smp_kernel::{Kernel, Meter};
+use std::alloc::AllocError;
 use thiserror::Error;
 
 /// A session's settled run.
@@ -46,31 +51,35 @@ impl From<AllocError> for SettleFault {
     }
 }
 
-/// The run that a target makes of the session's calls, ticks and interrupts. The meter counts its
-/// steps.
-pub fn settle(
-    alloc: Global,
-    header: &Header,
-    steps: &[Step],
-    meter: &mut Meter,
-) -> Result<Settled, SettleFault>
-    requires { IsSession (record { header = header.now; steps = steps.now }) }
-    ensures settled { IfOk result
-        (λ settled. IsSettled header.now steps.now settled.run.items settled.left.items) }
-    ensures room { IfOk result (λ settled. length settled.run.items ≤ max_steps) }
-    ensures long { result ≡ Err SettleFault.TooManySteps
-        → (run : List Step) (left : List WaitingCall) → IsSettled header.now steps.now run left
-        → max_steps < length run }
-{
-    let mut settling = Settling::start(alloc, header, steps)?;
-    settling.work(steps, meter)?;
-    for step in steps {
-        settling.come(steps, *step, meter)?;
-        settling.work(steps, meter)?;
+// The settled run as far as it was made.
+pub(crate) struct Settling {
+    kernel: Kernel,
+    queues: Queues,
+    // So many steps of the session have come.
+    come: usize,
+    run: Vec<Step>,
+}
+
+impl Settling {
+    // The step is the next one of the run.
+    fn make(&mut self, step: Step, meter: &mut Meter) -> Result<(), SettleFault>
+        requires { step_check self.old.kernel.settings step ≡ Ok tt }
+        ensures run { OnOk result (self.new.run.items ≡ self.old.run.items ++ step ∷ []) }
+        ensures kernel { OnOk result ((table : Table) → StandsFor self.old.kernel table
+            → StandsFor self.new.kernel (step_of step table).1) }
+        ensures queues { OnOk result (self.new.queues ≡ self.old.queues) }
+        ensures come { OnOk result (self.new.come ≡ self.old.come) }
+        ensures room { OnOk result (length self.new.run.items ≤ max_steps) }
+        ensures full { result ≡ Err SettleFault.TooManySteps
+            → max_steps ≤ length self.old.run.items }
+    {
+        if self.run.len() >= MAX_STEPS as usize {
+            return Err(SettleFault::TooManySteps);
+        }
+        if self.run.push(step).is_err() {
+            return Err(SettleFault::NoMemory);
+        }
+        self.kernel.step(meter, &step);
+        Ok(())
     }
-    let left = settling.left(alloc, steps)?;
-    Ok(Settled {
-        run: settling.run,
-        left,
-    })
 }

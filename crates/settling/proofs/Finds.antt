@@ -378,7 +378,7 @@ caller_told step task told = at (begins step) refl told
         (λ i. is i && own i)
     at false none told = absurd (cc (told))
 
-none_told : (step : Step) → None ≡ cond (begins step) (Some (call_in step).task) None → begins step ≡ false
+pub none_told : (step : Step) → None ≡ cond (begins step) (Some (call_in step).task) None → begins step ≡ false
 none_told step told = at (begins step) told
   where
     at : (b : Bool) → None ≡ cond b (Some (call_in step).task) None → b ≡ false

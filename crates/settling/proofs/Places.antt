@@ -86,6 +86,44 @@ own_call step begin = λ k. begin k && own k
     own : eqb (call_in step).task (call_in step).task ≡ true
     own = grind (arith, nat_tests)
 
+-- where nothing waits of a task, the list has no call of it to lose
+without_none : (task : ℕ) (waiting : List WaitingCall) → list_any (λ (waits : WaitingCall). eqb waits.task task) waiting ≡ false → without_first task waiting ≡ waiting
+without_none task [] none = refl
+without_none task (waits ∷ waiting) none = at (eqb waits.task task) none (without_none task waiting)
+  where
+    at :
+        (own : Bool) → (own || list_any (λ (waits : WaitingCall). eqb waits.task task) waiting) ≡ false
+        → (list_any (λ (waits : WaitingCall). eqb waits.task task) waiting ≡ false → without_first task waiting ≡ waiting) → cond own waiting (waits ∷ without_first task waiting) ≡ waits ∷ waiting
+    at true none rest = absurd (cc (none))
+    at false none rest = ap (λ (rest : List WaitingCall). waits ∷ rest) (rest none)
+
+module _ (session : List Step) (heads : List ℕ) (task : ℕ) where
+  -- before the place of a task's next call nothing of it waits
+  front_none : (k : ℕ) → k ≤ slice_index heads task → list_any (λ (waits : WaitingCall). eqb waits.task task) (waiting_at heads session k) ≡ false
+  unfolding waiting_at
+  front_none zero low = refl
+  front_none (suc j) low =
+      list_any-append (λ (waits : WaitingCall). eqb waits.task task) (waiting_at heads session j) _
+      ∙ ap (λ b. b || list_any (λ (waits : WaitingCall). eqb waits.task task) (cond (is_waiting heads session j) (call_in (step_at session j) ∷ []) [])) (front_none j (omega (arith, low)))
+      ∙ at (is_waiting heads session j) refl (eqb (call_in (step_at session j)).task task) refl
+    where
+      at : (b : Bool) → is_waiting heads session j ≡ b → (d : Bool) → eqb (call_in (step_at session j)).task task ≡ d → list_any (λ (waits : WaitingCall). eqb waits.task task) (cond (is_waiting heads session j) (call_in (step_at session j) ∷ []) []) ≡ false
+      at false none d same = ap (λ b. list_any (λ (waits : WaitingCall). eqb waits.task task) (cond b (call_in (step_at session j) ∷ []) [])) none
+      at true is false other = ap (λ b. list_any (λ (waits : WaitingCall). eqb waits.task task) (cond b (call_in (step_at session j) ∷ []) [])) is ∙ ap (λ b. b || false) other
+      at true is true same =
+          let both = and_parts (begins (step_at session j)) (leb (slice_index heads (call_in (step_at session j)).task) j) is in
+          let caller : (call_in (step_at session j)).task ≡ task = grind (arith, nat_tests, same) in
+          let least : leb (slice_index heads task) j ≡ true = ap (λ task. leb (slice_index heads task) j) (sym caller) ∙ both.1 in
+          let early : leb (slice_index heads task) j ≡ false = grind (arith, nat_tests, low) in
+          absurd (cc (least, early))
+
+  -- so where one is lost, the next call of the task has come
+  pub has_come : (come : ℕ) → suc (length (without_first task (waiting_at heads session come))) ≡ length (waiting_at heads session come) → slice_index heads task < come
+  has_come come fewer = elim (cases_lt (slice_index heads task) come) [
+    | inl low ↦ low
+    | inr high ↦ absurd (omega (arith, fewer, ap length (without_none task (waiting_at heads session come) (front_none come high))))
+  ]
+
 module _ (session : List Step) (come tasks : ℕ) (heads next : List ℕ) (queues : AreQueues session come tasks heads next) where
   -- a step comes
   module _ (more : come < length session) where
@@ -212,24 +250,7 @@ module _ (session : List Step) (come tasks : ℕ) (heads next : List ℕ) (queue
     abbrev own : WaitingCall → Bool
     own waits = eqb waits.task task
 
-    -- before its place nothing of the task waits, and all that waits does so after
-    front_own : (k : ℕ) → k ≤ slice_index heads task → list_any own (waiting_at heads session k) ≡ false
-    unfolding waiting_at
-    front_own zero low = refl
-    front_own (suc j) low =
-        list_any-append own (waiting_at heads session j) _ ∙ ap (λ b. b || list_any own (cond (is_waiting heads session j) (call_in (step_at session j) ∷ []) [])) (front_own j (omega (arith, low)))
-        ∙ at (is_waiting heads session j) refl (eqb (call_in (step_at session j)).task task) refl
-      where
-        at : (b : Bool) → is_waiting heads session j ≡ b → (d : Bool) → eqb (call_in (step_at session j)).task task ≡ d → list_any own (cond (is_waiting heads session j) (call_in (step_at session j) ∷ []) []) ≡ false
-        at false none d same = ap (λ b. list_any own (cond b (call_in (step_at session j) ∷ []) [])) none
-        at true is false other = ap (λ b. list_any own (cond b (call_in (step_at session j) ∷ []) [])) is ∙ ap (λ b. b || false) other
-        at true is true same =
-            let both = and_parts (begins (step_at session j)) (leb (slice_index heads (call_in (step_at session j)).task) j) is in
-            let caller : (call_in (step_at session j)).task ≡ task = grind (arith, nat_tests, same) in
-            let least : leb (slice_index heads task) j ≡ true = ap (λ task. leb (slice_index heads task) j) (sym caller) ∙ both.1 in
-            let early : leb (slice_index heads task) j ≡ false = grind (arith, nat_tests, low) in
-            absurd (cc (least, early))
-
+    -- before its place all that waits does so after
     front_same : (k : ℕ) → k ≤ slice_index heads task → waiting_at later_heads session k ≡ waiting_at heads session k
     unfolding waiting_at
     front_same zero low = refl
@@ -257,7 +278,7 @@ module _ (session : List Step) (come tasks : ℕ) (heads next : List ℕ) (queue
             let before : waiting_at heads session (suc h) ≡ all ++ call ∷ [] = waiting_suc heads session h ∙ ap (λ b. all ++ cond b (call ∷ []) []) here_before in
             let after : waiting_at later_heads session (suc h) ≡ all
             = waiting_suc later_heads session h ∙ (λ i. front_same h (omega arith) i ++ cond (here_after i) (call ∷ []) []) ∙ append-nil all in
-            let none = front_own h (omega arith) in
+            let none = front_none session heads task h (omega arith) in
             let gone : without_first task (all ++ call ∷ []) ≡ all
             = without_append task all (call ∷ []) ∙ ap (λ b. cond b (without_first task all ++ call ∷ []) (all ++ without_first task (call ∷ []))) none
             ∙ ap (λ b. all ++ cond b [] (call ∷ [])) is ∙ append-nil all in (

@@ -13,7 +13,8 @@ ghost use Rattle.settled_runs.specs.Settled.{quiet_step, IsSettled};
 ghost use Rattle.settling.specs.Places.{step_at, waiting_at};
 ghost use Rattle.settling.specs.Progress.{waiting_in, IsAt, IsResting, IsTooLong, IsUnderRest, IsUnderWay};
 
-use crate::queues::Queues;
+use crate::queues::{Queues, caller};
+use crate::searches::next_piece;
 use bench_types::{MAX_STEPS, Step};
 use settled_runs::WaitingCall;
 use smp_kernel::{Kernel, Meter};
@@ -80,6 +81,41 @@ impl Settling {
             return Err(SettleFault::NoMemory);
         }
         self.kernel.step(meter, &step);
+        Ok(())
+    }
+
+    // A piece of quiet work, the next one.
+    fn piece(&mut self, steps: &[Step], step: Step, meter: &mut Meter) -> Result<(), SettleFault>
+        requires way { IsUnderWay steps.now self.old }
+        requires next { (header : Header) (here : IsAt header steps.now self.old)
+            → quiet_step here.table (waiting_in steps.now self.old) ≡ Some step }
+        ensures made { OnOk result ((header : Header) → IsAt header steps.now self.old
+            → IsAt header steps.now self.new) }
+        ensures grows { OnOk result
+            (length self.new.run.items ≡ length self.old.run.items + 1) }
+        ensures come { OnOk result (self.new.come ≡ self.old.come) }
+        ensures long { result ≡ Err SettleFault.TooManySteps
+            → (header : Header) → IsAt header steps.now self.old → IsTooLong header steps.now }
+    {
+        self.make(step, meter)?;
+        if let Some(task) = caller(&step) {
+            self.queues.advance(task);
+        }
+        Ok(())
+    }
+
+    // Quiet work until there is none.
+    fn work(&mut self, steps: &[Step], meter: &mut Meter) -> Result<(), SettleFault>
+        requires { IsUnderWay steps.now self.old }
+        ensures rests { OnOk result ((header : Header) → IsAt header steps.now self.old
+            → IsResting header steps.now self.new) }
+        ensures come { OnOk result (self.new.come ≡ self.old.come) }
+        ensures long { result ≡ Err SettleFault.TooManySteps
+            → (header : Header) → IsAt header steps.now self.old → IsTooLong header steps.now }
+    {
+        while let Some(step) = next_piece(&self.kernel, &self.queues, steps, self.come) {
+            self.piece(steps, step, meter)?;
+        }
         Ok(())
     }
 }

@@ -1,5 +1,5 @@
 //! Settling: events come in turn, each followed by quiet work.
-ghost use Rattle.std.specs.Prelude.{◌≡◌, ◌<◌, ◌≤◌, ◌+◌, ◌∷◌, ◌++◌, [], All, IfOk, OnOk, Ok, Err, length, List, Some, slice_index, slice_index_or};
+ghost use Rattle.std.specs.Prelude.{◌≡◌, ◌<◌, ◌≤◌, ◌+◌, ◌∷◌, ◌++◌, [], All, IfErr, IfOk, OnOk, Ok, Err, length, List, Some, slice_index, slice_index_or};
 ghost use Rattle.bench_types.specs.declared.header.Header.{Header};
 ghost use Rattle.bench_types.specs.declared.step.Step.{Step};
 ghost use Rattle.bench_types.specs.Limits.{max_steps};
@@ -10,15 +10,16 @@ ghost use Rattle.bench_model.specs.Session.{step_of};
 ghost use Rattle.bench_model.specs.Table.{Table};
 ghost use Rattle.settled_runs.specs.declared.waiting_call.WaitingCall.{WaitingCall};
 ghost use Rattle.settled_runs.specs.Settled.{quiet_step, IsSettled};
+ghost use Rattle.settled_runs.specs.SettleLaws.{comes_from_outside};
 ghost use Rattle.settling.specs.Places.{step_at, waiting_at};
 ghost use Rattle.settling.specs.Progress.{waiting_in, IsAt, IsResting, IsTooLong, IsUnderRest, IsUnderWay};
 
 use crate::queues::{Queues, caller};
 use crate::searches::next_piece;
-use bench_types::{MAX_STEPS, Step};
+use bench_types::{Header, MAX_STEPS, Step};
 use settled_runs::WaitingCall;
 use smp_kernel::{Kernel, Meter};
-use std::alloc::AllocError;
+use std::alloc::{AllocError, Global};
 use thiserror::Error;
 
 /// A session's settled run.
@@ -62,6 +63,26 @@ pub(crate) struct Settling {
 }
 
 impl Settling {
+    // Before the first piece of quiet work.
+    fn start(alloc: Global, header: &Header, steps: &[Step]) -> Result<Settling, SettleFault>
+        requires { IsSession (record { header = header.now; steps = steps.now }) }
+        ensures begun { IfOk result (λ settling. IsAt header.now steps.now settling) }
+        ensures none { IfOk result (λ settling. settling.come ≡ 0) }
+        ensures memory { IfErr result (λ fault. fault ≡ SettleFault.NoMemory) }
+    {
+        let kernel = match Kernel::start(alloc, header) {
+            Ok(kernel) => kernel,
+            Err(_) => return Err(SettleFault::NoMemory),
+        };
+        let queues = Queues::new(alloc, kernel.settings().tasks, steps)?;
+        Ok(Settling {
+            kernel,
+            queues,
+            come: 0,
+            run: Vec::new(alloc),
+        })
+    }
+
     // The step is the next one of the run.
     fn make(&mut self, step: Step, meter: &mut Meter) -> Result<(), SettleFault>
         requires { step_check self.old.kernel.settings step ≡ Ok tt }
@@ -118,4 +139,30 @@ impl Settling {
         }
         Ok(())
     }
+
+    // The next step of the session comes: a tick or an interrupt is made, and a call waits.
+    fn come(&mut self, steps: &[Step], meter: &mut Meter) -> Result<(), SettleFault>
+        requires rests { IsUnderRest steps.now self.old }
+        requires more { self.old.come < length steps.now }
+        ensures come { OnOk result ((header : Header) → IsResting header steps.now self.old
+            → IsAt header steps.now self.new) }
+        ensures next { OnOk result (self.new.come ≡ self.old.come + 1) }
+        ensures long { result ≡ Err SettleFault.TooManySteps
+            → (header : Header) → IsResting header steps.now self.old
+            → IsTooLong header steps.now }
+    {
+        let step = steps[self.come];
+        if comes_from_outside(&step) {
+            self.make(step, meter)?;
+        }
+        self.come += 1;
+        Ok(())
+    }
+}
+
+// A tick or an interrupt.
+fn comes_from_outside(step: &Step) -> bool
+    ensures { result ≡ comes_from_outside step.now }
+{
+    matches!(step, Step::Tick | Step::Interrupt { .. })
 }

@@ -246,8 +246,8 @@ user_told table core task free runs user told =
 
 -- the next core's task, where its next call is at this place
 module _ (table : Table) (heads next : List ℕ) (session : List Step) (come : ℕ) (sound : IsSound table) (queues : AreQueues session come table.settings.tasks heads next)
-         (core first place : ℕ) (found : Option Step) (below : core < table.settings.cores) (searched : IsSearched table heads session come core first found)
-         (head : place ≡ slice_index heads (current table.control core)) where
+    (core first place : ℕ) (found : Option Step) (below : core < table.settings.cores) (searched : IsSearched table heads session come core first found)
+    (head : place ≡ slice_index heads (current table.control core)) where
   pub passes_as : (first ≤ place) ⊎ (is_timely table (on_core core (step_at session place)) ≡ false) → IsSearched table heads session come (core + 1) first found
   passes_as why =
       let there = subst (λ place. (first ≤ place) ⊎ (is_timely table (on_core core (step_at session place)) ≡ false)) head why in

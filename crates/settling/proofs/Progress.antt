@@ -24,7 +24,7 @@ use Rattle.settled_runs.specs.SettleLaws.{MayWait, comes_from_outside}
 use Rattle.settled_runs.proofs.Pieces.{SwitchMade, FinishMade, CallMade, IsPiece, piece_of}
 use Rattle.settled_runs.proofs.Rests.{IsGood, begin_waits, event_waits, piece_checked}
 use Rattle.settling.specs.declared.queues.Queues.{Queues}
-use Rattle.settling.specs.declared.settle.Settling.{Settling}
+use Rattle.settling.specs.declared.run.Settling.{Settling}
 use Rattle.settling.specs.Places.{begins, call_in, step_at, waiting_at, AreQueues, HasCallers}
 use Rattle.settling.specs.Progress.{waiting_in, IsAt, IsResting, IsTooLong}
 use Rattle.settling.specs.Ways.{IsOnTheWay}

@@ -9,7 +9,7 @@ use Rattle.bench_model.specs.Equal.{StandsFor}
 use Rattle.bench_model.specs.Table.{Table}
 use Rattle.settled_runs.specs.declared.waiting_call.WaitingCall.{WaitingCall}
 use Rattle.settled_runs.specs.Settled.{events_of, quiet_step, IsSettled}
-use Rattle.settling.specs.declared.settle.Settling.{Settling}
+use Rattle.settling.specs.declared.run.Settling.{Settling}
 use Rattle.settling.specs.Places.{waiting_at, AreQueues}
 use Rattle.settling.specs.Ways.{IsOnTheWay}
 

@@ -2,7 +2,7 @@
 #![tactic(auto)]
 
 mod queues;
+mod run;
 mod searches;
-mod settle;
 
-pub use settle::{SettleFault, Settled};
+pub use run::{SettleFault, Settled, settle};

@@ -1,7 +1,7 @@
 use Rattle.std.proofs.Common.{◌≡◌, ◌∙◌, ◌≤◌, arith, length, sym}
 use Rattle.bench_types.specs.Limits.{max_steps}
 use Rattle.settling.proofs.Progress.{kernel_checked, kernel_queues}
-use Rattle.settling.proofs.settle.Settling.work.Goals as goal
+use Rattle.settling.proofs.run.Settling.work.Goals as goal
 
 pub next_piece-requires-clause-queues : goal.next_piece-requires-clause-queues
 next_piece-requires-clause-queues c = let way = c.requires in kernel_queues way.0 c.args.steps.now c.loop-step.self (c.loop-step.invariant.0 way.0 way.1)

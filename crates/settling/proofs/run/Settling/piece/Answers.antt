@@ -3,7 +3,7 @@ use Rattle.bench_types.specs.Limits.{max_steps}
 use Rattle.settling.specs.declared.queues.Queues.{Queues}
 use Rattle.std.specs.Prelude.{slice_index, slice_set}
 use Rattle.settling.proofs.Progress.{at_call, at_idle, head_low, piece_passes, piece_too_long, task_low}
-use Rattle.settling.proofs.settle.Settling.piece.Goals as goal
+use Rattle.settling.proofs.run.Settling.piece.Goals as goal
 
 pub make-requires : goal.make-requires
 make-requires c = let way = c.requires.way in piece_passes way.0 c.args.steps.now c.args.self.now way.1 c.args.step (c.requires.next way.0 way.1)

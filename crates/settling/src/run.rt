@@ -1,5 +1,5 @@
 //! Settling: events come in turn, each followed by quiet work.
-ghost use Rattle.std.specs.Prelude.{◌≡◌, ◌<◌, ◌≤◌, ◌+◌, ◌∷◌, ◌++◌, [], All, IfErr, IfOk, OnOk, Ok, Err, length, List, Some, slice_index, slice_index_or};
+ghost use Rattle.std.specs.Prelude.{◌≡◌, ◌<◌, ◌≤◌, ◌+◌, ◌∷◌, ◌++◌, [], All, IfErr, IfOk, OnOk, Ok, Err, length, List, None, Some, if◌then◌else◌};
 ghost use Rattle.bench_types.specs.declared.header.Header.{Header};
 ghost use Rattle.bench_types.specs.declared.step.Step.{Step};
 ghost use Rattle.bench_types.specs.Limits.{max_steps};
@@ -11,12 +11,12 @@ ghost use Rattle.bench_model.specs.Table.{Table};
 ghost use Rattle.settled_runs.specs.declared.waiting_call.WaitingCall.{WaitingCall};
 ghost use Rattle.settled_runs.specs.Settled.{quiet_step, IsSettled};
 ghost use Rattle.settled_runs.specs.SettleLaws.{comes_from_outside};
-ghost use Rattle.settling.specs.Places.{step_at, waiting_at};
+ghost use Rattle.settling.specs.Places.{begins, call_in, HasCallers};
 ghost use Rattle.settling.specs.Progress.{waiting_in, IsAt, IsResting, IsTooLong, IsUnderRest, IsUnderWay};
 
 use crate::queues::{Queues, caller};
 use crate::searches::next_piece;
-use bench_types::{Header, MAX_STEPS, Step};
+use bench_types::{Call, Header, MAX_STEPS, Step};
 use settled_runs::WaitingCall;
 use smp_kernel::{Kernel, Meter};
 use std::alloc::{AllocError, Global};
@@ -44,7 +44,7 @@ pub enum SettleFault {
 
 impl From<AllocError> for SettleFault {
     ghost use Rattle.std.specs.Prelude.{◌≡◌};
-    ghost use Rattle.settling.specs.declared.settle.SettleFault.TheVariants.{NoMemory};
+    ghost use Rattle.settling.specs.declared.run.SettleFault.TheVariants.{NoMemory};
 
     ghost from_gives = { λ _ fault. fault ≡ NoMemory };
 
@@ -54,6 +54,7 @@ impl From<AllocError> for SettleFault {
 }
 
 // The settled run as far as it was made.
+#[derive(Drop)]
 pub(crate) struct Settling {
     kernel: Kernel,
     queues: Queues,
@@ -158,6 +159,50 @@ impl Settling {
         self.come += 1;
         Ok(())
     }
+
+    // The calls that wait.
+    fn left(&self, alloc: Global, steps: &[Step]) -> Result<Vec<WaitingCall>, AllocError>
+        requires come { self.now.come ≤ length steps.now }
+        requires callers { HasCallers steps.now (length self.now.queues.heads.items) }
+        ensures { IfOk result (λ left. left.items ≡ waiting_in steps.now self.now) }
+    {
+        let mut left = Vec::new(alloc);
+        for place in 0..self.come {
+            if let Some(waits) = waiting_call(&steps[place])
+                && self.queues.head(waits.task) <= place
+            {
+                left.push(waits)?;
+            }
+        }
+        Ok(left)
+    }
+}
+
+/// The run that a target makes of the session's calls, ticks and interrupts. The meter counts its
+/// steps.
+pub fn settle(
+    alloc: Global,
+    header: &Header,
+    steps: &[Step],
+    meter: &mut Meter,
+) -> Result<Settled, SettleFault>
+    requires { IsSession (record { header = header.now; steps = steps.now }) }
+    ensures settled { IfOk result
+        (λ settled. IsSettled header.now steps.now settled.run.items settled.left.items) }
+    ensures room { IfOk result (λ settled. length settled.run.items ≤ max_steps) }
+    ensures long { result ≡ Err SettleFault.TooManySteps
+        → (run : List Step) (left : List WaitingCall) → IsSettled header.now steps.now run left
+        → max_steps < length run }
+{
+    let mut settling = Settling::start(alloc, header, steps)?;
+    settling.work(steps, meter)?;
+    while settling.come < steps.len() {
+        settling.come(steps, meter)?;
+        settling.work(steps, meter)?;
+    }
+    let left = settling.left(alloc, steps)?;
+    let Settling { run, .. } = settling;
+    Ok(Settled { run, left })
 }
 
 // A tick or an interrupt.
@@ -165,4 +210,18 @@ fn comes_from_outside(step: &Step) -> bool
     ensures { result ≡ comes_from_outside step.now }
 {
     matches!(step, Step::Tick | Step::Interrupt { .. })
+}
+
+// The call of a step that begins one.
+fn waiting_call(step: &Step) -> Option<WaitingCall>
+    ensures { result ≡ (if begins step.now then Some (call_in step.now) else None) }
+{
+    match *step {
+        Step::Call {
+            call: Call::Finish,
+            ..
+        } => None,
+        Step::Call { task, call, .. } => Some(WaitingCall { task, call }),
+        _ => None,
+    }
 }

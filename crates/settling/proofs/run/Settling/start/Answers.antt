@@ -2,7 +2,7 @@ use Rattle.std.proofs.Common.{◌∙◌, ap, subst, sym, refl}
 use Rattle.bench_types.specs.declared.kernel_data.Settings.{Settings}
 use Rattle.settling.specs.Places.{AreQueues}
 use Rattle.settling.proofs.Progress.{at_start, callers_low}
-use Rattle.settling.proofs.settle.Settling.start.Goals as goal
+use Rattle.settling.proofs.run.Settling.start.Goals as goal
 
 pub new-requires : goal.new-requires
 new-requires c =

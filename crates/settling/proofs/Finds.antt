@@ -1,6 +1,6 @@
 -- What the searches for the next piece of quiet work find.
-use Rattle.std.proofs.Common.{◌≡◌, ℕ, suc, ◌+◌, ◌-◌, ◌<◌, ◌≤◌, ◌≢◌, Bool, true, false, cond, not, eqb, leb, ◌&&◌, List, [], ◌∷◌, length, get_or, map, Option, Some, None, refl, sym, ap, subst, ◌∙◌, inl, inr, arith}
-use Rattle.std.specs.Prelude.{◌⊎◌, All, option_map, is_none, is_some, replicate, slice_index, slice_set}
+use Rattle.std.proofs.Common.{◌≡◌, ℕ, suc, ◌+◌, ◌-◌, ◌<◌, ◌≤◌, ◌≢◌, Bool, true, false, cond, not, eqb, leb, ◌&&◌, List, [], ◌∷◌, ◌++◌, length, get_or, map, Option, Some, None, refl, sym, ap, subst, ◌∙◌, inl, inr, arith}
+use Rattle.std.specs.Prelude.{◌⊎◌, All, option_map, option_to_list, is_none, is_some, replicate, slice_index, slice_set}
 use Rattle.std.specs.List.{find, filter}
 use Rattle.std.specs.Option.{option_or, option_map_or}
 use Rattle.std.proofs.lemmas.Bool.{cases_eq, cases_lt, and_parts}
@@ -27,7 +27,7 @@ use Rattle.settled_runs.specs.Settled.{is_early, is_finish, is_open, is_timely, 
 use Rattle.settled_runs.proofs.Rests.{running_below, runs_core}
 use Rattle.settled_runs.proofs.Timely.{timely_same, timely_runs}
 use Rattle.settling.specs.Places.{step_at, call_in, begins, is_call_of, is_waiting, on_core, waiting_at, made_from, can_come, AreLinked, AreQueues, HasCallers, IsNext, IsSearched}
-use Rattle.settling.proofs.Places.{none_of_numbers, one_of_numbers, found_place}
+use Rattle.settling.proofs.Places.{none_of_numbers, one_of_numbers, found_place, waiting_suc}
 
 pub same_settings : (kernel : View) (table : Table) → StandsFor kernel table → table.settings ≡ kernel.settings
 same_settings kernel table stands = ap (λ (view : View). view.settings) stands.shows
@@ -402,3 +402,43 @@ module _ (session : List Step) (place tasks : ℕ) (heads next : List ℕ) (some
       let here : old ≡ slice_index heads task = get_or_read heads task old (omega (arith, user, linked.head_each)) read 0 in
       subst (λ old. AreLinked session (place - 1) tasks (slice_set heads task (place - 1)) (slice_set next (place - 1) old)) (sym here)
       (linked_call session (place - 1) tasks heads next before_it task user is)
+
+-- ---- the calls that are left
+
+pub waits_none : (step : Step) (here : Bool) → None ≡ cond (begins step) (Some (call_in step)) None → None ≡ cond (begins step && here) (Some (call_in step)) None
+waits_none step here told = at (begins step) told
+  where
+    at : (b : Bool) → None ≡ cond b (Some (call_in step)) None → None ≡ cond (b && here) (Some (call_in step)) None
+    at true told = absurd (cc (told))
+    at false told = refl
+
+pub waits_some : (step : Step) (heads : List ℕ) (place : ℕ) (waits : WaitingCall) (here : Bool) → Some waits ≡ cond (begins step) (Some (call_in step)) None → leb (slice_index heads waits.task) place ≡ here → cond here (Some waits) None ≡ cond (begins step && leb (slice_index heads (call_in step).task) place) (Some (call_in step)) None
+waits_some step heads place waits here told low = at (begins step) told
+  where
+    at : (b : Bool) → Some waits ≡ cond b (Some (call_in step)) None → cond here (Some waits) None ≡ cond (b && leb (slice_index heads (call_in step).task) place) (Some (call_in step)) None
+    at true told =
+        let same : waits ≡ call_in step = cc (told) in
+        let same_low : here ≡ leb (slice_index heads (call_in step).task) place = sym low ∙ ap (λ (waits : WaitingCall). leb (slice_index heads waits.task) place) same in
+        (λ i. cond (same_low i) (Some (same i)) None)
+    at false told = absurd (cc (told))
+
+-- the task of a call that begins, as of one of so many
+pub waits_low : (session : List Step) (place tasks : ℕ) (waits : WaitingCall) → HasCallers session tasks → place < length session → Some waits ≡ cond (begins (step_at session place)) (Some (call_in (step_at session place))) None → waits.task < tasks
+waits_low session place tasks waits callers low told = at (begins (step_at session place)) refl told
+  where
+    at : (b : Bool) → begins (step_at session place) ≡ b → Some waits ≡ cond b (Some (call_in (step_at session place))) None → waits.task < tasks
+    at true begin told = let same : waits ≡ call_in (step_at session place) = cc (told) in subst (λ (waits : WaitingCall). waits.task < tasks) (sym same) (callers place low begin)
+    at false none told = absurd (cc (told))
+
+-- one more place
+pub left_more : (heads : List ℕ) (session : List Step) (place : ℕ) (before after : List WaitingCall) (found : Option WaitingCall) → before ≡ waiting_at heads session place → found ≡ cond (is_waiting heads session place) (Some (call_in (step_at session place))) None → after ≡ before ++ option_to_list found → after ≡ waiting_at heads session (place + 1)
+left_more heads session place before after found first told grows =
+    grows ∙ (λ i. first i ++ option_to_list (told i)) ∙ ap (λ rest. waiting_at heads session place ++ rest) (at (is_waiting heads session place)) ∙ sym (waiting_suc heads session place) ∙ ap (waiting_at heads session) (sym (add-one place))
+  where
+    at : (b : Bool) → option_to_list (cond b (Some (call_in (step_at session place))) None) ≡ cond b (call_in (step_at session place) ∷ []) []
+    at true = refl
+    at false = refl
+
+pub left_none : (heads : List ℕ) (session : List Step) → [] ≡ waiting_at heads session 0
+unfolding waiting_at
+left_none heads session = refl

@@ -47,7 +47,7 @@ one_of_numbers q c (suc n) below passes fails = find_suc q n ∙ elim (cases_eq 
 
 -- ---- what waits
 
-waiting_suc : (heads : List ℕ) (session : List Step) (place : ℕ) → waiting_at heads session (suc place) ≡ waiting_at heads session place ++ cond (is_waiting heads session place) (call_in (step_at session place) ∷ []) []
+pub waiting_suc : (heads : List ℕ) (session : List Step) (place : ℕ) → waiting_at heads session (suc place) ≡ waiting_at heads session place ++ cond (is_waiting heads session place) (call_in (step_at session place) ∷ []) []
 unfolding waiting_at
 waiting_suc heads session place = refl
 

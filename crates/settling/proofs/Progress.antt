@@ -1,7 +1,7 @@
 -- How a session is settled further.
 use Rattle.std.proofs.Common.{◌≡◌, ℕ, suc, ◌+◌, ◌^◌, ◌<◌, ◌≤◌, Bool, true, false, cond, not, List, [], ◌∷◌, ◌++◌, length, drop, drop-cons, Option, Some, None, Ok, refl, sym, ap, subst, ◌∙◌, inl, inr, arith, length-append}
 use Rattle.std.specs.Prelude.{All, slice_index, slice_set}
-use Rattle.std.proofs.lemmas.List.{append-nil}
+use Rattle.std.proofs.lemmas.List.{append-nil, drop_all}
 use Rattle.std.proofs.lemmas.List.Elements.{All-get_or}
 use Rattle.std.proofs.Math.Numerals.{add-one}
 use Rattle.bench_types.specs.declared.header.Header.{Header}
@@ -19,7 +19,7 @@ use Rattle.bench_model.specs.Start.{start}
 use Rattle.bench_model.specs.Table.{Table}
 use Rattle.step_laws.proofs.Along.{settings_after, start_settings}
 use Rattle.settled_runs.specs.declared.waiting_call.WaitingCall.{WaitingCall}
-use Rattle.settled_runs.specs.Settled.{is_event, is_finish, events_of, made_at_once, waiting_with, on_its_core, quiet_step, waiting_after, without_first}
+use Rattle.settled_runs.specs.Settled.{is_event, is_finish, events_of, made_at_once, waiting_with, on_its_core, quiet_step, waiting_after, without_first, IsSettled}
 use Rattle.settled_runs.specs.SettleLaws.{MayWait, comes_from_outside}
 use Rattle.settled_runs.proofs.Pieces.{SwitchMade, FinishMade, CallMade, IsPiece, piece_of}
 use Rattle.settled_runs.proofs.Rests.{IsGood, begin_waits, event_waits, piece_checked}
@@ -30,7 +30,7 @@ use Rattle.settling.specs.Progress.{waiting_in, IsAt, IsResting, IsTooLong}
 use Rattle.settling.specs.Ways.{IsOnTheWay}
 use Rattle.settling.proofs.Finds.{none_told, same_settings}
 use Rattle.settling.proofs.Places.{come_event, come_other, come_queues, has_come, made_queues, made_waiting, waiting_may}
-use Rattle.settling.proofs.Ways.{begun, event_way, piece_way, too_long, too_many}
+use Rattle.settling.proofs.Ways.{begun, event_way, piece_way, too_long, too_many, way_ends}
 
 module _ (header : Header) (session : List Step) (old : Settling) (here : IsAt header session old) where
   pub all_checked : All (IsCheckedStep here.table.settings) session
@@ -286,3 +286,14 @@ module _ (header : Header) (session : List Step) (old : Settling) (resting : IsR
       let some : 0 < length (made_at_once step) = omega (arith, ap length once.0) in
       too_many header session resting.here.table (waiting_in session old) old.run.items (events_of rest) step max_steps full some resting.rests
       (subst (λ events. IsOnTheWay header session resting.here.table (waiting_in session old) events old.run.items) same resting.here.way)
+
+-- ---- the end
+
+-- all steps have come, and there is no quiet work to do
+pub settled_at :
+    (header : Header) (session : List Step) (settling : Settling) → IsResting header session settling → length session ≤ settling.come → (left : List WaitingCall) → left ≡ waiting_in session settling
+    → IsSettled header session settling.run.items left
+settled_at header session settling resting all left same =
+    let none : drop settling.come session ≡ [] = drop_all settling.come session all in
+    let way = subst (λ events. IsOnTheWay header session resting.here.table (waiting_in session settling) events settling.run.items) (ap events_of none) resting.here.way in
+    subst (IsSettled header session settling.run.items) (sym same) (way_ends header session resting.here.table (waiting_in session settling) settling.run.items resting.rests way)

@@ -11,7 +11,7 @@ ghost use Rattle.bench_model.specs.Table.{Table};
 ghost use Rattle.settled_runs.specs.declared.waiting_call.WaitingCall.{WaitingCall};
 ghost use Rattle.settled_runs.specs.Settled.{quiet_step, IsSettled};
 ghost use Rattle.settled_runs.specs.SettleLaws.{comes_from_outside};
-ghost use Rattle.settling.specs.Places.{begins, call_in, HasCallers};
+ghost use Rattle.settling.specs.Places.{begins, call_in, is_waiting, step_at, HasCallers};
 ghost use Rattle.settling.specs.Progress.{waiting_in, IsAt, IsResting, IsTooLong, IsUnderRest, IsUnderWay};
 
 use crate::queues::{Queues, caller};
@@ -160,6 +160,22 @@ impl Settling {
         Ok(())
     }
 
+    // The call at the place, where it waits.
+    fn waits_at(&self, steps: &[Step], place: usize) -> Option<WaitingCall>
+        requires place { place < length steps.now }
+        requires callers { HasCallers steps.now (length self.now.queues.heads.items) }
+        ensures { result
+            ≡ (if is_waiting self.now.queues.heads.items steps.now place
+            then Some (call_in (step_at steps.now place)) else None) }
+    {
+        let waits = waiting_call(&steps[place])?;
+        if self.queues.head(waits.task) <= place {
+            Some(waits)
+        } else {
+            None
+        }
+    }
+
     // The calls that wait.
     fn left(&self, alloc: Global, steps: &[Step]) -> Result<Vec<WaitingCall>, AllocError>
         requires come { self.now.come ≤ length steps.now }
@@ -168,9 +184,7 @@ impl Settling {
     {
         let mut left = Vec::new(alloc);
         for place in 0..self.come {
-            if let Some(waits) = waiting_call(&steps[place])
-                && self.queues.head(waits.task) <= place
-            {
+            if let Some(waits) = self.waits_at(steps, place) {
                 left.push(waits)?;
             }
         }

@@ -44,20 +44,23 @@ abbrev due : Table → ℕ → ℕ
 due table cores = sum (map (weight_at table.control) (numbers cores))
 
 -- the work, where the settings stay
-work_as : (table later : Table) (waiting : List WaitingCall) → later.settings ≡ table.settings → work_of later waiting ≡ record { waiting = length waiting; unfinished = unfinished later table.settings.tasks; due = due later table.settings.cores }
+work_as : (table later : Table) (waiting : List WaitingCall) → later.settings ≡ table.settings
+    → work_of later waiting ≡ record { waiting = length waiting; unfinished = unfinished later table.settings.tasks; due = due later table.settings.cores }
 unfolding work_of
 work_as table later waiting same =
     λ i. record { waiting = length waiting; unfinished = unfinished later (same i).tasks; due = due later (same i).cores }
 
 less_as : (table later : Table) (waiting rest : List WaitingCall) → later.settings ≡ table.settings
-    → IsLess (record { waiting = length rest; unfinished = unfinished later table.settings.tasks; due = due later table.settings.cores }) (work_of table waiting) → IsLess (work_of later rest) (work_of table waiting)
+    → IsLess (record { waiting = length rest; unfinished = unfinished later table.settings.tasks; due = due later table.settings.cores })
+    (work_of table waiting) → IsLess (work_of later rest) (work_of table waiting)
 less_as table later waiting rest same less = subst (λ work. IsLess work (work_of table waiting)) (sym (work_as table later rest same)) less
 
 switch_step : (table : Table) (core : ℕ) → is_open table (Switch core) ≡ true → (step_of (Switch core) table).1 ≡ after_switch stamp_queues core table
 unfolding performed
 switch_step table core free = ap (λ (outcome : Reply × Table). outcome.1) (step_open table (Switch core) free)
 
-switch_lessens : (table : Table) (waiting : List WaitingCall) (core : ℕ) → IsSound table → core < table.settings.cores → is_open table (Switch core) ≡ true → IsLess (work_of (step_of (Switch core) table).1 waiting) (work_of table waiting)
+switch_lessens : (table : Table) (waiting : List WaitingCall) (core : ℕ) → IsSound table → core < table.settings.cores → is_open table (Switch core) ≡ true
+    → IsLess (work_of (step_of (Switch core) table).1 waiting) (work_of table waiting)
 unfolding work_of
 switch_lessens table waiting core sound below free =
     let later = after_switch stamp_queues core table in
@@ -67,39 +70,54 @@ switch_lessens table waiting core sound below free =
     let calls = switched_calls table core sound below in
     let could = λ (i : ℕ). ap (λ (table : Table). could_finish table i) made ∙ (λ k. ready i k && is_some (call_at (calls k) i)) in
     let tasks = same_sum (λ i. cond (could_finish (step_of (Switch core) table).1 i) 1 0) (λ i. cond (could_finish table i) 1 0) (numbers table.settings.tasks)
-    (All-weaker (λ i. i < table.settings.tasks) _ (λ i low. ap (λ b. cond b 1 0) (could i)) (numbers table.settings.tasks) (numbers_below table.settings.tasks)) in
+    (All-weaker (λ i. i < table.settings.tasks) _ (λ i low. ap (λ b. cond b 1 0) (could i)) (numbers table.settings.tasks) (numbers_below table.settings.tasks))
+    in
     let lighter = switched_weight table core sound below (switch_due table core free) in
     let less : due (step_of (Switch core) table).1 table.settings.cores < due table table.settings.cores
-    = omega (arith, ap (λ (next : Table). due next table.settings.cores) made, lighter, sum-map (weight_at later.control) (numbers table.settings.cores), sum-map (weight_at table.control) (numbers table.settings.cores)) in
+    = omega (
+      arith,
+      ap (λ (next : Table). due next table.settings.cores) made,
+      lighter,
+      sum-map (weight_at later.control) (numbers table.settings.cores),
+      sum-map (weight_at table.control) (numbers table.settings.cores),
+    ) in
     less_as table (step_of (Switch core) table).1 waiting waiting settings (inr (refl, inr (tasks, less)))
 
-finish_lessens : (table : Table) (waiting : List WaitingCall) (core task : ℕ) → IsSound table → IsCheckedStep table.settings (steps.Call core task Finish) → is_open table (steps.Call core task Finish) ≡ true → task < table.settings.tasks → IsLess (work_of (step_of (steps.Call core task Finish) table).1 waiting) (work_of table waiting)
+finish_lessens : (table : Table) (waiting : List WaitingCall) (core task : ℕ) → IsSound table → IsCheckedStep table.settings (steps.Call core task Finish)
+    → is_open table (steps.Call core task Finish) ≡ true → task < table.settings.tasks
+    → IsLess (work_of (step_of (steps.Call core task Finish) table).1 waiting) (work_of table waiting)
 unfolding work_of
 finish_lessens table waiting core task sound checked free below =
     let later = (step_of (steps.Call core task Finish) table).1 in
     let ended = ended_after table core task sound checked free in
     let before = ap {B = ℕ} (λ b. cond b 1 0) (could_before table core task sound checked free) in
     let after = ap {B = ℕ} (λ b. cond b 1 0) ended.ends in
-    let sums = one_sum (λ i. cond (could_finish table i) 1 0) (λ i. cond (could_finish later i) 1 0) task table.settings.tasks below (λ i away. ap {B = ℕ} (λ b. cond b 1 0) (sym (ended.others i away))) in
+    let sums =
+    one_sum (λ i. cond (could_finish table i) 1 0) (λ i. cond (could_finish later i) 1 0) task table.settings.tasks below
+    (λ i away. ap {B = ℕ} (λ b. cond b 1 0) (sym (ended.others i away))) in
     let fewer : unfinished later table.settings.tasks < unfinished table table.settings.tasks = omega (arith, before, after, sums) in
     less_as table later waiting waiting (settings_after table (steps.Call core task Finish) sound) (inr (refl, inl fewer))
 
-call_lessens : (table later : Table) (waiting rest : List WaitingCall) → suc (length rest) ≡ length waiting → IsLess (work_of later rest) (work_of table waiting)
+call_lessens : (table later : Table) (waiting rest : List WaitingCall) → suc (length rest) ≡ length waiting
+    → IsLess (work_of later rest) (work_of table waiting)
 unfolding work_of
 call_lessens table later waiting rest fewer = inl (omega (arith, fewer))
 
-pub piece_lessens : (table : Table) (waiting : List WaitingCall) (step : Step) → IsSound table → AllByRecursion (MayWait table.settings) waiting → quiet_step table waiting ≡ Some step → IsLess (work_of (step_of step table).1 (waiting_after waiting step)) (work_of table waiting)
+pub piece_lessens : (table : Table) (waiting : List WaitingCall) (step : Step) → IsSound table → AllByRecursion (MayWait table.settings) waiting
+    → quiet_step table waiting ≡ Some step → IsLess (work_of (step_of step table).1 (waiting_after waiting step)) (work_of table waiting)
 piece_lessens table waiting step sound may made = at (piece_of (MayWait table.settings) (begin_waits table.settings) table waiting step may made)
   where
     at : IsPiece (MayWait table.settings) table waiting step → IsLess (work_of (step_of step table).1 (waiting_after waiting step)) (work_of table waiting)
     at (inl it) =
         let free = subst (λ step. is_open table step ≡ true) it.is it.free in
-        subst (λ step. IsLess (work_of (step_of step table).1 (waiting_after waiting step)) (work_of table waiting)) (sym it.is) (switch_lessens table waiting it.core sound it.below free)
+        subst (λ step. IsLess (work_of (step_of step table).1 (waiting_after waiting step)) (work_of table waiting)) (sym it.is)
+        (switch_lessens table waiting it.core sound it.below free)
     at (inr (inl it)) =
         let free = subst (λ step. is_open table step ≡ true) it.is it.free in
         let sized = sound.consistent.sized in
         let task = current table.control it.core in
-        let on : task < table.settings.tasks = omega (arith, sized.cores, sized.rows, it.below, sound.consistent.in_place.is_task it.core (omega (arith, sized.cores, it.below))) in
+        let on : task < table.settings.tasks =
+        omega (arith, sized.cores, sized.rows, it.below, sound.consistent.in_place.is_task it.core (omega (arith, sized.cores, it.below))) in
         subst (λ step. IsLess (work_of (step_of step table).1 (waiting_after waiting step)) (work_of table waiting)) (sym it.is)
         (finish_lessens table waiting it.core task sound (finish_checked table it.core sound it.below it.user) free on)
     at (inr (inr it)) =
@@ -108,7 +126,8 @@ piece_lessens table waiting step sound may made = at (piece_of (MayWait table.se
         subst (λ step. IsLess (work_of (step_of step table).1 (waiting_after waiting step)) (work_of table waiting)) (sym it.is)
         (call_lessens table _ waiting _ gone)
 
-pub quiet_work_lessens : (table : Table) (waiting : List WaitingCall) (step : Step) → IsSound table → All (MayWait table.settings) waiting → quiet_step table waiting ≡ Some step → IsLess (work_of (step_of step table).1 (waiting_after waiting step)) (work_of table waiting)
+pub quiet_work_lessens : (table : Table) (waiting : List WaitingCall) (step : Step) → IsSound table → All (MayWait table.settings) waiting
+    → quiet_step table waiting ≡ Some step → IsLess (work_of (step_of step table).1 (waiting_after waiting step)) (work_of table waiting)
 quiet_work_lessens table waiting step sound may = piece_lessens table waiting step sound (recursion_from_All (MayWait table.settings) waiting may)
 
 -- ---- quiet work ends
@@ -119,7 +138,8 @@ Ends table waiting = (made : List Step) × IsQuietWork table waiting made
 -- where it ends from all that there is less to do from, it ends
 next_ends :
     (table : Table) (waiting : List WaitingCall) → IsGood table waiting
-    → ((later : Table) (rest : List WaitingCall) → IsGood later rest → IsLess (work_of later rest) (work_of table waiting) → Ends later rest) → Ends table waiting
+    → ((later : Table) (rest : List WaitingCall) → IsGood later rest → IsLess (work_of later rest) (work_of table waiting) → Ends later rest)
+    → Ends table waiting
 unfolding Ends
 next_ends table waiting good below = at (quiet_step table waiting) refl
   where
@@ -127,21 +147,26 @@ next_ends table waiting good below = at (quiet_step table waiting) refl
     at None none = ([], none)
     at (Some step) made =
         let checked = piece_checked table waiting step good made in
-        let rest = below (step_of step table).1 (waiting_after waiting step) (good_after table waiting step good checked) (piece_lessens table waiting step good.sound good.may made) in
+        let rest =
+        below (step_of step table).1 (waiting_after waiting step) (good_after table waiting step good checked)
+        (piece_lessens table waiting step good.sound good.may made) in
         (step ∷ rest.0, (made, rest.1))
 
 -- with as many that wait and as many unfinished, by what the due cores weigh
 by_due :
     (limit waits calls : ℕ)
-    → ((later : Table) (rest : List WaitingCall) → IsGood later rest → ((work_of later rest).waiting < waits) ⊎ (((work_of later rest).waiting ≡ waits) × ((work_of later rest).unfinished < calls)) → Ends later rest)
-    → (table : Table) (waiting : List WaitingCall) → IsGood table waiting → (work_of table waiting).waiting ≡ waits → (work_of table waiting).unfinished ≡ calls → (work_of table waiting).due < limit → Ends table waiting
+    → ((later : Table) (rest : List WaitingCall) → IsGood later rest
+    → ((work_of later rest).waiting < waits) ⊎ (((work_of later rest).waiting ≡ waits) × ((work_of later rest).unfinished < calls)) → Ends later rest)
+    → (table : Table) (waiting : List WaitingCall) → IsGood table waiting → (work_of table waiting).waiting ≡ waits → (work_of table waiting).unfinished ≡ calls
+    → (work_of table waiting).due < limit → Ends table waiting
 by_due zero waits calls below table waiting good same unfinished few = absurd (omega (arith, few))
 by_due (suc limit) waits calls below table waiting good same unfinished few =
     next_ends table waiting good (λ later rest fine less. at later rest fine less (by_due limit waits calls below later rest fine))
   where
     at :
         (later : Table) (rest : List WaitingCall) → IsGood later rest → IsLess (work_of later rest) (work_of table waiting)
-        → ((work_of later rest).waiting ≡ waits → (work_of later rest).unfinished ≡ calls → (work_of later rest).due < limit → Ends later rest) → Ends later rest
+        → ((work_of later rest).waiting ≡ waits → (work_of later rest).unfinished ≡ calls → (work_of later rest).due < limit → Ends later rest)
+        → Ends later rest
     at later rest fine (inl fewer) again = below later rest fine (inl (omega (arith, fewer, same)))
     at later rest fine (inr (as_many, inl fewer)) again = below later rest fine (inr (as_many ∙ same, omega (arith, fewer, unfinished)))
     at later rest fine (inr (as_many, inr (like, lighter))) again = again (as_many ∙ same) (like ∙ unfinished) (omega (arith, lighter, few))
@@ -149,14 +174,17 @@ by_due (suc limit) waits calls below table waiting good same unfinished few =
 -- with as many that wait, by how many are unfinished
 by_unfinished :
     (limit waits : ℕ) → ((later : Table) (rest : List WaitingCall) → IsGood later rest → (work_of later rest).waiting < waits → Ends later rest)
-    → (table : Table) (waiting : List WaitingCall) → IsGood table waiting → (work_of table waiting).waiting ≡ waits → (work_of table waiting).unfinished < limit → Ends table waiting
+    → (table : Table) (waiting : List WaitingCall) → IsGood table waiting → (work_of table waiting).waiting ≡ waits → (work_of table waiting).unfinished < limit
+    → Ends table waiting
 by_unfinished zero waits below table waiting good same few = absurd (omega (arith, few))
 by_unfinished (suc limit) waits below table waiting good same few =
     by_due (suc (work_of table waiting).due) waits (work_of table waiting).unfinished
     (λ later rest fine less. at later rest fine less (by_unfinished limit waits below later rest fine)) table waiting good same refl (omega arith)
   where
     at :
-        (later : Table) (rest : List WaitingCall) → IsGood later rest → ((work_of later rest).waiting < waits) ⊎ (((work_of later rest).waiting ≡ waits) × ((work_of later rest).unfinished < (work_of table waiting).unfinished))
+        (later : Table) (rest : List WaitingCall) → IsGood later rest
+        → ((work_of later rest).waiting < waits) ⊎
+        (((work_of later rest).waiting ≡ waits) × ((work_of later rest).unfinished < (work_of table waiting).unfinished))
         → ((work_of later rest).waiting ≡ waits → (work_of later rest).unfinished < limit → Ends later rest) → Ends later rest
     at later rest fine (inl fewer) again = below later rest fine fewer
     at later rest fine (inr (as_many, fewer)) again = again as_many (omega (arith, fewer, few))
@@ -164,15 +192,18 @@ by_unfinished (suc limit) waits below table waiting good same few =
 by_waiting : (limit : ℕ) (table : Table) (waiting : List WaitingCall) → IsGood table waiting → (work_of table waiting).waiting < limit → Ends table waiting
 by_waiting zero table waiting good few = absurd (omega (arith, few))
 by_waiting (suc limit) table waiting good few =
-    by_unfinished (suc (work_of table waiting).unfinished) (work_of table waiting).waiting (λ later rest fine fewer. by_waiting limit later rest fine (omega (arith, fewer, few)))
+    by_unfinished (suc (work_of table waiting).unfinished) (work_of table waiting).waiting
+    (λ later rest fine fewer. by_waiting limit later rest fine (omega (arith, fewer, few)))
     table waiting good refl (omega arith)
 
 pub quiet_ends : (table : Table) (waiting : List WaitingCall) → IsGood table waiting → (made : List Step) × IsQuietWork table waiting made
 unfolding Ends
 quiet_ends table waiting good = by_waiting (suc (work_of table waiting).waiting) table waiting good (omega arith)
 
-pub quiet_work_ends : (table : Table) (waiting : List WaitingCall) → IsSound table → table.settings.cores < 2 ^ 32 → All (MayWait table.settings) waiting → (made : List Step) × IsQuietWork table waiting made
-quiet_work_ends table waiting sound few may = quiet_ends table waiting (record { sound = sound; few = few; may = recursion_from_All (MayWait table.settings) waiting may })
+pub quiet_work_ends : (table : Table) (waiting : List WaitingCall) → IsSound table → table.settings.cores < 2 ^ 32 → All (MayWait table.settings) waiting
+    → (made : List Step) × IsQuietWork table waiting made
+quiet_work_ends table waiting sound few may =
+    quiet_ends table waiting (record { sound = sound; few = few; may = recursion_from_All (MayWait table.settings) waiting may })
 
 -- ---- each session has a settled run
 
@@ -183,9 +214,13 @@ settles [] table waiting good are all = let quiet = quiet_ends table waiting goo
 settles (event ∷ events) table waiting good are all =
     let quiet = quiet_ends table waiting good in
     let first = event_good table waiting quiet.0 event good quiet.1 are.0 (All-head (IsCheckedStep table.settings) event events all) in
-    let others = events_later table waiting (quiet.0 ++ made_at_once event) events good first.checked (All-tail (IsCheckedStep table.settings) event events all) in
-    let rest = settles events (state_after table (quiet.0 ++ made_at_once event)) (waiting_with (still_waiting waiting quiet.0) event) first.last are.1 others in
+    let others =
+    events_later table waiting (quiet.0 ++ made_at_once event) events good first.checked (All-tail (IsCheckedStep table.settings) event events all) in
+    let rest =
+    settles events (state_after table (quiet.0 ++ made_at_once event)) (waiting_with (still_waiting waiting quiet.0) event) first.last are.1 others in
     (quiet.0 ++ (made_at_once event ++ rest.0), rest.1, (quiet.0, rest.0, refl, quiet.1, rest.2))
 
-pub there_is_a_settled_run : (session : Session) → IsSession session → (run : List Step) × (left : List WaitingCall) × IsSettled session.header session.steps run left
-there_is_a_settled_run session is = settles (events_of session.steps) (start session.header) [] (start_good session is) (events_are session.steps) (session_events session is)
+pub there_is_a_settled_run : (session : Session) → IsSession session → (run : List Step) × (left : List WaitingCall)
+    × IsSettled session.header session.steps run left
+there_is_a_settled_run session is =
+    settles (events_of session.steps) (start session.header) [] (start_good session is) (events_are session.steps) (session_events session is)

@@ -48,7 +48,8 @@ calm_then : (task : ℕ) (table next later : Table) → IsCalm table next → Ha
 calm_then task table next later calm ended = record { ends = ended.ends; others = λ i away. ended.others i away ∙ calm_finish table next calm i }
 
 then_calm : (task : ℕ) (table next later : Table) → HasEnded task table next → IsCalm next later → HasEnded task table later
-then_calm task table next later ended calm = record { ends = calm_finish next later calm task ∙ ended.ends; others = λ i away. calm_finish next later calm i ∙ ended.others i away }
+then_calm task table next later ended calm =
+    record { ends = calm_finish next later calm task ∙ ended.ends; others = λ i away. calm_finish next later calm i ∙ ended.others i away }
 
 calm_same : (table : Table) → IsCalm table table
 calm_same table = record { ready = λ i. refl; calls = refl }
@@ -59,7 +60,8 @@ either_calm false table one other first second = second
 
 -- ---- rules that leave who is ready
 
-in_use_ready : (table : Table) (task priority : ℕ) → task < length table.orders.rows → (i : ℕ) → is_ready i (in_use_set stamp_queues task priority table).orders ≡ is_ready i table.orders
+in_use_ready : (table : Table) (task priority : ℕ) → task < length table.orders.rows → (i : ℕ)
+    → is_ready i (in_use_set stamp_queues task priority table).orders ≡ is_ready i table.orders
 unfolding in_use_set
 in_use_ready table task priority below i = at (is_ready task table.orders) refl
   where
@@ -67,7 +69,8 @@ in_use_ready table task priority below i = at (is_ready task table.orders) refl
     at true ready = ready_again table.orders task below ready i
     at false waits = refl
 
-in_use_calm : (table : Table) (task priority : ℕ) (control : Control) → task < length table.orders.rows → IsCalm table (record (in_use_set stamp_queues task priority table) { control = control })
+in_use_calm : (table : Table) (task priority : ℕ) (control : Control) → task < length table.orders.rows
+    → IsCalm table (record (in_use_set stamp_queues task priority table) { control = control })
 unfolding in_use_set
 in_use_calm table task priority control below = record { ready = in_use_ready table task priority below; calls = refl }
 
@@ -75,22 +78,26 @@ set_calm : (table : Table) (task priority : ℕ) → task < length table.orders.
 unfolding in_use_set
 set_calm table task priority below = record { ready = in_use_ready table task priority below; calls = refl }
 
-inherited_calm : (table : Table) (acting holder priority : ℕ) → holder < length table.orders.rows → IsCalm table (inherited stamp_queues acting holder priority table)
+inherited_calm : (table : Table) (acting holder priority : ℕ) → holder < length table.orders.rows
+    → IsCalm table (inherited stamp_queues acting holder priority table)
 unfolding inherited
 inherited_calm table acting holder priority below =
     either_calm (ltb (task_at table.control holder).in_use priority) table _ table
     (either_calm (is_ready holder table.orders) table _ _ (in_use_calm table holder priority _ below) (set_calm table holder priority below))
     (calm_same table)
 
-disinherit_calm : (table : Table) (acting task priority : ℕ) → task < length table.orders.rows → IsCalm table (after_disinherit stamp_queues acting task priority table)
+disinherit_calm : (table : Table) (acting task priority : ℕ) → task < length table.orders.rows
+    → IsCalm table (after_disinherit stamp_queues acting task priority table)
 unfolding after_disinherit
 disinherit_calm table acting task priority below =
     either_calm (eqb (task_at table.control task).in_use priority) table table _ (calm_same table) (in_use_calm table task priority _ below)
 
-timed_out_calm : (table : Table) (acting task mutex : ℕ) (mark : Bool) (holder : ℕ) → holder < length table.orders.rows → IsCalm table (timed_out stamp_queues acting task mutex mark holder table)
+timed_out_calm : (table : Table) (acting task mutex : ℕ) (mark : Bool) (holder : ℕ) → holder < length table.orders.rows
+    → IsCalm table (timed_out stamp_queues acting task mutex mark holder table)
 unfolding timed_out
 timed_out_calm table acting task mutex mark holder below =
-    either_calm (mark && not (eqb holder task) && eqb (held_by table.holders holder) 1) table _ table (disinherit_calm table acting holder _ below) (calm_same table)
+    either_calm (mark && not (eqb holder task) && eqb (held_by table.holders holder) 1) table _ table (disinherit_calm table acting holder _ below)
+    (calm_same table)
 
 taken_calm : (table : Table) (task mutex : ℕ) → IsCalm table (taken task mutex table)
 unfolding taken
@@ -107,14 +114,17 @@ in_use_rows table task priority = at (is_ready task table.orders)
     at true = length-set table.orders.rows task _
     at false = refl
 
-inherited_rows : (table : Table) (acting holder priority : ℕ) → length (inherited stamp_queues acting holder priority table).orders.rows ≡ length table.orders.rows
+inherited_rows : (table : Table) (acting holder priority : ℕ)
+    → length (inherited stamp_queues acting holder priority table).orders.rows ≡ length table.orders.rows
 unfolding inherited
 inherited_rows table acting holder priority = at (ltb (task_at table.control holder).in_use priority) (is_ready holder table.orders)
   where
     later : Table
     later = in_use_set stamp_queues holder priority table
 
-    at : (b d : Bool) → length (cond b (cond d (record later { control = seek acting holder (in_mask later.control holder) later.control }) later) table).orders.rows ≡ length table.orders.rows
+    at : (b d : Bool)
+        → length (cond b (cond d (record later { control = seek acting holder (in_mask later.control holder) later.control }) later) table).orders.rows ≡ length
+        table.orders.rows
     at true true = in_use_rows table holder priority
     at true false = in_use_rows table holder priority
     at false d = refl
@@ -136,15 +146,18 @@ return_ends table task below = record {
   others = λ i away. ap (λ call. is_ready i table.orders && is_some call) (get_or-set_other table.calls task i None None away);
 }
 
-delayed_waits : (stamps : Stamps) (task : ℕ) (ticks : Option ℕ) (wait : Option MutexWait) → task < length stamps.rows → is_ready task (delay task ticks wait stamps) ≡ false
+delayed_waits : (stamps : Stamps) (task : ℕ) (ticks : Option ℕ) (wait : Option MutexWait) → task < length stamps.rows
+    → is_ready task (delay task ticks wait stamps) ≡ false
 unfolding delay
 delayed_waits stamps task ticks wait below = ap stands_ready (standing_same stamps task (standings.Blocked (ahead stamps ticks) wait) below)
 
-delayed_others : (stamps : Stamps) (task : ℕ) (ticks : Option ℕ) (wait : Option MutexWait) → task < length stamps.rows → (i : ℕ) → i ≢ task → is_ready i (delay task ticks wait stamps) ≡ is_ready i stamps
+delayed_others : (stamps : Stamps) (task : ℕ) (ticks : Option ℕ) (wait : Option MutexWait) → task < length stamps.rows → (i : ℕ) → i ≢ task
+    → is_ready i (delay task ticks wait stamps) ≡ is_ready i stamps
 unfolding delay
 delayed_others stamps task ticks wait below i away = ap stands_ready (standing_other stamps task (standings.Blocked (ahead stamps ticks) wait) below i away)
 
-block_ends : (table : Table) (core task : ℕ) (call : Unfinished) (ticks : Option ℕ) (wait : Option MutexWait) → task < length table.orders.rows → HasEnded task table (blocked stamp_queues core task call ticks wait table)
+block_ends : (table : Table) (core task : ℕ) (call : Unfinished) (ticks : Option ℕ) (wait : Option MutexWait) → task < length table.orders.rows
+    → HasEnded task table (blocked stamp_queues core task call ticks wait table)
 unfolding blocked
 block_ends table core task call ticks wait below = record {
   ends = ap (λ ready. ready && is_some (call_at (slice_set table.calls task (Some call)) task)) (delayed_waits table.orders task ticks wait below);
@@ -161,7 +174,8 @@ module _ (table : Table) (core task : ℕ) (sound : IsConsistent table) (place :
   returned : HasEnded task table (after_return stamp_queues task table)
   returned = return_ends table task low
 
-  wait_ends : (mutex holder : ℕ) (left : Option ℕ) → holder_at table.holders mutex ≡ Some holder → HasEnded task table (waited_at stamp_queues core task mutex holder left table)
+  wait_ends : (mutex holder : ℕ) (left : Option ℕ) → holder_at table.holders mutex ≡ Some holder
+      → HasEnded task table (waited_at stamp_queues core task mutex holder left table)
   unfolding waited_at
   wait_ends mutex holder left held =
       let owner = sound.mutexes.held_by_tasks mutex holder held in
@@ -174,16 +188,22 @@ module _ (table : Table) (core task : ℕ) (sound : IsConsistent table) (place :
   take_ends mutex mark = at (holder_at table.holders mutex) refl
     where
       later : (holder : ℕ) → holder_at table.holders mutex ≡ Some holder → (b : Bool)
-          → HasEnded task table (cond {A = Reply × Table} b (Flag false, timed_out stamp_queues core task mutex mark holder (after_return stamp_queues task table)) (Blocked, waited_at stamp_queues core task mutex holder (deadline_left task table.orders) table)).1
+          → HasEnded task table
+          (cond {A = Reply × Table} b (Flag false, timed_out stamp_queues core task mutex mark holder (after_return stamp_queues task table))
+          (Blocked, waited_at stamp_queues core task mutex holder (deadline_left task table.orders) table)).1
       later holder held true =
           let owner = sound.mutexes.held_by_tasks mutex holder held in
-          then_calm task table _ _ returned (timed_out_calm (after_return stamp_queues task table) core task mutex mark holder (omega (arith, owner, sound.sized.rows, return_rows table task)))
+          then_calm task table _ _ returned
+          (timed_out_calm (after_return stamp_queues task table) core task mutex mark holder
+          (omega (arith, owner, sound.sized.rows, return_rows table task)))
       later holder held false = wait_ends mutex holder (deadline_left task table.orders) held
 
       at : (o : Option ℕ) → holder_at table.holders mutex ≡ o
           → HasEnded task table (option_map_or {U = Reply × Table}
-          (λ holder. cond (option_map_or (λ ticks. eqb ticks 0) (deadline_left task table.orders) false) (Flag false, timed_out stamp_queues core task mutex mark holder (after_return stamp_queues task table))
-          (Blocked, waited_at stamp_queues core task mutex holder (deadline_left task table.orders) table)) o (Flag true, taken task mutex (after_return stamp_queues task table))).1
+          (λ holder. cond (option_map_or (λ ticks. eqb ticks 0) (deadline_left task table.orders) false)
+          (Flag false, timed_out stamp_queues core task mutex mark holder (after_return stamp_queues task table))
+          (Blocked, waited_at stamp_queues core task mutex holder (deadline_left task table.orders) table)) o
+          (Flag true, taken task mutex (after_return stamp_queues task table))).1
       at None free = then_calm task table _ _ returned (taken_calm (after_return stamp_queues task table) task mutex)
       at (Some holder) held = later holder held (option_map_or (λ ticks. eqb ticks 0) (deadline_left task table.orders) false)
 
@@ -193,7 +213,8 @@ module _ (table : Table) (core task : ℕ) (sound : IsConsistent table) (place :
   finish_ends (Take mutex mark) = take_ends mutex mark
 
 -- a call of `finish` that is not refused: its task had a call to finish, and has none any more
-module _ (table : Table) (core task : ℕ) (sound : IsSound table) (checked : IsCheckedStep table.settings (steps.Call core task Finish)) (free : is_open table (steps.Call core task Finish) ≡ true) where
+module _ (table : Table) (core task : ℕ) (sound : IsSound table) (checked : IsCheckedStep table.settings (steps.Call core task Finish))
+    (free : is_open table (steps.Call core task Finish) ≡ true) where
   caller : IsCaller table core task
   caller = in_place (steps.Call core task Finish) table sound checked.passes (none_refused table (steps.Call core task Finish) free)
 
@@ -210,8 +231,10 @@ module _ (table : Table) (core task : ℕ) (sound : IsSound table) (checked : Is
   pub ended_after : HasEnded task table (step_of (steps.Call core task Finish) table).1
   unfolding performed called
   ended_after =
-      subst (λ (outcome : Reply × Table). HasEnded task table outcome.1) (sym (step_open table (steps.Call core task Finish) free)) (at (call_at table.calls task) has_call)
+      subst (λ (outcome : Reply × Table). HasEnded task table outcome.1) (sym (step_open table (steps.Call core task Finish) free))
+      (at (call_at table.calls task) has_call)
     where
-      at : (o : Option Unfinished) → is_some o ≡ true → HasEnded task table (option_map_or {U = Reply × Table} (λ call. after_finish stamp_queues core task call table) o (Done, table)).1
+      at : (o : Option Unfinished) → is_some o ≡ true
+          → HasEnded task table (option_map_or {U = Reply × Table} (λ call. after_finish stamp_queues core task call table) o (Done, table)).1
       at None none = absurd (cc (none))
       at (Some call) some = finish_ends table core task sound.consistent caller call

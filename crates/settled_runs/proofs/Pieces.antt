@@ -42,7 +42,8 @@ module _ {X : Type 0} (p : X → Bool) where
   find_fails [] none = tt
   find_fails (y ∷ ys) none = at (p y) refl none (find_fails ys)
     where
-      at : (b : Bool) → p y ≡ b → cond b (Some y) (find p ys) ≡ None → (find p ys ≡ None → AllByRecursion (λ x. p x ≡ false) ys) → (p y ≡ false) × AllByRecursion (λ x. p x ≡ false) ys
+      at : (b : Bool) → p y ≡ b → cond b (Some y) (find p ys) ≡ None → (find p ys ≡ None → AllByRecursion (λ x. p x ≡ false) ys) → (p y ≡ false)
+          × AllByRecursion (λ x. p x ≡ false) ys
       at true passes none rest = absurd (cc (none))
       at false fails none rest = (fails, rest none)
 
@@ -103,13 +104,15 @@ here true x all = refl
 here false x all = refl
 
 -- one of another task is passed
-past : (a b : Bool) (x y : Call) (all rest : List Call) → (a ≡ true → b ≡ true → ⊥) → all ≡ (cond b (y ∷ []) [] ++ []) ++ rest → cond a (x ∷ []) [] ++ all ≡ (cond b (y ∷ []) [] ++ []) ++ (cond a (x ∷ []) [] ++ rest)
+past : (a b : Bool) (x y : Call) (all rest : List Call) → (a ≡ true → b ≡ true → ⊥) → all ≡ (cond b (y ∷ []) [] ++ []) ++ rest
+    → cond a (x ∷ []) [] ++ all ≡ (cond b (y ∷ []) [] ++ []) ++ (cond a (x ∷ []) [] ++ rest)
 past true true x y all rest apart same = absurd (apart refl refl)
 past true false x y all rest apart same = ap (λ (calls : List Call). x ∷ calls) same
 past false b x y all rest apart same = same
 
 module _ (P : WaitingCall → Type 0) (begin : (waits : WaitingCall) → P waits → is_finish waits.call ≡ false) (table : Table) (step : Step) where
-  found_first : (first : WaitingCall) (waiting : List WaitingCall) → P first → is_timely table (on_its_core table first) ≡ true → on_its_core table first ≡ step → IsFound P table (first ∷ waiting) step
+  found_first : (first : WaitingCall) (waiting : List WaitingCall) → P first → is_timely table (on_its_core table first) ≡ true → on_its_core table first ≡ step
+      → IsFound P table (first ∷ waiting) step
   found_first first waiting may timely same = record {
     waits = first;
     is = sym same;
@@ -125,7 +128,8 @@ module _ (P : WaitingCall → Type 0) (begin : (waits : WaitingCall) → P waits
       own : eqb first.task first.task ≡ true
       own = grind (arith, nat_tests)
 
-  found_later : (first : WaitingCall) (waiting : List WaitingCall) → P first → is_timely table (on_its_core table first) ≡ false → IsFound P table waiting step → IsFound P table (first ∷ waiting) step
+  found_later : (first : WaitingCall) (waiting : List WaitingCall) → P first → is_timely table (on_its_core table first) ≡ false → IsFound P table waiting step
+      → IsFound P table (first ∷ waiting) step
   found_later first waiting may early found = record {
     waits = found.waits;
     is = found.is;
@@ -133,7 +137,8 @@ module _ (P : WaitingCall → Type 0) (begin : (waits : WaitingCall) → P waits
     begins = found.begins;
     timely = found.timely;
     calls = λ task.
-        past (eqb first.task task) (eqb found.waits.task task) first.call found.waits.call _ _ (λ a b. apart (grind (arith, nat_tests, a, b))) (found.calls task)
+        past (eqb first.task task) (eqb found.waits.task task) first.call found.waits.call _ _ (λ a b. apart (grind (arith, nat_tests, a, b)))
+        (found.calls task)
         ∙ ap (λ own. waiting_of task (found.waits ∷ []) ++ waiting_of task (cond own waiting (first ∷ without_first found.waits.task waiting))) (sym away);
     fewer = ap (λ own. suc (length (cond own waiting (first ∷ without_first found.waits.task waiting)))) away ∙ ap suc found.fewer;
   }
@@ -148,12 +153,14 @@ module _ (P : WaitingCall → Type 0) (begin : (waits : WaitingCall) → P waits
       away : eqb first.task found.waits.task ≡ false
       away = elim (cases_eq first.task found.waits.task) [ inl same ↦ absurd (apart same) | inr other ↦ grind (arith, nat_tests, other) ]
 
-  found_call : (waiting : List WaitingCall) → AllByRecursion P waiting → find (is_timely table) (map (on_its_core table) waiting) ≡ Some step → IsFound P table waiting step
+  found_call : (waiting : List WaitingCall) → AllByRecursion P waiting → find (is_timely table) (map (on_its_core table) waiting) ≡ Some step
+      → IsFound P table waiting step
   found_call [] all found = absurd (cc (found))
   found_call (first ∷ waiting) all found = at (is_timely table (on_its_core table first)) refl found (found_call waiting all.1)
     where
       at :
-          (b : Bool) → is_timely table (on_its_core table first) ≡ b → cond b (Some (on_its_core table first)) (find (is_timely table) (map (on_its_core table) waiting)) ≡ Some step
+          (b : Bool) → is_timely table (on_its_core table first) ≡ b
+          → cond b (Some (on_its_core table first)) (find (is_timely table) (map (on_its_core table) waiting)) ≡ Some step
           → (find (is_timely table) (map (on_its_core table) waiting) ≡ Some step → IsFound P table waiting step) → IsFound P table (first ∷ waiting) step
       at true timely found rest = let same : on_its_core table first ≡ step = cc (found) in found_first first waiting all.0 timely same
       at false early found rest = found_later first waiting all.0 early (rest found)
@@ -170,7 +177,8 @@ all_switches : (table : Table) → AllByRecursion (is_switch table) (switches ta
 unfolding is_switch
 all_switches table =
     each_map Switch (is_switch table) (numbers table.settings.cores)
-    (All-weaker (λ core. core < table.settings.cores) (λ core. is_switch table (Switch core)) (λ core below. (core, below, refl)) (numbers table.settings.cores) (numbers_below table.settings.cores))
+    (All-weaker (λ core. core < table.settings.cores) (λ core. is_switch table (Switch core)) (λ core below. (core, below, refl)) (numbers table.settings.cores)
+    (numbers_below table.settings.cores))
 
 all_ends : (table : Table) → AllByRecursion (is_end table) (finishes table)
 unfolding is_end
@@ -179,20 +187,26 @@ all_ends table =
     let Below : ℕ → Type 0 = λ core. core < table.settings.cores in
     let Runs : ℕ → Type 0 = λ core. runs_user_task table core ≡ true in
     each_map (finish_on table) (is_end table) cores
-    (All-weaker (λ core. Below core × Runs core) (λ core. is_end table (finish_on table core)) (λ core both. (core, both.0, grind (arith, nat_tests, both.1), refl)) cores
-    (both_each Below Runs cores (All-filter Below (runs_user_task table) (numbers table.settings.cores) (numbers_below table.settings.cores)) (All-filter_passes (runs_user_task table) (numbers table.settings.cores))))
+    (All-weaker (λ core. Below core × Runs core) (λ core. is_end table (finish_on table core))
+    (λ core both. (core, both.0, grind (arith, nat_tests, both.1), refl)) cores
+    (both_each Below Runs cores (All-filter Below (runs_user_task table) (numbers table.settings.cores) (numbers_below table.settings.cores))
+    (All-filter_passes (runs_user_task table) (numbers table.settings.cores))))
 
 abbrev pub IsPiece : (WaitingCall → Type 0) → Table → List WaitingCall → Step → Type 0
 IsPiece P table waiting step = SwitchMade table step ⊎ FinishMade table step ⊎ CallMade P table waiting step
 
-module _ (P : WaitingCall → Type 0) (begin : (waits : WaitingCall) → P waits → is_finish waits.call ≡ false) (table : Table) (waiting : List WaitingCall) (step : Step) where
+module _ (P : WaitingCall → Type 0) (begin : (waits : WaitingCall) → P waits → is_finish waits.call ≡ false) (table : Table) (waiting : List WaitingCall)
+    (step : Step) where
   pub piece_of : AllByRecursion P waiting → quiet_step table waiting ≡ Some step → IsPiece P table waiting step
   unfolding quiet_step is_switch is_end
-  piece_of all made = at (find (is_open table) (switches table)) refl (find (is_open table) (finishes table)) refl (find (is_timely table) (map (on_its_core table) waiting)) refl made
+  piece_of all made =
+      at (find (is_open table) (switches table)) refl (find (is_open table) (finishes table)) refl (find (is_timely table) (map (on_its_core table) waiting))
+      refl made
     where
       at :
           (a : Option Step) → find (is_open table) (switches table) ≡ a → (b : Option Step) → find (is_open table) (finishes table) ≡ b
-          → (c : Option Step) → find (is_timely table) (map (on_its_core table) waiting) ≡ c → option_or a (option_or b c) ≡ Some step → IsPiece P table waiting step
+          → (c : Option Step) → find (is_timely table) (map (on_its_core table) waiting) ≡ c → option_or a (option_or b c) ≡ Some step
+          → IsPiece P table waiting step
       at (Some it) first b second c third made =
           let same : find (is_open table) (switches table) ≡ Some step = first ∙ made in
           let which = find_among (is_open table) (is_switch table) (switches table) step (all_switches table) same in
@@ -201,7 +215,8 @@ module _ (P : WaitingCall → Type 0) (begin : (waits : WaitingCall) → P waits
             below = which.1;
             is = which.2;
             free = find_passes (is_open table) (switches table) step same;
-            always = λ others. ap (λ a. option_or a (option_or (find (is_open table) (finishes table)) (find (is_timely table) (map (on_its_core table) others)))) same;
+            always = λ others. ap
+                (λ a. option_or a (option_or (find (is_open table) (finishes table)) (find (is_timely table) (map (on_its_core table) others)))) same;
           })
       at None first (Some it) second c third made =
           let same : find (is_open table) (finishes table) ≡ Some step = second ∙ made in
@@ -235,9 +250,11 @@ module _ (P : WaitingCall → Type 0) (begin : (waits : WaitingCall) → P waits
           }))
 
 -- there is no piece: each search finds none
-pub none_found : (table : Table) (waiting : List WaitingCall) → quiet_step table waiting ≡ None → (find (is_open table) (switches table) ≡ None) × (find (is_open table) (finishes table) ≡ None) × (find (is_timely table) (map (on_its_core table) waiting) ≡ None)
+pub none_found : (table : Table) (waiting : List WaitingCall) → quiet_step table waiting ≡ None → (find (is_open table) (switches table) ≡ None)
+    × (find (is_open table) (finishes table) ≡ None) × (find (is_timely table) (map (on_its_core table) waiting) ≡ None)
 unfolding quiet_step
-none_found table waiting none = at (find (is_open table) (switches table)) (find (is_open table) (finishes table)) (find (is_timely table) (map (on_its_core table) waiting)) none
+none_found table waiting none =
+    at (find (is_open table) (switches table)) (find (is_open table) (finishes table)) (find (is_timely table) (map (on_its_core table) waiting)) none
   where
     at : (a b c : Option Step) → option_or a (option_or b c) ≡ None → (a ≡ None) × (b ≡ None) × (c ≡ None)
     at (Some it) b c none = absurd (cc (none))
@@ -255,4 +272,5 @@ none_alone table waiting none =
 pub without_all : (P : WaitingCall → Type 0) (task : ℕ) (waiting : List WaitingCall) → AllByRecursion P waiting → AllByRecursion P (without_first task waiting)
 without_all P task [] all = tt
 without_all P task (waits ∷ waiting) all =
-    elim (eqb waits.task task) as (λ b. AllByRecursion P (cond b waiting (waits ∷ without_first task waiting))) [ true ↦ all.1 | false ↦ (all.0, without_all P task waiting all.1) ]
+    elim (eqb waits.task task) as (λ b. AllByRecursion P (cond b waiting (waits ∷ without_first task waiting)))
+    [ true ↦ all.1 | false ↦ (all.0, without_all P task waiting all.1) ]

@@ -53,14 +53,17 @@ pass_core settings core below =
 
 pass_task : (settings : Settings) (task : ℕ) → settings.cores ≤ task → task < settings.tasks → task_check settings task ≡ Ok tt
 pass_task settings task user below =
-    let is : (leb settings.cores task && ltb task settings.tasks) ≡ true = grind (arith, nat_tests, user, below) in ap (λ b. cond {A = Result (Unit {0}) Fault} b (Ok tt) (Err BadTask)) is
+    let is : (leb settings.cores task && ltb task settings.tasks) ≡ true = grind (arith, nat_tests, user, below) in
+    ap (λ b. cond {A = Result (Unit {0}) Fault} b (Ok tt) (Err BadTask)) is
 
 pass_both : (one other : Result (Unit {0}) Fault) → one ≡ Ok tt → other ≡ Ok tt → (one >> other) ≡ Ok tt
 pass_both one other first second = ap (λ one. one >> other) first ∙ second
 
-checked_as : (settings : Settings) (core task : ℕ) (call : Call) → core < settings.cores → settings.cores ≤ task → task < settings.tasks → IsCheckedCall settings call → IsCheckedStep settings (steps.Call core task call)
+checked_as : (settings : Settings) (core task : ℕ) (call : Call) → core < settings.cores → settings.cores ≤ task → task < settings.tasks
+    → IsCheckedCall settings call → IsCheckedStep settings (steps.Call core task call)
 checked_as settings core task call low user below checked = record {
-  passes = pass_both (core_check settings core >> task_check settings task) (call_check settings call) (pass_both (core_check settings core) (task_check settings task) (pass_core settings core low) (pass_task settings task user below)) checked.passes;
+  passes = pass_both (core_check settings core >> task_check settings task) (call_check settings call)
+      (pass_both (core_check settings core) (task_check settings task) (pass_core settings core low) (pass_task settings task user below)) checked.passes;
   words = checked.words;
 }
 
@@ -73,30 +76,38 @@ running_below table task sound = at (find runs (numbers table.settings.cores)) r
     at : (o : Option ℕ) → find (λ core. eqb (current table.control core) task) (numbers table.settings.cores) ≡ o → unwrap_or o 0 < table.settings.cores
     at None none = sound.consistent.sized.some_core
     at (Some core) found =
-        find_among (λ core. eqb (current table.control core) task) (λ core. core < table.settings.cores) (numbers table.settings.cores) core (numbers_below table.settings.cores) found
+        find_among (λ core. eqb (current table.control core) task) (λ core. core < table.settings.cores) (numbers table.settings.cores) core
+        (numbers_below table.settings.cores) found
 
-pub finish_checked : (table : Table) (core : ℕ) → IsSound table → core < table.settings.cores → table.settings.cores ≤ current table.control core → IsCheckedStep table.settings (finish_on table core)
+pub finish_checked : (table : Table) (core : ℕ) → IsSound table → core < table.settings.cores → table.settings.cores ≤ current table.control core
+    → IsCheckedStep table.settings (finish_on table core)
 finish_checked table core sound below user =
     let sized = sound.consistent.sized in
     let on = sound.consistent.in_place.is_task core (omega (arith, sized.cores, below)) in
     checked_as table.settings core (current table.control core) Finish below user (omega (arith, on, sized.rows)) (record { passes = refl; words = tt })
 
-pub piece_checked : (table : Table) (waiting : List WaitingCall) (step : Step) → IsGood table waiting → quiet_step table waiting ≡ Some step → IsCheckedStep table.settings step
+pub piece_checked : (table : Table) (waiting : List WaitingCall) (step : Step) → IsGood table waiting → quiet_step table waiting ≡ Some step
+    → IsCheckedStep table.settings step
 piece_checked table waiting step good made = at (piece_of (MayWait table.settings) (begin_waits table.settings) table waiting step good.may made)
   where
     at : IsPiece (MayWait table.settings) table waiting step → IsCheckedStep table.settings step
-    at (inl it) = subst (IsCheckedStep table.settings) (sym it.is) (record { passes = pass_core table.settings it.core it.below; words = omega (arith, it.below, good.few) })
+    at (inl it) =
+        subst (IsCheckedStep table.settings) (sym it.is)
+        (record { passes = pass_core table.settings it.core it.below; words = omega (arith, it.below, good.few) })
     at (inr (inl it)) = subst (IsCheckedStep table.settings) (sym it.is) (finish_checked table it.core good.sound it.below it.user)
     at (inr (inr it)) =
         subst (IsCheckedStep table.settings) (sym it.is)
-        (checked_as table.settings (core_running table it.waits.task) it.waits.task it.waits.call (running_below table it.waits.task good.sound) it.may.task.0 it.may.task.1 it.may.checked)
+        (checked_as table.settings (core_running table it.waits.task) it.waits.task it.waits.call (running_below table it.waits.task good.sound) it.may.task.0
+        it.may.task.1 it.may.checked)
 
-pub good_after : (table : Table) (waiting : List WaitingCall) (step : Step) → IsGood table waiting → IsCheckedStep table.settings step → IsGood (step_of step table).1 (waiting_after waiting step)
+pub good_after : (table : Table) (waiting : List WaitingCall) (step : Step) → IsGood table waiting → IsCheckedStep table.settings step
+    → IsGood (step_of step table).1 (waiting_after waiting step)
 good_after table waiting step good checked =
     let same = settings_after table step good.sound in record {
       sound = after_sound step table good.sound checked;
       few = subst (λ settings. settings.cores < 2 ^ 32) (sym same) good.few;
-      may = subst (λ settings. AllByRecursion (MayWait settings) (waiting_after waiting step)) (sym same) (after_all (MayWait table.settings) waiting step good.may);
+      may = subst (λ settings. AllByRecursion (MayWait settings) (waiting_after waiting step)) (sym same)
+          (after_all (MayWait table.settings) waiting step good.may);
     }
 
 -- checked steps from a good table on, and where they lead
@@ -104,11 +115,13 @@ pub record GoodAlong (table : Table) (made : List Step) (waiting : List WaitingC
   pub checked : All (IsCheckedStep table.settings) made
   pub last : IsGood (state_after table made) waiting
 
-cons_checked : (table : Table) (step : Step) (made : List Step) → IsSound table → IsCheckedStep table.settings step → All (IsCheckedStep (step_of step table).1.settings) made → All (IsCheckedStep table.settings) (step ∷ made)
+cons_checked : (table : Table) (step : Step) (made : List Step) → IsSound table → IsCheckedStep table.settings step
+    → All (IsCheckedStep (step_of step table).1.settings) made → All (IsCheckedStep table.settings) (step ∷ made)
 cons_checked table step made sound first rest =
     All-cons (IsCheckedStep table.settings) step made first (subst (λ settings. All (IsCheckedStep settings) made) (settings_after table step sound) rest)
 
-pub quiet_good : (made : List Step) (table : Table) (waiting : List WaitingCall) → IsGood table waiting → IsQuietWork table waiting made → GoodAlong table made (still_waiting waiting made)
+pub quiet_good : (made : List Step) (table : Table) (waiting : List WaitingCall) → IsGood table waiting → IsQuietWork table waiting made
+    → GoodAlong table made (still_waiting waiting made)
 quiet_good [] table waiting good quiet = record { checked = All-nil (IsCheckedStep table.settings); last = good }
 quiet_good (step ∷ made) table waiting good quiet =
     let first = piece_checked table waiting step good quiet.0 in
@@ -116,7 +129,8 @@ quiet_good (step ∷ made) table waiting good quiet =
     record { checked = cons_checked table step made good.sound first rest.checked; last = rest.last }
 
 -- an event that is made or waits
-pub event_waits : (settings : Settings) (event : Step) → is_event event ≡ true → IsCheckedStep settings event → (core task : ℕ) (call : Call) → event ≡ steps.Call core task call → MayWait settings (record { task = task; call = call })
+pub event_waits : (settings : Settings) (event : Step) → is_event event ≡ true → IsCheckedStep settings event → (core task : ℕ) (call : Call)
+    → event ≡ steps.Call core task call → MayWait settings (record { task = task; call = call })
 event_waits settings event is checked core task call same =
     let here : IsCheckedStep settings (steps.Call core task call) = subst (IsCheckedStep settings) same checked in
     let last = both_pass (core_check settings core >> task_check settings task) (call_check settings call) here.passes in
@@ -132,7 +146,9 @@ once_checked settings (Switch core) checked = All-cons (IsCheckedStep settings) 
 once_checked settings (Interrupt core note) checked = All-cons (IsCheckedStep settings) (Interrupt core note) [] checked (All-nil (IsCheckedStep settings))
 once_checked settings (steps.Call core task call) checked = All-nil (IsCheckedStep settings)
 
-pub event_good : (table : Table) (waiting : List WaitingCall) (quiet : List Step) (event : Step) → IsGood table waiting → IsQuietWork table waiting quiet → is_event event ≡ true → IsCheckedStep table.settings event → GoodAlong table (quiet ++ made_at_once event) (waiting_with (still_waiting waiting quiet) event)
+pub event_good : (table : Table) (waiting : List WaitingCall) (quiet : List Step) (event : Step) → IsGood table waiting → IsQuietWork table waiting quiet
+    → is_event event ≡ true → IsCheckedStep table.settings event
+    → GoodAlong table (quiet ++ made_at_once event) (waiting_with (still_waiting waiting quiet) event)
 event_good table waiting quiet event good work is checked =
     let along = quiet_good quiet table waiting good work in
     let steps = All-append (IsCheckedStep table.settings) quiet (made_at_once event) along.checked (once_checked table.settings event checked) in
@@ -143,12 +159,15 @@ event_good table waiting quiet event good work is checked =
         sound = sound_along (quiet ++ made_at_once event) table good.sound steps;
         few = subst (λ settings. settings.cores < 2 ^ 32) (sym same) good.few;
         may = subst (λ settings. AllByRecursion (MayWait settings) (waiting_with (still_waiting waiting quiet) event)) (sym same)
-            (with_all (MayWait table.settings) (still_waiting waiting quiet) event (still_all (MayWait table.settings) quiet waiting good.may) (event_waits table.settings event is checked));
+            (with_all (MayWait table.settings) (still_waiting waiting quiet) event (still_all (MayWait table.settings) quiet waiting good.may)
+            (event_waits table.settings event is checked));
       };
     }
 
-pub events_later : (table : Table) (waiting : List WaitingCall) (made : List Step) (events : List Step) → IsGood table waiting → All (IsCheckedStep table.settings) made → All (IsCheckedStep table.settings) events → All (IsCheckedStep (state_after table made).settings) events
-events_later table waiting made events good checked all = subst (λ settings. All (IsCheckedStep settings) events) (sym (settings_along made table good.sound checked)) all
+pub events_later : (table : Table) (waiting : List WaitingCall) (made : List Step) (events : List Step) → IsGood table waiting
+    → All (IsCheckedStep table.settings) made → All (IsCheckedStep table.settings) events → All (IsCheckedStep (state_after table made).settings) events
+events_later table waiting made events good checked all =
+    subst (λ settings. All (IsCheckedStep settings) events) (sym (settings_along made table good.sound checked)) all
 
 -- ---- whole runs
 
@@ -166,12 +185,15 @@ settled_good (event ∷ events) table waiting run left good are all settled =
     let same : run ≡ (quiet ++ once) ++ settled.1 = settled.2 ∙ sym (append_assoc quiet once settled.1) in
     subst (λ run. GoodAlong table run left) (sym same) (record {
       checked = All-append (IsCheckedStep table.settings) (quiet ++ once) settled.1 first.checked rest;
-      last = subst (λ table. IsGood table left) (sym (fold-append (λ (table : Table) (step : Step). (step_of step table).1) table (quiet ++ once) settled.1)) later.last;
+      last = subst (λ table. IsGood table left) (sym (fold-append (λ (table : Table) (step : Step). (step_of step table).1) table (quiet ++ once) settled.1))
+          later.last;
     })
 
 settled_none :
-    (events : List Step) (table : Table) (waiting : List WaitingCall) (run : List Step) (left : List WaitingCall) → IsSettledFrom table waiting events run left → quiet_step (state_after table run) left ≡ None
-settled_none [] table waiting run left settled = subst (λ left. quiet_step (state_after table run) left ≡ None) settled.1 (quiet_rests run table waiting settled.0)
+    (events : List Step) (table : Table) (waiting : List WaitingCall) (run : List Step) (left : List WaitingCall) → IsSettledFrom table waiting events run left
+    → quiet_step (state_after table run) left ≡ None
+settled_none [] table waiting run left settled =
+    subst (λ left. quiet_step (state_after table run) left ≡ None) settled.1 (quiet_rests run table waiting settled.0)
 settled_none (event ∷ events) table waiting run left settled =
     let first = settled.0 ++ made_at_once event in
     let same : run ≡ first ++ settled.1 = settled.2 ∙ sym (append_assoc settled.0 (made_at_once event) settled.1) in
@@ -183,13 +205,15 @@ settled_none (event ∷ events) table waiting run left settled =
 events_checked : (P : Step → Type 0) (session : List Step) → AllByRecursion P session → AllByRecursion P (events_of session)
 events_checked P [] all = tt
 events_checked P (step ∷ session) all =
-    elim (is_event step) as (λ b. AllByRecursion P (cond b (step ∷ events_of session) (events_of session))) [ true ↦ (all.0, events_checked P session all.1) | false ↦ events_checked P session all.1 ]
+    elim (is_event step) as (λ b. AllByRecursion P (cond b (step ∷ events_of session) (events_of session)))
+    [ true ↦ (all.0, events_checked P session all.1) | false ↦ events_checked P session all.1 ]
 
 module _ (session : Session) (is : IsSession session) where
   pub start_good : IsGood (start session.header) []
   start_good = record {
     sound = start_sound session.header is.header.passes;
-    few = let limits = checked_header session.header is.header.passes in subst (λ settings. settings.cores < 2 ^ 32) (sym (start_settings session.header)) (omega (arith, limits.few_cores));
+    few = let limits = checked_header session.header is.header.passes in
+        subst (λ settings. settings.cores < 2 ^ 32) (sym (start_settings session.header)) (omega (arith, limits.few_cores));
     may = tt;
   }
 
@@ -232,23 +256,29 @@ module _ (table : Table) (left : List WaitingCall) (good : IsGood table left) (n
   unfolding cores
   no_switch core below =
       All-has (λ core. is_open table (Switch core) ≡ false) core cores
-      (each_unmap Switch (λ step. is_open table step ≡ false) cores (find_fails (is_open table) (switches table) (none_found table left none).0)) (numbers_have table.settings.cores core below)
+      (each_unmap Switch (λ step. is_open table step ≡ false) cores (find_fails (is_open table) (switches table) (none_found table left none).0))
+      (numbers_have table.settings.cores core below)
 
   no_finish_here : (core : ℕ) → core < table.settings.cores → table.settings.cores ≤ current table.control core → is_open table (finish_on table core) ≡ false
   unfolding cores
   no_finish_here core below user =
       let runs : runs_user_task table core ≡ true = grind (arith, nat_tests, user) in
-      let among : has core (filter (runs_user_task table) cores) ≡ true = has-filter (runs_user_task table) core cores ∙ ap (λ b. b && has core cores) runs ∙ numbers_have table.settings.cores core below in
+      let among : has core (filter (runs_user_task table) cores) ≡ true = has-filter (runs_user_task table) core cores ∙ ap (λ b. b && has core cores) runs
+      ∙ numbers_have table.settings.cores core below in
       All-has (λ core. is_open table (finish_on table core) ≡ false) core (filter (runs_user_task table) cores)
-      (each_unmap (finish_on table) (λ step. is_open table step ≡ false) (filter (runs_user_task table) cores) (find_fails (is_open table) (finishes table) (none_found table left none).1)) among
+      (each_unmap (finish_on table) (λ step. is_open table step ≡ false) (filter (runs_user_task table) cores)
+      (find_fails (is_open table) (finishes table) (none_found table left none).1)) among
 
   no_finish : (core task : ℕ) → core < table.settings.cores → table.settings.cores ≤ task → is_open table (steps.Call core task Finish) ≡ false
   no_finish core task below user = elim (cases_eq (current table.control core) task) [
-    | inl same ↦ subst (λ task. is_open table (steps.Call core task Finish) ≡ false) same (no_finish_here core below (subst (λ task. table.settings.cores ≤ task) (sym same) user))
+    | inl same ↦
+        subst (λ task. is_open table (steps.Call core task Finish) ≡ false) same
+        (no_finish_here core below (subst (λ task. table.settings.cores ≤ task) (sym same) user))
     | inr other ↦ closed_elsewhere table core task Finish (grind (arith, nat_tests, other))
   ]
 
-  no_call : (core : ℕ) → core < table.settings.cores → (waits : WaitingCall) → (is_timely table (on_its_core table waits) ≡ false) × MayWait table.settings waits → is_timely table (steps.Call core waits.task waits.call) ≡ false
+  no_call : (core : ℕ) → core < table.settings.cores → (waits : WaitingCall) → (is_timely table (on_its_core table waits) ≡ false)
+      × MayWait table.settings waits → is_timely table (steps.Call core waits.task waits.call) ≡ false
   no_call core below waits both = elim (cases_eq (current table.control core) waits.task) [
     | inl same ↦
         let here : core_running table waits.task ≡ core = subst (λ task. core_running table task ≡ core) same (runs_core table core good.sound below) in
@@ -261,9 +291,12 @@ module _ (table : Table) (left : List WaitingCall) (good : IsGood table left) (n
     switches = no_switch;
     finishes = no_finish;
     calls = λ core below.
-        let early = each_unmap (on_its_core table) (λ step. is_timely table step ≡ false) left (find_fails (is_timely table) (map (on_its_core table) left) (none_found table left none).2) in
+        let early =
+        each_unmap (on_its_core table) (λ step. is_timely table step ≡ false) left
+        (find_fails (is_timely table) (map (on_its_core table) left) (none_found table left none).2) in
         All-from_recursion (λ waits. is_timely table (steps.Call core waits.task waits.call) ≡ false) left
-        (All-weaker (λ waits. (is_timely table (on_its_core table waits) ≡ false) × MayWait table.settings waits) (λ waits. is_timely table (steps.Call core waits.task waits.call) ≡ false) (no_call core below) left
+        (All-weaker (λ waits. (is_timely table (on_its_core table waits) ≡ false) × MayWait table.settings waits)
+        (λ waits. is_timely table (steps.Call core waits.task waits.call) ≡ false) (no_call core below) left
         (both_each (λ waits. is_timely table (on_its_core table waits) ≡ false) (MayWait table.settings) left early good.may));
   }
 

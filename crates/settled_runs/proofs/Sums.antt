@@ -20,7 +20,9 @@ pub one_sum : (f g : ℕ → ℕ) (c n : ℕ) → c < n → ((i : ℕ) → i ≢
 one_sum f g c zero below others = absurd (omega (arith, below))
 one_sum f g c (suc n) below others = elim (cases_eq c n) [
   | inl here ↦
-      let rest = same_sum f g (numbers n) (All-weaker (λ i. i < n) (λ i. f i ≡ g i) (λ i low. others i (λ same. absurd (omega (arith, low, same, here)))) (numbers n) (numbers_below n)) in
+      let rest =
+      same_sum f g (numbers n)
+      (All-weaker (λ i. i < n) (λ i. f i ≡ g i) (λ i low. others i (λ same. absurd (omega (arith, low, same, here)))) (numbers n) (numbers_below n)) in
       let at_f : f c ≡ f n = ap f here in
       let at_g : g c ≡ g n = ap g here in
       omega (arith, sum_more f n, sum_more g n, rest, at_f, at_g)

@@ -54,7 +54,8 @@ hold_late core task call table =
     (either_late (closes_hold call) _ _ refl refl)
 
 -- a call that begins comes too early just where its task has an unfinished one
-begun_late : (unfinished : Option Unfinished) (call : Call) (rest : Option Refusal) → is_finish call ≡ false → late rest ≡ true → late (option_or (call_refusal unfinished call) rest) ≡ is_none unfinished
+begun_late : (unfinished : Option Unfinished) (call : Call) (rest : Option Refusal) → is_finish call ≡ false → late rest ≡ true
+    → late (option_or (call_refusal unfinished call) rest) ≡ is_none unfinished
 begun_late None Finish rest begins goes = absurd (cc (begins))
 begun_late None call rest begins goes = goes
 begun_late (Some unfinished) Finish rest begins goes = absurd (cc (begins))
@@ -68,7 +69,8 @@ may_begin table core task =
     not (is_held_elsewhere core table.hold) && eqb (current table.control core) task
     && not (is_due table.control core && not (is_held_by core table.hold)) && is_none (call_at table.calls task)
 
-three_conds : (elsewhere runs due free : Bool) (rest : Option Refusal) → late rest ≡ free → late (cond elsewhere (Some Held) (cond (not runs) (Some Displaced) (cond due (Some SwitchDue) rest))) ≡ (not elsewhere && runs && not due && free)
+three_conds : (elsewhere runs due free : Bool) (rest : Option Refusal) → late rest ≡ free
+    → late (cond elsewhere (Some Held) (cond (not runs) (Some Displaced) (cond due (Some SwitchDue) rest))) ≡ (not elsewhere && runs && not due && free)
 three_conds true runs due free rest same = refl
 three_conds false false due free rest same = refl
 three_conds false true true free rest same = refl
@@ -77,12 +79,15 @@ three_conds false true false free rest same = same
 timely_where : (table : Table) (core task : ℕ) (call : Call) → is_finish call ≡ false → is_timely table (steps.Call core task call) ≡ may_begin table core task
 unfolding is_timely refusal
 timely_where table core task call begins =
-    let rest = first_late (hold_refusal stamp_queues core task call table) (give_refusal table.holders task call) (hold_late core task call table) (give_late table.holders task call) in
+    let rest =
+    first_late (hold_refusal stamp_queues core task call table) (give_refusal table.holders task call) (hold_late core task call table)
+    (give_late table.holders task call) in
     three_conds (is_held_elsewhere core table.hold) (eqb (current table.control core) task) (is_due table.control core && not (is_held_by core table.hold))
     (is_none (call_at table.calls task)) _ (begun_late (call_at table.calls task) call _ begins rest)
 
 -- so one call that begins comes too early where another does
-pub timely_same : (table : Table) (core task : ℕ) (call other : Call) → is_finish call ≡ false → is_finish other ≡ false → is_timely table (steps.Call core task call) ≡ is_timely table (steps.Call core task other)
+pub timely_same : (table : Table) (core task : ℕ) (call other : Call) → is_finish call ≡ false → is_finish other ≡ false
+    → is_timely table (steps.Call core task call) ≡ is_timely table (steps.Call core task other)
 timely_same table core task call other begins first = timely_where table core task call begins ∙ sym (timely_where table core task other first)
 
 -- ---- calls of tasks that run elsewhere
@@ -92,21 +97,26 @@ timely_here true runs due free away = refl
 timely_here false true due free away = absurd (cc (away))
 timely_here false false due free away = refl
 
-pub untimely_elsewhere : (table : Table) (core task : ℕ) (call : Call) → is_finish call ≡ false → eqb (current table.control core) task ≡ false → is_timely table (steps.Call core task call) ≡ false
+pub untimely_elsewhere : (table : Table) (core task : ℕ) (call : Call) → is_finish call ≡ false → eqb (current table.control core) task ≡ false
+    → is_timely table (steps.Call core task call) ≡ false
 untimely_elsewhere table core task call begins away = timely_where table core task call begins ∙ timely_here (is_held_elsewhere core table.hold) _ _ _ away
 
-pub timely_runs : (table : Table) (core task : ℕ) (call : Call) → is_finish call ≡ false → is_timely table (steps.Call core task call) ≡ true → eqb (current table.control core) task ≡ true
+pub timely_runs : (table : Table) (core task : ℕ) (call : Call) → is_finish call ≡ false → is_timely table (steps.Call core task call) ≡ true
+    → eqb (current table.control core) task ≡ true
 timely_runs table core task call begins timely = at (eqb (current table.control core) task) refl
   where
     at : (b : Bool) → eqb (current table.control core) task ≡ b → b ≡ true
     at true here = refl
     at false away = absurd (cc (timely, untimely_elsewhere table core task call begins away))
 
-pub closed_elsewhere : (table : Table) (core task : ℕ) (call : Call) → eqb (current table.control core) task ≡ false → is_open table (steps.Call core task call) ≡ false
+pub closed_elsewhere : (table : Table) (core task : ℕ) (call : Call) → eqb (current table.control core) task ≡ false
+    → is_open table (steps.Call core task call) ≡ false
 unfolding is_open refusal
-closed_elsewhere table core task call away = at (is_held_elsewhere core table.hold) (eqb (current table.control core) task) away (is_due table.control core && not (is_held_by core table.hold)) _
+closed_elsewhere table core task call away =
+    at (is_held_elsewhere core table.hold) (eqb (current table.control core) task) away (is_due table.control core && not (is_held_by core table.hold)) _
   where
-    at : (elsewhere runs : Bool) → runs ≡ false → (due : Bool) (rest : Option Refusal) → is_none (cond elsewhere (Some Held) (cond (not runs) (Some Displaced) (cond due (Some SwitchDue) rest))) ≡ false
+    at : (elsewhere runs : Bool) → runs ≡ false → (due : Bool) (rest : Option Refusal)
+        → is_none (cond elsewhere (Some Held) (cond (not runs) (Some Displaced) (cond due (Some SwitchDue) rest))) ≡ false
     at true runs away due rest = refl
     at false true away due rest = absurd (cc (away))
     at false false away due rest = refl
@@ -154,7 +164,8 @@ call_alike table core task call =
     (first_alike (hold_refusal stamp_queues core task call table) _ (hold_alike core task call table) (give_alike table.holders task call)))))
 
 -- a call that does not come too early is refused by an answer at most
-pub timely_answered : (table : Table) (core task : ℕ) (call : Call) → is_timely table (steps.Call core task call) ≡ true → answered (refusal stamp_queues (steps.Call core task call) table) ≡ true
+pub timely_answered : (table : Table) (core task : ℕ) (call : Call) → is_timely table (steps.Call core task call) ≡ true
+    → answered (refusal stamp_queues (steps.Call core task call) table) ≡ true
 unfolding is_timely
 timely_answered table core task call timely = sym (call_alike table core task call) ∙ timely
 
@@ -167,10 +178,12 @@ open_answered table step free = at (refusal stamp_queues step table) free
     at (Some why) none = absurd (cc (none))
 
 -- a reply is a refusal where the step is refused so
-pub told_answered : (table : Table) (step : Step) (why : Refusal) → answered (refusal stamp_queues step table) ≡ true → (step_of step table).0 ≡ Refused why → is_answer why ≡ true
+pub told_answered : (table : Table) (step : Step) (why : Refusal) → answered (refusal stamp_queues step table) ≡ true → (step_of step table).0 ≡ Refused why
+    → is_answer why ≡ true
 unfolding after
 told_answered table step why all told = at (refusal stamp_queues step table) all told
   where
-    at : (o : Option Refusal) → answered o ≡ true → (option_map_or {U = Reply × Table} (λ why. (Refused why, table)) o (performed stamp_queues step table)).0 ≡ Refused why → is_answer why ≡ true
+    at : (o : Option Refusal) → answered o ≡ true
+        → (option_map_or {U = Reply × Table} (λ why. (Refused why, table)) o (performed stamp_queues step table)).0 ≡ Refused why → is_answer why ≡ true
     at None all told = absurd (cc (sym (performed_made stamp_queues step table) ∙ ap is_refusal told))
     at (Some it) all told = cc (all, told)

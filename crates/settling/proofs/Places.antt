@@ -1,5 +1,5 @@
 -- What waits, as a step comes and as a call is made, and which of the calls that wait is found first.
-use Rattle.std.proofs.Common.{◌≡◌, ℕ, zero, suc, ◌+◌, ◌<◌, ◌≤◌, ◌≢◌, Bool, true, false, cond, not, eqb, leb, ◌&&◌, ◌||◌, List, [], ◌∷◌, ◌++◌, length, map, Option, Some, None, refl, sym, ap, subst, ◌∙◌, inl, inr, append_assoc, arith}
+use Rattle.std.proofs.Common.{◌≡◌, ℕ, zero, suc, ◌<◌, ◌≤◌, ◌≢◌, Bool, true, false, cond, eqb, leb, ◌&&◌, ◌||◌, List, [], ◌∷◌, ◌++◌, length, map, Option, Some, None, refl, sym, ap, subst, ◌∙◌, inl, inr, arith}
 use Rattle.std.specs.Prelude.{All, option_map, slice_set, slice_index}
 use Rattle.std.specs.List.{find, list_any, AllByRecursion}
 use Rattle.std.specs.Option.{option_or}
@@ -13,14 +13,13 @@ use Rattle.bench_types.specs.declared.kernel_data.Settings.{Settings}
 use Rattle.bench_types.specs.declared.step.Step.{Step}
 use Rattle.bench_types.specs.declared.step.Step.TheVariants.{Tick, Switch, Interrupt}
 use Rattle.bench_types.specs.declared.step.Step.TheVariants as steps
-use Rattle.bench_types.specs.declared.step.Call.{Call}
 use Rattle.bench_types.specs.Step.{IsCheckedStep}
 use Rattle.list_orders.specs.Search.{numbers}
 use Rattle.list_orders.proofs.Filters.{All-weaker, find_none}
 use Rattle.list_orders.proofs.Stamped.{numbers_below, numbers_more}
 use Rattle.bench_model.specs.Table.{Table}
 use Rattle.settled_runs.specs.declared.waiting_call.WaitingCall.{WaitingCall}
-use Rattle.settled_runs.specs.Settled.{is_event, is_finish, is_timely, on_its_core, waiting_with, without_first}
+use Rattle.settled_runs.specs.Settled.{is_event, is_timely, on_its_core, waiting_with, without_first}
 use Rattle.settled_runs.specs.SettleLaws.{MayWait}
 use Rattle.settled_runs.proofs.Rests.{event_waits}
 use Rattle.settling.specs.Places.{step_at, call_in, begins, is_call_of, IsNext, is_waiting, waiting_at, made_from, can_come, AreQueues}
@@ -47,35 +46,42 @@ one_of_numbers q c (suc n) below passes fails = find_suc q n ∙ elim (cases_eq 
 
 -- ---- what waits
 
-pub waiting_suc : (heads : List ℕ) (session : List Step) (place : ℕ) → waiting_at heads session (suc place) ≡ waiting_at heads session place ++ cond (is_waiting heads session place) (call_in (step_at session place) ∷ []) []
+pub waiting_suc : (heads : List ℕ) (session : List Step) (place : ℕ)
+    → waiting_at heads session (suc place) ≡ waiting_at heads session place ++ cond (is_waiting heads session place) (call_in (step_at session place) ∷ []) []
 unfolding waiting_at
 waiting_suc heads session place = refl
 
 -- a step that is an event waits just where it is a call that begins
-with_step : (step : Step) (waiting : List WaitingCall) (here : Bool) → is_event step ≡ true → (begins step ≡ true → here ≡ true) → waiting ++ cond (begins step && here) (call_in step ∷ []) [] ≡ waiting_with waiting step
+with_step : (step : Step) (waiting : List WaitingCall) (here : Bool) → is_event step ≡ true → (begins step ≡ true → here ≡ true)
+    → waiting ++ cond (begins step && here) (call_in step ∷ []) [] ≡ waiting_with waiting step
 with_step Tick waiting here is come = append-nil waiting
 with_step (Switch core) waiting here is come = absurd (cc (is))
 with_step (Interrupt core note) waiting here is come = append-nil waiting
 with_step (steps.Call core task call) waiting here is come = ap (λ b. waiting ++ cond b (record { task = task; call = call } ∷ []) []) (λ k. is k && come is k)
 
-no_step : (step : Step) (waiting : List WaitingCall) (here : Bool) → is_event step ≡ false → waiting ++ cond (begins step && here) (call_in step ∷ []) [] ≡ waiting
+no_step : (step : Step) (waiting : List WaitingCall) (here : Bool) → is_event step ≡ false
+    → waiting ++ cond (begins step && here) (call_in step ∷ []) [] ≡ waiting
 no_step Tick waiting here none = absurd (cc (none))
 no_step (Switch core) waiting here none = append-nil waiting
 no_step (Interrupt core note) waiting here none = absurd (cc (none))
-no_step (steps.Call core task call) waiting here none = ap (λ b. waiting ++ cond (b && here) (record { task = task; call = call } ∷ []) []) none ∙ append-nil waiting
+no_step (steps.Call core task call) waiting here none = ap (λ b. waiting ++ cond (b && here) (record { task = task; call = call } ∷ []) []) none
+    ∙ append-nil waiting
 
 none_both : (b : Bool) → (b && false) ≡ false
 none_both true = refl
 none_both false = refl
 
 -- a list without its first call of the task, where another follows
-without_append : (task : ℕ) (one other : List WaitingCall) → without_first task (one ++ other) ≡ cond (list_any (λ (waits : WaitingCall). eqb waits.task task) one) (without_first task one ++ other) (one ++ without_first task other)
+without_append : (task : ℕ) (one other : List WaitingCall)
+    → without_first task (one ++ other) ≡ cond (list_any (λ (waits : WaitingCall). eqb waits.task task) one) (without_first task one ++ other)
+    (one ++ without_first task other)
 without_append task [] other = refl
 without_append task (waits ∷ one) other = at (eqb waits.task task) (list_any (λ (waits : WaitingCall). eqb waits.task task) one) (without_append task one other)
   where
     at :
         (own any : Bool) → without_first task (one ++ other) ≡ cond any (without_first task one ++ other) (one ++ without_first task other)
-        → cond own (one ++ other) (waits ∷ without_first task (one ++ other)) ≡ cond (own || any) (cond own one (waits ∷ without_first task one) ++ other) (waits ∷ (one ++ without_first task other))
+        → cond own (one ++ other) (waits ∷ without_first task (one ++ other)) ≡ cond (own || any) (cond own one (waits ∷ without_first task one) ++ other)
+        (waits ∷ (one ++ without_first task other))
     at true any same = refl
     at false true same = ap (λ (rest : List WaitingCall). waits ∷ rest) same
     at false false same = ap (λ (rest : List WaitingCall). waits ∷ rest) same
@@ -87,13 +93,15 @@ own_call step begin = λ k. begin k && own k
     own = grind (arith, nat_tests)
 
 -- where nothing waits of a task, the list has no call of it to lose
-without_none : (task : ℕ) (waiting : List WaitingCall) → list_any (λ (waits : WaitingCall). eqb waits.task task) waiting ≡ false → without_first task waiting ≡ waiting
+without_none : (task : ℕ) (waiting : List WaitingCall) → list_any (λ (waits : WaitingCall). eqb waits.task task) waiting ≡ false
+    → without_first task waiting ≡ waiting
 without_none task [] none = refl
 without_none task (waits ∷ waiting) none = at (eqb waits.task task) none (without_none task waiting)
   where
     at :
         (own : Bool) → (own || list_any (λ (waits : WaitingCall). eqb waits.task task) waiting) ≡ false
-        → (list_any (λ (waits : WaitingCall). eqb waits.task task) waiting ≡ false → without_first task waiting ≡ waiting) → cond own waiting (waits ∷ without_first task waiting) ≡ waits ∷ waiting
+        → (list_any (λ (waits : WaitingCall). eqb waits.task task) waiting ≡ false → without_first task waiting ≡ waiting)
+        → cond own waiting (waits ∷ without_first task waiting) ≡ waits ∷ waiting
     at true none rest = absurd (cc (none))
     at false none rest = ap (λ (rest : List WaitingCall). waits ∷ rest) (rest none)
 
@@ -104,12 +112,15 @@ module _ (session : List Step) (heads : List ℕ) (task : ℕ) where
   front_none zero low = refl
   front_none (suc j) low =
       list_any-append (λ (waits : WaitingCall). eqb waits.task task) (waiting_at heads session j) _
-      ∙ ap (λ b. b || list_any (λ (waits : WaitingCall). eqb waits.task task) (cond (is_waiting heads session j) (call_in (step_at session j) ∷ []) [])) (front_none j (omega (arith, low)))
+      ∙ ap (λ b. b || list_any (λ (waits : WaitingCall). eqb waits.task task) (cond (is_waiting heads session j) (call_in (step_at session j) ∷ []) []))
+      (front_none j (omega (arith, low)))
       ∙ at (is_waiting heads session j) refl (eqb (call_in (step_at session j)).task task) refl
     where
-      at : (b : Bool) → is_waiting heads session j ≡ b → (d : Bool) → eqb (call_in (step_at session j)).task task ≡ d → list_any (λ (waits : WaitingCall). eqb waits.task task) (cond (is_waiting heads session j) (call_in (step_at session j) ∷ []) []) ≡ false
+      at : (b : Bool) → is_waiting heads session j ≡ b → (d : Bool) → eqb (call_in (step_at session j)).task task ≡ d
+          → list_any (λ (waits : WaitingCall). eqb waits.task task) (cond (is_waiting heads session j) (call_in (step_at session j) ∷ []) []) ≡ false
       at false none d same = ap (λ b. list_any (λ (waits : WaitingCall). eqb waits.task task) (cond b (call_in (step_at session j) ∷ []) [])) none
-      at true is false other = ap (λ b. list_any (λ (waits : WaitingCall). eqb waits.task task) (cond b (call_in (step_at session j) ∷ []) [])) is ∙ ap (λ b. b || false) other
+      at true is false other = ap (λ b. list_any (λ (waits : WaitingCall). eqb waits.task task) (cond b (call_in (step_at session j) ∷ []) [])) is
+          ∙ ap (λ b. b || false) other
       at true is true same =
           let both = and_parts (begins (step_at session j)) (leb (slice_index heads (call_in (step_at session j)).task) j) is in
           let caller : (call_in (step_at session j)).task ≡ task = grind (arith, nat_tests, same) in
@@ -118,7 +129,8 @@ module _ (session : List Step) (heads : List ℕ) (task : ℕ) where
           absurd (cc (least, early))
 
   -- so where one is lost, the next call of the task has come
-  pub has_come : (come : ℕ) → suc (length (without_first task (waiting_at heads session come))) ≡ length (waiting_at heads session come) → slice_index heads task < come
+  pub has_come : (come : ℕ) → suc (length (without_first task (waiting_at heads session come))) ≡ length (waiting_at heads session come)
+      → slice_index heads task < come
   has_come come fewer = elim (cases_lt (slice_index heads task) come) [
     | inl low ↦ low
     | inr high ↦ absurd (omega (arith, fewer, ap length (without_none task (waiting_at heads session come) (front_none come high))))
@@ -138,7 +150,8 @@ module _ (session : List Step) (come tasks : ℕ) (heads next : List ℕ) (queue
       after = queues.after;
     }
 
-    pub come_event : is_event (step_at session come) ≡ true → (begins (step_at session come) ≡ true → (call_in (step_at session come)).task < tasks) → waiting_at heads session (suc come) ≡ waiting_with (waiting_at heads session come) (step_at session come)
+    pub come_event : is_event (step_at session come) ≡ true → (begins (step_at session come) ≡ true → (call_in (step_at session come)).task < tasks)
+        → waiting_at heads session (suc come) ≡ waiting_with (waiting_at heads session come) (step_at session come)
     come_event is user =
         let step = step_at session come in
         waiting_suc heads session come
@@ -146,16 +159,11 @@ module _ (session : List Step) (come tasks : ℕ) (heads next : List ℕ) (queue
         (λ begin. let low = queues.later (call_in step).task come (user begin) (omega arith) more (own_call step begin) in grind (arith, nat_tests, low))
 
     pub come_other : is_event (step_at session come) ≡ false → waiting_at heads session (suc come) ≡ waiting_at heads session come
-    come_other none = let step = step_at session come in waiting_suc heads session come ∙ no_step step (waiting_at heads session come) (leb (slice_index heads (call_in step).task) come) none
+    come_other none = let step = step_at session come in waiting_suc heads session come
+        ∙ no_step step (waiting_at heads session come) (leb (slice_index heads (call_in step).task) come) none
 
   -- the next call of a task is made
   module _ (task : ℕ) (user : task < tasks) (here : slice_index heads task < come) where
-    place : ℕ
-    place = slice_index heads task
-
-    following : ℕ
-    following = slice_index next (slice_index heads task)
-
     abbrev later_heads : List ℕ
     later_heads = slice_set heads task (slice_index next (slice_index heads task))
 
@@ -172,7 +180,8 @@ module _ (session : List Step) (come tasks : ℕ) (heads next : List ℕ) (queue
     head_other other away = get_or-set_other heads task other _ 0 away
 
     -- the task's calls past the one that was made are not before its next one
-    past_next : (other : ℕ) → slice_index heads task < other → is_call_of task (step_at session other) ≡ true → slice_index next (slice_index heads task) ≤ other
+    past_next : (other : ℕ) → slice_index heads task < other → is_call_of task (step_at session other) ≡ true
+        → slice_index next (slice_index heads task) ≤ other
     past_next other past is = elim (cases_lt other (slice_index next (slice_index heads task))) [
       | inl low ↦ absurd (cc (is, its_next.between other (omega (arith, past)) low))
       | inr high ↦ high
@@ -187,23 +196,32 @@ module _ (session : List Step) (come tasks : ℕ) (heads next : List ℕ) (queue
         | inl same ↦ omega (arith, ap (slice_index later_heads) same, head_here, its_next.high)
         | inr away ↦ omega (arith, head_other other away, queues.few other low)
       ];
-      calls = λ other low. elim (cases_eq other task) as (λ _. slice_index later_heads other < length session → is_call_of other (step_at session (slice_index later_heads other)) ≡ true) [
-        | inl same ↦ λ below.
-            let at : slice_index later_heads other ≡ slice_index next (slice_index heads task) = ap (slice_index later_heads) same ∙ head_here in
-            (λ k. is_call_of (same k) (step_at session (at k))) ∙ its_next.call (omega (arith, at, below))
-        | inr away ↦ λ below.
-            let at = head_other other away in
-            ap (λ place. is_call_of other (step_at session place)) at ∙ queues.calls other low (omega (arith, at, below))
-      ];
+      calls = λ other low. elim (cases_eq other task) as
+          (λ _. slice_index later_heads other < length session → is_call_of other (step_at session (slice_index later_heads other)) ≡ true) [
+            | inl same ↦ λ below.
+                let at : slice_index later_heads other ≡ slice_index next (slice_index heads task) = ap (slice_index later_heads) same ∙ head_here in
+                (λ k. is_call_of (same k) (step_at session (at k))) ∙ its_next.call (omega (arith, at, below))
+            | inr away ↦ λ below.
+                let at = head_other other away in
+                ap (λ place. is_call_of other (step_at session place)) at ∙ queues.calls other low (omega (arith, at, below))
+          ];
       later = λ other where' low past below is. elim (cases_eq other task) [
-        | inl same ↦ omega (arith, ap (slice_index later_heads) same, head_here, past_next where' (omega (arith, here, past)) (ap (λ task. is_call_of task (step_at session where')) (sym same) ∙ is))
+        | inl same ↦
+            omega (
+              arith,
+              ap (slice_index later_heads) same,
+              head_here,
+              past_next where' (omega (arith, here, past))
+                  (ap (λ task. is_call_of task (step_at session where')) (sym same) ∙ is),
+            )
         | inr away ↦ omega (arith, head_other other away, queues.later other where' low past below is)
       ];
       after = queues.after;
     }
 
     -- where another call waits it does so before and after
-    same_test : (other : ℕ) → other ≢ slice_index heads task → (b : Bool) → begins (step_at session other) ≡ b → is_call_of task (step_at session other) ≡ true → leb (slice_index later_heads task) other ≡ leb (slice_index heads task) other
+    same_test : (other : ℕ) → other ≢ slice_index heads task → (b : Bool) → begins (step_at session other) ≡ b → is_call_of task (step_at session other) ≡ true
+        → leb (slice_index later_heads task) other ≡ leb (slice_index heads task) other
     same_test other away b is own = elim (cases_lt other (slice_index heads task)) [
       | inl low ↦
           let first : leb (slice_index later_heads task) other ≡ false = grind (arith, nat_tests, head_here, its_next.low, low) in
@@ -220,21 +238,24 @@ module _ (session : List Step) (come tasks : ℕ) (heads next : List ℕ) (queue
     same_waiting : (other : ℕ) → other ≢ slice_index heads task → is_waiting later_heads session other ≡ is_waiting heads session other
     same_waiting other away = at (begins (step_at session other)) refl
       where
-        caller : ℕ
-        caller = (call_in (step_at session other)).task
-
-        at : (b : Bool) → begins (step_at session other) ≡ b → (begins (step_at session other) && leb (slice_index later_heads (call_in (step_at session other)).task) other) ≡ (begins (step_at session other) && leb (slice_index heads (call_in (step_at session other)).task) other)
-        at false none = ap (λ b. b && leb (slice_index later_heads (call_in (step_at session other)).task) other) none ∙ ap (λ b. b && leb (slice_index heads (call_in (step_at session other)).task) other) (sym none)
+        at : (b : Bool) → begins (step_at session other) ≡ b
+            → (begins (step_at session other) && leb (slice_index later_heads (call_in (step_at session other)).task) other) ≡
+            (begins (step_at session other) && leb (slice_index heads (call_in (step_at session other)).task) other)
+        at false none = ap (λ b. b && leb (slice_index later_heads (call_in (step_at session other)).task) other) none
+            ∙ ap (λ b. b && leb (slice_index heads (call_in (step_at session other)).task) other) (sym none)
         at true begin = ap (λ b. begins (step_at session other) && b) (elim (cases_eq (call_in (step_at session other)).task task) [
           | inl same ↦
-              let own : is_call_of task (step_at session other) ≡ true = ap (λ task. is_call_of task (step_at session other)) (sym same) ∙ own_call (step_at session other) begin in
-              ap (λ task. leb (slice_index later_heads task) other) same ∙ same_test other away true begin own ∙ ap (λ task. leb (slice_index heads task) other) (sym same)
+              let own : is_call_of task (step_at session other) ≡ true = ap (λ task. is_call_of task (step_at session other)) (sym same)
+              ∙ own_call (step_at session other) begin in
+              ap (λ task. leb (slice_index later_heads task) other) same ∙ same_test other away true begin own
+              ∙ ap (λ task. leb (slice_index heads task) other) (sym same)
           | inr apart ↦ ap (λ place. leb place other) (head_other _ apart)
         ])
 
     here_before : is_waiting heads session (slice_index heads task) ≡ true
     here_before =
-        let both = and_parts (begins (step_at session (slice_index heads task))) (eqb (call_in (step_at session (slice_index heads task))).task task) its_call in
+        let both =
+        and_parts (begins (step_at session (slice_index heads task))) (eqb (call_in (step_at session (slice_index heads task))).task task) its_call in
         let same : (call_in (step_at session (slice_index heads task))).task ≡ task = grind (arith, nat_tests, both.1) in
         let low : leb (slice_index heads task) (slice_index heads task) ≡ true = grind (arith, nat_tests) in
         (λ k. both.0 k && (ap (λ other. leb (slice_index heads other) (slice_index heads task)) same ∙ low) k)
@@ -245,7 +266,8 @@ module _ (session : List Step) (come tasks : ℕ) (heads next : List ℕ) (queue
         let both = and_parts (begins step) (eqb (call_in step).task task) its_call in
         let same : (call_in step).task ≡ task = grind (arith, nat_tests, both.1) in
         let high : leb (slice_index later_heads task) (slice_index heads task) ≡ false = grind (arith, nat_tests, head_here, its_next.low) in
-        ap (λ other. begins step && leb (slice_index later_heads other) (slice_index heads task)) same ∙ ap (λ b. begins step && b) high ∙ none_both (begins step)
+        ap (λ other. begins step && leb (slice_index later_heads other) (slice_index heads task)) same ∙ ap (λ b. begins step && b) high
+        ∙ none_both (begins step)
 
     abbrev own : WaitingCall → Bool
     own waits = eqb waits.task task
@@ -264,18 +286,25 @@ module _ (session : List Step) (come tasks : ℕ) (heads next : List ℕ) (queue
     made_at : (k : ℕ) → slice_index heads task < k → IsMade k
     unfolding IsMade
     made_at zero past = absurd (omega (arith, past))
-    made_at (suc j) past = elim (cases_eq j (slice_index heads task)) as (λ _. (waiting_at later_heads session (suc j) ≡ without_first task (waiting_at heads session (suc j))) × (list_any own (waiting_at heads session (suc j)) ≡ true)) [
-      | inl same ↦ subst (λ j. (waiting_at later_heads session (suc j) ≡ without_first task (waiting_at heads session (suc j))) × (list_any own (waiting_at heads session (suc j)) ≡ true)) (sym same) at_head
-      | inr away ↦ at_more j away (made_at j (omega (arith, past, away)))
-    ]
+    made_at (suc j) past =
+        elim (cases_eq j (slice_index heads task)) as
+        (λ _. (waiting_at later_heads session (suc j) ≡ without_first task (waiting_at heads session (suc j)))
+        × (list_any own (waiting_at heads session (suc j)) ≡ true)) [
+          | inl same ↦
+              subst (λ j. (waiting_at later_heads session (suc j) ≡ without_first task (waiting_at heads session (suc j)))
+              × (list_any own (waiting_at heads session (suc j)) ≡ true)) (sym same) at_head
+          | inr away ↦ at_more j away (made_at j (omega (arith, past, away)))
+        ]
       where
-        at_head : (waiting_at later_heads session (suc (slice_index heads task)) ≡ without_first task (waiting_at heads session (suc (slice_index heads task)))) × (list_any own (waiting_at heads session (suc (slice_index heads task))) ≡ true)
+        at_head : (waiting_at later_heads session (suc (slice_index heads task)) ≡ without_first task (waiting_at heads session (suc (slice_index heads task))))
+            × (list_any own (waiting_at heads session (suc (slice_index heads task))) ≡ true)
         at_head =
             let h = slice_index heads task in
             let all = waiting_at heads session h in
             let call = call_in (step_at session h) in
             let is = (and_parts (begins (step_at session h)) (eqb call.task task) its_call).1 in
-            let before : waiting_at heads session (suc h) ≡ all ++ call ∷ [] = waiting_suc heads session h ∙ ap (λ b. all ++ cond b (call ∷ []) []) here_before in
+            let before : waiting_at heads session (suc h) ≡ all ++ call ∷ [] = waiting_suc heads session h
+            ∙ ap (λ b. all ++ cond b (call ∷ []) []) here_before in
             let after : waiting_at later_heads session (suc h) ≡ all
             = waiting_suc later_heads session h ∙ (λ i. front_same h (omega arith) i ++ cond (here_after i) (call ∷ []) []) ∙ append-nil all in
             let none = front_none session heads task h (omega arith) in
@@ -286,7 +315,10 @@ module _ (session : List Step) (come tasks : ℕ) (heads next : List ℕ) (queue
               ap (list_any own) before ∙ list_any-append own all (call ∷ []) ∙ (λ i. none i || (is i || false)),
             )
 
-        at_more : (j : ℕ) → j ≢ slice_index heads task → (waiting_at later_heads session j ≡ without_first task (waiting_at heads session j)) × (list_any own (waiting_at heads session j) ≡ true) → (waiting_at later_heads session (suc j) ≡ without_first task (waiting_at heads session (suc j))) × (list_any own (waiting_at heads session (suc j)) ≡ true)
+        at_more : (j : ℕ) → j ≢ slice_index heads task → (waiting_at later_heads session j ≡ without_first task (waiting_at heads session j))
+            × (list_any own (waiting_at heads session j) ≡ true)
+            → (waiting_at later_heads session (suc j) ≡ without_first task (waiting_at heads session (suc j)))
+            × (list_any own (waiting_at heads session (suc j)) ≡ true)
         at_more j away made =
             let one = cond (is_waiting heads session j) (call_in (step_at session j) ∷ []) [] in
             let all = waiting_at heads session j in
@@ -309,15 +341,20 @@ option_map_or_else f None other = refl
 option_map_or_else f (Some x) other = refl
 
 module _ (table : Table) (heads : List ℕ) (session : List Step) where
-  found_one : (waits : Bool) (place : ℕ) → find (is_timely table) (map (on_its_core table) (cond waits (call_in (step_at session place) ∷ []) [])) ≡ option_map (made_from table session) (cond (waits && is_timely table (on_its_core table (call_in (step_at session place)))) (Some place) None)
+  found_one : (waits : Bool) (place : ℕ)
+      → find (is_timely table) (map (on_its_core table) (cond waits (call_in (step_at session place) ∷ []) [])) ≡ option_map (made_from table session)
+      (cond (waits && is_timely table (on_its_core table (call_in (step_at session place)))) (Some place) None)
   found_one false place = refl
   found_one true place = at (is_timely table (on_its_core table (call_in (step_at session place))))
     where
-      at : (b : Bool) → cond b (Some (on_its_core table (call_in (step_at session place)))) None ≡ option_map (made_from table session) (cond b (Some place) None)
+      at : (b : Bool)
+          → cond b (Some (on_its_core table (call_in (step_at session place)))) None ≡ option_map (made_from table session) (cond b (Some place) None)
       at true = refl
       at false = refl
 
-  pub found_place : (come : ℕ) → find (is_timely table) (map (on_its_core table) (waiting_at heads session come)) ≡ option_map (made_from table session) (find (can_come table heads session) (numbers come))
+  pub found_place : (come : ℕ)
+      → find (is_timely table) (map (on_its_core table) (waiting_at heads session come)) ≡ option_map (made_from table session)
+      (find (can_come table heads session) (numbers come))
   unfolding waiting_at
   found_place zero = refl
   found_place (suc place) =
@@ -325,7 +362,8 @@ module _ (table : Table) (heads : List ℕ) (session : List Step) where
       ap (find (is_timely table)) (map-append (on_its_core table) (waiting_at heads session place) one)
       ∙ find-append (is_timely table) (map (on_its_core table) (waiting_at heads session place)) (map (on_its_core table) one)
       ∙ (λ i. option_or (found_place place i) (found_one (is_waiting heads session place) place i))
-      ∙ sym (option_map_or_else (made_from table session) (find (can_come table heads session) (numbers place)) (cond (can_come table heads session place) (Some place) None))
+      ∙ sym (option_map_or_else (made_from table session) (find (can_come table heads session) (numbers place))
+      (cond (can_come table heads session place) (Some place) None))
       ∙ ap (option_map (made_from table session)) (sym (find_suc (can_come table heads session) place))
 
 -- ---- calls that wait are checked
@@ -340,11 +378,13 @@ append_each : (P : WaitingCall → Type 0) (one other : List WaitingCall) → Al
 append_each P [] other first second = second
 append_each P (x ∷ one) other first second = (first.0, append_each P one other first.1 second)
 
-pub waiting_may : (settings : Settings) (heads : List ℕ) (session : List Step) → All (IsCheckedStep settings) session → (come : ℕ) → come ≤ length session → AllByRecursion (MayWait settings) (waiting_at heads session come)
+pub waiting_may : (settings : Settings) (heads : List ℕ) (session : List Step) → All (IsCheckedStep settings) session → (come : ℕ) → come ≤ length session
+    → AllByRecursion (MayWait settings) (waiting_at heads session come)
 unfolding waiting_at
 waiting_may settings heads session all zero low = tt
 waiting_may settings heads session all (suc place) low =
-    append_each (MayWait settings) (waiting_at heads session place) _ (waiting_may settings heads session all place (omega (arith, low))) (at (is_waiting heads session place) refl)
+    append_each (MayWait settings) (waiting_at heads session place) _ (waiting_may settings heads session all place (omega (arith, low)))
+    (at (is_waiting heads session place) refl)
   where
     at : (b : Bool) → is_waiting heads session place ≡ b → AllByRecursion (MayWait settings) (cond b (call_in (step_at session place) ∷ []) [])
     at false none = tt

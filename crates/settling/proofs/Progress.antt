@@ -1,5 +1,5 @@
 -- How a session is settled further.
-use Rattle.std.proofs.Common.{◌≡◌, ℕ, suc, ◌+◌, ◌^◌, ◌<◌, ◌≤◌, Bool, true, false, cond, not, List, [], ◌∷◌, ◌++◌, length, drop, drop-cons, Option, Some, None, Ok, refl, sym, ap, subst, ◌∙◌, inl, inr, arith, length-append}
+use Rattle.std.proofs.Common.{◌≡◌, ℕ, suc, ◌+◌, ◌^◌, ◌<◌, ◌≤◌, Bool, true, false, cond, not, List, [], ◌∷◌, ◌++◌, length, drop, drop-cons, Some, None, Ok, refl, sym, ap, subst, ◌∙◌, inl, inr, arith}
 use Rattle.std.specs.Prelude.{All, slice_index, slice_set}
 use Rattle.std.proofs.lemmas.List.{append-nil, drop_all}
 use Rattle.std.proofs.lemmas.List.Elements.{All-get_or}
@@ -19,9 +19,9 @@ use Rattle.bench_model.specs.Start.{start}
 use Rattle.bench_model.specs.Table.{Table}
 use Rattle.step_laws.proofs.Along.{settings_after, start_settings}
 use Rattle.settled_runs.specs.declared.waiting_call.WaitingCall.{WaitingCall}
-use Rattle.settled_runs.specs.Settled.{is_event, is_finish, events_of, made_at_once, waiting_with, on_its_core, quiet_step, waiting_after, without_first, IsSettled}
+use Rattle.settled_runs.specs.Settled.{is_event, is_finish, events_of, made_at_once, waiting_with, quiet_step, waiting_after, without_first, IsSettled}
 use Rattle.settled_runs.specs.SettleLaws.{MayWait, comes_from_outside}
-use Rattle.settled_runs.proofs.Pieces.{SwitchMade, FinishMade, CallMade, IsPiece, piece_of}
+use Rattle.settled_runs.proofs.Pieces.{CallMade, IsPiece, piece_of}
 use Rattle.settled_runs.proofs.Rests.{IsGood, begin_waits, event_waits, piece_checked}
 use Rattle.settling.specs.declared.queues.Queues.{Queues}
 use Rattle.settling.specs.declared.run.Settling.{Settling}
@@ -39,30 +39,40 @@ module _ (header : Header) (session : List Step) (old : Settling) (here : IsAt h
   pub good_here : IsGood here.table (waiting_in session old)
   good_here = record {
     sound = here.stands.sound;
-    few = let limits = checked_header header here.session_is.header.passes in subst (λ settings. settings.cores < 2 ^ 32) (sym here.settings) (omega (arith, limits.few_cores));
+    few = let limits = checked_header header here.session_is.header.passes in
+        subst (λ settings. settings.cores < 2 ^ 32) (sym here.settings) (omega (arith, limits.few_cores));
     may = waiting_may here.table.settings old.queues.heads.items session all_checked old.come here.queues.reached;
   }
 
   pub kernel_queues : AreQueues session old.come old.kernel.settings.tasks old.queues.heads.items old.queues.next.items
   kernel_queues =
-      subst (λ (settings : Settings). AreQueues session old.come settings.tasks old.queues.heads.items old.queues.next.items) (same_settings old.kernel here.table here.stands) here.queues
+      subst (λ (settings : Settings). AreQueues session old.come settings.tasks old.queues.heads.items old.queues.next.items)
+      (same_settings old.kernel here.table here.stands) here.queues
 
   pub kernel_checked : All (IsCheckedStep old.kernel.settings) session
   kernel_checked = subst (λ settings. All (IsCheckedStep settings) session) (same_settings old.kernel here.table here.stands) all_checked
 
   module _ (step : Step) (next : quiet_step here.table (waiting_in session old) ≡ Some step) where
     pub piece_passes : step_check old.kernel.settings step ≡ Ok tt
-    piece_passes = subst (λ settings. step_check settings step ≡ Ok tt) (same_settings old.kernel here.table here.stands) (piece_checked here.table (waiting_in session old) step good_here next).passes
+    piece_passes =
+        subst (λ settings. step_check settings step ≡ Ok tt) (same_settings old.kernel here.table here.stands)
+        (piece_checked here.table (waiting_in session old) step good_here next).passes
 
     -- the piece was made, and what waits after it waits
     pub at_next :
-        (new : Settling) → StandsFor new.kernel (step_of step here.table).1 → new.come ≡ old.come → AreQueues session old.come here.table.settings.tasks new.queues.heads.items new.queues.next.items
-        → waiting_at new.queues.heads.items session old.come ≡ waiting_after (waiting_in session old) step → new.run.items ≡ old.run.items ++ step ∷ [] → length new.run.items ≤ max_steps → IsAt header session new
+        (new : Settling) → StandsFor new.kernel (step_of step here.table).1 → new.come ≡ old.come
+        → AreQueues session old.come here.table.settings.tasks new.queues.heads.items new.queues.next.items
+        → waiting_at new.queues.heads.items session old.come ≡ waiting_after (waiting_in session old) step → new.run.items ≡ old.run.items ++ step ∷ []
+        → length new.run.items ≤ max_steps → IsAt header session new
     at_next new stands come queues waits run room =
         let settings = settings_after here.table step here.stands.sound in
         let way = piece_way header session here.table (waiting_in session old) old.run.items (events_of (drop old.come session)) step next here.way in
-        let reached = subst (λ waiting. IsOnTheWay header session (step_of step here.table).1 waiting (events_of (drop old.come session)) (old.run.items ++ step ∷ [])) (sym waits) way in
-        let moved = subst (λ come. IsOnTheWay header session (step_of step here.table).1 (waiting_at new.queues.heads.items session come) (events_of (drop come session)) (old.run.items ++ step ∷ [])) (sym come) reached in
+        let reached =
+        subst (λ waiting. IsOnTheWay header session (step_of step here.table).1 waiting (events_of (drop old.come session)) (old.run.items ++ step ∷ []))
+        (sym waits) way in
+        let moved =
+        subst (λ come. IsOnTheWay header session (step_of step here.table).1 (waiting_at new.queues.heads.items session come)
+        (events_of (drop come session)) (old.run.items ++ step ∷ [])) (sym come) reached in
         record {
           session_is = here.session_is;
           table = (step_of step here.table).1;
@@ -71,7 +81,8 @@ module _ (header : Header) (session : List Step) (old : Settling) (here : IsAt h
           queues =
               subst (λ (settings : Settings). AreQueues session new.come settings.tasks new.queues.heads.items new.queues.next.items) (sym settings)
               (subst (λ come. AreQueues session come here.table.settings.tasks new.queues.heads.items new.queues.next.items) (sym come) queues);
-          way = subst (λ run. IsOnTheWay header session (step_of step here.table).1 (waiting_in session new) (events_of (drop new.come session)) run) (sym run) moved;
+          way = subst (λ run. IsOnTheWay header session (step_of step here.table).1 (waiting_in session new) (events_of (drop new.come session)) run) (sym run)
+              moved;
           room = room;
         }
 
@@ -87,15 +98,18 @@ module _ (header : Header) (session : List Step) (old : Settling) (here : IsAt h
 
     -- a switch or a `finish`
     pub at_idle :
-        (new : Settling) → None ≡ cond (begins step) (Some (call_in step).task) None → StandsFor new.kernel (step_of step here.table).1 → new.come ≡ old.come → new.queues ≡ old.queues
+        (new : Settling) → None ≡ cond (begins step) (Some (call_in step).task) None → StandsFor new.kernel (step_of step here.table).1 → new.come ≡ old.come
+        → new.queues ≡ old.queues
         → new.run.items ≡ old.run.items ++ step ∷ [] → length new.run.items ≤ max_steps → IsAt header session new
     at_idle new told stands come queues run room =
         let none = none_told step told in
-        at_next new stands come (subst (λ (queues : Queues). AreQueues session old.come here.table.settings.tasks queues.heads.items queues.next.items) (sym queues) here.queues)
+        at_next new stands come
+        (subst (λ (queues : Queues). AreQueues session old.come here.table.settings.tasks queues.heads.items queues.next.items) (sym queues) here.queues)
         (ap (λ (queues : Queues). waiting_at queues.heads.items session old.come) queues ∙ sym (idle_waits step (waiting_in session old) none)) run room
 
     -- a call that waited
-    is_call : IsPiece (MayWait here.table.settings) here.table (waiting_in session old) step → begins step ≡ true → CallMade (MayWait here.table.settings) here.table (waiting_in session old) step
+    is_call : IsPiece (MayWait here.table.settings) here.table (waiting_in session old) step → begins step ≡ true
+        → CallMade (MayWait here.table.settings) here.table (waiting_in session old) step
     is_call (inl it) begin = absurd (cc (begin, ap begins it.is))
     is_call (inr (inl it)) begin = absurd (cc (begin, ap begins it.is))
     is_call (inr (inr it)) begin = it
@@ -109,7 +123,8 @@ module _ (header : Header) (session : List Step) (old : Settling) (here : IsAt h
           at false is told = absurd (cc (told))
 
       made : CallMade (MayWait here.table.settings) here.table (waiting_in session old) step
-      made = is_call (piece_of (MayWait here.table.settings) (begin_waits here.table.settings) here.table (waiting_in session old) step good_here.may next) begin
+      made = is_call (piece_of (MayWait here.table.settings) (begin_waits here.table.settings) here.table (waiting_in session old) step good_here.may next)
+          begin
 
       task_is : task ≡ made.waits.task
       task_is = let same : task ≡ (call_in step).task = cc (told, begin) in same ∙ ap (λ step. (call_in step).task) made.is
@@ -124,7 +139,8 @@ module _ (header : Header) (session : List Step) (old : Settling) (here : IsAt h
 
       pub at_call :
           (new : Settling) → StandsFor new.kernel (step_of step here.table).1 → new.come ≡ old.come
-          → new.queues.heads.items ≡ slice_set old.queues.heads.items task (slice_index old.queues.next.items (slice_index old.queues.heads.items task)) → new.queues.next.items ≡ old.queues.next.items
+          → new.queues.heads.items ≡ slice_set old.queues.heads.items task (slice_index old.queues.next.items (slice_index old.queues.heads.items task))
+          → new.queues.next.items ≡ old.queues.next.items
           → new.run.items ≡ old.run.items ++ step ∷ [] → length new.run.items ≤ max_steps → IsAt header session new
       at_call new stands come heads links run room =
           let tasks = here.table.settings.tasks in
@@ -132,15 +148,18 @@ module _ (header : Header) (session : List Step) (old : Settling) (here : IsAt h
           let queues = made_queues session old.come tasks old.queues.heads.items old.queues.next.items here.queues task task_low head_low in
           let waits = made_waiting session old.come tasks old.queues.heads.items old.queues.next.items here.queues task task_low head_low in
           let gone : waiting_after (waiting_in session old) step ≡ without_first task (waiting_in session old)
-          = ap (waiting_after (waiting_in session old)) made.is ∙ ap (λ finish. cond finish (waiting_in session old) (without_first made.waits.task (waiting_in session old))) made.begins
+          = ap (waiting_after (waiting_in session old)) made.is
+          ∙ ap (λ finish. cond finish (waiting_in session old) (without_first made.waits.task (waiting_in session old))) made.begins
           ∙ ap (λ task. without_first task (waiting_in session old)) (sym task_is) in
           at_next new stands come
-          (subst (λ (heads : List ℕ). AreQueues session old.come tasks heads new.queues.next.items) (sym heads) (subst (λ (links : List ℕ). AreQueues session old.come tasks later links) (sym links) queues))
+          (subst (λ (heads : List ℕ). AreQueues session old.come tasks heads new.queues.next.items) (sym heads)
+          (subst (λ (links : List ℕ). AreQueues session old.come tasks later links) (sym links) queues))
           (ap (λ (heads : List ℕ). waiting_at heads session old.come) heads ∙ waits ∙ sym gone) run room
 
     -- where there is no room for it, the run is too long
     pub piece_too_long : max_steps ≤ length old.run.items → IsTooLong header session
-    piece_too_long full = too_long header session here.table (waiting_in session old) old.run.items (events_of (drop old.come session)) step max_steps full next here.way
+    piece_too_long full =
+        too_long header session here.table (waiting_in session old) old.run.items (events_of (drop old.come session)) step max_steps full next here.way
 
 -- ---- the start
 
@@ -150,13 +169,17 @@ caller_low settings (Switch core) is checked = absurd (cc (is))
 caller_low settings (Interrupt core note) is checked = absurd (cc (is))
 caller_low settings (steps.Call core task call) is checked = (event_waits settings (steps.Call core task call) is checked core task call refl).task.1
 
-pub callers_low : (header : Header) (session : List Step) (tasks : ℕ) → IsSession (record { header = header; steps = session }) → (settings_of header).tasks ≡ tasks → HasCallers session tasks
+pub callers_low : (header : Header) (session : List Step) (tasks : ℕ) → IsSession (record { header = header; steps = session })
+    → (settings_of header).tasks ≡ tasks → HasCallers session tasks
 callers_low header session tasks is same place low begin =
-    let low = caller_low (settings_of header) (step_at session place) begin (All-get_or (IsCheckedStep (settings_of header)) session place Tick low is.steps) in omega (arith, low, same)
+    let low = caller_low (settings_of header) (step_at session place) begin (All-get_or (IsCheckedStep (settings_of header)) session place Tick low is.steps) in
+    omega (arith, low, same)
 
 pub at_start :
-    (header : Header) (session : List Step) (settling : Settling) → IsSession (record { header = header; steps = session }) → StandsFor settling.kernel (start header) → settling.come ≡ 0
-    → AreQueues session 0 (settings_of header).tasks settling.queues.heads.items settling.queues.next.items → settling.run.items ≡ [] → IsAt header session settling
+    (header : Header) (session : List Step) (settling : Settling) → IsSession (record { header = header; steps = session })
+    → StandsFor settling.kernel (start header) → settling.come ≡ 0
+    → AreQueues session 0 (settings_of header).tasks settling.queues.heads.items settling.queues.next.items → settling.run.items ≡ []
+    → IsAt header session settling
 unfolding waiting_at
 at_start header session settling is stands none queues empty =
     let settings = start_settings header in record {
@@ -169,7 +192,8 @@ at_start header session settling is stands none queues empty =
           (subst (λ (settings : Settings). AreQueues session 0 settings.tasks settling.queues.heads.items settling.queues.next.items) (sym settings) queues);
       way =
           subst (λ run. IsOnTheWay header session (start header) (waiting_in session settling) (events_of (drop settling.come session)) run) (sym empty)
-          (subst (λ come. IsOnTheWay header session (start header) (waiting_at settling.queues.heads.items session come) (events_of (drop come session)) []) (sym none) (begun header session));
+          (subst (λ come. IsOnTheWay header session (start header) (waiting_at settling.queues.heads.items session come) (events_of (drop come session)) [])
+          (sym none) (begun header session));
       room = omega (arith, ap length empty);
     }
 
@@ -195,19 +219,24 @@ module _ (header : Header) (session : List Step) (old : Settling) (resting : IsR
   came_passes = (All-get_or (IsCheckedStep old.kernel.settings) session old.come Tick more (kernel_checked header session old resting.here)).passes
 
   -- what is not an event changes nothing
-  way_other : is_event (step_at session old.come) ≡ false → IsOnTheWay header session resting.here.table (waiting_in session old) (events_of (drop (suc old.come) session)) old.run.items
+  way_other : is_event (step_at session old.come) ≡ false
+      → IsOnTheWay header session resting.here.table (waiting_in session old) (events_of (drop (suc old.come) session)) old.run.items
   way_other none =
       let rest = drop (suc old.come) session in
-      let same : events_of (drop old.come session) ≡ events_of rest = ap events_of events_here ∙ ap (λ b. cond b (step_at session old.come ∷ events_of rest) (events_of rest)) none in
+      let same : events_of (drop old.come session) ≡ events_of rest = ap events_of events_here
+      ∙ ap (λ b. cond b (step_at session old.come ∷ events_of rest) (events_of rest)) none in
       subst (λ events. IsOnTheWay header session resting.here.table (waiting_in session old) events old.run.items) same resting.here.way
 
   way_event :
       is_event (step_at session old.come) ≡ true
-      → IsOnTheWay header session (state_after resting.here.table (made_at_once (step_at session old.come))) (waiting_with (waiting_in session old) (step_at session old.come)) (events_of (drop (suc old.come) session)) (old.run.items ++ made_at_once (step_at session old.come))
+      → IsOnTheWay header session (state_after resting.here.table (made_at_once (step_at session old.come)))
+      (waiting_with (waiting_in session old) (step_at session old.come)) (events_of (drop (suc old.come) session))
+      (old.run.items ++ made_at_once (step_at session old.come))
   way_event is =
       let rest = drop (suc old.come) session in
       let step = step_at session old.come in
-      let same : events_of (drop old.come session) ≡ step ∷ events_of rest = ap events_of events_here ∙ ap (λ b. cond b (step ∷ events_of rest) (events_of rest)) is in
+      let same : events_of (drop old.come session) ≡ step ∷ events_of rest = ap events_of events_here
+      ∙ ap (λ b. cond b (step ∷ events_of rest) (events_of rest)) is in
       event_way header session resting.here.table (waiting_in session old) old.run.items (events_of rest) step resting.rests
       (subst (λ events. IsOnTheWay header session resting.here.table (waiting_in session old) events old.run.items) same resting.here.way)
 
@@ -217,9 +246,11 @@ module _ (header : Header) (session : List Step) (old : Settling) (resting : IsR
       (All-get_or (IsCheckedStep resting.here.table.settings) session old.come Tick more (all_checked header session old resting.here))
 
   at_came :
-      (new : Settling) (later : Table) (waiting : List WaitingCall) (run : List Step) → StandsFor new.kernel later → later.settings ≡ resting.here.table.settings → new.come ≡ old.come + 1
+      (new : Settling) (later : Table) (waiting : List WaitingCall) (run : List Step) → StandsFor new.kernel later
+      → later.settings ≡ resting.here.table.settings → new.come ≡ old.come + 1
       → new.queues ≡ old.queues → waiting_at old.queues.heads.items session (suc old.come) ≡ waiting
-      → IsOnTheWay header session later waiting (events_of (drop (suc old.come) session)) run → new.run.items ≡ run → length new.run.items ≤ max_steps → IsAt header session new
+      → IsOnTheWay header session later waiting (events_of (drop (suc old.come) session)) run → new.run.items ≡ run → length new.run.items ≤ max_steps
+      → IsAt header session new
   at_came new later waiting run stands settings come queues waits way made room =
       let tasks = resting.here.table.settings.tasks in
       let came = come_queues session old.come tasks old.queues.heads.items old.queues.next.items resting.here.queues more in
@@ -237,29 +268,38 @@ module _ (header : Header) (session : List Step) (old : Settling) (resting : IsR
             subst (λ (settings : Settings). AreQueues session new.come settings.tasks new.queues.heads.items new.queues.next.items) (sym settings)
             (subst (λ come. AreQueues session come tasks new.queues.heads.items new.queues.next.items) (sym next)
             (subst (λ (queues : Queues). AreQueues session (suc old.come) tasks queues.heads.items queues.next.items) (sym queues) came));
-        way = subst (λ come. IsOnTheWay header session later (waiting_at new.queues.heads.items session come) (events_of (drop come session)) new.run.items) (sym next) third;
+        way = subst (λ come. IsOnTheWay header session later (waiting_at new.queues.heads.items session come) (events_of (drop come session)) new.run.items)
+            (sym next) third;
         room = room;
       }
 
-  waits_event : is_event (step_at session old.come) ≡ true → waiting_at old.queues.heads.items session (suc old.come) ≡ waiting_with (waiting_in session old) (step_at session old.come)
-  waits_event is = come_event session old.come resting.here.table.settings.tasks old.queues.heads.items old.queues.next.items resting.here.queues more is callers
+  waits_event : is_event (step_at session old.come) ≡ true
+      → waiting_at old.queues.heads.items session (suc old.come) ≡ waiting_with (waiting_in session old) (step_at session old.come)
+  waits_event is =
+      come_event session old.come resting.here.table.settings.tasks old.queues.heads.items old.queues.next.items resting.here.queues more is callers
 
-  way_made : (made : List Step) → made_at_once (step_at session old.come) ≡ made → is_event (step_at session old.come) ≡ true → IsOnTheWay header session (state_after resting.here.table made) (waiting_with (waiting_in session old) (step_at session old.come)) (events_of (drop (suc old.come) session)) (old.run.items ++ made)
-  way_made made same is =
-      subst (λ made. IsOnTheWay header session (state_after resting.here.table made) (waiting_with (waiting_in session old) (step_at session old.come)) (events_of (drop (suc old.come) session)) (old.run.items ++ made)) same (way_event is)
+  way_made : (once : List Step) → made_at_once (step_at session old.come) ≡ once → is_event (step_at session old.come) ≡ true
+      → IsOnTheWay header session (state_after resting.here.table once) (waiting_with (waiting_in session old) (step_at session old.come))
+      (events_of (drop (suc old.come) session)) (old.run.items ++ once)
+  way_made once same is =
+      subst (λ once. IsOnTheWay header session (state_after resting.here.table once) (waiting_with (waiting_in session old) (step_at session old.come))
+      (events_of (drop (suc old.come) session)) (old.run.items ++ once)) same (way_event is)
 
   -- a tick or an interrupt was made
   pub at_outside :
-      (new : Settling) → comes_from_outside (step_at session old.come) ≡ true → StandsFor new.kernel (step_of (step_at session old.come) resting.here.table).1 → new.come ≡ old.come + 1
+      (new : Settling) → comes_from_outside (step_at session old.come) ≡ true → StandsFor new.kernel (step_of (step_at session old.come) resting.here.table).1
+      → new.come ≡ old.come + 1
       → new.queues ≡ old.queues → new.run.items ≡ old.run.items ++ step_at session old.come ∷ [] → length new.run.items ≤ max_steps → IsAt header session new
   at_outside new outside stands come queues run room =
       let step = step_at session old.come in
       let once = outside_once step outside in
-      at_came new (step_of step resting.here.table).1 (waiting_with (waiting_in session old) step) (old.run.items ++ step ∷ []) stands (settings_after resting.here.table step resting.here.stands.sound) come queues
+      at_came new (step_of step resting.here.table).1 (waiting_with (waiting_in session old) step) (old.run.items ++ step ∷ []) stands
+      (settings_after resting.here.table step resting.here.stands.sound) come queues
       (waits_event once.1) (way_made (step ∷ []) once.0 once.1) run room
 
   -- a call waits, or a switch or a `finish` is left out
-  pub at_inside : (new : Settling) → comes_from_outside (step_at session old.come) ≡ false → new.kernel ≡ old.kernel → new.come ≡ old.come + 1 → new.queues ≡ old.queues → new.run.items ≡ old.run.items → IsAt header session new
+  pub at_inside : (new : Settling) → comes_from_outside (step_at session old.come) ≡ false → new.kernel ≡ old.kernel → new.come ≡ old.come + 1
+      → new.queues ≡ old.queues → new.run.items ≡ old.run.items → IsAt header session new
   at_inside new inside kernel come queues run = at (is_event (step_at session old.come)) refl
     where
       stands : StandsFor new.kernel resting.here.table
@@ -270,11 +310,13 @@ module _ (header : Header) (session : List Step) (old : Settling) (resting : IsR
 
       at : (b : Bool) → is_event (step_at session old.come) ≡ b → IsAt header session new
       at true is =
-          at_came new resting.here.table (waiting_with (waiting_in session old) (step_at session old.come)) (old.run.items ++ []) stands refl come queues (waits_event is)
+          at_came new resting.here.table (waiting_with (waiting_in session old) (step_at session old.come)) (old.run.items ++ []) stands refl come queues
+          (waits_event is)
           (way_made [] (inside_once (step_at session old.come) inside is) is) (run ∙ sym (append-nil old.run.items)) room
       at false none =
           at_came new resting.here.table (waiting_in session old) old.run.items stands refl come queues
-          (come_other session old.come resting.here.table.settings.tasks old.queues.heads.items old.queues.next.items resting.here.queues more none) (way_other none) run room
+          (come_other session old.come resting.here.table.settings.tasks old.queues.heads.items old.queues.next.items resting.here.queues more none)
+          (way_other none) run room
 
   -- where there is no room for it, the run is too long
   pub come_too_long : comes_from_outside (step_at session old.come) ≡ true → max_steps ≤ length old.run.items → IsTooLong header session
@@ -282,7 +324,8 @@ module _ (header : Header) (session : List Step) (old : Settling) (resting : IsR
       let step = step_at session old.come in
       let once = outside_once step outside in
       let rest = drop (suc old.come) session in
-      let same : events_of (drop old.come session) ≡ step ∷ events_of rest = ap events_of events_here ∙ ap (λ b. cond b (step ∷ events_of rest) (events_of rest)) once.1 in
+      let same : events_of (drop old.come session) ≡ step ∷ events_of rest = ap events_of events_here
+      ∙ ap (λ b. cond b (step ∷ events_of rest) (events_of rest)) once.1 in
       let some : 0 < length (made_at_once step) = omega (arith, ap length once.0) in
       too_many header session resting.here.table (waiting_in session old) old.run.items (events_of rest) step max_steps full some resting.rests
       (subst (λ events. IsOnTheWay header session resting.here.table (waiting_in session old) events old.run.items) same resting.here.way)
@@ -291,9 +334,13 @@ module _ (header : Header) (session : List Step) (old : Settling) (resting : IsR
 
 -- all steps have come, and there is no quiet work to do
 pub settled_at :
-    (header : Header) (session : List Step) (settling : Settling) → IsResting header session settling → length session ≤ settling.come → (left : List WaitingCall) → left ≡ waiting_in session settling
+    (header : Header) (session : List Step) (settling : Settling) → IsResting header session settling → length session ≤ settling.come
+    → (left : List WaitingCall) → left ≡ waiting_in session settling
     → IsSettled header session settling.run.items left
 settled_at header session settling resting all left same =
     let none : drop settling.come session ≡ [] = drop_all settling.come session all in
-    let way = subst (λ events. IsOnTheWay header session resting.here.table (waiting_in session settling) events settling.run.items) (ap events_of none) resting.here.way in
-    subst (IsSettled header session settling.run.items) (sym same) (way_ends header session resting.here.table (waiting_in session settling) settling.run.items resting.rests way)
+    let way =
+    subst (λ events. IsOnTheWay header session resting.here.table (waiting_in session settling) events settling.run.items) (ap events_of none)
+    resting.here.way in
+    subst (IsSettled header session settling.run.items) (sym same)
+    (way_ends header session resting.here.table (waiting_in session settling) settling.run.items resting.rests way)

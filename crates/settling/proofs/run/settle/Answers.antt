@@ -1,4 +1,3 @@
-use Rattle.std.proofs.Common.{ap}
 use Rattle.settling.proofs.Progress.{settled_at}
 use Rattle.settling.proofs.run.settle.Goals as goal
 
@@ -13,4 +12,5 @@ loop-settling-preserved c = c.in_ok-work-2.ensures.rests c.args.header.now (c.in
 
 pub returns-clause-settled : goal.returns-clause-settled
 returns-clause-settled c =
-    settled_at c.args.header.now c.args.steps.now c.loop-settling.settling c.loop-settling.invariant c.loop-settling-test.false c.in_ok-left.left.items c.in_ok-left.ensures
+    settled_at c.args.header.now c.args.steps.now c.loop-settling.settling c.loop-settling.invariant c.loop-settling-test.false c.in_ok-left.left.items
+    c.in_ok-left.ensures

@@ -11,4 +11,5 @@ returns-in-Some c table stands =
 
 pub returns-in-None : goal.returns-in-None
 returns-in-None c table stands =
-    ap (λ why. option_map_or (λ why. not (is_early why)) why true) (sym c.in-None.is) ∙ timely_told table c.args.step.now c.refusal.result (c.refusal.ensures table stands)
+    ap (λ why. option_map_or (λ why. not (is_early why)) why true) (sym c.in-None.is)
+    ∙ timely_told table c.args.step.now c.refusal.result (c.refusal.ensures table stands)

@@ -15,4 +15,5 @@ returns-in-Some-open_finish c table stands =
 pub returns : goal.returns
 returns c table stands =
     next_at_call table (waiting_at c.args.queues.now.heads.items c.args.steps.now c.args.come) c.first_call.result
-    (sym c.in_default.is ∙ c.due_switch.ensures table stands) (sym c.in_default-open_finish.is ∙ c.open_finish.ensures table stands) (c.first_call.ensures table stands)
+    (sym c.in_default.is ∙ c.due_switch.ensures table stands) (sym c.in_default-open_finish.is ∙ c.open_finish.ensures table stands)
+    (c.first_call.ensures table stands)

@@ -1,4 +1,4 @@
-use Rattle.std.proofs.Common.{◌≡◌, ◌∙◌, ◌≤◌, ◌&&◌, ap, arith, below_more, leb, subst, sym, true, false, Some}
+use Rattle.std.proofs.Common.{◌≡◌, ◌∙◌, ◌≤◌, ◌&&◌, ap, arith, below_more, leb, true, false, Some}
 use Rattle.std.proofs.lemmas.Bool.Decides.{nat_tests}
 use Rattle.bench_types.specs.declared.kernel_data.Settings.{Settings}
 use Rattle.bench_types.specs.declared.step.Step.TheVariants as steps
@@ -19,7 +19,8 @@ returns-then-is_none c table stands =
     let user : table.settings.cores ≤ task = omega (arith, cores, count, c.if-cores-task.true) in
     let free = open_told table (steps.Call core task Finish) c.refusal.result true (c.refusal.ensures table stands) c.if-is_none.ensures in
     let both : (runs_user_task table core && is_open table (finish_on table core)) ≡ true = user_told table core task true runs user free in
-    ap (λ task. Some (steps.Call core task Finish)) runs ∙ finish_found table core (omega (arith, cores, count, c.loop-core-test.true)) both (c.loop-core.invariant table stands)
+    ap (λ task. Some (steps.Call core task Finish)) runs
+    ∙ finish_found table core (omega (arith, cores, count, c.loop-core-test.true)) both (c.loop-core.invariant table stands)
 
 pub loop-core-preserved : goal.loop-core-preserved
 loop-core-preserved c table stands =
@@ -32,7 +33,8 @@ loop-core-preserved c table stands =
     (elim c.if-cores-task.branch [
       | then-cores-task+else-is_none w ↦
           let user : table.settings.cores ≤ task = omega (arith, cores, count, w.if-cores-task.true) in
-          user_told table core task false runs user (open_told table (steps.Call core task Finish) w.refusal.result false (w.refusal.ensures table stands) w.if-is_none.ensures)
+          user_told table core task false runs user
+          (open_told table (steps.Call core task Finish) w.refusal.result false (w.refusal.ensures table stands) w.if-is_none.ensures)
       | else-cores-task w ↦
           let idle : leb table.settings.cores (current table.control core) ≡ false = grind (arith, nat_tests, cores, count, runs, w.if-cores-task.false) in
           and_left _ (is_open table (finish_on table core)) idle

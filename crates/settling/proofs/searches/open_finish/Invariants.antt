@@ -5,4 +5,5 @@ use Rattle.settled_runs.specs.Settled.{is_open, finish_on, runs_user_task}
 use Rattle.settling.proofs.searches.open_finish.Given as goal
 
 abbrev pub invariant-loop-core : goal.invariant-loop-core
-invariant-loop-core l = (table : Table) → StandsFor l.kernel table → (k : ℕ) → k < l.core → (runs_user_task table k && is_open table (finish_on table k)) ≡ false
+invariant-loop-core l = (table : Table) → StandsFor l.kernel table → (k : ℕ) → k < l.core
+    → (runs_user_task table k && is_open table (finish_on table k)) ≡ false

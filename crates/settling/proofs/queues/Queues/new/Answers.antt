@@ -8,4 +8,5 @@ loop-place-preserved-in-Some c =
 
 pub loop-place-preserved : goal.loop-place-preserved
 loop-place-preserved c =
-    linked_none c.args.steps.now c.loop-place.place c.args.tasks c.loop-place.heads.items c.loop-place.next.items c.loop-place-test.true c.loop-place.invariant c.in_default.ensures
+    linked_none c.args.steps.now c.loop-place.place c.args.tasks c.loop-place.heads.items c.loop-place.next.items c.loop-place-test.true c.loop-place.invariant
+    c.in_default.ensures

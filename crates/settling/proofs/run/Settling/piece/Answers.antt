@@ -1,4 +1,4 @@
-use Rattle.std.proofs.Common.{◌≡◌, ◌∙◌, ◌<◌, ◌≤◌, ap, arith, length, length-append, subst, sym}
+use Rattle.std.proofs.Common.{◌∙◌, ◌≤◌, ap, arith, length}
 use Rattle.bench_types.specs.Limits.{max_steps}
 use Rattle.settling.specs.declared.queues.Queues.{Queues}
 use Rattle.std.specs.Prelude.{slice_index, slice_set}
@@ -33,12 +33,15 @@ pub returns-in-Some-clause-made : goal.returns-in-Some-clause-made
 returns-in-Some-clause-made c header here =
     let task = c.in-Some.task in
     let queues = c.in_ok-make.ensures.queues in
-    let heads = c.advance.ensures.heads ∙ ap (λ (queues : Queues). slice_set queues.heads.items task (slice_index queues.next.items (slice_index queues.heads.items task))) queues in
+    let heads = c.advance.ensures.heads
+    ∙ ap (λ (queues : Queues). slice_set queues.heads.items task (slice_index queues.next.items (slice_index queues.heads.items task))) queues in
     let links = c.advance.ensures.next ∙ ap (λ (queues : Queues). queues.next.items) queues in
-    at_call header c.args.steps.now c.args.self.now here c.args.step (c.requires.next header here) task c.in-Some.ensures _ (c.in_ok-make.ensures.kernel here.table here.stands)
+    at_call header c.args.steps.now c.args.self.now here c.args.step (c.requires.next header here) task c.in-Some.ensures _
+    (c.in_ok-make.ensures.kernel here.table here.stands)
     c.in_ok-make.ensures.come heads links c.in_ok-make.ensures.run c.in_ok-make.ensures.room
 
 pub returns-in_default-clause-made : goal.returns-in_default-clause-made
 returns-in_default-clause-made c header here =
     at_idle header c.args.steps.now c.args.self.now here c.args.step (c.requires.next header here) c.make.new.self c.in_default.ensures
-    (c.in_ok-make.ensures.kernel here.table here.stands) c.in_ok-make.ensures.come c.in_ok-make.ensures.queues c.in_ok-make.ensures.run c.in_ok-make.ensures.room
+    (c.in_ok-make.ensures.kernel here.table here.stands) c.in_ok-make.ensures.come c.in_ok-make.ensures.queues c.in_ok-make.ensures.run
+    c.in_ok-make.ensures.room

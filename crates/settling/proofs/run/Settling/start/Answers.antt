@@ -6,10 +6,12 @@ use Rattle.settling.proofs.run.Settling.start.Goals as goal
 
 pub new-requires : goal.new-requires
 new-requires c =
-    let tasks = ap (λ (settings : Settings). settings.tasks) (c.settings.ensures.settings ∙ c.in-Ok.ensures.shape) in callers_low c.args.header.now c.args.steps.now c.settings.result.tasks c.requires (sym tasks)
+    let tasks = ap (λ (settings : Settings). settings.tasks) (c.settings.ensures.settings ∙ c.in-Ok.ensures.shape) in
+    callers_low c.args.header.now c.args.steps.now c.settings.result.tasks c.requires (sym tasks)
 
 pub returns-clause-begun : goal.returns-clause-begun
 returns-clause-begun c =
     let tasks = ap (λ (settings : Settings). settings.tasks) (c.settings.ensures.settings ∙ c.in-Ok.ensures.shape) in
     at_start c.args.header.now c.args.steps.now _ c.requires c.in-Ok.ensures.started refl
-    (subst (λ tasks. AreQueues c.args.steps.now 0 tasks c.in_ok-queues.queues.heads.items c.in_ok-queues.queues.next.items) tasks c.in_ok-queues.ensures) c.new-2.ensures.items
+    (subst (λ tasks. AreQueues c.args.steps.now 0 tasks c.in_ok-queues.queues.heads.items c.in_ok-queues.queues.next.items) tasks c.in_ok-queues.ensures)
+    c.new-2.ensures.items

@@ -1,5 +1,4 @@
-use Rattle.std.proofs.Common.{◌≡◌, ◌∙◌, ◌≤◌, arith, length, sym}
-use Rattle.bench_types.specs.Limits.{max_steps}
+use Rattle.std.proofs.Common.{◌∙◌, arith, sym}
 use Rattle.settling.proofs.Progress.{kernel_checked, kernel_queues}
 use Rattle.settling.proofs.run.Settling.work.Goals as goal
 

@@ -32,12 +32,12 @@ use Rattle.bench_model.specs.Table.{Table, stamp_queues}
 use Rattle.step_laws.proofs.Nears.{turned_hold}
 
 -- what a step does that is not refused is not answered by a refusal
-abbrev is_refusal : Reply → Bool
+abbrev pub is_refusal : Reply → Bool
 is_refusal (Refused why) = true
 is_refusal reply = false
 
 module _ {S : Type 0} where
-  abbrev IsMade : Reply × S → Type 0
+  abbrev pub IsMade : Reply × S → Type 0
   IsMade outcome = is_refusal outcome.0 ≡ false
 
   either_made : (b : Bool) (one other : Reply × S) → IsMade one → IsMade other → IsMade (cond b one other)
@@ -88,7 +88,7 @@ module _ {Orders : Type 0} (ops : QueueOps Orders) where
   called_made core task HoldOpen state = refl
   called_made core task HoldClose state = refl
 
-  performed_made : (step : Step) (state : State Orders) → IsMade (performed ops step state)
+  pub performed_made : (step : Step) (state : State Orders) → IsMade (performed ops step state)
   unfolding performed interrupted
   performed_made Tick state = refl
   performed_made (Switch core) state = refl

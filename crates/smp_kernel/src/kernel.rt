@@ -6,7 +6,8 @@ ghost use Rattle.list_orders.specs.Listings.{IsListing};
 ghost use Rattle.list_orders.specs.Search.{numbers};
 ghost use Rattle.bench_model.specs.Control.{core_at, current, is_allowed, task_at};
 ghost use Rattle.bench_model.specs.State.{holder_at};
-ghost use Rattle.bench_model.specs.Table.{Table};
+ghost use Rattle.bench_model.specs.Refusals.{refusal};
+ghost use Rattle.bench_model.specs.Table.{Table, stamp_queues};
 ghost use Rattle.bench_model.specs.Start.{start};
 ghost use Rattle.bench_model.specs.Looks.{note_look, task_look};
 ghost use Rattle.bench_model.specs.Session.{step_of};
@@ -20,7 +21,7 @@ ghost use Rattle.smp_kernel.specs.Raised.{raised_by, KeepsOthers};
 
 use crate::Meter;
 use crate::scheduler::Scheduler;
-use bench_types::{CoreLook, Fault, Header, NoteState, Reply, Settings, Step, TaskLook};
+use bench_types::{CoreLook, Fault, Header, NoteState, Refusal, Reply, Settings, Step, TaskLook};
 use std::alloc::{AllocError, Global};
 use std::marker::Model;
 use thiserror::Error;
@@ -278,6 +279,15 @@ impl Kernel {
         ensures task { IfSome result (λ task. task < self.now.settings.tasks) }
     {
         self.scheduler.next_ready(task)
+    }
+
+    /// Why the step would be refused, the first reason that applies; none where it would be made.
+    pub fn refusal(&self, step: &Step) -> Option<Refusal>
+        requires { step_check self.now.settings step.now ≡ Ok tt }
+        ensures { (table : Table) → StandsFor self.now table
+            → result ≡ refusal stamp_queues step.now table }
+    {
+        self.scheduler.refusal(step)
     }
 
     /// The task whose priority in use the step may raise, if there is one. Every other keeps its

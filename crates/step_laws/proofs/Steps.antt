@@ -146,7 +146,7 @@ would_block_seen task (MutexGive mutex) table = refl
 would_block_seen task HoldOpen table = refl
 would_block_seen task HoldClose table = refl
 
-refusal_seen : (step : Step) (table : Table) → refusal list_queues step (view_of table) ≡ refusal stamp_queues step table
+pub refusal_seen : (step : Step) (table : Table) → refusal list_queues step (view_of table) ≡ refusal stamp_queues step table
 unfolding refusal
 refusal_seen Tick table = refl
 refusal_seen (Switch core) table = refl

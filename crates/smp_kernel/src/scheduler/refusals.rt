@@ -10,9 +10,22 @@ ghost use Rattle.bench_model.specs.Refusals.{call_refusal, give_refusal, would_b
 use super::Scheduler;
 use bench_model::notes::is_received;
 use bench_model::until::{is_ahead, next_wake};
-use bench_types::{Call, MAX_DEPTH, Refusal, Unfinished};
+use bench_types::{Call, MAX_DEPTH, Refusal, Step, Unfinished};
 
 impl Scheduler {
+    // A tick and an interrupt never are.
+    #[tactic(auto, unfolding(bench_model::specs::Refusals::refusal))]
+    pub(crate) fn refusal(&self, step: &Step) -> Option<Refusal>
+        requires { step_check self.now.settings step.now ≡ Ok tt }
+        ensures { result ≡ refusal list_queues step.now self.now }
+    {
+        match *step {
+            Step::Tick | Step::Interrupt { .. } => None,
+            Step::Switch { core } => self.switch_refusal(core),
+            Step::Call { core, task, call } => self.call_refusal(core, task, call),
+        }
+    }
+
     // A core that holds the kernel keeps out the calls of others.
     #[inline(always)]
     #[tactic(auto, unfolding(bench_model::specs::Refusals::refusal))]

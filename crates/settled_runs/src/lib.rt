@@ -1,0 +1,38 @@
+//! Settled runs: what a target makes of a session's calls, ticks and interrupts, and the laws of
+//! it. Each function does nothing: its contract is the laws, one a clause.
+#![tactic(auto)]
+
+ghost use Rattle.settled_runs.specs.SettleLaws.{ThereIsASettledRun, SettledRunIsOne, SettledRunIsSession, SettlingKeepsCalls, SettlingKeepsEvents, RefusalsAreAnswers, SettledRunIsAtRest, SettlingIsSettled, QuietWorkLessens, QuietWorkEnds};
+
+mod waiting_call;
+
+pub use waiting_call::WaitingCall;
+
+/// Quiet work.
+pub fn laws_of_quiet_work()
+    // Each piece of it leaves less of it to do: a call less waits, or as many wait and a ready task
+    // less has an unfinished call, or as many have one and the due cores weigh less.
+    ensures quiet_work_lessens { QuietWorkLessens }
+    // So it ends.
+    ensures quiet_work_ends { QuietWorkEnds }
+{}
+
+/// The settled run of a session.
+pub fn laws_of_settled_runs()
+    // There is a settled run of each session, and one alone.
+    ensures there_is_a_settled_run { ThereIsASettledRun }
+    ensures settled_run_is_one { SettledRunIsOne }
+    // Its steps are steps of a session of the header.
+    ensures settled_run_is_session { SettledRunIsSession }
+    // The calls of each task but `finish` are those of the run in their order, followed by those
+    // that were not made.
+    ensures settling_keeps_calls { SettlingKeepsCalls }
+    // The ticks and the interrupts are those of the run, in their order.
+    ensures settling_keeps_events { SettlingKeepsEvents }
+    // No step of the run is refused but by E6 to E9.
+    ensures refusals_are_answers { RefusalsAreAnswers }
+    // After its last step no switch, no `finish` and no waiting call can be made.
+    ensures settled_run_is_at_rest { SettledRunIsAtRest }
+    // A settled run is that of its own steps, and all of its calls are made.
+    ensures settling_is_settled { SettlingIsSettled }
+{}

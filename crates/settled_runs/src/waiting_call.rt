@@ -1,0 +1,8 @@
+use bench_types::Call;
+
+/// A call that its task has not come to yet.
+#[derive(Clone, Copy, Debug, PartialEq, Eq)]
+pub struct WaitingCall {
+    pub task: u32,
+    pub call: Call,
+}

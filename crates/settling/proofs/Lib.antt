@@ -1,0 +1,4 @@
+pub mod Finds
+pub mod Places
+pub mod Progress
+pub mod Ways

@@ -1,0 +1,24 @@
+use Rattle.std.proofs.Common.{◌∙◌, arith, sym}
+use Rattle.settling.proofs.Progress.{kernel_checked, kernel_queues}
+use Rattle.settling.proofs.run.Settling.work.Goals as goal
+
+pub next_piece-requires-clause-queues : goal.next_piece-requires-clause-queues
+next_piece-requires-clause-queues c = let way = c.requires in kernel_queues way.0 c.args.steps.now c.loop-step.self (c.loop-step.invariant.0 way.0 way.1)
+
+pub next_piece-requires-clause-checked : goal.next_piece-requires-clause-checked
+next_piece-requires-clause-checked c = let way = c.requires in kernel_checked way.0 c.args.steps.now c.loop-step.self (c.loop-step.invariant.0 way.0 way.1)
+
+pub loop-step-smaller : goal.loop-step-smaller
+loop-step-smaller c =
+    let way = c.requires in
+    let there = c.in_ok-piece.ensures.made way.0 (c.loop-step.invariant.0 way.0 way.1) in
+    omega (arith, c.in_ok-piece.ensures.grows, there.room)
+
+pub returns-in_err-piece-clause-long : goal.returns-in_err-piece-clause-long
+returns-in_err-piece-clause-long c told header here =
+    let given = rw told at c.from_residual.ensures.1 in c.in_err-piece.ensures.long (cc (given)) header (c.loop-step.invariant.0 header here)
+
+pub returns-clause-rests : goal.returns-clause-rests
+returns-clause-rests c header here =
+    let there = c.loop-step.invariant.0 header here in
+    record { here = there; rests = sym (c.next_piece.ensures there.table there.stands) ∙ c.in_default.is }

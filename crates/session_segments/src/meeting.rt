@@ -23,11 +23,7 @@ fn unread_from<K: Tracing>(segments: &[Segment<K>]) -> usize
 
 // Whether no segment from the index on has a delay until a tick count. The first call looks at the
 // segments, later ones at what it found.
-fn is_unread<K: Tracing>(
-    known: &mut Option<usize>,
-    segments: &[Segment<K>],
-    index: usize,
-) -> bool
+fn is_unread<K: Tracing>(known: &mut Option<usize>, segments: &[Segment<K>], index: usize) -> bool
     requires known { IfSome known.old (IsUnreadFrom segments.now) }
     ensures known { IfSome known.new (IsUnreadFrom segments.now) }
     ensures unread { result ≡ not (some_delays_until (all_steps (drop index segments.now))) }

@@ -88,10 +88,11 @@ impl Drop for Traced {
 }
 
 impl Tracing for Traced {
-    ghost moves = { λ by kernel steps kept begun unread fits.
-        (told_later by kernel steps begun.stands.0 kept.replies.items kept.currents.items
-            kept.tallies begun.stands.1 begun.checked unread fits.0,
-        fits.1) };
+    ghost moves = { λ by kernel steps kept begun unread fits. (
+      told_later by kernel steps begun.stands.0 kept.replies.items kept.currents.items
+          kept.tallies begun.stands.1 begun.checked unread fits.0,
+      fits.1,
+    ) };
 
     ghost fits = { λ kernel steps traced. IsTold kernel steps traced.replies.items
         traced.currents.items traced.tallies

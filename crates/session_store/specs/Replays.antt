@@ -67,7 +67,7 @@ pub record IsEditReplay (kept : CheckpointedSession) (edit : Edit)
     (segments made : List SegmentView) (before after by : ℕ) : Type 0 where
   pub order : before ≤ after
   pub within : after ≤ length segments
-  pub edited : 
+  pub edited :
       IsEdited kept edit (take before segments) made (later_segments by (drop after segments))
 
 -- the segments of an edited session: those that stay, and the ones that were replayed

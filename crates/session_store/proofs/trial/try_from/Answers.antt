@@ -80,8 +80,7 @@ tallies_after-requires-clause-replayed c =
     let later = c.later-rest.result.now in
     let count = c.in_ok-tallies.count in
     let same = c.as_slice-steps.ensures.value in
-    let there = c.later-rest.ensures.rest in
-    (
+    let there = c.later-rest.ensures.rest in (
       traced_tallies c.args.header.now c.args.span c.args.segments.now c.args.edit.now c.requires.kept words accepts parting.kernel parting.steps.items parting.before parting.after c.requires.parting given later count same there c.in_ok-tallies.ensures.meeting c.in_ok-tallies.tallies c.in_ok-tallies.ensures.tallies c.in_ok-tallies.ensures.sizes,
       stay_later c.args.header.now c.args.span c.args.segments.now c.args.edit.now c.requires.kept words accepts parting.kernel parting.steps.items parting.before parting.after c.requires.parting given later count same there c.in_ok-tallies.ensures.meeting,
     )

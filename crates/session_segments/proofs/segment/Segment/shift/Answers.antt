@@ -23,8 +23,7 @@ invariant_of-self g c =
       checked = begun.checked;
       few_steps = begun.few_steps;
     } in
-    let fits = g.met.K.Tracing.moves by kernel steps inside.kept begun unread c.self.invariant.2 in
-    (
+    let fits = g.met.K.Tracing.moves by kernel steps inside.kept begun unread c.self.invariant.2 in (
       subst (λ (view : View). IsBegun view steps) (sym c.shift.ensures) later_begun,
       c.self.invariant.1,
       subst (λ (view : View). g.K.Tracing.fits view steps inside.kept) (sym c.shift.ensures) fits,

@@ -1,5 +1,14 @@
+use Rattle.std.proofs.Common.{◌≡◌, ◌∙◌, sym, ap}
+use Rattle.std.specs.Prelude.{Err, Ok, Result}
+use Rattle.std.specs.Result.{IsErrAnd}
+use Rattle.settling.specs.declared.run.SettleFault.{SettleFault}
 use Rattle.settling.proofs.Progress.{settled_at}
 use Rattle.settling.proofs.run.settle.Goals as goal
+
+-- the fault that is handed on is the one that was told
+fault_told : {T : Type 0} (result : Result T SettleFault) (fault : SettleFault) → IsErrAnd result (λ told. told ≡ fault) → {U : Type 0} {why : SettleFault} → result ≡ Err why → ◌≡◌ {A = Result U SettleFault} (Err fault) (Err why)
+fault_told (Ok value) fault told is = absurd told
+fault_told (Err other) fault told {U} is = ap Err (sym told ∙ cc is)
 
 pub loop-settling-init : goal.loop-settling-init
 loop-settling-init c = c.in_ok-work.ensures.rests c.args.header.now c.in_ok-settling.ensures.begun
@@ -14,3 +23,11 @@ pub returns-clause-settled : goal.returns-clause-settled
 returns-clause-settled c =
     settled_at c.args.header.now c.args.steps.now c.loop-settling.settling c.loop-settling.invariant c.loop-settling-test.false c.in_ok-left.left.items
     c.in_ok-left.ensures
+
+pub returns-in_err-come-clause-long : goal.returns-in_err-come-clause-long
+returns-in_err-come-clause-long c = λ long.
+    c.in_err-come.ensures.long (fault_told c.from_residual-in_err-come.result c.in_err-come.field-0.0 c.from_residual-in_err-come.ensures.1 long) c.args.header.now c.loop-settling.invariant
+
+pub returns-in_err-work-2-clause-long : goal.returns-in_err-work-2-clause-long
+returns-in_err-work-2-clause-long c = λ long.
+    c.in_err-work-2.ensures.long (fault_told c.from_residual-in_err-work-2.result c.in_err-work-2.field-0.0 c.from_residual-in_err-work-2.ensures.1 long) c.args.header.now (c.in_ok-come.ensures.come c.args.header.now c.loop-settling.invariant)

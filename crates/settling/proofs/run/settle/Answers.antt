@@ -6,7 +6,8 @@ use Rattle.settling.proofs.Progress.{settled_at}
 use Rattle.settling.proofs.run.settle.Goals as goal
 
 -- the fault that is handed on is the one that was told
-fault_told : {T : Type 0} (result : Result T SettleFault) (fault : SettleFault) → IsErrAnd result (λ told. told ≡ fault) → {U : Type 0} {why : SettleFault} → result ≡ Err why → ◌≡◌ {A = Result U SettleFault} (Err fault) (Err why)
+fault_told : {T : Type 0} (result : Result T SettleFault) (fault : SettleFault) → IsErrAnd result (λ told. told ≡ fault)
+    → {U : Type 0} {why : SettleFault} → result ≡ Err why → ◌≡◌ {A = Result U SettleFault} (Err fault) (Err why)
 fault_told (Ok value) fault told is = absurd told
 fault_told (Err other) fault told {U} is = ap Err (sym told ∙ cc is)
 
@@ -26,8 +27,11 @@ returns-clause-settled c =
 
 pub returns-in_err-come-clause-long : goal.returns-in_err-come-clause-long
 returns-in_err-come-clause-long c = λ long.
-    c.in_err-come.ensures.long (fault_told c.from_residual-in_err-come.result c.in_err-come.field-0.0 c.from_residual-in_err-come.ensures.1 long) c.args.header.now c.loop-settling.invariant
+    let told = fault_told c.from_residual-in_err-come.result c.in_err-come.field-0.0 c.from_residual-in_err-come.ensures.1 long in
+    c.in_err-come.ensures.long told c.args.header.now c.loop-settling.invariant
 
 pub returns-in_err-work-2-clause-long : goal.returns-in_err-work-2-clause-long
 returns-in_err-work-2-clause-long c = λ long.
-    c.in_err-work-2.ensures.long (fault_told c.from_residual-in_err-work-2.result c.in_err-work-2.field-0.0 c.from_residual-in_err-work-2.ensures.1 long) c.args.header.now (c.in_ok-come.ensures.come c.args.header.now c.loop-settling.invariant)
+    let told = fault_told c.from_residual-in_err-work-2.result c.in_err-work-2.field-0.0 c.from_residual-in_err-work-2.ensures.1 long in
+    let come = c.in_ok-come.ensures.come c.args.header.now c.loop-settling.invariant in
+    c.in_err-work-2.ensures.long told c.args.header.now come

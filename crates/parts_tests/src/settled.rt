@@ -1,0 +1,158 @@
+//! Settled runs. A program that was written apart from this one made the runs.
+ghost use Rattle.std.specs.Prelude.{◌≡◌, All, IsTrue, Ok};
+ghost use Rattle.bench_types.specs.Step.{settings_of, step_check, IsCheckedStep};
+
+use bench_samples::three_tasks;
+use bench_types::{Call, Header, Refusal, Step};
+use settled_runs::WaitingCall;
+use settling::{Settled, settle};
+use smp_kernel::{Kernel, Meter};
+use std::alloc::Global;
+use std::process::Abort;
+use std::test::Fail;
+
+const TICK: Step = Step::Tick;
+
+const fn switch(core: u32) -> Step {
+    Step::Switch { core }
+}
+
+const fn call(core: u32, task: u32, call: Call) -> Step {
+    Step::Call { core, task, call }
+}
+
+fn is_checked(header: &Header, step: &Step) -> bool
+    ensures { IsTrue result → IsCheckedStep (settings_of header.now) step.now }
+{
+    step.check(header).is_ok()
+}
+
+// Whether each step may stand under the header.
+fn are_checked(header: &Header, steps: &[Step]) -> bool
+    ensures { IsTrue result → All (IsCheckedStep (settings_of header.now)) steps.now }
+{
+    steps.iter().all(|step| is_checked(header, step))
+}
+
+/// Each step may stand under the header, or the test fails.
+fn need_checked(rt: &impl Abort, header: &Header, steps: &[Step])
+    ensures { All (IsCheckedStep (settings_of header.now)) steps.now }
+{
+    assert!(rt; are_checked(header, steps));
+}
+
+fn settled_of(rt: &impl Abort, host: &HostRuntime, steps: &[Step]) -> Result<Settled, Fail> {
+    let header = three_tasks(host.alloc(), false)?;
+    header.check()?;
+    need_checked(rt, &header, steps);
+    Ok(settle(host.alloc(), &header, steps, &mut Meter::new(host))?)
+}
+
+fn assert_run(rt: &impl Abort, settled: &Settled, run: &[Step]) {
+    assert_eq!(rt; settled.run.as_slice(), run);
+}
+
+fn assert_left(rt: &impl Abort, settled: &Settled, left: &[WaitingCall]) {
+    assert_eq!(rt; settled.left.as_slice(), left);
+}
+
+fn check(
+    rt: &impl Abort,
+    host: &HostRuntime,
+    steps: &[Step],
+    run: &[Step],
+    left: &[WaitingCall],
+) -> Result<(), Fail> {
+    let settled = settled_of(rt, host, steps)?;
+    assert_run(rt, &settled, run);
+    assert_left(rt, &settled, left);
+    Ok(())
+}
+
+#[test]
+fn no_steps(rt: HostRuntime) -> Result<(), Fail> {
+    check(&rt, &rt, &[], &[], &[])
+}
+
+/// C yields once A has left a core to it, A comes back to the other core, and its last call waits
+/// for it when it leaves again. The switch of the session is none of the run.
+#[test]
+fn switches_and_returns_of_a_target(rt: HostRuntime) -> Result<(), Fail> {
+    let steps = [
+        call(0, 4, Call::Yield),
+        call(1, 2, Call::Delay(2)),
+        switch(0),
+        TICK,
+        TICK,
+        TICK,
+        call(0, 2, Call::Delay(1)),
+        call(0, 2, Call::Yield),
+    ];
+    let run = [
+        call(0, 2, Call::Delay(2)),
+        switch(0),
+        call(0, 4, Call::Yield),
+        switch(0),
+        TICK,
+        TICK,
+        switch(1),
+        call(1, 2, Call::Finish),
+        TICK,
+        call(1, 2, Call::Delay(1)),
+        switch(1),
+    ];
+    let left = [WaitingCall {
+        task: 2,
+        call: Call::Yield,
+    }];
+    check(&rt, &rt, &steps, &run, &left)
+}
+
+/// C never runs, so its call is not made; that of B behind it is, on the core of B.
+#[test]
+fn a_call_that_is_not_made(rt: HostRuntime) -> Result<(), Fail> {
+    let steps = [call(0, 4, Call::Yield), call(0, 3, Call::PreemptOff(3))];
+    let run = [call(1, 3, Call::PreemptOff(3))];
+    let left = [WaitingCall {
+        task: 4,
+        call: Call::Yield,
+    }];
+    check(&rt, &rt, &steps, &run, &left)
+}
+
+/// The step may stand under the header, or the test fails.
+fn need_step(rt: &impl Abort, header: &Header, step: &Step)
+    ensures { step_check (settings_of header.now) step.now ≡ Ok tt }
+{
+    assert!(rt; step.check(header).is_ok());
+}
+
+fn refusal_at_start(
+    rt: &impl Abort,
+    host: &HostRuntime,
+    step: Step,
+) -> Result<Option<Refusal>, Fail> {
+    let header = three_tasks(host.alloc(), false)?;
+    need_step(rt, &header, &step);
+    Ok(Kernel::start(host.alloc(), &header)?.refusal(&step))
+}
+
+fn check_refusal(
+    rt: &impl Abort,
+    host: &HostRuntime,
+    step: Step,
+    wanted: Option<Refusal>,
+) -> Result<(), Fail> {
+    let refusal = refusal_at_start(rt, host, step)?;
+    assert_eq!(rt; refusal, wanted);
+    Ok(())
+}
+
+#[test]
+fn refusals_at_the_start(rt: HostRuntime) -> Result<(), Fail> {
+    check_refusal(&rt, &rt, TICK, None)?;
+    check_refusal(&rt, &rt, call(0, 2, Call::Yield), None)?;
+    check_refusal(&rt, &rt, switch(0), Some(Refusal::NotDue))?;
+    check_refusal(&rt, &rt, call(0, 4, Call::Yield), Some(Refusal::Displaced))?;
+    check_refusal(&rt, &rt, call(0, 2, Call::Finish), Some(Refusal::NotInCall))
+}

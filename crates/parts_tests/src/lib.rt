@@ -1,12 +1,10 @@
-//! Tests of crates each by itself: the kernel's parts, settled runs, and types and texts of
-//! sessions. There is nothing else here.
+//! Tests of crates each by itself: the kernel's parts, and types and texts of sessions. There is
+//! nothing else here.
 #![tactic(auto)]
 
 #[cfg(test)]
 mod expected;
 #[cfg(test)]
 mod parts;
-#[cfg(test)]
-mod settled;
 #[cfg(test)]
 mod texts;

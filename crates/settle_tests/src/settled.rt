@@ -5,7 +5,7 @@ ghost use Rattle.bench_types.specs.Step.{settings_of, step_check, IsCheckedStep}
 use bench_samples::three_tasks;
 use bench_types::{Call, Header, Refusal, Step};
 use settled_runs::WaitingCall;
-use settling::{Settled, settle};
+use settling::{SettleFault, Settled, settle};
 use smp_kernel::{Kernel, Meter};
 use std::alloc::Global;
 use std::process::Abort;
@@ -118,6 +118,41 @@ fn a_call_that_is_not_made(rt: HostRuntime) -> Result<(), Fail> {
         call: Call::Yield,
     }];
     check(&rt, &rt, &steps, &run, &left)
+}
+
+// Why a session of so many ticks under time slices is not settled.
+fn fault_of_ticks(
+    rt: &impl Abort,
+    host: &HostRuntime,
+    ticks: usize,
+) -> Result<Option<SettleFault>, Fail> {
+    let header = three_tasks(host.alloc(), true)?;
+    header.check()?;
+    let steps = vec![in host.alloc(); TICK; ticks]?;
+    need_checked(rt, &header, steps.as_slice());
+    match settle(
+        host.alloc(),
+        &header,
+        steps.as_slice(),
+        &mut Meter::new(host),
+    ) {
+        Ok(_) => Ok(None),
+        Err(why) => Ok(Some(why)),
+    }
+}
+
+fn assert_fault(rt: &impl Abort, fault: Option<SettleFault>, wanted: Option<SettleFault>) {
+    assert_eq!(rt; fault, wanted);
+}
+
+/// At each tick B and C take turns on core 1, so a session of 500,001 ticks settles to 1,000,002
+/// steps, two more than a session may have.
+#[test]
+fn runs_that_are_too_long(rt: HostRuntime) -> Result<(), Fail> {
+    assert_fault(&rt, fault_of_ticks(&rt, &rt, 500_000)?, None);
+    let wanted = Some(SettleFault::TooManySteps);
+    assert_fault(&rt, fault_of_ticks(&rt, &rt, 500_001)?, wanted);
+    Ok(())
 }
 
 /// The step may stand under the header, or the test fails.

@@ -99,7 +99,7 @@ module _ (items : ℕ) (named named_back : List ℕ) (homes : List (Option Home)
   free_apart l m low less free =
       grind (arith, nat_tests, less, has-items_of m (row_at lists l), stand.at_home m l low, ap (λ home. is_home home l) free)
 
-  homed_low : (m : ℕ) (home : Home) → home_at homes m ≡ Some home → m < items
+  pub homed_low : (m : ℕ) (home : Home) → home_at homes m ≡ Some home → m < items
   homed_low m home is = grind (arith, past)
     where
       past : items ≤ m → ⊥

@@ -1,5 +1,5 @@
 -- Lists of items with keys, as the callers of `Lists` see them.
-use Rattle.std.specs.Prelude.{◌≡◌, ℕ, List, [], ◌∷◌, Bool, true, not, ◌==◌, nat_le, Option, Some, None, map, filter, find, option_map, unwrap_or, replicate, slice_index_or, slice_set}
+use Rattle.std.specs.Prelude.{◌≡◌, ℕ, ◌+◌, ◌%◌, ◌^◌, List, [], ◌∷◌, Bool, true, not, ◌==◌, nat_le, Option, Some, None, map, filter, find, option_map, unwrap_or, replicate, reverse, slice_index_or, slice_set}
 use Rattle.std.specs.List.{list_any, position, after_first, IsDistinct}
 
 -- an item in a list
@@ -63,10 +63,18 @@ abbrev pub first_entry : List Listed → Option (ℕ × ℕ)
 first_entry [] = None
 first_entry (entry ∷ rest) = Some (entry.item, entry.key)
 
+-- the last item of the list and its key: the first of the list that is read from its end
+abbrev pub last_entry : List Listed → Option (ℕ × ℕ)
+last_entry list = first_entry (reverse list)
+
 -- the item that stands right after this one in its list
 abbrev pub next_of : ℕ → ListsView → Option ℕ
 next_of item view = first_of
     (after_first (λ entry. entry.item == item) (unwrap_or (find (has_item item) view.lists) []))
+
+-- the item with a key so many higher, modulo 2^32
+abbrev pub raised : ℕ → Listed → Listed
+raised by entry = record entry { key = (entry.key + by) % 2 ^ 32 }
 
 -- an item stays in front of another of no lower key
 abbrev pub lowest_first : Listed → Listed → Bool

@@ -1,6 +1,6 @@
 -- The fields of `Lists`, and the lists that they stand for. Node `items + l` is the end of list l:
 -- it closes the ring of the list's items.
-use Rattle.std.specs.Prelude.{◌≡◌, ℕ, zero, suc, ◌+◌, ◌<◌, ◌^◌, List, [], ◌∷◌, Bool, false, ◌==◌, Option, Some, None, length, map, slice_index, slice_index_or}
+use Rattle.std.specs.Prelude.{◌≡◌, ℕ, zero, suc, ◌+◌, ◌%◌, ◌<◌, ◌^◌, List, [], ◌∷◌, Bool, false, ◌==◌, Option, Some, None, length, map, slice_index, slice_index_or}
 use Rattle.std.specs.List.{AllByRecursion, IsDistinct}
 use Rattle.std.specs.Option.{option_map_or}
 use Rattle.list_orders.specs.Search.{numbers}
@@ -33,6 +33,10 @@ lists_in items named homes lens =
 abbrev pub seen_lists : ℕ → List Link → List (Option Home) → List ℕ → ListsView
 seen_lists items links homes lens =
     record { items = items; lists = lists_in items (nexts links) homes lens }
+
+-- a home with a key so many higher, modulo 2^32
+abbrev pub raised_home : ℕ → Home → Home
+raised_home by home = record home { key = (home.key + by) % 2 ^ 32 }
 
 -- the home is this list
 abbrev pub is_home : Option Home → ℕ → Bool

@@ -1,7 +1,8 @@
 //! The nodes of rings: who stands before and after whom.
-ghost use Rattle.std.specs.Prelude.{◌≡◌, ◌<◌, length, replicate, None, slice_set, slice_index, IfOk};
+ghost use Rattle.std.specs.Prelude.{◌≡◌, ◌<◌, length, map, option_map, replicate, None, slice_set, slice_index, IfOk};
 ghost use Rattle.list_orders.specs.Search.{numbers};
 ghost use Rattle.index_lists.specs.Rings.{nexts, prevs, nexts_without, prevs_without};
+ghost use Rattle.index_lists.specs.Shape.{raised_home};
 
 use std::alloc::{AllocError, Global};
 
@@ -110,4 +111,22 @@ fn join(links: &mut [Link], prev: u32, next: u32)
 {
     links[prev as usize].next = next;
     links[next as usize].prev = prev;
+}
+
+/// The key of each home becomes so many higher, modulo 2^32.
+pub(crate) fn raise_homes(homes: &mut [Option<Home>], by: u32)
+    ensures { homes.new ≡ map (option_map (raised_home by)) homes.old }
+{
+    for home in homes {
+        *home = raised_home(*home, by);
+    }
+}
+
+fn raised_home(home: Option<Home>, by: u32) -> Option<Home>
+    ensures { result ≡ option_map (raised_home by) home }
+{
+    home.map(|home| Home {
+        list: home.list,
+        key: home.key.wrapping_add(by),
+    })
 }

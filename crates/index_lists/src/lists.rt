@@ -1,10 +1,12 @@
-ghost use Rattle.std.specs.Prelude.{◌≡◌, ◌↔◌, ℕ, ◌+◌, ◌<◌, ◌≤◌, ◌^◌, ◌∷◌, ◌++◌, [], Some, None, is_some, true, nat_lt, if◌then◌else◌, length, map, drop, slice_index, IsTrue, IfOk, IfSome, nat_le};
+ghost use Rattle.std.specs.Prelude.{◌≡◌, ◌↔◌, ℕ, ◌+◌, ◌<◌, ◌≤◌, ◌^◌, ◌∷◌, ◌++◌, [], Some, None, is_some, true, nat_lt, if◌then◌else◌, length, map, drop, option_map, slice_index, IsTrue, IfOk, IfSome, nat_le};
 ghost use Rattle.std.specs.List.{prefix_len, insert};
 ghost use Rattle.list_orders.specs.Search.{placed, ranked};
-ghost use Rattle.index_lists.specs.Listed.{empty_lists, list_at, with_list, has_item, list_of, key_of, without_item, items_of, first_of, first_entry, next_of, lowest_first, EachInOneList};
+ghost use Rattle.index_lists.specs.Listed.{empty_lists, list_at, with_list, has_item, list_of, key_of, without_item, items_of, first_of, first_entry, last_entry, next_of, lowest_first, raised, EachInOneList};
 ghost use Rattle.index_lists.specs.Rings.{first_or};
 
-use crate::links::{Home, Link, link_before, lone_nodes, move_before, no_homes, no_lens, unlink};
+use crate::links::{
+    Home, Link, link_before, lone_nodes, move_before, no_homes, no_lens, raise_homes, unlink,
+};
 use std::alloc::{AllocError, Global};
 use std::marker::Model;
 
@@ -168,6 +170,14 @@ impl Lists {
         Some((item, home.key))
     }
 
+    /// The key of each item in a list becomes so many higher, modulo 2^32. No item moves.
+    pub fn raise_keys(&mut self, by: u32)
+        ensures { self.new
+            ≡ record self.old { lists = map (map (raised by)) self.old.lists } }
+    {
+        raise_homes(self.homes.as_mut_slice(), by);
+    }
+
     /// The first item of the list; none where it is empty.
     pub fn first(&self, list: u32) -> Option<u32>
         requires { list < length self.now.lists }
@@ -175,6 +185,22 @@ impl Lists {
         ensures item { IfSome result (λ item. item < self.now.items) }
     {
         self.item_at(self.links[self.end_of(list) as usize].next)
+    }
+
+    /// The first item of the list and its key; none where it is empty.
+    pub fn first_entry(&self, list: u32) -> Option<(u32, u32)>
+        requires { list < length self.now.lists }
+        ensures { result ≡ first_entry (list_at self.now list) }
+    {
+        self.entry_at(self.links[self.end_of(list) as usize].next)
+    }
+
+    /// The last item of the list and its key; none where it is empty.
+    pub fn last_entry(&self, list: u32) -> Option<(u32, u32)>
+        requires { list < length self.now.lists }
+        ensures { result ≡ last_entry (list_at self.now list) }
+    {
+        self.entry_at(self.links[self.end_of(list) as usize].prev)
     }
 
     /// The item that stands right after this one; none where this one is the last of its list, or
@@ -303,6 +329,19 @@ impl Lists {
         ensures { result ≡ (if nat_lt node self.now.items then Some node else None) }
     {
         (node < self.items).then_some(node)
+    }
+
+    // The item that the node is, and its key; none where it is the end of a list.
+    fn entry_at(&self, node: u32) -> Option<(u32, u32)>
+        ensures { result
+            ≡ (if nat_lt node self.now.items
+            then option_map (λ key. (node, key)) (key_of node self.now) else None) }
+    {
+        if node < self.items {
+            self.key_of(node).map(|key| (node, key))
+        } else {
+            None
+        }
     }
 
     // The node before which an item with the key goes.

@@ -181,17 +181,19 @@ replay_ends table first old new index kernel all so_far = record {
 }
 
 -- the steps of the segments stay
-pub same_lengths : (table : Table) (first : ℕ) (old new : List SegmentView) (end : ℕ) → AreReplayedFrom table first old new end → lengths new ≡ lengths old
-same_lengths table first old new end replayed =
+pub same_parts : (table : Table) (first : ℕ) (old new : List SegmentView) (end : ℕ) → AreReplayedFrom table first old new end → map steps_of new ≡ map steps_of old
+same_parts table first old new end replayed =
     let after = drop first old in
     let count = end - first in
     let all : first + (end - first) ≡ end = omega (arith, replayed.order) in
     let rest : drop end old ≡ drop count after = ap (λ n. drop n old) (sym all) ∙ sym (drop-drop count first old) in
-    let parts : map steps_of new ≡ map steps_of old =
     ap (map steps_of) (replayed.replaced ∙ append_assoc (take first old) replayed.made (later_segments replayed.by (drop end old))) ∙ map-append steps_of (take first old) (replayed.made ++ later_segments replayed.by (drop end old))
     ∙ ap (λ xs. map steps_of (take first old) ++ xs) (map-append steps_of replayed.made (later_segments replayed.by (drop end old)) ∙ ap (λ xs. map steps_of replayed.made ++ xs) (later_parts replayed.by (drop end old)) ∙ ap (λ xs. xs ++ map steps_of (drop end old)) replayed.replay.parts_are ∙ sym (map-append steps_of (take count after) (drop end old)) ∙ ap (map steps_of) (ap (λ xs. take count after ++ xs) rest ∙ take-append-drop count after))
-    ∙ sym (map-append steps_of (take first old) after) ∙ ap (map steps_of) (take-append-drop first old) in
-    sym (map-map length steps_of new) ∙ ap (map length) parts ∙ map-map length steps_of old
+    ∙ sym (map-append steps_of (take first old) after) ∙ ap (map steps_of) (take-append-drop first old)
+
+pub same_lengths : (table : Table) (first : ℕ) (old new : List SegmentView) (end : ℕ) → AreReplayedFrom table first old new end → lengths new ≡ lengths old
+same_lengths table first old new end replayed =
+    sym (map-map length steps_of new) ∙ ap (map length) (same_parts table first old new end replayed) ∙ map-map length steps_of old
 
 module _ (table : Table) (first : ℕ) (old new : List SegmentView) (index : ℕ) (kernel : View) (early : index < length old) (so_far : IsReplaying table first old new index kernel) where
   abbrev after : List SegmentView

@@ -1,5 +1,6 @@
 pub mod Again
 pub mod Counts
+mod Delaying
 mod KeptRows
 mod Places
 mod Replays

@@ -15,7 +15,7 @@ use Rattle.session_segments.specs.Meetings.{IsUnreadFrom}
 use Rattle.session_segments.proofs.Again.{drop_found, joined, own_steps}
 
 -- a segment and those after it
-both : (segment : SegmentView) (rest : List SegmentView) → some_delays_until (all_steps (segment ∷ rest)) ≡ (some_delays_until segment.steps || some_delays_until (all_steps rest))
+pub both : (segment : SegmentView) (rest : List SegmentView) → some_delays_until (all_steps (segment ∷ rest)) ≡ (some_delays_until segment.steps || some_delays_until (all_steps rest))
 both segment rest = list_any-append delays_until segment.steps (all_steps rest)
 
 -- what no step of some segments does, no step of the last of them does

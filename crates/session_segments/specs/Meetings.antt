@@ -1,11 +1,15 @@
 -- Whether a replay meets a segment.
-use Rattle.std.specs.Prelude.{◌≡◌, ℕ, drop, Option, Some, MatchOption, false, nat_lt, slice_get, List}
+use Rattle.std.specs.Prelude.{◌≡◌, ℕ, drop, Option, Some, MatchOption, false, nat_lt, slice_get, count_by, List}
 use Rattle.bench_model.specs.Equal.{StandsFor}
 use Rattle.bench_model.specs.Lists.{View}
 use Rattle.bench_model.specs.Shifted.{is_met, some_delays_until}
 use Rattle.bench_model.specs.Table.{Table}
 use Rattle.meeting_laws.specs.RunLaws.{MeetBy}
 use Rattle.segment_laws.specs.Segments.{SegmentView, all_steps}
+
+-- how many segments have a delay until a tick count
+abbrev pub count_delaying : List SegmentView → ℕ
+count_delaying segments = count_by (λ segment. some_delays_until segment.steps) segments
 
 -- it is the least index from which on no segment has a delay until a tick count
 abbrev pub IsUnreadFrom : List SegmentView → ℕ → Type 0

@@ -1,4 +1,4 @@
-ghost use Rattle.std.specs.Prelude.{◌≡◌, ◌⊎◌, false, ◌++◌, ◌<◌, ◌≤◌, ◌+◌, ◌-◌, ◌^◌, All, Ok, Some, IfOk, OnOk, OnErr, length, take, drop, map, slice_get, slice_index_or};
+ghost use Rattle.std.specs.Prelude.{◌≡◌, ◌⊎◌, false, ◌++◌, ◌<◌, ◌≤◌, ◌+◌, ◌-◌, ◌^◌, All, Ok, Some, IfOk, IfSome, OnOk, OnErr, length, take, drop, map, slice_get, slice_index_or};
 ghost use Rattle.std.specs.Vec.{vec_capacity};
 ghost use Rattle.bench_model.specs.Equal.{StandsFor};
 ghost use Rattle.bench_model.specs.Table.{Table};
@@ -7,6 +7,7 @@ ghost use Rattle.segment_laws.specs.Segments.{all_steps, later_segments, lengths
 ghost use Rattle.smp_kernel.specs.Kernel.{StandsForSome};
 ghost use Rattle.session_segments.specs.Again.{AreReplayedFrom, HasSettings};
 ghost use Rattle.session_segments.specs.Counting.{meter_after, CountsUpTo};
+ghost use Rattle.session_segments.specs.Meetings.{count_delaying, IsUnreadFrom};
 
 use crate::meeting::met_by;
 use crate::segment::Segment;
@@ -21,6 +22,8 @@ use std::marker::Model;
 pub struct Segments<K: Tracing = Traced> {
     places: Vec<u32>,
     segments: Vec<Segment<K>>,
+    /// How many of the segments have a delay until a tick count.
+    delaying: usize,
 }
 
 // Written out, so that whoever drops one has one call to prove, and not one for each list in it.
@@ -29,6 +32,7 @@ impl<K: Tracing> Drop for Segments<K> {
         let Segments {
             places: _,
             segments: _,
+            delaying: _,
         } = self;
     }
 }
@@ -39,11 +43,14 @@ impl<K: Tracing> Model for Segments<K> {
 
     ghost Value = { List SegmentView };
 
+    ghost use Rattle.std.specs.Prelude.{◌≡◌};
     ghost use Rattle.session_segments.specs.Kept.{ArePlaced};
+    ghost use Rattle.session_segments.specs.Meetings.{count_delaying};
 
     ghost view = { λ segments. segments.segments.items };
 
-    ghost invariant = { λ segments. ArePlaced segments.places.items segments.segments.items };
+    ghost invariant = { λ segments. ArePlaced segments.places.items segments.segments.items
+        × (segments.delaying ≡ count_delaying segments.segments.items) };
 }
 
 // The place after the last segment that has one.
@@ -75,6 +82,16 @@ fn place_from<K: Tracing>(places: &mut Vec<u32>, from: usize, segments: &[Segmen
     }
 }
 
+// How many of the segments have a delay until a tick count.
+fn count_delaying<K: Tracing>(segments: &[Segment<K>]) -> usize
+    ensures { result ≡ count_delaying segments.now }
+{
+    segments
+        .iter()
+        .filter(|segment| segment.delays_until())
+        .count()
+}
+
 // The made segments take the place of those from the first index up to the second.
 fn exchange<K: Tracing>(
     segments: &mut Vec<Segment<K>>,
@@ -101,7 +118,12 @@ impl<K: Tracing> Segments<K> {
     {
         let mut places = Vec::with_capacity(alloc, segments.len())?;
         place_from(&mut places, 0, segments.as_slice());
-        Ok(Segments { places, segments })
+        let delaying = count_delaying(segments.as_slice());
+        Ok(Segments {
+            places,
+            segments,
+            delaying,
+        })
     }
 
     /// How many segments there are.
@@ -155,8 +177,11 @@ impl<K: Tracing> Segments<K> {
         ensures unchanged { OnErr result (self.new ≡ self.old) }
     {
         self.places.reserve(made.len())?;
+        let fewer = count_delaying(&self.segments[from..to]);
+        let more = count_delaying(made.as_slice());
         exchange(&mut self.segments, from, to, made)?;
         place_from(&mut self.places, from, self.segments.as_slice());
+        self.delaying = self.delaying - fewer + more;
         Ok(())
     }
 
@@ -173,7 +198,15 @@ impl<K: Tracing> Segments<K> {
             ≡ meter_after (length (all_steps (take (result - first) (drop first self.old))))
             meter.old }
     {
-        replay_each(kernel, &mut self.segments, first, meter)
+        let known = self.unread();
+        replay_each(kernel, &mut self.segments, first, known, meter)
+    }
+
+    // From the first segment on none has a delay until a tick count, where there is none at all.
+    fn unread(&self) -> Option<usize>
+        ensures { IfSome result (IsUnreadFrom self.now) }
+    {
+        if self.delaying == 0 { Some(0) } else { None }
     }
 }
 
@@ -192,13 +225,16 @@ fn shift_from<K: Tracing>(segments: &mut [Segment<K>], from: usize, by: u32)
     }
 }
 
-// Replays the segments from the index on.
+// Replays the segments from the index on. What is known of their steps is the least index from which
+// on none has a delay until a tick count.
 fn replay_each<K: Tracing>(
     kernel: &mut Kernel,
     segments: &mut [Segment<K>],
     first: usize,
+    known: Option<usize>,
     meter: &mut Meter,
 ) -> usize
+    requires known { IfSome known (IsUnreadFrom segments.old) }
     requires stands { StandsForSome kernel.old }
     requires within { first ≤ length segments.old }
     requires settings { All (HasSettings kernel.old.settings) (drop first segments.old) }
@@ -208,7 +244,7 @@ fn replay_each<K: Tracing>(
         ≡ meter_after (length (all_steps (take (result - first) (drop first segments.old))))
         meter.old }
 {
-    let mut known = None;
+    let mut known = known;
     for index in first..segments.len() {
         if let Some(by) = met_by(&mut known, segments, index, kernel) {
             shift_from(segments, index, by);
@@ -247,9 +283,17 @@ impl Segments<Untraced> {
         ensures meter { OnOk result (meter.new ≡ meter_after (length (all_steps self)) meter.old) }
         ensures some { OnErr result (CountsUpTo (length (all_steps self)) meter.old meter.new) }
     {
-        let Segments { places, segments } = self;
+        let Segments {
+            places,
+            segments,
+            delaying,
+        } = self;
         let segments = all_traced(alloc, segments, meter)?;
-        Ok(Segments { places, segments })
+        Ok(Segments {
+            places,
+            segments,
+            delaying,
+        })
     }
 }
 

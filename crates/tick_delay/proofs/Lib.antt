@@ -1,4 +1,5 @@
 mod Moved
+mod Stays
 mod Pair
 mod Turns
 mod Waits

@@ -18,13 +18,13 @@ use Rattle.bench_model.specs.Lists.{wakes_first}
 use Rattle.bench_model.specs.Shifted.{later_tick}
 use Rattle.bench_model.specs.Until.{ticks_to}
 use Rattle.bench_model.proofs.Ranks.{wakes_first-IsRank}
-use Rattle.tick_delay.specs.Later.{later_wake, list_for, with_last, first_later_of, first_later, first_ones_later}
+use Rattle.tick_delay.specs.Later.{later_wake, list_for, with_last, first_later_of, first_later, first_ones_later, all_later}
 use Rattle.tick_delay.specs.Parts.{from_list, listed_at, wakes_this_turn, shifted_delays}
 use Rattle.tick_delay.specs.Shape.{delayed_at, seen_delays, IsTwoTurns, IsDelayShape}
 use Rattle.tick_delay.proofs.Turns.{this_left, next_left, this_order_kept, next_order_kept, tasks_seen}
 
 -- the entries with later wakes that pass a test
-abbrev later_of : ℕ → (Listed → Bool) → List Listed → List Listed
+abbrev pub later_of : ℕ → (Listed → Bool) → List Listed → List Listed
 later_of by p xs = map (later_wake by) (filter (λ e. p (later_wake by e)) xs)
 
 -- ---- the first entries of a list, each in turn
@@ -204,32 +204,27 @@ module _ (by tick : ℕ) (tick_low : tick < 2 ^ 32) where
       ∙ ap (map (listed_at now)) (sym (filter-map q (delayed_at tick) xs))
 
 -- ---- both lists
-abbrev pub all_later : ℕ → ℕ → ℕ → ListsView → ListsView
-all_later by tick turn lists =
-    let then = later_tick by tick in
-    first_ones_later by then turn (1 - turn) (length (list_at lists (1 - turn))) (first_ones_later by then turn turn (length (list_at lists turn)) lists)
-
 module _ (by tick turn : ℕ) (lists : ListsView) (tick_low : tick < 2 ^ 32) (turn_low : turn < 2) (two : length lists.lists ≡ 2)
     (low : AllByRecursion (λ e. e.key < 2 ^ 32) (list_at lists turn)) (low2 : AllByRecursion (λ e. e.key < 2 ^ 32) (list_at lists (1 - turn))) where
-  abbrev then : ℕ
+  abbrev pub then : ℕ
   then = later_tick by tick
 
-  abbrev this : List Listed
+  abbrev pub this : List Listed
   this = list_at lists turn
 
-  abbrev next : List Listed
+  abbrev pub next : List Listed
   next = list_at lists (1 - turn)
 
   abbrev half : ListsView
   half = first_ones_later by then turn turn (length this) lists
 
-  abbrev after : ListsView
-  after = all_later by tick turn lists
+  abbrev pub after : ListsView
+  after = all_later by then turn lists
 
-  abbrev passed : Listed → Bool
+  abbrev pub passed : Listed → Bool
   passed e = ltb e.key then
 
-  abbrev ahead : Listed → Bool
+  abbrev pub ahead : Listed → Bool
   ahead e = not (passed e)
 
   apart : 1 - turn ≢ turn
@@ -252,7 +247,7 @@ module _ (by tick turn : ℕ) (lists : ListsView) (tick_low : tick < 2 ^ 32) (tu
       (sym (append-nil this)) in
       (both.0, both.1 ∙ ap (λ es. next ++ map (later_wake by) es) (twice this))
 
-  second_half : (list_at after (1 - turn) ≡ later_of by passed this ++ later_of by passed next)
+  pub second_half : (list_at after (1 - turn) ≡ later_of by passed this ++ later_of by passed next)
       × (list_at after turn ≡ later_of by ahead this ++ later_of by ahead next)
   second_half =
       let sized = some_two by then turn turn (length this) lists in
@@ -421,17 +416,17 @@ module _ (by tasks tick turn : ℕ) (lists : ListsView) (shape : IsDelayShape ta
   in_order : IsOrdered wakes_first waits
   in_order = seen_ordered tasks tick (list_at lists turn) (list_at lists (1 - turn)) shape.tick_low shape.turns
 
-  this_made : list_at (all_later by tick turn lists) turn ≡ map (listed_at (later_tick by tick)) (filter (wakes_this_turn (later_tick by tick)) waits)
+  this_made : list_at (all_later by (later_tick by tick) turn lists) turn ≡ map (listed_at (later_tick by tick)) (filter (wakes_this_turn (later_tick by tick)) waits)
   this_made = this_later by tick turn lists shape.tick_low shape.turn_low shape.both this_low next_low
 
-  next_made : list_at (all_later by tick turn lists) (1 - turn) ≡ map (listed_at (later_tick by tick))
+  next_made : list_at (all_later by (later_tick by tick) turn lists) (1 - turn) ≡ map (listed_at (later_tick by tick))
       (filter (λ d. not (wakes_this_turn (later_tick by tick) d)) waits)
   next_made = next_later by tick turn lists shape.tick_low shape.turn_low shape.both this_low next_low
 
   then_low : later_tick by tick < 2 ^ 32
   then_low = omega arith
 
-  pub shape_later : IsDelayShape tasks (later_tick by tick) turn (all_later by tick turn lists)
+  pub shape_later : IsDelayShape tasks (later_tick by tick) turn (all_later by (later_tick by tick) turn lists)
   shape_later = record {
     turn_low = shape.turn_low;
     tick_low = then_low;
@@ -444,10 +439,10 @@ module _ (by tasks tick turn : ℕ) (lists : ListsView) (shape : IsDelayShape ta
     turns = rw (this_made, next_made) (turns_of tasks (later_tick by tick) waits then_low still_waiting some_left in_order);
   }
 
-  pub seen_later : seen_delays tasks (later_tick by tick) turn (all_later by tick turn lists) ≡ shifted_delays by (seen_delays tasks tick turn lists)
+  pub seen_later : seen_delays tasks (later_tick by tick) turn (all_later by (later_tick by tick) turn lists) ≡ shifted_delays by (seen_delays tasks tick turn lists)
   seen_later =
       ap (λ ds. record { tasks = tasks; tick = later_tick by tick; turn = turn; delayed = ds })
-      (ap (λ es. map (delayed_at (later_tick by tick)) (es ++ list_at (all_later by tick turn lists) (1 - turn))) this_made
+      (ap (λ es. map (delayed_at (later_tick by tick)) (es ++ list_at (all_later by (later_tick by tick) turn lists) (1 - turn))) this_made
       ∙ ap (λ es. map (delayed_at (later_tick by tick))
       (map (listed_at (later_tick by tick)) (filter (wakes_this_turn (later_tick by tick)) waits) ++ es)) next_made
       ∙ seen_of tasks (later_tick by tick) waits then_low still_waiting some_left in_order)

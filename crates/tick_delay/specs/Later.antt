@@ -1,6 +1,7 @@
 -- The two lists by wakes where the tick count, and each wake, is so many ticks later.
-use Rattle.std.specs.Prelude.{ℕ, zero, suc, List, [], ◌∷◌, ◌++◌, nat_lt, if◌then◌else◌}
-use Rattle.index_lists.specs.Listed.{Listed, ListsView, list_at, with_list}
+use Rattle.std.specs.Prelude.{ℕ, zero, suc, List, [], ◌∷◌, ◌++◌, length, Bool, true, ◌&&◌, nat_lt, nat_le, if◌then◌else◌}
+use Rattle.std.specs.Option.{option_map_or}
+use Rattle.index_lists.specs.Listed.{Listed, ListsView, list_at, with_list, first_entry, last_entry}
 use Rattle.bench_model.specs.Shifted.{later_tick}
 use Rattle.tick_delay.specs.Parts.{other_list}
 
@@ -33,3 +34,18 @@ abbrev pub first_ones_later : ℕ → ℕ → ℕ → ℕ → ℕ → ListsView 
 first_ones_later by tick turn list zero lists = lists
 first_ones_later by tick turn list (suc count) lists =
     first_later by tick turn list (first_ones_later by tick turn list count lists)
+
+-- all tasks of this turn's list do so, and then those of the other
+abbrev pub all_later : ℕ → ℕ → ℕ → ListsView → ListsView
+all_later by tick turn lists =
+    first_ones_later by tick turn (other_list turn) (length (list_at lists (other_list turn)))
+    (first_ones_later by tick turn turn (length (list_at lists turn)) lists)
+
+-- with their later wakes the last task of this turn's list still wakes in it, and the first of the
+-- other list in that one
+abbrev pub turns_stay : ℕ → ℕ → ℕ → ListsView → Bool
+turns_stay by tick turn lists =
+    option_map_or (λ entry. nat_le tick (later_tick by entry.1))
+    (last_entry (list_at lists turn)) true
+    && option_map_or (λ entry. nat_lt (later_tick by entry.1) tick)
+    (first_entry (list_at lists (other_list turn))) true

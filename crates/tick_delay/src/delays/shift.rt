@@ -2,7 +2,7 @@
 //! for it.
 ghost use Rattle.std.specs.Prelude.{◌≡◌, ◌↔◌, ℕ, ◌+◌, ◌<◌, length, map, drop, slice_index, IfSome, IsTrue};
 ghost use Rattle.list_orders.specs.Listings.{IsListing};
-ghost use Rattle.tick_delay.specs.Later.{first_later, first_ones_later};
+ghost use Rattle.tick_delay.specs.Later.{all_later, first_later, first_ones_later, turns_stay};
 ghost use Rattle.tick_delay.specs.Parts.{but_for_time, shifted_delays, first_task};
 
 use super::Delays;
@@ -29,10 +29,11 @@ impl Delays {
             tick: self.tick,
             turn: self.turn,
         };
-        let this = self.lists.len(self.turn);
-        let next = self.lists.len(1 - self.turn);
-        make_later(&mut self.lists, self.turn, this, later);
-        make_later(&mut self.lists, 1 - self.turn, next, later);
+        if turns_stay(&self.lists, later) {
+            self.lists.raise_keys(by);
+        } else {
+            make_all_later(&mut self.lists, later);
+        }
     }
 
     // Whether the same tasks wait in the same order, each for as many ticks.
@@ -93,6 +94,36 @@ struct Later {
     tick: u32,
     /// The list of the tasks that wake before the tick count wraps.
     turn: u32,
+}
+
+// Whether each task with its later wake stands in the list in which it stands. The lists are in the
+// order of wakes, so their ends tell.
+fn turns_stay(lists: &Lists, later: Later) -> bool
+    requires two { length lists.now.lists ≡ 2 }
+    requires turn { later.turn < 2 }
+    ensures { result ≡ turns_stay later.by later.tick later.turn lists.now }
+{
+    let this = match lists.last_entry(later.turn) {
+        Some((_, wake)) => later.tick <= wake.wrapping_add(later.by),
+        None => true,
+    };
+    let next = match lists.first_entry(1 - later.turn) {
+        Some((_, wake)) => wake.wrapping_add(later.by) < later.tick,
+        None => true,
+    };
+    this && next
+}
+
+// Each task wakes later, those of this turn first.
+fn make_all_later(lists: &mut Lists, later: Later)
+    requires two { length lists.old.lists ≡ 2 }
+    requires turn { later.turn < 2 }
+    ensures { lists.new ≡ all_later later.by later.tick later.turn lists.old }
+{
+    let this = lists.len(later.turn);
+    let next = lists.len(1 - later.turn);
+    make_later(lists, later.turn, this, later);
+    make_later(lists, 1 - later.turn, next, later);
 }
 
 // So many of the first tasks of the list wake later.

@@ -21,7 +21,7 @@ loop-index-init g c =
       replaying = λ table stands. replay_starts table c.args.first c.args.segments.now c.args.kernel.now stands;
       settings = refl;
       meter = ap (λ n. meter_after (length (all_steps (take n (drop c.args.first c.args.segments.now)))) c.args.meter.now) none;
-      known = tt;
+      known = c.requires.known;
     }
 
 pub met_by-requires-clause-known : goal.met_by-requires-clause-known

@@ -225,8 +225,8 @@ fn shift_from<K: Tracing>(segments: &mut [Segment<K>], from: usize, by: u32)
     }
 }
 
-// Replays the segments from the index on. What is known of their steps is the least index from which
-// on none has a delay until a tick count.
+// Replays the segments from the index on. What is known of their steps is the least index from
+// which on none has a delay until a tick count.
 fn replay_each<K: Tracing>(
     kernel: &mut Kernel,
     segments: &mut [Segment<K>],

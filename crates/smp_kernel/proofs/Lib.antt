@@ -2,6 +2,7 @@ pub mod Accepted
 pub mod Apart
 pub mod Blocks
 pub mod CoreMoves
+pub mod Counts
 pub mod Firsts
 pub mod Lefts
 pub mod Owing

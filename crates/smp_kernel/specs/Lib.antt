@@ -1,3 +1,4 @@
+pub mod Counting
 pub mod Deadlines
 pub mod Kernel
 pub mod Raised

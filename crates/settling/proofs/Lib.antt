@@ -1,3 +1,4 @@
+mod Counted
 pub mod Finds
 pub mod Places
 pub mod Progress

@@ -1,5 +1,5 @@
 -- How far a session was settled.
-use Rattle.std.specs.Prelude.{◌≡◌, ◌<◌, ◌≤◌, List, length, drop, None}
+use Rattle.std.specs.Prelude.{◌≡◌, ℕ, ◌<◌, ◌≤◌, List, length, drop, None}
 use Rattle.bench_types.specs.declared.header.Header.{Header}
 use Rattle.bench_types.specs.declared.step.Step.{Step}
 use Rattle.bench_types.specs.Limits.{max_steps}
@@ -9,6 +9,7 @@ use Rattle.bench_model.specs.Equal.{StandsFor}
 use Rattle.bench_model.specs.Table.{Table}
 use Rattle.settled_runs.specs.declared.waiting_call.WaitingCall.{WaitingCall}
 use Rattle.settled_runs.specs.Settled.{events_of, quiet_step, IsSettled}
+use Rattle.smp_kernel.specs.Counting.{meter_after}
 use Rattle.settling.specs.declared.run.Settling.{Settling}
 use Rattle.settling.specs.Places.{waiting_at, AreQueues}
 use Rattle.settling.specs.Ways.{IsOnTheWay}
@@ -36,6 +37,10 @@ pub record IsAt (header : Header) (session : List Step) (settling : Settling) : 
 pub record IsResting (header : Header) (session : List Step) (settling : Settling) : Type 0 where
   pub here : IsAt header session settling
   pub rests : quiet_step here.table (waiting_in session settling) ≡ None
+
+-- the meter counted the steps of the run, from a first count on
+abbrev pub HasCounted : ℕ → ℕ → Settling → Type 0
+HasCounted first count settling = count ≡ meter_after (length settling.run.items) first
 
 -- some header's steps are on the way
 abbrev pub IsUnderWay : List Step → Settling → Type 0

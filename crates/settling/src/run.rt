@@ -1,5 +1,5 @@
 //! Settling: events come in turn, each followed by quiet work.
-ghost use Rattle.std.specs.Prelude.{◌≡◌, ◌<◌, ◌≤◌, ◌+◌, ◌∷◌, ◌++◌, [], All, IfErr, IfOk, OnOk, Ok, Err, length, List, None, Some, if◌then◌else◌};
+ghost use Rattle.std.specs.Prelude.{◌≡◌, ◌<◌, ◌≤◌, ◌+◌, ◌∷◌, ◌++◌, [], All, IfErr, IfOk, OnErr, OnOk, Ok, Err, ℕ, length, List, None, Some, if◌then◌else◌};
 ghost use Rattle.bench_types.specs.declared.header.Header.{Header};
 ghost use Rattle.bench_types.specs.declared.step.Step.{Step};
 ghost use Rattle.bench_types.specs.Limits.{max_steps};
@@ -12,7 +12,8 @@ ghost use Rattle.settled_runs.specs.declared.waiting_call.WaitingCall.{WaitingCa
 ghost use Rattle.settled_runs.specs.Settled.{quiet_step, IsSettled};
 ghost use Rattle.settled_runs.specs.SettleLaws.{comes_from_outside};
 ghost use Rattle.settling.specs.Places.{begins, call_in, is_waiting, step_at, HasCallers};
-ghost use Rattle.settling.specs.Progress.{waiting_in, IsAt, IsResting, IsTooLong, IsUnderRest, IsUnderWay};
+ghost use Rattle.smp_kernel.specs.Counting.{meter_after, CountsUpTo};
+ghost use Rattle.settling.specs.Progress.{waiting_in, HasCounted, IsAt, IsResting, IsTooLong, IsUnderRest, IsUnderWay};
 
 use crate::queues::{Queues, caller};
 use crate::searches::next_piece;
@@ -69,6 +70,7 @@ impl Settling {
         requires { IsSession (record { header = header.now; steps = steps.now }) }
         ensures begun { IfOk result (λ settling. IsAt header.now steps.now settling) }
         ensures none { IfOk result (λ settling. settling.come ≡ 0) }
+        ensures empty { IfOk result (λ settling. settling.run.items ≡ []) }
         ensures memory { IfErr result (λ fault. fault ≡ SettleFault.NoMemory) }
     {
         let kernel = match Kernel::start(alloc, header) {
@@ -95,6 +97,9 @@ impl Settling {
         ensures room { OnOk result (length self.new.run.items ≤ max_steps) }
         ensures full { result ≡ Err SettleFault.TooManySteps
             → max_steps ≤ length self.old.run.items }
+        ensures counted { OnOk result ((first : ℕ) → HasCounted first meter.old self.old
+            → HasCounted first meter.new self.new) }
+        ensures uncounted { OnErr result (meter.new ≡ meter.old) }
     {
         if self.run.len() >= MAX_STEPS as usize {
             return Err(SettleFault::TooManySteps);
@@ -118,6 +123,9 @@ impl Settling {
         ensures come { OnOk result (self.new.come ≡ self.old.come) }
         ensures long { result ≡ Err SettleFault.TooManySteps
             → (header : Header) → IsAt header steps.now self.old → IsTooLong header steps.now }
+        ensures counted { OnOk result ((first : ℕ) → HasCounted first meter.old self.old
+            → HasCounted first meter.new self.new) }
+        ensures uncounted { OnErr result (meter.new ≡ meter.old) }
     {
         self.make(step, meter)?;
         if let Some(task) = caller(&step) {
@@ -134,6 +142,10 @@ impl Settling {
         ensures come { OnOk result (self.new.come ≡ self.old.come) }
         ensures long { result ≡ Err SettleFault.TooManySteps
             → (header : Header) → IsAt header steps.now self.old → IsTooLong header steps.now }
+        ensures counted { OnOk result ((first : ℕ) → HasCounted first meter.old self.old
+            → HasCounted first meter.new self.new) }
+        ensures some { OnErr result ((first : ℕ) → HasCounted first meter.old self.old
+            → CountsUpTo max_steps first meter.new) }
     {
         while let Some(step) = next_piece(&self.kernel, &self.queues, steps, self.come) {
             self.piece(steps, step, meter)?;
@@ -151,6 +163,9 @@ impl Settling {
         ensures long { result ≡ Err SettleFault.TooManySteps
             → (header : Header) → IsResting header steps.now self.old
             → IsTooLong header steps.now }
+        ensures counted { OnOk result ((first : ℕ) → HasCounted first meter.old self.old
+            → HasCounted first meter.new self.new) }
+        ensures uncounted { OnErr result (meter.new ≡ meter.old) }
     {
         let step = steps[self.come];
         if comes_from_outside(&step) {
@@ -207,6 +222,9 @@ pub fn settle(
     ensures long { result ≡ Err SettleFault.TooManySteps
         → (run : List Step) (left : List WaitingCall) → IsSettled header.now steps.now run left
         → max_steps < length run }
+    ensures counted { IfOk result
+        (λ settled. meter.new ≡ meter_after (length settled.run.items) meter.old) }
+    ensures some { OnErr result (CountsUpTo max_steps meter.old meter.new) }
 {
     let mut settling = Settling::start(alloc, header, steps)?;
     settling.work(steps, meter)?;

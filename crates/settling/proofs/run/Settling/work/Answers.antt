@@ -1,4 +1,5 @@
 use Rattle.std.proofs.Common.{◌∙◌, arith, sym}
+use Rattle.settling.proofs.Counted.{few_counted, on_err}
 use Rattle.settling.proofs.Progress.{kernel_checked, kernel_queues}
 use Rattle.settling.proofs.run.Settling.work.Goals as goal
 
@@ -22,3 +23,11 @@ pub returns-clause-rests : goal.returns-clause-rests
 returns-clause-rests c header here =
     let there = c.loop-step.invariant.0 header here in
     record { here = there; rests = sym (c.next_piece.ensures there.table there.stands) ∙ c.in_default.is }
+
+pub returns-in_err-piece-clause-some : goal.returns-in_err-piece-clause-some
+returns-in_err-piece-clause-some c = on_err c.from_residual.result (λ first counted.
+    let way = c.requires in
+    few_counted way.0 c.args.steps.now c.loop-step.self (c.loop-step.invariant.0 way.0 way.1) first c.piece.new.meter (c.in_err-piece.ensures.uncounted ∙ c.loop-step.invariant.2 first counted))
+
+pub returns-clause-counted : goal.returns-clause-counted
+returns-clause-counted c first counted = c.loop-step.invariant.2 first counted

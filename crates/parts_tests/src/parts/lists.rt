@@ -74,6 +74,19 @@ fn item_goes_to_the_end(rt: HostRuntime) -> Result<(), Fail> {
 }
 
 #[test]
+fn keys_rise_and_wrap(rt: HostRuntime) -> Result<(), Fail> {
+    let mut lists = Lists::new(rt.alloc(), 4, 2)?;
+    lists.push_keyed(0, 3, 4_294_967_290);
+    lists.push_keyed(0, 1, 7);
+    lists.raise_keys(10);
+    expect_same(&rt, lists.first_entry(0), Some((3, 4)));
+    expect_same(&rt, lists.last_entry(0), Some((1, 17)));
+    expect_same(&rt, lists.first_entry(1), None);
+    expect_same(&rt, lists.last_entry(1), None);
+    Ok(())
+}
+
+#[test]
 fn lists_become_others(rt: HostRuntime) -> Result<(), Fail> {
     let mut lists = Lists::new(rt.alloc(), 4, 2)?;
     let mut others = Lists::new(rt.alloc(), 4, 2)?;

@@ -1,5 +1,5 @@
 -- The steps that a meter counted.
-use Rattle.std.proofs.Common.{◌≡◌, ℕ, ◌≤◌, List, [], length, refl}
+use Rattle.std.proofs.Common.{◌≡◌, ℕ, List, [], length, refl}
 use Rattle.std.specs.Prelude.{Err, Ok, OnErr, Result}
 use Rattle.bench_types.specs.declared.header.Header.{Header}
 use Rattle.bench_types.specs.declared.step.Step.{Step}

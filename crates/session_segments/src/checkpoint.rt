@@ -1,4 +1,4 @@
-ghost use Rattle.std.specs.Prelude.{◌≡◌, ◌<◌, ◌≤◌, ◌^◌, IfOk, IfSome, MatchOption};
+ghost use Rattle.std.specs.Prelude.{◌≡◌, ℕ, ◌<◌, ◌≤◌, ◌^◌, IfOk, IfSome, MatchOption};
 ghost use Rattle.bench_types.specs.Limits.{max_cores};
 ghost use Rattle.bench_model.specs.Control.{current};
 ghost use Rattle.bench_model.specs.Equal.{StandsFor};
@@ -75,6 +75,16 @@ impl Checkpoint {
             kernel.shift(self.later);
         }
         Ok(kernel)
+    }
+
+    /// The kernel at the checkpoint, or the same some ticks earlier: it is not moved in time. Steps
+    /// that don't read the tick count lead to the same on either.
+    pub(crate) fn copy_unmoved(&self, alloc: Global) -> Result<Kernel, AllocError>
+        ensures later { IfOk result (λ kernel. (by : ℕ) × (self.now ≡ shifted by kernel)) }
+        ensures stands { IfOk result StandsForSome }
+        ensures settings { IfOk result (λ kernel. kernel.settings ≡ self.now.settings) }
+    {
+        self.kernel.copy(alloc)
     }
 
     /// The kernel at the checkpoint becomes the same so many ticks later.

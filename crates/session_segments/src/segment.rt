@@ -1,11 +1,11 @@
-ghost use Rattle.std.specs.Prelude.{◌≡◌, ◌≢◌, suc, ◌<◌, ◌^◌, ◌≤◌, All, true, false, Ok, Some, None, IfOk, IfSome, OnOk, OnErr, MatchOption, length, take, option_and_then, slice_get};
+ghost use Rattle.std.specs.Prelude.{◌≡◌, ◌≢◌, ◌⊎◌, ℕ, suc, ◌<◌, ◌^◌, ◌≤◌, All, true, false, Ok, Some, None, IfOk, IfSome, OnOk, OnErr, MatchOption, length, take, option_and_then, slice_get};
 ghost use Rattle.std.specs.Vec.{vec_capacity};
 ghost use Rattle.bench_types.specs.Limits.{max_cores, max_steps};
 ghost use Rattle.bench_types.specs.Step.{IsCheckedStep};
 ghost use Rattle.bench_model.specs.Control.{current};
 ghost use Rattle.bench_model.specs.Equal.{StandsFor};
 ghost use Rattle.bench_model.specs.Session.{state_after};
-ghost use Rattle.bench_model.specs.Shifted.{SameShifted, delays_until, some_delays_until};
+ghost use Rattle.bench_model.specs.Shifted.{SameShifted, delays_until, shifted, some_delays_until};
 ghost use Rattle.bench_model.specs.Table.{Table};
 ghost use Rattle.bench_model.specs.Tallied.{first_tallies, part_tallies, shape, shape_of, AllCountsBelow};
 ghost use Rattle.bench_reports.specs.Tops.{HasTops};
@@ -322,7 +322,7 @@ impl Segment<Untraced> {
             delays_until,
             kept: _,
         } = self;
-        let kept = told(alloc, &kernel, steps.as_slice(), meter)?;
+        let kept = told(alloc, &kernel, steps.as_slice(), delays_until, meter)?;
         Ok(Segment {
             kernel,
             steps,
@@ -332,13 +332,30 @@ impl Segment<Untraced> {
     }
 }
 
+// A kernel on which steps lead to what they lead to on the one at the checkpoint: that one, or,
+// where none of them reads the tick count, an earlier one that takes no move in time.
+fn kernel_for(alloc: Global, kernel: &Checkpoint, delays_until: bool) -> Result<Kernel, AllocError>
+    ensures alike { IfOk result (λ next. (next ≡ kernel.now)
+        ⊎ ((by : ℕ) × (kernel.now ≡ shifted by next) × (delays_until ≡ false))) }
+    ensures stands { IfOk result StandsForSome }
+    ensures settings { IfOk result (λ next. next.settings ≡ kernel.now.settings) }
+{
+    if delays_until {
+        kernel.copy_kernel(alloc)
+    } else {
+        kernel.copy_unmoved(alloc)
+    }
+}
+
 // What the steps lead to on a copy of the kernel. A copy is dear to drop, so one call follows.
 fn told(
     alloc: Global,
     kernel: &Checkpoint,
     steps: &[Step],
+    delays_until: bool,
     meter: &mut Meter,
 ) -> Result<Traced, AllocError>
+    requires delaying { delays_until ≡ some_delays_until steps.now }
     requires stands { StandsForSome kernel.now }
     requires few { kernel.now.settings.cores ≤ max_cores }
     requires steps { All (IsCheckedStep kernel.now.settings) steps.now }
@@ -349,6 +366,6 @@ fn told(
     ensures meter { OnOk result (meter.new ≡ meter_after (length steps.now) meter.old) }
     ensures some { OnErr result (CountsUpTo (length steps.now) meter.old meter.new) }
 {
-    let mut next = kernel.copy_kernel(alloc)?;
+    let mut next = kernel_for(alloc, kernel, delays_until)?;
     Traced::of(alloc, &mut next, steps, meter)
 }

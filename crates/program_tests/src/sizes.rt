@@ -1,14 +1,14 @@
 //! Runs of more steps, and trials of more edits, than small examples have: the whole of what is
 //! written, against lines that are made here.
 use crate::devices::{expect, expect_same};
-use bench_commands::{Counted, Ending, Status, carry_out};
+use bench_commands::{Counted, Ending, carry_out};
 use run_views::Places;
 use std::alloc::{AllocError, Global};
 use std::process::Abort;
 use std::sync::Wait;
 use std::test::Fail;
 use std::thread::Threads;
-use view_commands::{Command, Selection};
+use view_commands::{Command, Selection, View};
 
 /// More than a thousand.
 const TICKS: u32 = 1_500;
@@ -52,8 +52,8 @@ fn check_view(
     let mut shown = Vec::new(host.alloc());
     let mut reader = Counted::new(document.as_bytes());
     let mut writer = Counted::new(&mut shown);
-    let status = view_commands::run(host, host.alloc(), &mut reader, &mut writer, command);
-    expect_same(rt, "status", status, Status::Fine);
+    let ending = view_commands::run(host, host.alloc(), &mut reader, &mut writer, command);
+    expect_same(rt, "status", ending.code(), 0);
     expect_same(rt, "bytes", shown.len(), wanted.len());
     expect(rt, "the whole text", shown.as_slice() == wanted.as_bytes());
 }
@@ -78,14 +78,14 @@ fn push_tick(text: &mut String, at: u32) -> Result<(), AllocError> {
 }
 
 fn whole_trace(alloc: Global) -> Command {
-    Command::Trace(Selection {
+    Command::Plain(View::Trace(Selection {
         places: Places {
             from: 0,
             to: u32::MAX,
         },
         tasks: Vec::new(alloc),
         cores: Vec::new(alloc),
-    })
+    }))
 }
 
 #[test]
@@ -139,7 +139,7 @@ fn compared_document(alloc: Global, ticks: u32, at: u32) -> Result<String, Alloc
 fn a_comparison_of_many_steps(rt: HostRuntime) -> Result<(), Fail> {
     let document = compared_document(rt.alloc(), TICKS, AT)?;
     let lines = comparison_lines(rt.alloc(), TICKS, AT)?;
-    check_view(&rt, &rt, &Command::Compare, &document, &lines);
+    check_view(&rt, &rt, &Command::Plain(View::Compare), &document, &lines);
     Ok(())
 }
 

@@ -4,5 +4,6 @@ mod files;
 mod pictures;
 mod processes;
 mod samples;
+mod settled;
 mod traces;
 mod views;

@@ -1,6 +1,14 @@
 mod Aligned
+mod BothRuns
+mod ColumnsOf
+pub mod Compared
+mod EventPlaces
 mod GainsTold
 mod LastRows
+pub mod OneText
 mod Outcomes
 mod Ranges
+pub mod RowsCounted
+mod SharedPlaces
 mod Tiling
+mod Walks

@@ -117,7 +117,7 @@ all_before : (places : List ℕ) → flat_map place_before (map Removed places) 
 all_before [] = refl
 all_before (place ∷ places) = ap (λ list. place ∷ list) (all_before places)
 
-joined : (a m n b k : ℕ) → a + m ≡ b → m + n ≡ k → range_with_len a m ++ range_with_len b n ≡ range_with_len a k
+pub joined : (a m n b k : ℕ) → a + m ≡ b → m + n ≡ k → range_with_len a m ++ range_with_len b n ≡ range_with_len a k
 joined a zero n b k to all =
     let begins : b ≡ a = omega (arith, to) in
     let many : n ≡ k = omega (arith, all) in

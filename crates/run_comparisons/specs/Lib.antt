@@ -1,7 +1,13 @@
+pub mod Alike
+pub mod Columns
 pub mod Comparison
 pub mod Gains
 pub mod Origins
 pub mod RowLaws
 pub mod RowWords
 pub mod Rows
+pub mod Settled
+pub mod SettledRowLaws
+pub mod Shared
+pub mod SideBySide
 pub mod Told

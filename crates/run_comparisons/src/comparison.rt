@@ -15,8 +15,8 @@ use session_store::Store;
 use smp_kernel::Meter;
 use std::alloc::{AllocError, Global};
 
-// Makes the edits, and gives the rows of the session before them and after them.
-fn rows_of(
+/// Makes the edits, and gives the rows of the session before them and after them.
+pub(crate) fn rows_of(
     alloc: Global,
     meter: &mut Meter,
     store: &mut Store,
@@ -113,7 +113,8 @@ fn push_differences(text: &mut String, rows: &[Row]) -> Result<(), AllocError>
     }
 }
 
-fn push_rows_text(
+/// Writes the rows, and where the runs differ first and last.
+pub(crate) fn push_rows_text(
     alloc: Global,
     text: &mut String,
     before: &Store,
@@ -128,7 +129,8 @@ fn push_rows_text(
     push_differences(text, differing.as_slice())
 }
 
-fn push_fared(
+/// Writes what each task gained and lost.
+pub(crate) fn push_fared(
     alloc: Global,
     text: &mut String,
     before: &Store,

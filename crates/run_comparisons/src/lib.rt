@@ -1,14 +1,24 @@
-//! The run of a session before some edits beside the run after them.
+//! The run of a session before some edits beside the run after them, as they stand or settled.
 #![tactic(auto)]
 
+mod alike;
+mod columns;
 mod comparison;
 mod gains;
 pub mod laws;
 mod making;
 mod origins;
+mod place_pair;
 mod row_words;
 mod rows;
+mod settled;
+mod shared;
+mod side_by_side;
+mod steps;
 mod told;
 
+pub use columns::{Side, columns_of, law_of_columns};
 pub use comparison::compare;
 pub use rows::Row;
+pub use settled::{SettledPair, compare_settled, push_left_lines, settle_both};
+pub use steps::steps_of;

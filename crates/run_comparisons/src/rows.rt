@@ -7,11 +7,11 @@ use std::alloc::AllocError;
 /// A step that both runs have, or one of them alone.
 #[derive(Clone, Copy, Debug, PartialEq, Eq)]
 pub enum Row {
-    /// A step of both, by its place before the edits and after them.
+    /// A step of both, by its place in the run before the edits and in the run after them.
     Both { before: u32, after: u32 },
-    /// A step that the edits remove, by its place before them.
+    /// A step of the run before the edits alone, by its place in it.
     Removed(u32),
-    /// A step that an edit inserts, by its place after them.
+    /// A step of the run after the edits alone, by its place in it.
     Inserted(u32),
 }
 

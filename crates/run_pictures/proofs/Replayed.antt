@@ -1,6 +1,6 @@
 -- What a picture shows is what the replay has.
 use Rattle.std.proofs.Common.{◌≡◌, ℕ, ◌+◌, ◌<◌, List, [], ◌∷◌, length, map, take, Bool, true, false, Option, refl, subst, sym, ap, ◌∙◌, zero-add}
-use Rattle.std.specs.Prelude.{All, fold, if◌then◌else◌}
+use Rattle.std.specs.Prelude.{All, if◌then◌else◌}
 use Rattle.std.proofs.lemmas.List.FromFn.{get_or-map-range_with_len}
 use Rattle.std.proofs.lemmas.List.Elements.{All-take}
 use Rattle.bench_types.specs.declared.header.Header.{Header}
@@ -11,10 +11,9 @@ use Rattle.bench_types.specs.Step.{settings_of, IsCheckedStep}
 use Rattle.list_orders.specs.Search.{numbers}
 use Rattle.bench_model.specs.Control.{core_at, current}
 use Rattle.bench_model.specs.Looks.{task_look}
-use Rattle.bench_model.specs.Seek.{after_switch}
 use Rattle.bench_model.specs.Session.{state_at}
-use Rattle.bench_model.specs.Start.{first_stamps, start, started, unstarted}
-use Rattle.bench_model.specs.Table.{Table, is_ready, stamp_queues, tick_count}
+use Rattle.bench_model.specs.Start.{start}
+use Rattle.bench_model.specs.Table.{Table, is_ready, tick_count}
 use Rattle.step_laws.proofs.Along.{settings_along, start_settings}
 use Rattle.step_laws.proofs.Starts.{start_sound}
 use Rattle.run_views.specs.declared.look.Look.{Look}

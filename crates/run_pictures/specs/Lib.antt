@@ -1,6 +1,7 @@
 pub mod Axis
 pub mod Bar
 pub mod CoreBands
+pub mod Drawn
 pub mod Escape
 pub mod Film
 pub mod Frame

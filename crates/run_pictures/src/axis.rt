@@ -28,9 +28,9 @@ fn tick_spans(alloc: Global, first: u32, looks: &[Look]) -> Result<Vec<Span<u32>
 
 // The number of a place, where it is one of those that are numbered.
 #[tactic(auto, unfolding(crate::specs::Axis::place_label))]
-fn push_place(text: &mut String, frame: Frame, y: u64, place: u32) -> Result<(), AllocError>
+fn push_place(text: &mut String, frame: &Frame, y: u64, place: u32) -> Result<(), AllocError>
     ensures { OnOk result
-        (string_bytes text.new ≡ string_bytes text.old ++ place_label frame y place) }
+        (string_bytes text.new ≡ string_bytes text.old ++ place_label frame.now y place) }
 {
     if place % frame.scale.every() == 0 {
         let x = frame.x_of(place) + 2;
@@ -39,12 +39,12 @@ fn push_place(text: &mut String, frame: Frame, y: u64, place: u32) -> Result<(),
     Ok(())
 }
 
-fn push_places(text: &mut String, frame: Frame, y: u64, count: u32) -> Result<(), AllocError>
-    requires { frame.first + count ≤ 2 ^ 32 }
+fn push_places(text: &mut String, frame: &Frame, y: u64, count: u32) -> Result<(), AllocError>
+    requires { frame.now.first + count ≤ 2 ^ 32 }
     ensures { OnOk result
         (string_bytes text.new
         ≡ string_bytes text.old
-        ++ flat_map (λ k. place_label frame y (frame.first + k)) (numbers count)) }
+        ++ flat_map (λ k. place_label frame.now y (frame.now.first + k)) (numbers count)) }
 {
     for k in 0..count {
         push_place(text, frame, y, frame.first + k)?;
@@ -57,13 +57,13 @@ fn push_places(text: &mut String, frame: Frame, y: u64, count: u32) -> Result<()
 fn push_tick(
     alloc: Global,
     text: &mut String,
-    frame: Frame,
+    frame: &Frame,
     y: u64,
     span: Span<u32>,
 ) -> Result<(), AllocError>
     requires { y < 2 ^ 40 }
     ensures { OnOk result
-        (string_bytes text.new ≡ string_bytes text.old ++ tick_bar frame y span) }
+        (string_bytes text.new ≡ string_bytes text.old ++ tick_bar frame.now y span) }
 {
     let mut words = String::new(alloc);
     push_over(&mut words, span.first, span.last)?;
@@ -92,13 +92,14 @@ fn push_tick(
 fn push_ticks(
     alloc: Global,
     text: &mut String,
-    frame: Frame,
+    frame: &Frame,
     y: u64,
     spans: &[Span<u32>],
 ) -> Result<(), AllocError>
     requires { y < 2 ^ 40 }
     ensures { OnOk result
-        (string_bytes text.new ≡ string_bytes text.old ++ flat_map (tick_bar frame y) spans.now) }
+        (string_bytes text.new
+        ≡ string_bytes text.old ++ flat_map (tick_bar frame.now y) spans.now) }
 {
     for span in spans {
         push_tick(alloc, text, frame, y, *span)?;
@@ -111,15 +112,15 @@ fn push_ticks(
 pub(crate) fn push_axis(
     alloc: Global,
     text: &mut String,
-    frame: Frame,
+    frame: &Frame,
     y: u64,
     looks: &[Look],
 ) -> Result<(), AllocError>
     requires y { y < 2 ^ 39 }
-    requires few { frame.first + length looks.now ≤ 2 ^ 32 }
+    requires few { frame.now.first + length looks.now ≤ 2 ^ 32 }
     requires some { length looks.now < 2 ^ 32 }
     ensures { OnOk result
-        (string_bytes text.new ≡ string_bytes text.old ++ axis_row frame y looks.now) }
+        (string_bytes text.new ≡ string_bytes text.old ++ axis_row frame.now y looks.now) }
 {
     push_name(text, y + 11, "place")?;
     push_places(text, frame, y + 11, looks.len() as u32)?;

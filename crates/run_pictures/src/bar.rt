@@ -51,12 +51,12 @@ fn push_extent(text: &mut String, x: u64, y: u64, width: u64, height: u32) -> Re
 #[tactic(auto, unfolding(crate::specs::Bar::bar_text))]
 pub(crate) fn push_bar(
     text: &mut String,
-    frame: Frame,
+    frame: &Frame,
     bar: Bar,
     words: &str,
 ) -> Result<(), AllocError>
     ensures { OnOk result
-        (string_bytes text.new ≡ string_bytes text.old ++ bar_text frame bar words.now) }
+        (string_bytes text.new ≡ string_bytes text.old ++ bar_text frame.now bar words.now) }
 {
     let x = frame.x_of(bar.first);
     let width = frame.width_between(bar.first, bar.last);
@@ -106,7 +106,7 @@ fn push_word(
 #[tactic(auto, unfolding(crate::specs::Bar::label_text))]
 pub(crate) fn push_label(
     text: &mut String,
-    frame: Frame,
+    frame: &Frame,
     letters: Letters,
     first: u32,
     last: u32,
@@ -115,7 +115,7 @@ pub(crate) fn push_label(
 ) -> Result<(), AllocError>
     ensures { OnOk result
         (string_bytes text.new
-        ≡ string_bytes text.old ++ label_text frame letters first last y words.now) }
+        ≡ string_bytes text.old ++ label_text frame.now letters first last y words.now) }
 {
     if fits(letters, frame.width_between(first, last), words.len()) {
         push_word(text, letters, frame.x_of(first) + 3, y, words)?;

@@ -126,7 +126,7 @@ fn push_current(
     alloc: Global,
     text: &mut String,
     header: &Header,
-    frame: Frame,
+    frame: &Frame,
     y: u64,
     core: u32,
     span: Span<u32>,
@@ -134,7 +134,7 @@ fn push_current(
     requires { y < 2 ^ 40 }
     ensures { OnOk result
         (string_bytes text.new
-        ≡ string_bytes text.old ++ current_bar header.now frame y core span) }
+        ≡ string_bytes text.old ++ current_bar header.now frame.now y core span) }
 {
     let mut words = String::new(alloc);
     push_core_words(&mut words, header, core, span)?;
@@ -164,13 +164,13 @@ fn push_current(
 fn push_due(
     alloc: Global,
     text: &mut String,
-    frame: Frame,
+    frame: &Frame,
     y: u64,
     core: u32,
     span: Span<Due>,
 ) -> Result<(), AllocError>
     ensures { OnOk result
-        (string_bytes text.new ≡ string_bytes text.old ++ due_bar frame y core span) }
+        (string_bytes text.new ≡ string_bytes text.old ++ due_bar frame.now y core span) }
 {
     let Due { pend, asked } = span.value;
     if !pend && !asked {
@@ -195,13 +195,13 @@ fn push_due(
 fn push_held(
     alloc: Global,
     text: &mut String,
-    frame: Frame,
+    frame: &Frame,
     y: u64,
     span: Span<Option<Hold>>,
 ) -> Result<(), AllocError>
     requires { y < 2 ^ 40 }
     ensures { OnOk result
-        (string_bytes text.new ≡ string_bytes text.old ++ hold_bar frame y span) }
+        (string_bytes text.new ≡ string_bytes text.old ++ hold_bar frame.now y span) }
 {
     let Some(hold) = span.value else {
         return Ok(());
@@ -224,7 +224,7 @@ fn push_currents(
     alloc: Global,
     text: &mut String,
     header: &Header,
-    frame: Frame,
+    frame: &Frame,
     y: u64,
     core: u32,
     spans: &[Span<u32>],
@@ -232,7 +232,7 @@ fn push_currents(
     requires { y < 2 ^ 40 }
     ensures { OnOk result
         (string_bytes text.new
-        ≡ string_bytes text.old ++ flat_map (current_bar header.now frame y core) spans.now) }
+        ≡ string_bytes text.old ++ flat_map (current_bar header.now frame.now y core) spans.now) }
 {
     for span in spans {
         push_current(alloc, text, header, frame, y, core, *span)?;
@@ -243,14 +243,14 @@ fn push_currents(
 fn push_dues(
     alloc: Global,
     text: &mut String,
-    frame: Frame,
+    frame: &Frame,
     y: u64,
     core: u32,
     spans: &[Span<Due>],
 ) -> Result<(), AllocError>
     ensures { OnOk result
         (string_bytes text.new
-        ≡ string_bytes text.old ++ flat_map (due_bar frame y core) spans.now) }
+        ≡ string_bytes text.old ++ flat_map (due_bar frame.now y core) spans.now) }
 {
     for span in spans {
         push_due(alloc, text, frame, y, core, *span)?;
@@ -261,13 +261,14 @@ fn push_dues(
 fn push_holds(
     alloc: Global,
     text: &mut String,
-    frame: Frame,
+    frame: &Frame,
     y: u64,
     spans: &[Span<Option<Hold>>],
 ) -> Result<(), AllocError>
     requires { y < 2 ^ 40 }
     ensures { OnOk result
-        (string_bytes text.new ≡ string_bytes text.old ++ flat_map (hold_bar frame y) spans.now) }
+        (string_bytes text.new
+        ≡ string_bytes text.old ++ flat_map (hold_bar frame.now y) spans.now) }
 {
     for span in spans {
         push_held(alloc, text, frame, y, *span)?;
@@ -281,16 +282,16 @@ pub(crate) fn push_core_row(
     alloc: Global,
     text: &mut String,
     header: &Header,
-    frame: Frame,
+    frame: &Frame,
     y: u64,
     looks: &[Look],
     core: u32,
 ) -> Result<(), AllocError>
     requires y { y < 2 ^ 40 }
-    requires few { frame.first + length looks.now ≤ 2 ^ 32 }
+    requires few { frame.now.first + length looks.now ≤ 2 ^ 32 }
     ensures { OnOk result
         (string_bytes text.new
-        ≡ string_bytes text.old ++ core_row header.now frame y looks.now core) }
+        ≡ string_bytes text.old ++ core_row header.now frame.now y looks.now core) }
 {
     let mut name = String::new(alloc);
     write!(name, "core {core}")?;

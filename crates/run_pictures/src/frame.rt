@@ -1,8 +1,10 @@
 //! Where the places stand in a picture. Lengths are in pixels.
 ghost use Rattle.std.specs.Prelude.{◌≡◌, ◌<◌, ◌^◌, ◌*◌, ◌≤◌};
-ghost use Rattle.run_pictures.specs.Frame.{every, pixels, scale_for, width_between, x_of};
+ghost use Rattle.run_pictures.specs.Frame.{column_of, every, pixels, scale_for, width_between, x_of};
 
-/// How wide a place is drawn.
+use bench_types::Items;
+
+/// How wide a column is drawn.
 #[derive(Clone, Copy, Debug, PartialEq, Eq)]
 pub(crate) enum Scale {
     Widest,
@@ -12,24 +14,29 @@ pub(crate) enum Scale {
     Narrowest,
 }
 
-/// The first place that is shown, and how wide each is drawn.
-#[derive(Clone, Copy, Debug, PartialEq, Eq)]
+/// Where the places of a run stand.
+#[derive(Debug, Drop)]
 pub(crate) struct Frame {
+    /// The first place that is shown.
     pub(crate) first: u32,
     pub(crate) scale: Scale,
+    /// The first column that is shown.
+    pub(crate) left: u64,
+    /// The column at which each place begins.
+    pub(crate) columns: Items<u32>,
 }
 
-/// The scale at which so many places are drawn.
-pub(crate) fn scale_for(places: u64) -> Scale
-    ensures { result ≡ scale_for places }
+/// The scale at which so many columns are drawn.
+pub(crate) fn scale_for(columns: u64) -> Scale
+    ensures { result ≡ scale_for columns }
 {
-    if places <= 20 {
+    if columns <= 20 {
         Scale::Widest
-    } else if places <= 60 {
+    } else if columns <= 60 {
         Scale::Wide
-    } else if places <= 150 {
+    } else if columns <= 150 {
         Scale::Middle
-    } else if places <= 600 {
+    } else if columns <= 600 {
         Scale::Narrow
     } else {
         Scale::Narrowest
@@ -37,18 +44,18 @@ pub(crate) fn scale_for(places: u64) -> Scale
 }
 
 impl Scale {
-    /// The width of so many places.
-    pub(crate) fn pixels(self, places: u64) -> u64
-        requires { places ≤ 2 ^ 32 }
-        ensures value { result ≡ pixels self places }
+    /// The width of so many columns.
+    pub(crate) fn pixels(self, columns: u64) -> u64
+        requires { columns ≤ 2 ^ 32 }
+        ensures value { result ≡ pixels self columns }
         ensures few { result ≤ 40 * 2 ^ 32 }
     {
         match self {
-            Scale::Widest => 40 * places,
-            Scale::Wide => 24 * places,
-            Scale::Middle => 12 * places,
-            Scale::Narrow => 6 * places,
-            Scale::Narrowest => 2 * places,
+            Scale::Widest => 40 * columns,
+            Scale::Wide => 24 * columns,
+            Scale::Middle => 12 * columns,
+            Scale::Narrow => 6 * columns,
+            Scale::Narrowest => 2 * columns,
         }
     }
 
@@ -66,25 +73,37 @@ impl Scale {
     }
 }
 
+/// The column at which the place begins: its own number, where none is given.
+pub(crate) fn column_of(columns: &[u32], place: u64) -> u64
+    requires { place ≤ 2 ^ 32 }
+    ensures value { result ≡ column_of columns.now place }
+    ensures few { result ≤ 2 ^ 32 }
+{
+    match columns.get(place as usize) {
+        Some(column) => u64::from(*column),
+        None => place,
+    }
+}
+
 impl Frame {
     /// Where the place begins.
     #[tactic(auto, unfolding(crate::specs::Frame::x_of))]
-    pub(crate) fn x_of(self, place: u32) -> u64
-        ensures value { result ≡ x_of self place }
+    pub(crate) fn x_of(&self, place: u32) -> u64
+        ensures value { result ≡ x_of self.now place }
         ensures few { result < 2 ^ 40 }
     {
-        150 + self
-            .scale
-            .pixels(u64::from(place.saturating_sub(self.first)))
+        let column = column_of(self.columns.as_slice(), u64::from(place));
+        150 + self.scale.pixels(column.saturating_sub(self.left))
     }
 
     /// From where the one place begins to where the other ends.
     #[tactic(auto, unfolding(crate::specs::Frame::width_between))]
-    pub(crate) fn width_between(self, first: u32, last: u32) -> u64
-        ensures value { result ≡ width_between self first last }
+    pub(crate) fn width_between(&self, first: u32, last: u32) -> u64
+        ensures value { result ≡ width_between self.now first last }
         ensures few { result < 2 ^ 40 }
     {
-        let end = u64::from(last) + 1;
-        self.scale.pixels(end.saturating_sub(u64::from(first)))
+        let start = column_of(self.columns.as_slice(), u64::from(first));
+        let end = column_of(self.columns.as_slice(), u64::from(last) + 1);
+        self.scale.pixels(end.saturating_sub(start))
     }
 }

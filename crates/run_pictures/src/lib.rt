@@ -18,7 +18,7 @@ mod task_bands;
 mod waits;
 
 pub use film::{Film, Made};
-pub use picture::{MAX_PLACES, TooLong, law_of_places, timeline, timelines};
+pub use picture::{MAX_PLACES, Run, TooLong, law_of_places, timeline, timelines};
 pub use span::{Shade, Span, stretches};
 pub use stance::Stance;
 pub use waits::Wait;

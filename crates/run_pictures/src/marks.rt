@@ -65,8 +65,8 @@ fn push_path(text: &mut String, mark: Mark, x: u64, y: u64) -> Result<(), AllocE
 }
 
 // Where a mark of the place begins: its middle is that of the place.
-fn middle(frame: Frame, place: u32) -> u64
-    ensures { result ≡ middle frame place }
+fn middle(frame: &Frame, place: u32) -> u64
+    ensures { result ≡ middle frame.now place }
 {
     (frame.x_of(place) + frame.scale.pixels(1) / 2).saturating_sub(4)
 }
@@ -74,7 +74,7 @@ fn middle(frame: Frame, place: u32) -> u64
 #[tactic(auto, unfolding(crate::specs::Marks::mark_text))]
 fn push_mark(
     text: &mut String,
-    frame: Frame,
+    frame: &Frame,
     y: u64,
     place: u32,
     mark: Mark,
@@ -82,7 +82,8 @@ fn push_mark(
 ) -> Result<(), AllocError>
     requires { y < 2 ^ 40 }
     ensures { OnOk result
-        (string_bytes text.new ≡ string_bytes text.old ++ mark_text frame y place mark words.now) }
+        (string_bytes text.new
+        ≡ string_bytes text.old ++ mark_text frame.now y place mark words.now) }
 {
     push_path(text, mark, middle(frame, place), y)?;
     push_escaped(text, words)?;
@@ -91,7 +92,7 @@ fn push_mark(
 
 fn push_marked(
     text: &mut String,
-    frame: Frame,
+    frame: &Frame,
     y: u64,
     place: u32,
     mark: Option<Mark>,
@@ -99,7 +100,8 @@ fn push_marked(
 ) -> Result<(), AllocError>
     requires { y < 2 ^ 40 }
     ensures { OnOk result
-        (string_bytes text.new ≡ string_bytes text.old ++ mark_in frame y place words.now mark) }
+        (string_bytes text.new
+        ≡ string_bytes text.old ++ mark_in frame.now y place words.now mark) }
 {
     match mark {
         Some(mark) => push_mark(text, frame, y, place, mark, words),
@@ -113,7 +115,7 @@ fn push_cell(
     alloc: Global,
     text: &mut String,
     header: &Header,
-    frame: Frame,
+    frame: &Frame,
     top: u64,
     place: u32,
     made: Made,
@@ -121,7 +123,7 @@ fn push_cell(
     requires { top < 2 ^ 38 }
     ensures { OnOk result
         (string_bytes text.new
-        ≡ string_bytes text.old ++ step_cell header.now frame top place made) }
+        ≡ string_bytes text.old ++ step_cell header.now frame.now top place made) }
 {
     let mut words = String::new(alloc);
     push_step_words(&mut words, header, place, made.step, made.reply)?;
@@ -141,7 +143,7 @@ fn push_at(
     alloc: Global,
     text: &mut String,
     header: &Header,
-    frame: Frame,
+    frame: &Frame,
     top: u64,
     made: &[Made],
     place: u32,
@@ -149,7 +151,7 @@ fn push_at(
     requires { top < 2 ^ 38 }
     ensures { OnOk result
         (string_bytes text.new
-        ≡ string_bytes text.old ++ step_at header.now frame top made.now place) }
+        ≡ string_bytes text.old ++ step_at header.now frame.now top made.now place) }
 {
     match made.get(place as usize) {
         Some(made) => push_cell(alloc, text, header, frame, top, place, *made),
@@ -162,17 +164,17 @@ pub(crate) fn push_steps(
     alloc: Global,
     text: &mut String,
     header: &Header,
-    frame: Frame,
+    frame: &Frame,
     top: u64,
     made: &[Made],
     count: u32,
 ) -> Result<(), AllocError>
     requires top { top < 2 ^ 38 }
-    requires few { frame.first + count ≤ 2 ^ 32 }
+    requires few { frame.now.first + count ≤ 2 ^ 32 }
     ensures { OnOk result
         (string_bytes text.new
         ≡ string_bytes text.old
-        ++ flat_map (λ k. step_at header.now frame top made.now (frame.first + k))
+        ++ flat_map (λ k. step_at header.now frame.now top made.now (frame.now.first + k))
         (numbers count)) }
 {
     for k in 0..count {

@@ -181,7 +181,7 @@ fn stance_shape(user: u32, y: u64, span: Span<Stance>) -> Bar
 fn push_blocked_label(
     alloc: Global,
     text: &mut String,
-    frame: Frame,
+    frame: &Frame,
     y: u64,
     first: u32,
     last: u32,
@@ -189,7 +189,8 @@ fn push_blocked_label(
 ) -> Result<(), AllocError>
     requires { y < 2 ^ 40 }
     ensures { OnOk result
-        (string_bytes text.new ≡ string_bytes text.old ++ blocked_label frame y first last wait) }
+        (string_bytes text.new
+        ≡ string_bytes text.old ++ blocked_label frame.now y first last wait) }
 {
     let Some(wait) = wait else {
         return Ok(());
@@ -211,14 +212,14 @@ fn push_blocked_label(
 fn push_stance_label(
     alloc: Global,
     text: &mut String,
-    frame: Frame,
+    frame: &Frame,
     y: u64,
     wait: Option<Wait>,
     span: Span<Stance>,
 ) -> Result<(), AllocError>
     requires { y < 2 ^ 40 }
     ensures { OnOk result
-        (string_bytes text.new ≡ string_bytes text.old ++ stance_label frame y wait span) }
+        (string_bytes text.new ≡ string_bytes text.old ++ stance_label frame.now y wait span) }
 {
     match span.value {
         Stance::Runs { core } => {
@@ -247,7 +248,7 @@ fn push_stance(
     alloc: Global,
     text: &mut String,
     header: &Header,
-    frame: Frame,
+    frame: &Frame,
     y: u64,
     task: u32,
     made: &[Made],
@@ -256,7 +257,7 @@ fn push_stance(
     requires { y < 2 ^ 40 }
     ensures { OnOk result
         (string_bytes text.new
-        ≡ string_bytes text.old ++ stance_bar header.now frame y task made.now span) }
+        ≡ string_bytes text.old ++ stance_bar header.now frame.now y task made.now span) }
 {
     let wait = last_wait(task, made, span.first);
     let mut words = String::new(alloc);
@@ -270,7 +271,7 @@ fn push_stances(
     alloc: Global,
     text: &mut String,
     header: &Header,
-    frame: Frame,
+    frame: &Frame,
     y: u64,
     task: u32,
     made: &[Made],
@@ -280,7 +281,7 @@ fn push_stances(
     ensures { OnOk result
         (string_bytes text.new
         ≡ string_bytes text.old
-        ++ flat_map (stance_bar header.now frame y task made.now) spans.now) }
+        ++ flat_map (stance_bar header.now frame.now y task made.now) spans.now) }
 {
     for span in spans {
         push_stance(alloc, text, header, frame, y, task, made, *span)?;
@@ -294,7 +295,7 @@ fn push_inherited(
     alloc: Global,
     text: &mut String,
     header: &Header,
-    frame: Frame,
+    frame: &Frame,
     y: u64,
     task: u32,
     span: Span<Priorities>,
@@ -302,7 +303,7 @@ fn push_inherited(
     requires { y < 2 ^ 40 }
     ensures { OnOk result
         (string_bytes text.new
-        ≡ string_bytes text.old ++ inherited_bar header.now frame y task span) }
+        ≡ string_bytes text.old ++ inherited_bar header.now frame.now y task span) }
 {
     let Priorities { in_use, base } = span.value;
     if in_use == base {
@@ -326,7 +327,7 @@ fn push_inheritances(
     alloc: Global,
     text: &mut String,
     header: &Header,
-    frame: Frame,
+    frame: &Frame,
     y: u64,
     task: u32,
     spans: &[Span<Priorities>],
@@ -334,7 +335,7 @@ fn push_inheritances(
     requires { y < 2 ^ 40 }
     ensures { OnOk result
         (string_bytes text.new
-        ≡ string_bytes text.old ++ flat_map (inherited_bar header.now frame y task) spans.now) }
+        ≡ string_bytes text.old ++ flat_map (inherited_bar header.now frame.now y task) spans.now) }
 {
     for span in spans {
         push_inherited(alloc, text, header, frame, y, task, *span)?;
@@ -348,16 +349,16 @@ pub(crate) fn push_task_row(
     alloc: Global,
     text: &mut String,
     header: &Header,
-    frame: Frame,
+    frame: &Frame,
     y: u64,
     film: &Film,
     task: u32,
 ) -> Result<(), AllocError>
     requires y { y < 2 ^ 40 }
-    requires few { frame.first + length film.now.looks ≤ 2 ^ 32 }
+    requires few { frame.now.first + length film.now.looks ≤ 2 ^ 32 }
     ensures { OnOk result
         (string_bytes text.new
-        ≡ string_bytes text.old ++ task_row header.now frame y film.now task) }
+        ≡ string_bytes text.old ++ task_row header.now frame.now y film.now task) }
 {
     let looks = film.looks.as_slice();
     let made = film.made.as_slice();
@@ -385,7 +386,7 @@ fn push_holder(
     alloc: Global,
     text: &mut String,
     header: &Header,
-    frame: Frame,
+    frame: &Frame,
     y: u64,
     mutex: u32,
     span: Span<Option<u32>>,
@@ -393,7 +394,7 @@ fn push_holder(
     requires { y < 2 ^ 39 }
     ensures { OnOk result
         (string_bytes text.new
-        ≡ string_bytes text.old ++ holder_bar header.now frame y mutex span) }
+        ≡ string_bytes text.old ++ holder_bar header.now frame.now y mutex span) }
 {
     let Some(task) = span.value else {
         return Ok(());
@@ -417,7 +418,7 @@ fn push_holders(
     alloc: Global,
     text: &mut String,
     header: &Header,
-    frame: Frame,
+    frame: &Frame,
     y: u64,
     mutex: u32,
     spans: &[Span<Option<u32>>],
@@ -425,7 +426,7 @@ fn push_holders(
     requires { y < 2 ^ 39 }
     ensures { OnOk result
         (string_bytes text.new
-        ≡ string_bytes text.old ++ flat_map (holder_bar header.now frame y mutex) spans.now) }
+        ≡ string_bytes text.old ++ flat_map (holder_bar header.now frame.now y mutex) spans.now) }
 {
     for span in spans {
         push_holder(alloc, text, header, frame, y, mutex, *span)?;
@@ -438,18 +439,18 @@ pub(crate) fn push_mutex(
     alloc: Global,
     text: &mut String,
     header: &Header,
-    frame: Frame,
+    frame: &Frame,
     y: u64,
     looks: &[Look],
     mutex: u32,
 ) -> Result<(), AllocError>
     requires y { y < 2 ^ 39 }
-    requires few { frame.first + length looks.now ≤ 2 ^ 32 }
+    requires few { frame.now.first + length looks.now ≤ 2 ^ 32 }
     ensures { OnOk result
         (string_bytes text.new
         ≡ string_bytes text.old
-        ++ flat_map (holder_bar header.now frame y mutex)
-        (holder_spans frame.first looks.now mutex)) }
+        ++ flat_map (holder_bar header.now frame.now y mutex)
+        (holder_spans frame.now.first looks.now mutex)) }
 {
     let spans = holder_spans(alloc, frame.first, looks, mutex)?;
     push_holders(alloc, text, header, frame, y, mutex, spans.as_slice())

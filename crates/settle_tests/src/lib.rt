@@ -1,5 +1,8 @@
-//! Tests of settled runs, and of why a kernel would refuse a step. There is nothing else here.
+//! Tests of settled runs, alone and beside each other, and of why a kernel would refuse a step.
+//! There is nothing else here.
 #![tactic(auto)]
 
+#[cfg(test)]
+mod compared;
 #[cfg(test)]
 mod settled;

@@ -11,13 +11,13 @@ use std::alloc::Global;
 use std::process::Abort;
 use std::test::Fail;
 
-const TICK: Step = Step::Tick;
+pub(crate) const TICK: Step = Step::Tick;
 
 const fn switch(core: u32) -> Step {
     Step::Switch { core }
 }
 
-const fn call(core: u32, task: u32, call: Call) -> Step {
+pub(crate) const fn call(core: u32, task: u32, call: Call) -> Step {
     Step::Call { core, task, call }
 }
 

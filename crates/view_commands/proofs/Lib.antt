@@ -1,6 +1,11 @@
+mod BothTold
 mod EditsKept
 mod MemoryRefused
 mod NamesFound
+mod OneView
 mod Outputs
 mod Pictures
+mod PicturesTold
+mod SettledTold
 mod WordsRead
+mod Written

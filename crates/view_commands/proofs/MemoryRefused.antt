@@ -5,7 +5,7 @@ use Rattle.bench_commands.specs.declared.execution.Status.TheVariants.{Fault}
 use Rattle.bench_commands.specs.declared.execution.RunFault.TheVariants.{Memory}
 use Rattle.bench_commands.specs.declared.program.Ending.TheVariants.{Ran}
 use Rattle.bench_commands.specs.Device.{ReadsSome}
-use Rattle.view_commands.specs.declared.program.ViewEnding.TheVariants.{AsBench}
+use Rattle.view_commands.specs.declared.ending.ViewEnding.TheVariants.{AsBench}
 use Rattle.view_commands.specs.declared.words.Request.{Request}
 use Rattle.view_commands.specs.declared.words.Request.TheVariants.{Show, Help, Bad}
 use Rattle.view_commands.specs.ViewProgram.{Ends, Files}
@@ -16,7 +16,7 @@ none_read (Some bytes) = record { bytes = []; consumes = refl; within = omega ar
 
 -- whatever was asked for
 pub refused_first : (request : Request) (files : Files) (read write : Option (List ℕ)) → Ends request (AsBench (Ran (Fault Memory))) files read read write write
-refused_first (Show command (Some name)) files read write = inr (refl, (refl, refl))
+refused_first (Show command (Some name)) files read write = inr (inr refl, (refl, refl))
 refused_first (Show command None) files read write = record { reads = none_read read; writes = refl }
 refused_first Help files read write = (refl, refl)
 refused_first Bad files read write = (tt, (refl, refl))

@@ -1,5 +1,5 @@
 -- What is written where a picture was asked for.
-use Rattle.std.proofs.Common.{◌≡◌, ℕ, List, Bool, true, false, Result, Ok, Err, IfOk, Global, length, nat_lt, arith, sym, ap, subst, ◌∙◌}
+use Rattle.std.proofs.Common.{◌≡◌, ℕ, List, [], Bool, true, false, Result, Ok, Err, IfOk, Global, length, nat_lt, arith, sym, ap, subst, ◌∙◌}
 use Rattle.std.specs.Prelude.{String, if◌then◌else◌}
 use Rattle.std.proofs.lemmas.Bool.Decides.{nat_tests}
 use Rattle.run_pictures.specs.declared.picture.TooLong.{TooLong}
@@ -7,10 +7,11 @@ use Rattle.bench_types.specs.declared.header.Header.{Header}
 use Rattle.bench_types.specs.declared.step.Step.{Step}
 use Rattle.bench_types.specs.Session.{Session}
 use Rattle.run_views.specs.declared.places.Places.{Places}
+use Rattle.run_pictures.specs.Drawn.{Drawn}
 use Rattle.run_pictures.specs.Limits.{max_places}
 use Rattle.run_pictures.specs.Picture.{count_of_both, picture_text, pictures_text, shown_count, Answers}
 use Rattle.bench_commands.specs.Answer.{Output}
-use Rattle.view_commands.specs.Views.{answer_output, picture_of_both, picture_of_run, picture_or, fine, refused_long}
+use Rattle.view_commands.specs.Views.{answer_output, by_number, picture_of_both, picture_of_run, picture_of_runs, picture_or, fine, refused_long}
 
 -- an answer is the picture, or that it would be too long
 answered : (count : ℕ) (picture : List ℕ) (answer : Result (String Global) TooLong) → Answers count picture answer → answer_output answer ≡ picture_or count picture
@@ -36,10 +37,21 @@ run_pictured places session header steps answer result same_header same_steps an
     told
 
 -- of two runs
+pub runs_pictured : {E : Type 0} (places : Places) (before after : Drawn) (answer : Result (String Global) TooLong) (result : Result Output E) → Answers (count_of_both places before after) (pictures_text places before after) answer
+    → IfOk result (λ shown. shown ≡ answer_output answer) → IfOk result (λ shown. shown ≡ picture_of_runs places before after)
+runs_pictured places before after answer result answers told = pictured (count_of_both places before after) (pictures_text places before after) answer result answers told
+
+-- the run of a session, by its header and steps
+pub number_drawn : (session : Session) (header : Header) (steps : List Step) → header ≡ session.header → steps ≡ session.steps → ◌≡◌ {A = Drawn} (record { header = header; steps = steps; columns = [] }) (by_number session)
+number_drawn session header steps same_header same_steps =
+    ap (λ (h : Header). let drawn : Drawn = record { header = h; steps = steps; columns = [] } in drawn) same_header
+    ∙ ap (λ (s : List Step). let drawn : Drawn = record { header = session.header; steps = s; columns = [] } in drawn) same_steps
+
+-- of two sessions as they stand
 pub both_pictured : {E : Type 0} (places : Places) (session edited : Session) (header : Header) (steps : List Step) (answer : Result (String Global) TooLong) (result : Result Output E) → header ≡ edited.header → steps ≡ edited.steps
-    → Answers (count_of_both places (length session.steps) (length steps)) (pictures_text places session.header session.steps header steps) answer → IfOk result (λ shown. shown ≡ answer_output answer) → IfOk result (λ shown. shown ≡ picture_of_both places session edited)
+    → Answers (count_of_both places (by_number session) (record { header = header; steps = steps; columns = [] })) (pictures_text places (by_number session) (record { header = header; steps = steps; columns = [] })) answer
+    → IfOk result (λ shown. shown ≡ answer_output answer) → IfOk result (λ shown. shown ≡ picture_of_both places session edited)
 both_pictured places session edited header steps answer result same_header same_steps answers told =
-    pictured (count_of_both places (length session.steps) (length edited.steps)) (pictures_text places session.header session.steps edited.header edited.steps) answer result
-    (subst (λ (s : List Step). Answers (count_of_both places (length session.steps) (length s)) (pictures_text places session.header session.steps edited.header s) answer) same_steps
-    (subst (λ (h : Header). Answers (count_of_both places (length session.steps) (length steps)) (pictures_text places session.header session.steps h steps) answer) same_header answers))
+    runs_pictured places (by_number session) (by_number edited) answer result
+    (subst (λ (run : Drawn). Answers (count_of_both places (by_number session) run) (pictures_text places (by_number session) run) answer) (number_drawn edited header steps same_header same_steps) answers)
     told

@@ -1,6 +1,10 @@
+pub mod Commands
 pub mod Interests
 pub mod Selected
+pub mod SettledViews
 pub mod Source
+pub mod Told
+pub mod ViewEndings
 pub mod ViewProgram
 pub mod ViewRun
 pub mod Views

@@ -1,5 +1,5 @@
 -- How the program ends, and what it has read and written then.
-use Rattle.std.specs.Prelude.{◌≡◌, ◌⊎◌, ℕ, List, ◌++◌, Bool, true, false, Option, Some, None, Ok, Err, codes, map, string_bytes}
+use Rattle.std.specs.Prelude.{◌≡◌, ◌⊎◌, ℕ, List, ◌++◌, Bool, Option, Some, None, Ok, Err, codes, map, string_bytes}
 use Rattle.std.specs.Vec.Iter.{into_iter_items}
 use Rattle.std.specs.IoError.{error_kind}
 use Rattle.std.specs.declared.io.ErrorKind.{ErrorKind}
@@ -10,12 +10,12 @@ use Rattle.bench_commands.specs.declared.program.Ending.{Ending}
 use Rattle.bench_commands.specs.declared.program.Ending.TheVariants.{Ran, RefusedInput, BadCommandLine}
 use Rattle.bench_commands.specs.Device.{failures_after}
 use Rattle.bench_commands.specs.Program.{DeviceState, Shows, Tells, Untouched, Words}
-use Rattle.bench_commands.specs.Program as bench
-use Rattle.view_commands.specs.declared.program.ViewEnding.{ViewEnding}
-use Rattle.view_commands.specs.declared.program.ViewEnding.TheVariants.{AsBench, NotOpened}
+use Rattle.view_commands.specs.declared.ending.ViewEnding.{ViewEnding}
+use Rattle.view_commands.specs.declared.ending.ViewEnding.TheVariants.{AsBench, NotOpened}
 use Rattle.view_commands.specs.declared.words.Command.{Command}
 use Rattle.view_commands.specs.declared.words.Request.{Request}
 use Rattle.view_commands.specs.declared.words.Request.TheVariants.{Show, Help, Bad}
+use Rattle.view_commands.specs.ViewEndings.{all_reads_well, all_writes_well, exit_code, failed, message}
 use Rattle.view_commands.specs.ViewRun.{Viewed}
 use Rattle.view_commands.specs.Views.{most_places}
 use Rattle.view_commands.specs.Words.{Word, asked}
@@ -28,33 +28,15 @@ Bytes = Option (List ℕ)
 abbrev pub Files : Type 0
 Files = Word → Bytes
 
-abbrev pub exit_code : ViewEnding → ℕ
-exit_code (AsBench ending) = bench.exit_code ending
-exit_code NotOpened = 3
-
--- what goes to standard error
-abbrev pub message : ViewEnding → List ℕ
-message (AsBench ending) = bench.message ending
-message NotOpened = codes "fault open\n"
-
--- whether no read failed, and the file that is named was opened
-abbrev pub all_reads_well : ViewEnding → Bool
-all_reads_well (AsBench ending) = bench.all_reads_well ending
-all_reads_well NotOpened = false
-
--- whether no write failed
-abbrev pub all_writes_well : ViewEnding → Bool
-all_writes_well (AsBench ending) = bench.all_writes_well ending
-all_writes_well NotOpened = true
-
 -- what standard error is told of a bad command line
 abbrev pub usage : List ℕ
 usage =
-    codes "usage: smp_view trace [--from PLACE] [--to PLACE]"
-    ++ codes " [--task NAME].. [--core CORE].. [FILE]\n"
+    codes "usage: smp_view trace [--settle] [--from PLACE] [--to PLACE]\n"
+    ++ codes "                      [--task NAME].. [--core CORE].. [FILE]\n"
     ++ codes "       smp_view session [FILE]\n"
-    ++ codes "       smp_view compare [FILE]\n"
-    ++ codes "       smp_view timeline [--from PLACE] [--to PLACE] [FILE]\n"
+    ++ codes "       smp_view settle [FILE]\n"
+    ++ codes "       smp_view compare [--settle] [FILE]\n"
+    ++ codes "       smp_view timeline [--settle] [--from PLACE] [--to PLACE] [FILE]\n"
     ++ codes "       smp_view --help\n"
 
 -- what is shown where help is asked for
@@ -66,18 +48,25 @@ help =
     ++ codes "that are refused are passed over.\n\n"
     ++ codes "  trace     each place and each step of the session with its edits made, and all\n"
     ++ codes "            that the step changed\n"
+    ++ codes "            --settle  the trace of its settled run\n"
     ++ codes "            --from PLACE, --to PLACE  only the places from the one to the other\n"
     ++ codes "            --task NAME, --core CORE  only the steps that concern one of these\n"
     ++ codes "  session   the session with its edits made, as a document\n"
+    ++ codes "  settle    its settled run, as a document: what a target makes of its calls,\n"
+    ++ codes "            ticks and interrupts, each switch and each return from a call made by\n"
+    ++ codes "            itself; standard error says how many calls of which tasks were not made\n"
     ++ codes "  compare   the run before the edits beside the run after them, and what each\n"
     ++ codes "            task gained and lost\n"
+    ++ codes "            --settle  their settled runs, and the calls that were not made\n"
     ++ codes "  timeline  the run before the edits and that after them as a picture (SVG), at\n"
-    ++ codes "            all places or at those from the one to the other, "
-    ++ most_places ++ codes " at most\n\n"
-    ++ codes "exit status: 0 it was shown; 1 the document is refused, or a task or core that it\n"
-    ++ codes "has not, or a picture of more than " ++ most_places
-    ++ codes " places (standard output says which); 2 a\n"
-    ++ codes "bad command line; 3 memory or a device failed, or the file can't be opened\n\n"
+    ++ codes "            all places or at those from the one to the other, " ++ most_places
+    ++ codes " at most\n"
+    ++ codes "            --settle  their settled runs, a step of both in one column\n\n"
+    ++ codes "exit status: 0 it was shown; 1 the document or its settled run is refused, or a\n"
+    ++ codes "task or core that it has not, or a picture of more than " ++ most_places
+    ++ codes " places (standard\n"
+    ++ codes "output says which); 2 a bad command line; 3 memory or a device failed, or the\n"
+    ++ codes "file can't be opened\n\n"
     ++ codes "example: smp_view trace --from 2 --to 3 examples/first-run.json\n"
 
 -- a bad command line, or memory was refused before that was told
@@ -100,35 +89,28 @@ EndsHelp (Ran status) read_old read_new write_old write_new =
 EndsHelp (RefusedInput hint) read_old read_new write_old write_new = ⊥
 EndsHelp (BadCommandLine text) read_old read_new write_old write_new = ⊥
 
--- a view of standard input; a bad command line is none
-abbrev pub EndsView : Command → Ending → Bytes → Bytes → Bytes → Bytes → Type 0
-EndsView command (Ran status) read_old read_new write_old write_new =
-    Viewed command status read_old read_new write_old write_new
-EndsView command (RefusedInput hint) read_old read_new write_old write_new = ⊥
-EndsView command (BadCommandLine text) read_old read_new write_old write_new = ⊥
+-- the file that is named can't be opened, or memory was refused before
+abbrev pub IsNotOpened : ViewEnding → Type 0
+IsNotOpened ending = (ending ≡ NotOpened) ⊎ (ending ≡ failed Memory)
 
--- A view of a file: once that was opened, it is what was read. Where it can't be opened, and where
--- memory was refused before, nothing was read or written.
+-- A view of a file: once that was opened, it is what was read. Before that nothing was read or
+-- written.
 abbrev pub EndsFile : Command → ViewEnding → Bytes → Bytes → Bytes → Bytes → Bytes → Type 0
-EndsFile command (AsBench (Ran status)) file read_old read_new write_old write_new =
-    Viewed command status file read_new write_old write_new
-    ⊎ ((status ≡ Fault Memory) × Untouched read_old read_new write_old write_new)
-EndsFile command (AsBench (RefusedInput hint)) file read_old read_new write_old write_new = ⊥
-EndsFile command (AsBench (BadCommandLine text)) file read_old read_new write_old write_new = ⊥
-EndsFile command NotOpened file read_old read_new write_old write_new =
-    Untouched read_old read_new write_old write_new
+EndsFile command ending file read_old read_new write_old write_new =
+    Viewed command ending file read_new write_old write_new
+    ⊎ (IsNotOpened ending × Untouched read_old read_new write_old write_new)
 
 -- by what was asked, how the program ends, and what was read and written then
 abbrev pub Ends : Request → ViewEnding → Files → Bytes → Bytes → Bytes → Bytes → Type 0
 Ends (Show command (Some name)) ending files read_old read_new write_old write_new =
     EndsFile command ending (files name) read_old read_new write_old write_new
-Ends (Show command None) (AsBench ending) files read_old read_new write_old write_new =
-    EndsView command ending read_old read_new write_old write_new
+Ends (Show command None) ending files read_old read_new write_old write_new =
+    Viewed command ending read_old read_new write_old write_new
 Ends Help (AsBench ending) files read_old read_new write_old write_new =
     EndsHelp ending read_old read_new write_old write_new
 Ends Bad (AsBench ending) files read_old read_new write_old write_new =
     EndsBad ending read_old read_new write_old write_new
-Ends request NotOpened files read_old read_new write_old write_new = ⊥
+Ends request ending files read_old read_new write_old write_new = ⊥
 
 -- without the words: one of them is no text, or memory was refused
 abbrev pub EndsWithout :
@@ -136,7 +118,7 @@ abbrev pub EndsWithout :
 EndsWithout InvalidData ending files read_old read_new write_old write_new =
     Ends Bad ending files read_old read_new write_old write_new
 EndsWithout _ ending files read_old read_new write_old write_new =
-    (ending ≡ AsBench (Ran (Fault Memory))) × Untouched read_old read_new write_old write_new
+    (ending ≡ failed Memory) × Untouched read_old read_new write_old write_new
 
 -- by the words of the process
 abbrev pub EndsWith : Words → ViewEnding → Files → Bytes → Bytes → Bytes → Bytes → Type 0

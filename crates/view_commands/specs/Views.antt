@@ -1,23 +1,20 @@
--- What is written for a document.
+-- What is shown of a session and of edits of it.
 use Rattle.std.specs.Prelude.{ℕ, List, [], ◌++◌, ◌==◌, length, codes, decimal, false, true, nat_lt, Option, Some, None, if◌then◌else◌, slice_index_or, string_bytes, Result, Ok, Err, String}
 use Rattle.bench_types.specs.declared.edit.Edit.{Edit}
-use Rattle.bench_types.specs.Limits.{max_input, max_steps}
 use Rattle.bench_types.specs.Session.{Session}
 use Rattle.bench_model.specs.Edits.{after_edits}
-use Rattle.session_text.specs.declared.bench.Bench.{Bench}
-use Rattle.session_text.specs.declared.fault.TextFault.{TextFault}
-use Rattle.session_text.specs.Bench.{bench_text}
 use Rattle.session_write.specs.Written.{written}
 use Rattle.run_views.specs.Trace.{trace_text}
 use Rattle.std.specs.declared.alloc.Global.{Global}
 use Rattle.run_pictures.specs.declared.picture.TooLong.{TooLong}
 use Rattle.run_views.specs.declared.places.Places.{Places}
+use Rattle.run_pictures.specs.Drawn.{Drawn}
 use Rattle.run_pictures.specs.Limits.{max_places}
 use Rattle.run_pictures.specs.Picture.{count_of_both, picture_text, pictures_text, shown_count}
 use Rattle.run_comparisons.specs.Comparison.{compare_text}
-use Rattle.bench_commands.specs.Answer.{Output, refused, why_text}
-use Rattle.view_commands.specs.declared.words.Command.{Command}
-use Rattle.view_commands.specs.declared.words.Command.TheVariants as command
+use Rattle.bench_commands.specs.Answer.{Output}
+use Rattle.view_commands.specs.declared.words.View.{View}
+use Rattle.view_commands.specs.declared.words.View.TheVariants as view
 use Rattle.view_commands.specs.Interests.{interest_of, unknown_core, unknown_task}
 use Rattle.view_commands.specs.Selected.{Selected}
 
@@ -78,10 +75,18 @@ picture_of_run places session =
     picture_or (shown_count places (length session.steps))
     (picture_text places session.header session.steps)
 
+-- a picture of two runs
+abbrev pub picture_of_runs : Places → Drawn → Drawn → Output
+picture_of_runs places before after =
+    picture_or (count_of_both places before after) (pictures_text places before after)
+
+-- the run of a session, each place at the column of its number
+abbrev pub by_number : Session → Drawn
+by_number session = record { header = session.header; steps = session.steps; columns = [] }
+
 abbrev pub picture_of_both : Places → Session → Session → Output
 picture_of_both places session edited =
-    picture_or (count_of_both places (length session.steps) (length edited.steps))
-    (pictures_text places session.header session.steps edited.header edited.steps)
+    picture_of_runs places (by_number session) (by_number edited)
 
 -- the picture of the run, and with edits that of the run after them below it
 abbrev pub picture_of : Places → Session → List Edit → Output
@@ -89,26 +94,10 @@ picture_of places session edits =
     if length edits == 0 then picture_of_run places session
     else picture_of_both places session (after_edits session edits)
 
--- By the command, what is shown of a session and of edits of it. They are made one after another,
+-- By the view, what is shown of a session and of edits of it. They are made one after another,
 -- and those that are refused are passed over.
-abbrev pub shown : Command → Session → List Edit → Output
-shown (command.Trace selected) session edits = trace_output selected (after_edits session edits)
-shown command.Session session edits = fine (document_of (after_edits session edits))
-shown command.Compare session edits = fine (compare_text session edits)
-shown (command.Timeline places) session edits = picture_of places session edits
-
--- J2 comes after all other refusals of the document
-abbrev pub view_of_bench : Command → Bench → Output
-view_of_bench command bench =
-    if nat_lt max_steps (length bench.steps) then refused (codes "J2") []
-    else shown command (record { header = bench.header; steps = bench.steps }) bench.edits
-
-abbrev pub view_of : Command → Result Bench TextFault → Output
-view_of command (Ok bench) = view_of_bench command bench
-view_of command (Err fault) = refused (why_text fault.why) fault.path
-
--- the output for an input; H3 where that is too long
-unfoldable pub view_output : Command → List ℕ → Output
-view_output command input =
-    if nat_lt max_input (length input) then refused (codes "H3") []
-    else view_of command (bench_text input)
+abbrev pub shown : View → Session → List Edit → Output
+shown (view.Trace selected) session edits = trace_output selected (after_edits session edits)
+shown view.Session session edits = fine (document_of (after_edits session edits))
+shown view.Compare session edits = fine (compare_text session edits)
+shown (view.Timeline places) session edits = picture_of places session edits

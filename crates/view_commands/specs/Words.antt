@@ -11,6 +11,8 @@ use Rattle.view_commands.specs.declared.words.Command.{Command}
 use Rattle.view_commands.specs.declared.words.Command.TheVariants as command
 use Rattle.view_commands.specs.declared.words.Request.{Request}
 use Rattle.view_commands.specs.declared.words.Request.TheVariants.{Show, Help, Bad}
+use Rattle.view_commands.specs.declared.words.SettledView.TheVariants as settled
+use Rattle.view_commands.specs.declared.words.View.TheVariants as view
 
 -- the bytes of a word
 abbrev pub Word : Type 0
@@ -109,7 +111,12 @@ selection_in options =
 -- ---- commands
 
 abbrev pub trace_in : List Word → Option Command
-trace_in options = option_map command.Trace (selection_in options)
+trace_in options =
+    option_map (λ selected. command.Plain (view.Trace selected)) (selection_in options)
+
+abbrev pub settled_trace_in : List Word → Option Command
+settled_trace_in options =
+    option_map (λ selected. command.Settled (settled.Trace selected)) (selection_in options)
 
 -- a command that has no options, with the name of a file behind it or nothing
 abbrev pub alone : Command → List Word → Option Command
@@ -118,28 +125,57 @@ alone command (word ∷ []) = before_file word command
 alone command (word ∷ other ∷ words) = None
 
 -- the places alone, where no task and no core is named
-abbrev pub places_alone : Selected → Option Command
+abbrev pub places_alone : Selected → Option Places
 places_alone selected =
-    if length selected.tasks == 0 && length selected.cores == 0
-    then Some (command.Timeline selected.places) else None
+    if length selected.tasks == 0 && length selected.cores == 0 then Some selected.places else None
 
 -- the options of a picture: those of a trace that name places
+abbrev pub picture_in : List Word → Option Places
+picture_in options = option_and_then places_alone (selection_in options)
+
 abbrev pub timeline_in : List Word → Option Command
-timeline_in options = option_and_then places_alone (selection_in options)
+timeline_in options =
+    option_map (λ places. command.Plain (view.Timeline places)) (picture_in options)
+
+abbrev pub settled_timeline_in : List Word → Option Command
+settled_timeline_in options =
+    option_map (λ places. command.Settled (settled.Timeline places)) (picture_in options)
 
 -- a command of this name, with its options; none where the program has no such command
 unfoldable pub command_in : Word → List Word → Option Command
 command_in name options =
     if bytes_eq name (codes "trace") then trace_in options
-    else if bytes_eq name (codes "session") then alone command.Session options
-    else if bytes_eq name (codes "compare") then alone command.Compare options
+    else if bytes_eq name (codes "session") then alone (command.Plain view.Session) options
+    else if bytes_eq name (codes "settle") then alone (command.Settled settled.Session) options
+    else if bytes_eq name (codes "compare") then alone (command.Plain view.Compare) options
     else if bytes_eq name (codes "timeline") then timeline_in options
     else None
 
--- a view by the command of this name, of the file that its options name or of standard input
+-- a settled view by the command of this name, with its options behind `--settle`
+unfoldable pub settled_in : Word → List Word → Option Command
+settled_in name options =
+    if bytes_eq name (codes "trace") then settled_trace_in options
+    else if bytes_eq name (codes "compare") then alone (command.Settled settled.Compare) options
+    else if bytes_eq name (codes "timeline") then settled_timeline_in options
+    else None
+
+-- what the command shows, of the file that its options name or of standard input
+abbrev pub shown_of_file : Option Command → List Word → Request
+shown_of_file command options =
+    option_map_or (λ command. Show command (file_in options)) command Bad
+
+abbrev pub plain_by : Word → List Word → Request
+plain_by name options = shown_of_file (command_in name options) options
+
+abbrev pub settled_by : Word → List Word → Request
+settled_by name options = shown_of_file (settled_in name options) options
+
+-- a view by the command of this name; a settled one, where its first option is `--settle`
 abbrev pub view_by : Word → List Word → Request
-view_by name options =
-    option_map_or (λ command. Show command (file_in options)) (command_in name options) Bad
+view_by name [] = plain_by name []
+view_by name (first ∷ options) =
+    if bytes_eq first (codes "--settle") then settled_by name options
+    else plain_by name (first ∷ options)
 
 -- what the words ask for, the command's name first
 abbrev pub shown_by : List Word → Request

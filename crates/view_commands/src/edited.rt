@@ -4,6 +4,7 @@ ghost use Rattle.bench_types.specs.Limits.{max_steps};
 ghost use Rattle.bench_model.specs.Edits.{after_edits};
 ghost use Rattle.session_store.specs.Outcomes.{after_edit};
 ghost use Rattle.bench_types.specs.Header.{IsCheckedHeader};
+ghost use Rattle.bench_types.specs.Session.{IsSession};
 ghost use Rattle.bench_types.specs.Step.{settings_of, IsCheckedStep};
 ghost use Rattle.run_comparisons.specs.Comparison.{compare_text};
 ghost use Rattle.run_pictures.specs.Limits.{max_places};
@@ -11,10 +12,10 @@ ghost use Rattle.view_commands.specs.Views.{answer_output, document_of, fine, mo
 
 use crate::answer::Shown;
 use crate::interest::{interest_of, unknown_core, unknown_task};
-use crate::{Command, Selection};
+use crate::{Selection, View};
 use bench_types::{Edit, Header, MAX_SPAN, Step};
-use run_comparisons::compare;
-use run_pictures::{TooLong, timeline, timelines};
+use run_comparisons::{compare, steps_of};
+use run_pictures::{Run, TooLong, timeline, timelines};
 use run_views::{Places, trace};
 use session_store::{Store, StoreFault};
 use session_write::write_session;
@@ -37,7 +38,8 @@ fn make_edit(
     }
 }
 
-fn make_edits(
+/// Makes the edits one after another.
+pub(crate) fn make_edits(
     alloc: Global,
     meter: &mut Meter,
     store: &mut Store,
@@ -51,35 +53,23 @@ fn make_edits(
     Ok(())
 }
 
-fn steps_of(alloc: Global, store: &Store) -> Result<Vec<Step>, AllocError>
-    ensures steps { IfOk result (λ steps. steps.items ≡ store.now.session.steps) }
-    ensures few { length store.now.session.steps ≤ max_steps }
-{
-    let count = store.len();
-    let mut steps = Vec::with_capacity(alloc, count as usize)?;
-    for place in 0..count {
-        let Some(step) = store.step(place) else {
-            unreachable!()
-        };
-        steps.push(step)?;
-    }
-    Ok(steps)
-}
-
-// The part of the trace of the session as it stands.
+// The part of the trace of a session.
 fn trace_of(
     alloc: Global,
     meter: &mut Meter,
-    store: &Store,
+    header: &Header,
+    steps: &[Step],
     selection: &Selection,
 ) -> Result<Vec<u8>, AllocError>
-    ensures { IfOk result (λ text. text.items ≡ trace_of selection.now store.now.session) }
+    requires session { IsSession (record { header = header.now; steps = steps.now }) }
+    requires few { length steps.now ≤ max_steps }
+    ensures { IfOk result
+        (λ text. text.items
+        ≡ trace_of selection.now (record { header = header.now; steps = steps.now })) }
 {
-    let steps = steps_of(alloc, store)?;
-    let header = store.header();
     let interest = interest_of(alloc, header, selection)?;
     let places = selection.places;
-    let text = trace(alloc, meter, places, &interest, header, steps.as_slice())?;
+    let text = trace(alloc, meter, places, &interest, header, steps)?;
     Ok(text.into_bytes())
 }
 
@@ -113,7 +103,8 @@ fn refused_core(alloc: Global, core: u32) -> Result<Shown, AllocError>
     })
 }
 
-fn fine(text: Vec<u8>) -> Shown
+/// A text that is no refusal.
+pub(crate) fn fine(text: Vec<u8>) -> Shown
     ensures { result ≡ fine text.items }
 {
     Shown {
@@ -122,15 +113,20 @@ fn fine(text: Vec<u8>) -> Shown
     }
 }
 
-fn trace_output(
+/// A trace of a session, or that it has no such task or core.
+pub(crate) fn trace_output(
     alloc: Global,
     meter: &mut Meter,
-    store: &Store,
+    header: &Header,
+    steps: &[Step],
     selection: &Selection,
 ) -> Result<Shown, AllocError>
-    ensures { IfOk result (λ shown. shown ≡ trace_output selection.now store.now.session) }
+    requires session { IsSession (record { header = header.now; steps = steps.now }) }
+    requires few { length steps.now ≤ max_steps }
+    ensures { IfOk result
+        (λ shown. shown
+        ≡ trace_output selection.now (record { header = header.now; steps = steps.now })) }
 {
-    let header = store.header();
     let names = selection.tasks.as_slice();
     if let Some(index) = unknown_task(header, names) {
         return refused_name(alloc, names, index);
@@ -138,21 +134,48 @@ fn trace_output(
     if let Some(core) = unknown_core(header, selection.cores.as_slice()) {
         return refused_core(alloc, core);
     }
-    Ok(fine(trace_of(alloc, meter, store, selection)?))
+    Ok(fine(trace_of(alloc, meter, header, steps, selection)?))
+}
+
+// The trace of the session as it stands.
+fn trace_shown(
+    alloc: Global,
+    meter: &mut Meter,
+    store: &Store,
+    selection: &Selection,
+) -> Result<Shown, AllocError>
+    ensures { IfOk result (λ shown. shown ≡ trace_output selection.now store.now.session) }
+{
+    let steps = steps_of(alloc, store)?;
+    trace_output(alloc, meter, store.header(), steps.as_slice(), selection)
+}
+
+/// A session as a document.
+pub(crate) fn document_output(
+    alloc: Global,
+    header: &Header,
+    steps: &[Step],
+) -> Result<Shown, AllocError>
+    requires { IsSession (record { header = header.now; steps = steps.now }) }
+    ensures { IfOk result
+        (λ shown. shown
+        ≡ fine (document_of (record { header = header.now; steps = steps.now }))) }
+{
+    let mut text = write_session(alloc, header, steps)?;
+    text.push(b'\n')?;
+    Ok(fine(text))
 }
 
 // The session as it stands, as a document.
-fn document_of(alloc: Global, store: &Store) -> Result<Vec<u8>, AllocError>
-    ensures { IfOk result (λ text. text.items ≡ document_of store.now.session) }
+fn document_shown(alloc: Global, store: &Store) -> Result<Shown, AllocError>
+    ensures { IfOk result (λ shown. shown ≡ fine (document_of store.now.session)) }
 {
     let steps = steps_of(alloc, store)?;
-    let mut text = write_session(alloc, store.header(), steps.as_slice())?;
-    text.push(b'\n')?;
-    Ok(text)
+    document_output(alloc, store.header(), steps.as_slice())
 }
 
-// The session replayed once more, with as few checkpoints as there can be.
-fn second(alloc: Global, meter: &mut Meter, store: &Store) -> Result<Store, AllocError>
+/// The session replayed once more, with as few checkpoints as there can be.
+pub(crate) fn second(alloc: Global, meter: &mut Meter, store: &Store) -> Result<Store, AllocError>
     ensures { IfOk result (λ second. second.session ≡ store.now.session) }
 {
     let steps = steps_of(alloc, store)?;
@@ -196,8 +219,11 @@ fn refused_long(alloc: Global, count: u64) -> Result<Shown, AllocError>
     })
 }
 
-// A picture, or that it would show too many places.
-fn answer_output(alloc: Global, answer: Result<String, TooLong>) -> Result<Shown, AllocError>
+/// A picture, or that it would show too many places.
+pub(crate) fn answer_output(
+    alloc: Global,
+    answer: Result<String, TooLong>,
+) -> Result<Shown, AllocError>
     ensures { IfOk result (λ shown. shown ≡ answer_output answer) }
 {
     match answer {
@@ -236,16 +262,17 @@ fn picture_of_both(
         store.now.session) }
 {
     let later = steps_of(alloc, store)?;
-    let edited = store.header();
-    let answer = timelines(
-        alloc,
-        meter,
-        places,
+    let before = Run {
         header,
         steps,
-        edited,
-        later.as_slice(),
-    )?;
+        columns: &[],
+    };
+    let after = Run {
+        header: store.header(),
+        steps: later.as_slice(),
+        columns: &[],
+    };
+    let answer = timelines(alloc, meter, places, &before, &after)?;
     answer_output(alloc, answer)
 }
 
@@ -268,26 +295,26 @@ fn picture_of(
     picture_of_both(alloc, meter, &header, steps.as_slice(), store, places)
 }
 
-/// What the command shows of the session and its edits; those that are refused are passed over.
+/// What the view shows of the session and its edits; those that are refused are passed over.
 pub(crate) fn shown(
     alloc: Global,
     meter: &mut Meter,
     store: &mut Store,
     edits: &[Edit],
-    command: &Command,
+    view: &View,
 ) -> Result<Shown, AllocError>
-    ensures { IfOk result (λ answer. answer ≡ shown command.now store.old.session edits.now) }
+    ensures { IfOk result (λ answer. answer ≡ shown view.now store.old.session edits.now) }
 {
-    match command {
-        Command::Trace(selection) => {
+    match view {
+        View::Trace(selection) => {
             make_edits(alloc, meter, store, edits)?;
-            trace_output(alloc, meter, store, selection)
+            trace_shown(alloc, meter, store, selection)
         }
-        Command::Session => {
+        View::Session => {
             make_edits(alloc, meter, store, edits)?;
-            Ok(fine(document_of(alloc, store)?))
+            document_shown(alloc, store)
         }
-        Command::Compare => Ok(fine(comparison_of(alloc, meter, store, edits)?)),
-        Command::Timeline(places) => picture_of(alloc, meter, store, edits, *places),
+        View::Compare => Ok(fine(comparison_of(alloc, meter, store, edits)?)),
+        View::Timeline(places) => picture_of(alloc, meter, store, edits, *places),
     }
 }

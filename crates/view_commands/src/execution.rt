@@ -1,14 +1,22 @@
+//! A view of a document, over any reader and writer.
 ghost use Rattle.std.specs.Prelude.{◌≡◌};
 ghost use Rattle.bench_commands.specs.Device.{failures_after};
-ghost use Rattle.bench_commands.specs.Run.{reads_well, writes_well};
+ghost use Rattle.view_commands.specs.ViewEndings.{all_reads_well, all_writes_well, failed};
 ghost use Rattle.view_commands.specs.ViewRun.{Viewed};
 
 use crate::Command;
-use crate::answer::answer_to;
+use crate::answer::{Response, told_of};
+use crate::ending::ViewEnding;
 use bench_commands::{
-    CountedRead, CountedWrite, InputFault, RunFault, Status, read_input, write_text,
+    CountedRead, CountedWrite, Ending, InputFault, RunFault, Status, read_input, write_text,
 };
 use std::alloc::Global;
+
+fn failed(fault: RunFault) -> ViewEnding
+    ensures { result ≡ failed fault }
+{
+    ViewEnding::AsBench(Ending::Ran(Status::Fault(fault)))
+}
 
 /// Reads a document to its end, or one byte past the most that it is, and then writes what the
 /// command shows of it.
@@ -18,28 +26,29 @@ pub fn run<R: CountedRead, W: CountedWrite>(
     reader: &mut R,
     writer: &mut W,
     command: &Command,
-) -> Status
+) -> ViewEnding
     ensures bytes { Viewed command.now result (R.Read.remaining reader.old)
         (R.Read.remaining reader.new) (W.Write.contents writer.old) (W.Write.contents writer.new) }
     ensures reads { R.CountedRead.failures reader.new
-        ≡ failures_after (reads_well result) (R.CountedRead.failures reader.old) }
+        ≡ failures_after (all_reads_well result) (R.CountedRead.failures reader.old) }
     ensures writes { W.CountedWrite.failures writer.new
-        ≡ failures_after (writes_well result) (W.CountedWrite.failures writer.old) }
+        ≡ failures_after (all_writes_well result) (W.CountedWrite.failures writer.old) }
 {
     let input = match read_input(alloc, reader) {
         Ok(input) => input,
-        Err(InputFault::Memory) => return Status::Fault(RunFault::Memory),
-        Err(InputFault::Read) => return Status::Fault(RunFault::Read),
+        Err(InputFault::Memory) => return failed(RunFault::Memory),
+        Err(InputFault::Read) => return failed(RunFault::Read),
     };
-    let Ok(answer) = answer_to(host, alloc, &input, command) else {
-        return Status::Fault(RunFault::Memory);
+    let Ok(response) = told_of(host, alloc, &input, command) else {
+        return failed(RunFault::Memory);
     };
-    if write_text(writer, answer.text.as_slice()).is_err() {
-        return Status::Fault(RunFault::Write);
+    let Response { shown, note } = response;
+    if write_text(writer, shown.text.as_slice()).is_err() {
+        return failed(RunFault::Write);
     }
-    if answer.is_refused {
-        Status::Refused
+    if shown.is_refused {
+        ViewEnding::AsBench(Ending::Ran(Status::Refused))
     } else {
-        Status::Fine
+        ViewEnding::Shown(note)
     }
 }

@@ -5,9 +5,11 @@ ghost use Rattle.bench_commands.specs.Program.{device, Shows};
 ghost use Rattle.bench_commands.specs.Run.{writes_well};
 ghost use Rattle.view_commands.specs.declared.words.Request.TheVariants.{Show};
 ghost use Rattle.view_commands.specs.Words.{asked};
-ghost use Rattle.view_commands.specs.ViewProgram.{Ends, EndsFile, EndsProcess, EndsWith, IsToldBad, all_reads_well, all_writes_well, exit_code, help, message};
+ghost use Rattle.view_commands.specs.ViewEndings.{all_reads_well, all_writes_well};
+ghost use Rattle.view_commands.specs.ViewProgram.{Ends, EndsFile, EndsProcess, EndsWith, IsToldBad, help};
 
 use crate::Command;
+use crate::ending::ViewEnding;
 use crate::execution::run;
 use crate::source::Source;
 use crate::words::{FileName, Request, request_in};
@@ -18,51 +20,23 @@ use std::io;
 use std::io::ErrorKind;
 use std::process::ExitCode;
 
-/// How the program ends.
-#[derive(Debug, Drop)]
-pub enum ViewEnding {
-    /// As the bench ends: a view or help was shown, or the command line is a bad one.
-    AsBench(Ending),
-    /// The file that the command line names can't be opened.
-    NotOpened,
-}
-
-impl ViewEnding {
-    /// The exit status of the process.
-    pub fn code(&self) -> u8
-        ensures { result ≡ exit_code self.now }
-    {
-        match self {
-            ViewEnding::AsBench(ending) => ending.code(),
-            ViewEnding::NotOpened => 3,
-        }
-    }
-
-    /// What goes to standard error.
-    pub fn message(&self) -> &str
-        ensures { result.now ≡ message self.now }
-    {
-        match self {
-            ViewEnding::AsBench(ending) => ending.message(),
-            ViewEnding::NotOpened => "fault open\n",
-        }
-    }
-}
-
-const USAGE: &str =
-    "usage: smp_view trace [--from PLACE] [--to PLACE] [--task NAME].. [--core CORE].. [FILE]
+const USAGE: &str = "usage: smp_view trace [--settle] [--from PLACE] [--to PLACE]
+                      [--task NAME].. [--core CORE].. [FILE]
        smp_view session [FILE]
-       smp_view compare [FILE]
-       smp_view timeline [--from PLACE] [--to PLACE] [FILE]
+       smp_view settle [FILE]
+       smp_view compare [--settle] [FILE]
+       smp_view timeline [--settle] [--from PLACE] [--to PLACE] [FILE]
        smp_view --help
 ";
 
 const HELP: &str = "smp_view shows what a run of a session does, and why.
 
-usage: smp_view trace [--from PLACE] [--to PLACE] [--task NAME].. [--core CORE].. [FILE]
+usage: smp_view trace [--settle] [--from PLACE] [--to PLACE]
+                      [--task NAME].. [--core CORE].. [FILE]
        smp_view session [FILE]
-       smp_view compare [FILE]
-       smp_view timeline [--from PLACE] [--to PLACE] [FILE]
+       smp_view settle [FILE]
+       smp_view compare [--settle] [FILE]
+       smp_view timeline [--settle] [--from PLACE] [--to PLACE] [FILE]
        smp_view --help
 
 It reads a session, or a bench document with edits, from standard input, or from
@@ -71,17 +45,24 @@ that are refused are passed over.
 
   trace     each place and each step of the session with its edits made, and all
             that the step changed
+            --settle  the trace of its settled run
             --from PLACE, --to PLACE  only the places from the one to the other
             --task NAME, --core CORE  only the steps that concern one of these
   session   the session with its edits made, as a document
+  settle    its settled run, as a document: what a target makes of its calls,
+            ticks and interrupts, each switch and each return from a call made by
+            itself; standard error says how many calls of which tasks were not made
   compare   the run before the edits beside the run after them, and what each
             task gained and lost
+            --settle  their settled runs, and the calls that were not made
   timeline  the run before the edits and that after them as a picture (SVG), at
             all places or at those from the one to the other, 4000 at most
+            --settle  their settled runs, a step of both in one column
 
-exit status: 0 it was shown; 1 the document is refused, or a task or core that it
-has not, or a picture of more than 4000 places (standard output says which); 2 a
-bad command line; 3 memory or a device failed, or the file can't be opened
+exit status: 0 it was shown; 1 the document or its settled run is refused, or a
+task or core that it has not, or a picture of more than 4000 places (standard
+output says which); 2 a bad command line; 3 memory or a device failed, or the
+file can't be opened
 
 example: smp_view trace --from 2 --to 3 examples/first-run.json
 ";
@@ -132,7 +113,7 @@ fn show_file<R: Source, W: CountedWrite>(
         ≡ failures_after (all_writes_well result) (W.CountedWrite.failures writer.old) }
 {
     match reader.open(name) {
-        Ok(()) => ViewEnding::AsBench(Ending::Ran(run(host, alloc, reader, writer, command))),
+        Ok(()) => run(host, alloc, reader, writer, command),
         Err(_) => ViewEnding::NotOpened,
     }
 }
@@ -156,7 +137,7 @@ fn show_document<R: Source, W: CountedWrite>(
 {
     match file {
         Some(name) => show_file(host, alloc, command, name.text.as_str(), reader, writer),
-        None => ViewEnding::AsBench(Ending::Ran(run(host, alloc, reader, writer, command))),
+        None => run(host, alloc, reader, writer, command),
     }
 }
 

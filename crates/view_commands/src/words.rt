@@ -1,7 +1,7 @@
 //! The words of the command line.
 ghost use Rattle.std.specs.Prelude.{◌≡◌, ◌++◌, IfOk, OnOk, map, string_bytes};
 ghost use Rattle.std.specs.List.{list_any};
-ghost use Rattle.view_commands.specs.Words.{alone, asked, asks_help, before_file, bounds_in, command_in, core_given, each_option, file_in, is_help, is_option, number_in, places_in, places_of, selection_in, shown_by, task_given, timeline_in, trace_in, view_by, with_bound, with_option};
+ghost use Rattle.view_commands.specs.Words.{alone, asked, asks_help, before_file, bounds_in, command_in, core_given, each_option, file_in, is_help, is_option, number_in, picture_in, places_alone, places_in, places_of, plain_by, selection_in, settled_by, settled_in, settled_timeline_in, settled_trace_in, shown_by, shown_of_file, task_given, timeline_in, trace_in, view_by, with_bound, with_option};
 
 use run_views::Places;
 use std::alloc::{AllocError, Global};
@@ -31,9 +31,9 @@ impl Model for Selection {
         } };
 }
 
-/// What is to be shown of a document.
+/// What is shown of a session and of edits of it.
 #[derive(Drop)]
-pub enum Command {
+pub enum View {
     /// The trace of the session with its edits made: this part of it.
     Trace(Selection),
     /// The session with its edits made, as a document.
@@ -42,6 +42,28 @@ pub enum Command {
     Compare,
     /// The picture of the run before the edits and of that after them, at these places.
     Timeline(Places),
+}
+
+/// What is shown of settled runs.
+#[derive(Drop)]
+pub enum SettledView {
+    /// The trace of the settled run of the session with its edits made: this part of it.
+    Trace(Selection),
+    /// That run as a document.
+    Session,
+    /// The settled run of the session before the edits beside that of the session after them.
+    Compare,
+    /// The picture of these runs, at these places.
+    Timeline(Places),
+}
+
+/// What is to be shown of a document.
+#[derive(Drop)]
+pub enum Command {
+    /// Its runs, step by step as it says them.
+    Plain(View),
+    /// What a target makes of its calls, ticks and interrupts.
+    Settled(SettledView),
 }
 
 /// The name of a file.
@@ -266,20 +288,57 @@ fn trace_in(alloc: Global, options: &[String]) -> Result<Option<Command>, AllocE
     ensures { IfOk result (λ found. found ≡ trace_in (map string_bytes options.now)) }
 {
     match selection_in(alloc, options)? {
-        Some(selection) => Ok(Some(Command::Trace(selection))),
+        Some(selection) => Ok(Some(Command::Plain(View::Trace(selection)))),
         None => Ok(None),
     }
 }
 
+fn settled_trace_in(alloc: Global, options: &[String]) -> Result<Option<Command>, AllocError>
+    ensures { IfOk result (λ found. found ≡ settled_trace_in (map string_bytes options.now)) }
+{
+    match selection_in(alloc, options)? {
+        Some(selection) => Ok(Some(Command::Settled(SettledView::Trace(selection)))),
+        None => Ok(None),
+    }
+}
+
+// The places alone, where no task and no core is named.
+fn places_alone(selection: Selection) -> Option<Places>
+    ensures { result ≡ places_alone selection }
+{
+    if selection.tasks.len() == 0 && selection.cores.len() == 0 {
+        Some(selection.places)
+    } else {
+        None
+    }
+}
+
 // The options of a picture: those of a trace that name places.
+fn picture_in(alloc: Global, options: &[String]) -> Result<Option<Places>, AllocError>
+    ensures { IfOk result (λ found. found ≡ picture_in (map string_bytes options.now)) }
+{
+    match selection_in(alloc, options)? {
+        Some(selection) => Ok(places_alone(selection)),
+        None => Ok(None),
+    }
+}
+
 fn timeline_in(alloc: Global, options: &[String]) -> Result<Option<Command>, AllocError>
     ensures { IfOk result (λ found. found ≡ timeline_in (map string_bytes options.now)) }
 {
-    match selection_in(alloc, options)? {
-        Some(selection) if selection.tasks.len() == 0 && selection.cores.len() == 0 => {
-            Ok(Some(Command::Timeline(selection.places)))
-        }
-        _ => Ok(None),
+    match picture_in(alloc, options)? {
+        Some(places) => Ok(Some(Command::Plain(View::Timeline(places)))),
+        None => Ok(None),
+    }
+}
+
+fn settled_timeline_in(alloc: Global, options: &[String]) -> Result<Option<Command>, AllocError>
+    ensures { IfOk result
+        (λ found. found ≡ settled_timeline_in (map string_bytes options.now)) }
+{
+    match picture_in(alloc, options)? {
+        Some(places) => Ok(Some(Command::Settled(SettledView::Timeline(places)))),
+        None => Ok(None),
     }
 }
 
@@ -293,10 +352,13 @@ fn command_in(alloc: Global, name: &str, options: &[String]) -> Result<Option<Co
         return trace_in(alloc, options);
     }
     if name == "session" {
-        return Ok(alone(Command::Session, options));
+        return Ok(alone(Command::Plain(View::Session), options));
+    }
+    if name == "settle" {
+        return Ok(alone(Command::Settled(SettledView::Session), options));
     }
     if name == "compare" {
-        return Ok(alone(Command::Compare, options));
+        return Ok(alone(Command::Plain(View::Compare), options));
     }
     if name == "timeline" {
         return timeline_in(alloc, options);
@@ -328,16 +390,70 @@ fn file_in(alloc: Global, options: &[String]) -> Result<Option<FileName>, AllocE
     Ok(Some(FileName { text }))
 }
 
-// A view by the command of this name.
-fn view_by(alloc: Global, name: &str, options: &[String]) -> Result<Request, AllocError>
+// A settled view by the command of this name, with its options behind `--settle`.
+#[tactic(auto, unfolding(crate::specs::Words::settled_in))]
+fn settled_in(alloc: Global, name: &str, options: &[String]) -> Result<Option<Command>, AllocError>
     ensures { IfOk result
-        (λ request. request ≡ view_by name.now (map string_bytes options.now)) }
+        (λ found. found ≡ settled_in name.now (map string_bytes options.now)) }
 {
-    let Some(command) = command_in(alloc, name, options)? else {
+    if name == "trace" {
+        return settled_trace_in(alloc, options);
+    }
+    if name == "compare" {
+        return Ok(alone(Command::Settled(SettledView::Compare), options));
+    }
+    if name == "timeline" {
+        return settled_timeline_in(alloc, options);
+    }
+    Ok(None)
+}
+
+// What the command shows, of the file that its options name or of standard input.
+fn shown_of_file(
+    alloc: Global,
+    command: Option<Command>,
+    options: &[String],
+) -> Result<Request, AllocError>
+    ensures { IfOk result
+        (λ request. request ≡ shown_of_file command (map string_bytes options.now)) }
+{
+    let Some(command) = command else {
         return Ok(Request::Bad);
     };
     let file = file_in(alloc, options)?;
     Ok(Request::Show(command, file))
+}
+
+fn plain_by(alloc: Global, name: &str, options: &[String]) -> Result<Request, AllocError>
+    ensures { IfOk result
+        (λ request. request ≡ plain_by name.now (map string_bytes options.now)) }
+{
+    let command = command_in(alloc, name, options)?;
+    shown_of_file(alloc, command, options)
+}
+
+fn settled_by(alloc: Global, name: &str, options: &[String]) -> Result<Request, AllocError>
+    ensures { IfOk result
+        (λ request. request ≡ settled_by name.now (map string_bytes options.now)) }
+{
+    let command = settled_in(alloc, name, options)?;
+    shown_of_file(alloc, command, options)
+}
+
+// A view by the command of this name, a settled one where the first option says so.
+fn view_by(alloc: Global, name: &str, options: &[String]) -> Result<Request, AllocError>
+    ensures { IfOk result
+        (λ request. request ≡ view_by name.now (map string_bytes options.now)) }
+{
+    match options {
+        [] => plain_by(alloc, name, options),
+        [first, others @ ..] => {
+            if first.as_str() == "--settle" {
+                return settled_by(alloc, name, others);
+            }
+            plain_by(alloc, name, options)
+        }
+    }
 }
 
 fn shown_by(alloc: Global, words: &[String]) -> Result<Request, AllocError>

@@ -3,26 +3,37 @@
 use std::alloc::{AllocError, Global};
 use std::process::Abort;
 use std::test::Fail;
-use view_commands::{Command, FileName, Request, Selection, request_in};
+use view_commands::{Command, FileName, Request, Selection, SettledView, View, request_in};
 
 /// Command lines, and what each asks for: a trace with its first place, its last, its tasks and its
-/// cores, another command, each with the file that is named, help, or nothing that the program
-/// does.
+/// cores, maybe of a settled run, another command, each with the file that is named, help, or
+/// nothing that the program does.
 const COMMAND_LINES: &str = "\
 smp_view trace => 0 4294967295
 smp_view trace --from 3 => 3 4294967295
 smp_view trace --to +7 --from 003 => 3 7
 smp_view trace --task B --core 1 --to 7 --task --to => 0 7 task B task --to core 1
+smp_view trace --settle => settled 0 4294967295
+smp_view trace --settle --to 7 --task B => settled 0 7 task B
 smp_view session => session
+smp_view settle => settled
 smp_view compare => compare
+smp_view compare --settle => settled compare
 smp_view timeline => picture 0 4294967295
 smp_view timeline --to 7 --from 3 => picture 3 7
+smp_view timeline --settle => settled picture 0 4294967295
+smp_view timeline --settle --to 7 run.json => settled picture 0 7 file run.json
 smp_view trace run.json => 0 4294967295 file run.json
 smp_view trace 3 => 0 4294967295 file 3
 smp_view trace --from 3 --task A run.json => 3 4294967295 task A file run.json
 smp_view trace --task run.json => 0 4294967295 task run.json
+smp_view trace --settle run.json => settled 0 4294967295 file run.json
+smp_view trace --settle --core 1 run.json => settled 0 4294967295 core 1 file run.json
+smp_view trace --task --settle => 0 4294967295 task --settle
 smp_view session run.json => session file run.json
+smp_view settle run.json => settled file run.json
 smp_view compare ./--run => compare file ./--run
+smp_view compare --settle run.json => settled compare file run.json
 smp_view timeline --to 7 run.json => picture 0 7 file run.json
 smp_view --help => help
 smp_view trace --from --help => help
@@ -40,8 +51,20 @@ smp_view trace --from 4294967296 => bad
 smp_view trace --from -1 => bad
 smp_view trace --from 3 --from 3 => bad
 smp_view trace --until 3 => bad
+smp_view trace --from 1 --settle => bad
+smp_view trace --from 1 --settle run.json => bad
+smp_view trace --settle --settle => bad
+smp_view trace --settle --from 3 --from 3 => bad
 smp_view session --from 3 => bad
+smp_view session --settle => bad
+smp_view settle --settle => bad
+smp_view settle --from 3 => bad
+smp_view settle run.json other.json => bad
 smp_view compare run.json other.json => bad
+smp_view compare run.json --settle => bad
+smp_view compare --settle --from 3 => bad
+smp_view timeline --from 3 --settle => bad
+smp_view timeline --settle --task A => bad
 smp_view compare -x => bad
 smp_view timeline -3 => bad
 smp_view timeline --task A => bad
@@ -90,11 +113,34 @@ fn view_told(
 
 fn command_told(alloc: Global, command: &Command) -> Result<String, AllocError> {
     match command {
-        Command::Trace(selection) => trace_told(alloc, selection),
-        Command::Session => String::from_str(alloc, "session"),
-        Command::Compare => String::from_str(alloc, "compare"),
-        Command::Timeline(places) => { format!(in alloc; "picture {} {}", places.from, places.to) }
+        Command::Plain(view) => plain_told(alloc, view),
+        Command::Settled(view) => settled_told(alloc, view),
     }
+}
+
+fn plain_told(alloc: Global, view: &View) -> Result<String, AllocError> {
+    match view {
+        View::Trace(selection) => trace_told(alloc, selection),
+        View::Session => String::from_str(alloc, "session"),
+        View::Compare => String::from_str(alloc, "compare"),
+        View::Timeline(places) => { format!(in alloc; "picture {} {}", places.from, places.to) }
+    }
+}
+
+fn settled_told(alloc: Global, view: &SettledView) -> Result<String, AllocError> {
+    match view {
+        SettledView::Trace(selection) => settled_trace_told(alloc, selection),
+        SettledView::Session => String::from_str(alloc, "settled"),
+        SettledView::Compare => String::from_str(alloc, "settled compare"),
+        SettledView::Timeline(places) => {
+            format!(in alloc; "settled picture {} {}", places.from, places.to)
+        }
+    }
+}
+
+fn settled_trace_told(alloc: Global, selection: &Selection) -> Result<String, AllocError> {
+    let trace = trace_told(alloc, selection)?;
+    format!(in alloc; "settled {trace}")
 }
 
 fn trace_told(alloc: Global, selection: &Selection) -> Result<String, AllocError> {

@@ -9,7 +9,7 @@ use std::io;
 use std::io::ErrorKind;
 use std::process::Abort;
 use std::test::Fail;
-use view_commands::{Command, DocumentSource, FileName, Folder, Request, carry_out};
+use view_commands::{Command, DocumentSource, FileName, Folder, Request, View, carry_out};
 
 /// A folder with one file.
 #[derive(Drop)]
@@ -62,7 +62,7 @@ fn expect(
     let mut reader = DocumentSource::new(standard, &shelf);
     let mut shown = Vec::new(host.alloc());
     let mut writer = Counted::new(&mut shown);
-    let request = Request::Show(Command::Session, file_named(host, name)?);
+    let request = Request::Show(Command::Plain(View::Session), file_named(host, name)?);
     let ending = carry_out(host, host.alloc(), request, &mut reader, &mut writer);
     assert_eq!(rt; ending.code(), code);
     assert_eq!(rt; ending.message(), message);

@@ -1,7 +1,7 @@
 //! Pictures.
 
 use crate::view::samples::FIRST_RUN;
-use run_pictures::timeline;
+use run_pictures::{Run, timeline, timelines};
 use run_views::Places;
 use session_text::read_session;
 use smp_kernel::Meter;
@@ -20,25 +20,55 @@ const TOLD: &str = "<title>places 0 to 1: core 0 A</title>
 <title>places 0 to 1: C ready</title>
 <title>places 2 to 5: C runs on core 0</title>";
 
+/// What is told where the places of the upper run begin at other columns: step 0 is as wide as two,
+/// and step 2 of the upper run stands above step 3 of the lower.
+const IN_COLUMNS: &str = "<rect class='z' x='150' y='22' width='80' height='14'><title>step 0: delay
+<rect class='z' x='270' y='22' width='40' height='14'><title>step 2: tick
+<rect class='z' x='150' y='230' width='40' height='14'><title>step 0: delay
+<rect class='z' x='270' y='230' width='40' height='14'><title>step 3: yield";
+
+const ALL: Places = Places {
+    from: 0,
+    to: u32::MAX,
+};
+
 #[test]
 fn a_picture_of_a_run(rt: HostRuntime) -> Result<(), Fail> {
     let alloc = rt.alloc();
     let (header, steps) = read_session(alloc, FIRST_RUN.as_bytes())?;
     assert!(rt; steps.len() < 100);
     let mut meter = Meter::new(&rt);
-    let places = Places {
-        from: 0,
-        to: u32::MAX,
-    };
-    match timeline(alloc, &mut meter, places, &header, steps.as_slice())? {
-        Ok(picture) => expect_told(&rt, picture.as_str()),
+    match timeline(alloc, &mut meter, ALL, &header, steps.as_slice())? {
+        Ok(picture) => expect_told(&rt, picture.as_str(), TOLD),
         Err(_) => panic!(rt; "too long"),
     }
     Ok(())
 }
 
-fn expect_told(rt: &impl Abort, picture: &str) {
-    for told in TOLD.lines() {
+#[test]
+fn a_picture_of_two_runs_in_columns(rt: HostRuntime) -> Result<(), Fail> {
+    let alloc = rt.alloc();
+    let (header, steps) = read_session(alloc, FIRST_RUN.as_bytes())?;
+    assert!(rt; steps.len() < 100);
+    let mut meter = Meter::new(&rt);
+    let before = Run {
+        header: &header,
+        steps: steps.as_slice(),
+        columns: &[0, 2, 3, 4, 5, 6, 7],
+    };
+    let after = Run {
+        columns: &[],
+        ..before
+    };
+    match timelines(alloc, &mut meter, ALL, &before, &after)? {
+        Ok(picture) => expect_told(&rt, picture.as_str(), IN_COLUMNS),
+        Err(_) => panic!(rt; "too long"),
+    }
+    Ok(())
+}
+
+fn expect_told(rt: &impl Abort, picture: &str, wanted: &str) {
+    for told in wanted.lines() {
         assert!(rt; picture.contains(told), "{told}");
     }
 }

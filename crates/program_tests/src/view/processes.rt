@@ -20,17 +20,32 @@ fn a_trace_by_the_program(rt: HostRuntime) -> Result<(), Fail> {
         ("smp_view trace run.json", "", FIRST_RUN),
     ] {
         let words = Ok(args_of(rt.alloc(), line)?);
-        check_trace(&rt, &rt, words, standard, file);
+        let wanted = Wanted {
+            code: 0,
+            output: WHOLE,
+            errors: "",
+        };
+        check_program(&rt, &rt, words, standard, file, wanted);
     }
     Ok(())
 }
 
-fn check_trace(
+/// How the program is to end, and what it is to write.
+#[derive(Clone, Copy)]
+pub(crate) struct Wanted<'a> {
+    pub(crate) code: u8,
+    pub(crate) output: &'a str,
+    pub(crate) errors: &'a str,
+}
+
+/// What the program does with the words, with a document on standard input or in a file.
+pub(crate) fn check_program(
     rt: &impl Abort,
     host: &HostRuntime,
     words: io::Result<Args>,
     standard: &str,
     file: &str,
+    wanted: Wanted<'_>,
 ) {
     let mut output = Sink::wide();
     let mut errors = Sink::wide();
@@ -40,9 +55,9 @@ fn check_trace(
     };
     let mut reader = DocumentSource::new(standard.as_bytes(), &shelf);
     let status = status_of(host, words, &mut reader, &mut output, &mut errors);
-    expect_same(rt, file, status, ExitCode::from(0));
-    output.expect(rt, WHOLE);
-    errors.expect(rt, "");
+    expect_same(rt, file, status, ExitCode::from(wanted.code));
+    output.expect(rt, wanted.output);
+    errors.expect(rt, wanted.errors);
 }
 
 /// The exit status of the program with these words.

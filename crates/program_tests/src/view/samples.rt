@@ -34,3 +34,19 @@ pub const TWO_NOTES: &str = "{\"format\": 2, \"cores\": 2, \"priorities\": 5, \"
     \"action\": \"increment\", \"index\": 0}, {\"do\": \"isr_notify\", \"core\": 1, \"to\": \"A\", \
     \"action\": \"set\", \"value\": 9, \"index\": 1}, {\"do\": \"switch\", \"core\": 0}, \
     {\"do\": \"finish\", \"core\": 0, \"by\": \"A\"}]}";
+
+/// A logger has a mutex that a control loop waits for, and delays itself, so that two calls of the
+/// control loop and one of its own are not made; edits take out a call of a third task, which would
+/// be made, and ask for a place that there is not.
+pub const LEFT_CALLS: &str = "\
+    {\"session\": {\"format\": 1, \"cores\": 2, \"priorities\": 4, \"slicing\": false, \
+    \"tick\": 0, \"mutexes\": 1, \"tasks\": [{\"name\": \"control\", \"priority\": 3, \
+    \"mask\": 1}, {\"name\": \"logger\", \"priority\": 1, \"mask\": 2}, {\"name\": \"spare\", \
+    \"priority\": 0, \"mask\": 3}], \"steps\": [{\"do\": \"mutex_take\", \"core\": 1, \
+    \"by\": \"logger\", \"mutex\": 0, \"ticks\": 0}, {\"do\": \"yield\", \"core\": 0, \
+    \"by\": \"spare\"}, {\"do\": \"mutex_take\", \"core\": 0, \"by\": \"control\", \
+    \"mutex\": 0, \"ticks\": 5}, {\"do\": \"yield\", \"core\": 0, \"by\": \"control\"}, \
+    {\"do\": \"tick\"}, {\"do\": \"delay\", \"core\": 1, \"by\": \"logger\", \"ticks\": 9}, \
+    {\"do\": \"yield\", \"core\": 0, \"by\": \"control\"}, {\"do\": \"mutex_give\", \
+    \"core\": 1, \"by\": \"logger\", \"mutex\": 0}]}, \"edits\": [{\"edit\": \"remove\", \
+    \"at\": 1}, {\"edit\": \"remove\", \"at\": 9}]}";

@@ -1,12 +1,12 @@
 //! What each command shows of a document.
 
 use crate::view::samples::{FIRST_RUN, SHARED_MUTEX, TWO_NOTES};
-use bench_commands::{Counted, Status};
+use bench_commands::Counted;
 use run_views::Places;
 use std::alloc::{AllocError, Global};
 use std::process::Abort;
 use std::test::Fail;
-use view_commands::{Command, Selection, run};
+use view_commands::{Command, Selection, View, run};
 
 const COMPARED: &str =
     "  0 0 mutex_take core 1 by logger mutex 0 ticks 0: true: the mutex was taken; control logger
@@ -63,26 +63,28 @@ pub(crate) const KEPT: &str =
 
 #[test]
 fn views(rt: HostRuntime) -> Result<(), Fail> {
-    expect(&rt, &rt, Command::Compare, SHARED_MUTEX, COMPARED);
-    expect(&rt, &rt, Command::Compare, FIRST_RUN, UNEDITED);
-    expect(&rt, &rt, Command::Session, SHARED_MUTEX, KEPT);
+    expect(&rt, &rt, View::Compare, SHARED_MUTEX, COMPARED);
+    expect(&rt, &rt, View::Compare, FIRST_RUN, UNEDITED);
+    expect(&rt, &rt, View::Session, SHARED_MUTEX, KEPT);
     expect_traces(&rt, &rt)?;
     Ok(())
 }
 
 #[test]
 fn views_of_two_notifications(rt: HostRuntime) -> Result<(), Fail> {
-    expect(&rt, &rt, Command::Compare, TWO_NOTES, INDEXED);
-    expect(&rt, &rt, Command::Session, TWO_NOTES, INDEXED_KEPT);
+    expect(&rt, &rt, View::Compare, TWO_NOTES, INDEXED);
+    expect(&rt, &rt, View::Session, TWO_NOTES, INDEXED_KEPT);
     Ok(())
 }
 
-fn expect(rt: &impl Abort, host: &HostRuntime, command: Command, document: &str, wanted: &str) {
+fn expect(rt: &impl Abort, host: &HostRuntime, view: View, document: &str, wanted: &str) {
+    let command = Command::Plain(view);
     let mut shown = Vec::new(host.alloc());
     let mut reader = Counted::new(document.as_bytes());
     let mut writer = Counted::new(&mut shown);
-    let status = run(host, host.alloc(), &mut reader, &mut writer, &command);
-    assert!(rt; status == Status::Fine);
+    let ending = run(host, host.alloc(), &mut reader, &mut writer, &command);
+    assert_eq!(rt; ending.code(), 0);
+    assert_eq!(rt; ending.message(), "");
     assert!(rt; shown.as_slice() == wanted.as_bytes());
 }
 
@@ -107,14 +109,14 @@ fn expect_traces(rt: &impl Abort, host: &HostRuntime) -> Result<(), AllocError> 
     Ok(())
 }
 
-fn trace_of(alloc: Global, task: &str, core: Option<u32>) -> Result<Command, AllocError> {
+fn trace_of(alloc: Global, task: &str, core: Option<u32>) -> Result<View, AllocError> {
     let mut tasks = Vec::new(alloc);
     tasks.push(String::from_str(alloc, task)?)?;
     let mut cores = Vec::new(alloc);
     if let Some(core) = core {
         cores.push(core)?;
     }
-    Ok(Command::Trace(Selection {
+    Ok(View::Trace(Selection {
         places: Places {
             from: 0,
             to: u32::MAX,

@@ -8,11 +8,11 @@ pub push_rows-requires : goal.push_rows-requires
 unfolding film
 push_rows-requires c =
     let places = c.args.places in
-    let header = c.args.header.now in
-    let steps = c.args.steps.now in
+    let header = c.args.run.now.header.now in
+    let steps = c.args.run.now.steps.now in
     let filmed = c.in_ok-film.ensures in
-    let framed = c.requires.first in
+    let framed = c.in_ok-frame.ensures in
     let few = looks_few places header steps (omega arith) (omega arith) in
     let some = looks_counted places header steps (omega arith) in
-    let limits = header_facts header (passes_whole header c.requires.header.passes) in
+    let limits = header_facts header (passes_whole header c.requires.run.header.passes) in
     record { top = omega arith; few = rw (filmed, framed) few; some = rw filmed some; tasks = omega (arith, limits.few_cores, limits.few_tasks) }

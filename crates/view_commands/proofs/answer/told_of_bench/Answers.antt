@@ -4,14 +4,14 @@ use Rattle.bench_types.specs.declared.step.Step.{Step}
 use Rattle.bench_types.specs.Limits.{max_span}
 use Rattle.bench_model.specs.Meeting.{first_kept}
 use Rattle.session_store.specs.Opening.{open_check}
-use Rattle.view_commands.specs.Views.{shown}
-use Rattle.view_commands.proofs.Outputs.{not_opened_view, opened_view, too_long_view}
-use Rattle.view_commands.proofs.answer.answer_of_bench.Goals as goal
+use Rattle.view_commands.specs.Commands.{IsTold}
+use Rattle.view_commands.proofs.Outputs.{not_opened_told, opened_told, too_long_bench}
+use Rattle.view_commands.proofs.answer.told_of_bench.Goals as goal
 
 pub returns : goal.returns
 returns c =
-    not_opened_view c.args.command.now c.args.bench c.in-Err.fault.why c.not_opened.result c.not_opened.ensures.why c.not_opened.ensures.line
-    (too_long_view c.args.command.now c.args.bench max_span c.in-Err.fault.why c.requires refl
+    not_opened_told c.args.command.now c.args.bench c.in-Err.fault.why c.not_opened.result c.not_opened.ensures.why c.not_opened.ensures.line
+    (too_long_bench c.args.bench max_span c.in-Err.fault.why c.requires refl
     (λ passes. ap (λ fault. fault.why) (c.in-Err.ensures.no_memory (subst (λ steps. open_check c.args.bench.header steps max_span ≡ Ok tt) (sym c.into_vec.ensures) passes))))
 
 pub returns-in-Ok : goal.returns-in-Ok
@@ -20,5 +20,5 @@ returns-in-Ok c =
     let accepted = subst (λ steps. open_check bench.header steps max_span ≡ Ok tt) c.into_vec.ensures c.in-Ok.ensures.accepted in
     let same = c.in-Ok.ensures.opened ∙ ap (λ (steps : List Step). first_kept max_span (record { header = bench.header; steps = steps })) c.into_vec.ensures in
     let edits : c.as_slice.result.now ≡ bench.edits = search rules in
-    opened_view c.args.command.now bench max_span c.in-Ok.store c.shown.result accepted same
-    (subst (λ (edits : List Edit). IfOk c.shown.result (λ answer. answer ≡ shown c.args.command.now c.in-Ok.store.session edits)) edits c.shown.ensures)
+    opened_told c.args.command.now bench max_span c.in-Ok.store c.told_of_store.result accepted same
+    (subst (λ (edits : List Edit). IfOk c.told_of_store.result (λ told. IsTold c.args.command.now c.in-Ok.store.session edits told)) edits c.told_of_store.ensures)

@@ -3,7 +3,7 @@ use Rattle.std.specs.Prelude.{List}
 use Rattle.std.proofs.lemmas.Option.{slice_get_within, get_or_from_slice_get}
 use Rattle.std.proofs.Math.Seq.{take-suc}
 use Rattle.bench_types.specs.declared.step.Step.{Step}
-use Rattle.view_commands.proofs.edited.steps_of.Goals as goal
+use Rattle.run_comparisons.proofs.steps.steps_of.Goals as goal
 
 pub loop-place-preserved : goal.loop-place-preserved
 loop-place-preserved c =

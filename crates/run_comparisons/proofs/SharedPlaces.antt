@@ -1,0 +1,211 @@
+-- What is known of the events that two sessions share: each stands in both runs, and they ascend.
+use Rattle.std.proofs.Common.{◌≡◌, ℕ, zero, suc, ◌+◌, ◌≤◌, ◌<◌, Bool, true, false, cond, ◌&&◌, List, [], ◌∷◌, ◌++◌, length, get_or, flat_map, Option, Some, None, refl, ap, sym, subst, ◌∙◌, arith}
+use Rattle.std.specs.Prelude.{All, slice_get}
+use Rattle.std.specs.List.{cons_option, filter_map, range_with_len}
+use Rattle.std.proofs.lemmas.Bool.{and_parts}
+use Rattle.std.proofs.lemmas.Bool.Decides.{nat_tests}
+use Rattle.std.proofs.lemmas.List.Elements.{All-cons}
+use Rattle.std.proofs.lemmas.Option.{slice_get_within}
+use Rattle.bench_types.specs.declared.note.Action.{Action}
+use Rattle.bench_types.specs.declared.note.Action.TheVariants.{Nothing, SetBits, Increment, Set, SetNew}
+use Rattle.bench_types.specs.declared.note.Note.{Note}
+use Rattle.bench_types.specs.declared.step.Step.{Step}
+use Rattle.bench_types.specs.declared.step.Step.TheVariants.{Tick, Interrupt}
+use Rattle.bench_model.specs.SameTest.{are_same_actions, are_same_notes}
+use Rattle.settled_runs.specs.SettleLaws.{comes_from_outside}
+use Rattle.run_comparisons.specs.declared.place_pair.PlacePair.{PlacePair}
+use Rattle.run_comparisons.specs.declared.rows.Row.{Row}
+use Rattle.run_comparisons.specs.declared.rows.Row.TheVariants.{Both, Removed, Inserted}
+use Rattle.run_comparisons.specs.Alike.{are_alike}
+use Rattle.run_comparisons.specs.RowLaws.{place_after, place_before}
+use Rattle.run_comparisons.specs.Shared.{is_same_event, place_in, places_in, shared_among, shared_at, AreEventsOf}
+use Rattle.run_comparisons.specs.SideBySide.{IsWithin}
+use Rattle.run_comparisons.proofs.EventPlaces.{place_listed, stands_behind, stands_within}
+
+-- ---- events that are alike
+
+alike_outside : (step other : Step) → comes_from_outside step ≡ true → are_alike step other ≡ true → comes_from_outside other ≡ true
+alike_outside Tick Tick is alike = refl
+alike_outside (Interrupt core note) (Interrupt other sent) is alike = refl
+alike_outside step other is alike = absurd (cc (is, alike))
+
+action_itself : (action : Action) → are_same_actions action action ≡ true
+action_itself Nothing = refl
+action_itself (SetBits bits) = grind (arith, nat_tests)
+action_itself Increment = refl
+action_itself (Set value) = grind (arith, nat_tests)
+action_itself (SetNew value) = grind (arith, nat_tests)
+
+note_itself : (note : Note) → are_same_notes note note ≡ true
+note_itself note = grind (arith, nat_tests, action_itself note.action)
+
+pub alike_itself : (event : Step) → comes_from_outside event ≡ true → are_alike event event ≡ true
+alike_itself Tick is = refl
+alike_itself (Interrupt core note) is = grind (arith, nat_tests, note_itself note)
+alike_itself step is = absurd (cc is)
+
+-- ---- the row of a shared event
+
+record IsSharedRow (session edited : List Step) (places later : List ℕ) (row : Row) (pair : PlacePair) : Type 0 where
+  pub old : ℕ
+  pub new : ℕ
+  pub event : Step
+  pub other : Step
+  pub row_is : row ≡ Both old new
+  pub found : slice_get session old ≡ Some event
+  pub met : slice_get edited new ≡ Some other
+  pub outside : comes_from_outside event ≡ true
+  pub too : comes_from_outside other ≡ true
+  pub before : pair.before ≡ get_or places old 0
+  pub after : pair.after ≡ get_or later new 0
+
+shared_row : (session edited : List Step) (places later : List ℕ) (row : Row) (pair : PlacePair) → shared_at session edited places later row ≡ Some pair → IsSharedRow session edited places later row pair
+shared_row session edited places later (Removed old) pair is = absurd (cc is)
+shared_row session edited places later (Inserted new) pair is = absurd (cc is)
+shared_row session edited places later (Both old new) pair is = at (slice_get session old) refl (slice_get edited new) refl is
+  where
+    of_both : (step other : Step) → slice_get session old ≡ Some step → slice_get edited new ≡ Some other → (same : Bool) → (comes_from_outside step && are_alike step other) ≡ same
+        → cond same (Some (record { before = get_or places old 0; after = get_or later new 0 })) None ≡ Some pair → IsSharedRow session edited places later (Both old new) pair
+    of_both step other found met false tells one = absurd (cc one)
+    of_both step other found met true tells one =
+        let both = and_parts (comes_from_outside step) (are_alike step other) tells in
+        let pair_is : record { before = get_or places old 0; after = get_or later new 0 } ≡ pair = cc one in
+        record {
+          old = old;
+          new = new;
+          event = step;
+          other = other;
+          row_is = refl;
+          found = found;
+          met = met;
+          outside = both.0;
+          too = alike_outside step other both.0 both.1;
+          before = sym (ap (λ (one : PlacePair). one.before) pair_is);
+          after = sym (ap (λ (one : PlacePair). one.after) pair_is);
+        }
+
+    at : (step : Option Step) → slice_get session old ≡ step → (other : Option Step) → slice_get edited new ≡ other
+        → cond (is_same_event step other) (Some (record { before = get_or places old 0; after = get_or later new 0 })) None ≡ Some pair → IsSharedRow session edited places later (Both old new) pair
+    at (Some step) found (Some other) met one = of_both step other found met (comes_from_outside step && are_alike step other) refl one
+    at (Some step) found None met one = absurd (cc one)
+    at None found other met one = absurd (cc one)
+
+-- ---- either side of the shared events
+
+-- the place of the row in the session, where an event stands, and that of the pair in the run
+pub record IsPlaced (side : Row → List ℕ) (pick : PlacePair → ℕ) (session run : List Step) (row : Row) (pair : PlacePair) : Type 0 where
+  pub place : ℕ
+  pub event : Step
+  pub alone : side row ≡ place ∷ []
+  pub found : slice_get session place ≡ Some event
+  pub outside : comes_from_outside event ≡ true
+  pub picked : pick pair ≡ place_in run session place
+
+-- the places ascend, from one on and below another
+abbrev pub Ascend : (PlacePair → ℕ) → ℕ → ℕ → List PlacePair → Type 0
+Ascend pick count from [] = Unit {0}
+Ascend pick count from (pair ∷ pairs) = (from ≤ pick pair) × (pick pair < count) × Ascend pick count (suc (pick pair)) pairs
+
+-- what is left of numbers one after another
+rest_of : (xs ys : List ℕ) (m n : ℕ) → xs ++ ys ≡ range_with_len m n → (later : ℕ) × (many : ℕ) × (m ≤ later) × (ys ≡ range_with_len later many)
+rest_of [] ys m n is = (m, n, omega arith, is)
+rest_of (x ∷ xs) ys m zero is = absurd (cc is)
+rest_of (x ∷ xs) ys m (suc n) is =
+    let rest = rest_of xs ys (m + 1) n (cc is) in
+    (rest.0, rest.1, omega (arith, rest.2), rest.3)
+
+first_of : (x : ℕ) (ys : List ℕ) (m n : ℕ) → x ∷ ys ≡ range_with_len m n → (x ≡ m) × (many : ℕ) × (ys ≡ range_with_len (suc m) many)
+first_of x ys m zero is = absurd (cc is)
+first_of x ys m (suc n) is =
+    let next : m + 1 ≡ suc m = omega arith in
+    let rest : ys ≡ range_with_len (m + 1) n = cc is in
+    (cc is, n, rest ∙ ap (λ from. range_with_len from n) next)
+
+-- events of the session from a place on stand in the run from another on
+abbrev StandFrom : List Step → List Step → ℕ → ℕ → Type 0
+StandFrom session run from m = (place : ℕ) (event : Step) → m ≤ place → slice_get session place ≡ Some event → comes_from_outside event ≡ true → from ≤ place_in run session place
+
+module _ (side : Row → List ℕ) (pick : PlacePair → ℕ) (session run : List Step) (events : AreEventsOf session run) (shared : Row → Option PlacePair) (given : (row : Row) (pair : PlacePair) → shared row ≡ Some pair → IsPlaced side pick session run row pair) where
+  ascend_from : (rows : List Row) (m n from : ℕ) → flat_map side rows ≡ range_with_len m n → StandFrom session run from m → Ascend pick (length run) from (filter_map shared rows)
+  ascend_from [] m n from tiles low = tt
+  ascend_from (row ∷ rows) m n from tiles low = at (λ i j k t l. ascend_from rows i j k t l) (shared row) refl
+    where
+      at : ((i j k : ℕ) → flat_map side rows ≡ range_with_len i j → StandFrom session run k i → Ascend pick (length run) k (filter_map shared rows)) → (found : Option PlacePair) → shared row ≡ found → Ascend pick (length run) from (cons_option found (filter_map shared rows))
+      at next None is =
+          let rest = rest_of (side row) (flat_map side rows) m n tiles in
+          next rest.0 rest.1 from rest.3 (λ place event order. low place event (omega (arith, order, rest.2)))
+      at next (Some pair) is =
+          let one = given row pair is in
+          let split = first_of one.place (flat_map side rows) m n (ap (λ list. list ++ flat_map side rows) (sym one.alone) ∙ tiles) in
+          let here = low one.place one.event (omega (arith, split.0)) one.found one.outside in
+          let within = stands_within session run one.place one.event events one.found one.outside in (
+            omega (arith, one.picked, here),
+            omega (arith, one.picked, within),
+            next (suc m) split.1 (suc (pick pair)) split.2 (λ place event order found outside.
+                let behind = stands_behind session run one.place place one.event event events one.found one.outside found outside (omega (arith, order, split.0)) in
+                omega (arith, one.picked, behind)),
+          )
+
+  pub ascend : (rows : List Row) (n : ℕ) → flat_map side rows ≡ range_with_len 0 n → Ascend pick (length run) 0 (filter_map shared rows)
+  ascend rows n tiles = ascend_from rows 0 n 0 tiles (λ place event order found outside. omega arith)
+
+-- ---- both sides
+
+module _ (session edited before after : List Step) (first : AreEventsOf session before) (second : AreEventsOf edited after) where
+  abbrev at_row : Row → Option PlacePair
+  at_row row = shared_at session edited (places_in before session) (places_in after edited) row
+
+  placed_before : (row : Row) (pair : PlacePair) → at_row row ≡ Some pair → IsPlaced place_before (λ one. one.before) session before row pair
+  placed_before row pair is =
+      let one = shared_row session edited (places_in before session) (places_in after edited) row pair is in
+      record {
+        place = one.old;
+        event = one.event;
+        alone = ap place_before one.row_is;
+        found = one.found;
+        outside = one.outside;
+        picked = one.before ∙ place_listed before session one.old (slice_get_within session one.old one.event one.found);
+      }
+
+  placed_after : (row : Row) (pair : PlacePair) → at_row row ≡ Some pair → IsPlaced place_after (λ one. one.after) edited after row pair
+  placed_after row pair is =
+      let one = shared_row session edited (places_in before session) (places_in after edited) row pair is in
+      record {
+        place = one.new;
+        event = one.other;
+        alone = ap place_after one.row_is;
+        found = one.met;
+        outside = one.too;
+        picked = one.after ∙ place_listed after edited one.new (slice_get_within edited one.new one.other one.met);
+      }
+
+  pub ascend_before : (rows : List Row) (n : ℕ) → flat_map place_before rows ≡ range_with_len 0 n → Ascend (λ one. one.before) (length before) 0 (shared_among session edited before after rows)
+  ascend_before = ascend place_before (λ one. one.before) session before first at_row placed_before
+
+  pub ascend_after : (rows : List Row) (n : ℕ) → flat_map place_after rows ≡ range_with_len 0 n → Ascend (λ one. one.after) (length after) 0 (shared_among session edited before after rows)
+  ascend_after = ascend place_after (λ one. one.after) edited after second at_row placed_after
+
+  -- each stands in both runs
+  one_within : (row : Row) (pair : PlacePair) → at_row row ≡ Some pair → IsWithin before after pair
+  one_within row pair is =
+      let old = placed_before row pair is in
+      let new = placed_after row pair is in (
+        omega (arith, old.picked, stands_within session before old.place old.event first old.found old.outside),
+        omega (arith, new.picked, stands_within edited after new.place new.event second new.found new.outside),
+      )
+
+  pub all_within : (rows : List Row) → All (IsWithin before after) (shared_among session edited before after rows)
+  all_within [] = λ k d short. absurd (omega (arith, short))
+  all_within (row ∷ rows) = at (all_within rows) (at_row row) refl
+    where
+      at : All (IsWithin before after) (filter_map at_row rows) → (found : Option PlacePair) → at_row row ≡ found → All (IsWithin before after) (cons_option found (filter_map at_row rows))
+      at rest None is = rest
+      at rest (Some pair) is = All-cons (IsWithin before after) pair (filter_map at_row rows) (one_within row pair is) rest
+
+-- so it is with what equals them
+pub each_within : (session edited before after s e b a : List Step) (rows : List Row) (events : List PlacePair) → AreEventsOf session before → AreEventsOf edited after → s ≡ session → e ≡ edited → b ≡ before → a ≡ after → events ≡ shared_among s e b a rows → All (IsWithin b a) events
+each_within session edited before after s e b a rows events first second is_session is_edited is_before is_after are =
+    subst (λ (list : List PlacePair). All (IsWithin b a) list) (sym are)
+    (all_within s e b a
+    (subst (λ (run : List Step). AreEventsOf s run) (sym is_before) (subst (λ (steps : List Step). AreEventsOf steps before) (sym is_session) first))
+    (subst (λ (run : List Step). AreEventsOf e run) (sym is_after) (subst (λ (steps : List Step). AreEventsOf steps after) (sym is_edited) second)) rows)

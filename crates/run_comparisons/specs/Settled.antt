@@ -1,0 +1,76 @@
+-- The settled run of a session beside the settled run of the session after edits of it.
+use Rattle.std.specs.Prelude.{◌≡◌, ◌<◌, ◌≤◌, ◌⊎◌, ℕ, List, [], ◌∷◌, ◌++◌, codes, length}
+use Rattle.bench_types.specs.declared.edit.Edit.{Edit}
+use Rattle.bench_types.specs.declared.header.Header.{Header}
+use Rattle.bench_types.specs.declared.step.Step.{Step}
+use Rattle.bench_types.specs.Limits.{max_steps}
+use Rattle.bench_types.specs.Session.{Session}
+use Rattle.bench_model.specs.Edits.{after_edits}
+use Rattle.settled_runs.specs.declared.waiting_call.WaitingCall.{WaitingCall}
+use Rattle.settled_runs.specs.Settled.{IsSettled}
+use Rattle.settling.specs.Notes.{left_text}
+use Rattle.run_comparisons.specs.declared.rows.Row.{Row}
+use Rattle.run_comparisons.specs.declared.settled.SettledPair.{SettledPair}
+use Rattle.run_comparisons.specs.Comparison.{fared_text, rows_text}
+use Rattle.run_comparisons.specs.SideBySide.{AreSettledRows}
+
+-- a settled run of the session, and the calls that were not made
+pub record SettledRun (session : Session) : Type 0 where
+  pub run : List Step
+  pub left : List WaitingCall
+  pub settled : IsSettled session.header session.steps run left
+
+-- the session with these steps in the place of its own
+abbrev pub with_steps : Session → List Step → Session
+with_steps session steps = record session { steps = steps }
+
+-- the calls that were not made, in a line; none where all were made
+abbrev pub left_line : List ℕ → Header → List WaitingCall → List ℕ
+left_line run header [] = []
+left_line run header (call ∷ left) =
+    codes "not made " ++ run ++ codes ": " ++ left_text header (call ∷ left) ++ codes "\n"
+
+-- the calls that were not made in the run before the edits, and those in the run after them
+unfoldable pub left_lines : Header → Header → List WaitingCall → List WaitingCall → List ℕ
+left_lines header edited left rest =
+    left_line (codes "before") header left ++ left_line (codes "after") edited rest
+
+-- A line a row, then where the two runs differ first and last, then what each task gained and lost,
+-- then the calls that were not made.
+unfoldable pub settled_text :
+    Session → Session → List Row → List WaitingCall → List WaitingCall → List ℕ
+settled_text before after rows left rest =
+    rows_text before after rows ++ fared_text before after
+    ++ left_lines before.header after.header left rest
+
+-- two settled runs, of a session and of the session after edits of it, and their rows; neither run
+-- has more steps than a session may have
+pub record IsSettledPair (session : Session) (edits : List Edit) (pair : SettledPair) : Type 0 where
+  pub before : IsSettled session.header session.steps pair.before.run.items
+      pair.before.left.items
+  pub after : IsSettled (after_edits session edits).header (after_edits session edits).steps
+      pair.after.run.items pair.after.left.items
+  pub few_before : length pair.before.run.items ≤ max_steps
+  pub few_after : length pair.after.run.items ≤ max_steps
+  pub rows : AreSettledRows session edits pair.before.run.items pair.after.run.items
+      pair.rows.items
+
+-- The text tells of a settled run of the session and of one of the session after the edits, which
+-- are made one after another. Those that are refused are passed over.
+abbrev pub IsSettledComparison : Session → List Edit → List ℕ → Type 0
+IsSettledComparison session edits text =
+    let edited = after_edits session edits in
+    (before : SettledRun session) × (after : SettledRun edited) × (rows : List Row)
+    × AreSettledRows session edits before.run after.run rows
+    × (text
+    ≡ settled_text (with_steps session before.run) (with_steps edited after.run) rows
+    before.left after.left)
+
+-- every settled run of the session has more steps than a session may have
+abbrev pub IsSettledTooLong : Session → Type 0
+IsSettledTooLong session = (settled : SettledRun session) → max_steps < length settled.run
+
+-- so it is with the session or with the edited one
+abbrev pub IsComparisonTooLong : Session → List Edit → Type 0
+IsComparisonTooLong session edits =
+    IsSettledTooLong session ⊎ IsSettledTooLong (after_edits session edits)

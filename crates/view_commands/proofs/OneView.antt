@@ -1,0 +1,103 @@
+-- One thing alone is told of each input.
+use Rattle.std.proofs.Common.{◌≡◌, ℕ, List, [], ◌∷◌, length, Bool, true, false, Result, Ok, Err, nat_lt, codes, inl, inr, ap, ap₂, sym, subst, ◌∙◌}
+use Rattle.bench_types.specs.declared.edit.Edit.{Edit}
+use Rattle.bench_types.specs.declared.header.Header.{Header}
+use Rattle.bench_types.specs.declared.step.Step.{Step}
+use Rattle.bench_types.specs.Limits.{max_input, max_steps}
+use Rattle.bench_types.specs.Session.{Session}
+use Rattle.bench_model.specs.Edits.{after_edits}
+use Rattle.session_text.specs.declared.bench.Bench.{Bench}
+use Rattle.session_text.specs.declared.fault.TextFault.{TextFault}
+use Rattle.session_text.specs.Bench.{bench_text}
+use Rattle.settled_runs.specs.declared.waiting_call.WaitingCall.{WaitingCall}
+use Rattle.settled_runs.proofs.Settlings.{settled_run_is_one}
+use Rattle.run_views.specs.declared.places.Places.{Places}
+use Rattle.run_comparisons.specs.declared.columns.Side.TheVariants.{Before, After}
+use Rattle.run_comparisons.specs.declared.rows.Row.{Row}
+use Rattle.run_comparisons.specs.Columns.{columns_of}
+use Rattle.run_comparisons.specs.Settled.{left_lines}
+use Rattle.run_comparisons.specs.Shared.{shared_events}
+use Rattle.run_comparisons.specs.SideBySide.{first_places, AreSettledRows}
+use Rattle.run_comparisons.proofs.Compared.{neither_too_long}
+use Rattle.run_comparisons.proofs.OneText.{one_list, one_text}
+use Rattle.bench_commands.specs.Answer.{Output}
+use Rattle.view_commands.specs.declared.words.Command.{Command}
+use Rattle.view_commands.specs.declared.words.Command.TheVariants.{Plain, Settled}
+use Rattle.view_commands.specs.declared.words.SettledView.{SettledView}
+use Rattle.view_commands.specs.declared.words.SettledView.TheVariants as settled
+use Rattle.view_commands.specs.Commands.{IsRefusedOr, IsTold, IsToldOfBench, IsToldOfText, IsView, ViewIsOne}
+use Rattle.view_commands.specs.SettledViews.{noted, told_of_run, IsSettledPicture, IsSettledView, IsToldOfBoth, IsToldOfPair, IsToldOfPictures, IsToldOfSettled}
+use Rattle.view_commands.specs.Told.{Told, plain}
+use Rattle.view_commands.specs.Views.{document_of, fine, picture_of_run, picture_of_runs, trace_output}
+
+one_of_run : (shown : Session → Output) (session : Session) (told other : Told) → IsToldOfSettled shown session told → IsToldOfSettled shown session other → told ≡ other
+one_of_run shown session told other one two =
+    let same = settled_run_is_one session.header session.steps one.run two.run one.left two.left one.settled two.settled in
+    one.is_told ∙ ap₂ (λ (run : List Step) (left : List WaitingCall). told_of_run shown session.header run left) same.0 same.1 ∙ sym two.is_told
+
+one_of_both : (session : Session) (edits : List Edit) (told other : Told) → IsToldOfBoth session edits told → IsToldOfBoth session edits other → told ≡ other
+one_of_both session edits told other (inl one) (inl two) =
+    one.is_told ∙ ap (λ (text : List ℕ). plain (fine text)) (one_text session edits one.text two.text one.compares two.compares) ∙ sym two.is_told
+one_of_both session edits told other (inl one) (inr two) = absurd (one.room two.0)
+one_of_both session edits told other (inr one) (inl two) = absurd (two.room one.0)
+one_of_both session edits told other (inr one) (inr two) = one.1 ∙ sym two.1
+
+-- what is told of a picture of these runs
+abbrev told_of_runs : Places → Header → Header → List Step → List Step → List Row → List WaitingCall → List WaitingCall → Told
+told_of_runs places header edited run later rows left rest =
+    noted (picture_of_runs places (record { header = header; steps = run; columns = columns_of Before rows }) (record { header = edited; steps = later; columns = columns_of After rows })) (left_lines header edited left rest)
+
+one_of_pairs : (places : Places) (session : Session) (edits : List Edit) (told other : Told) → IsToldOfPair places session edits told → IsToldOfPair places session edits other → told ≡ other
+one_of_pairs places session edits told other one two =
+    let edited = after_edits session edits in
+    let first = settled_run_is_one session.header session.steps one.pair.before.run.items two.pair.before.run.items one.pair.before.left.items two.pair.before.left.items one.settled.before two.settled.before in
+    let second = settled_run_is_one edited.header edited.steps one.pair.after.run.items two.pair.after.run.items one.pair.after.left.items two.pair.after.left.items one.settled.after two.settled.after in
+    let aligned = subst (λ (run : List Step). AreSettledRows session edits one.pair.before.run.items run two.pair.rows.items) (sym second.0)
+    (subst (λ (run : List Step). AreSettledRows session edits run two.pair.after.run.items two.pair.rows.items) (sym first.0) two.settled.rows) in
+    let rows = one_list one.pair.before.run.items one.pair.after.run.items (shared_events session edits one.pair.before.run.items one.pair.after.run.items) first_places one.pair.rows.items two.pair.rows.items one.settled.rows aligned in
+    let of_runs = told_of_runs places session.header edited.header in
+    one.is_told
+    ∙ ap₂ (λ (run later : List Step). of_runs run later one.pair.rows.items one.pair.before.left.items one.pair.after.left.items) first.0 second.0
+    ∙ ap (λ (shown : List Row). of_runs two.pair.before.run.items two.pair.after.run.items shown one.pair.before.left.items one.pair.after.left.items) rows
+    ∙ ap₂ (λ (left rest : List WaitingCall). of_runs two.pair.before.run.items two.pair.after.run.items two.pair.rows.items left rest) first.1 second.1
+    ∙ sym two.is_told
+
+one_of_pictures : (places : Places) (session : Session) (edits : List Edit) (told other : Told) → IsToldOfPictures places session edits told → IsToldOfPictures places session edits other → told ≡ other
+one_of_pictures places session edits told other (inl one) (inl two) = one_of_pairs places session edits told other one two
+one_of_pictures places session edits told other (inl one) (inr two) = absurd (neither_too_long session edits one.pair one.settled two.0)
+one_of_pictures places session edits told other (inr one) (inl two) = absurd (neither_too_long session edits two.pair two.settled one.0)
+one_of_pictures places session edits told other (inr one) (inr two) = one.1 ∙ sym two.1
+
+one_picture : (places : Places) (session : Session) (edits : List Edit) (told other : Told) → IsSettledPicture places session edits told → IsSettledPicture places session edits other → told ≡ other
+one_picture places session [] told other one two = one_of_run (picture_of_run places) session told other one two
+one_picture places session (edit ∷ edits) told other one two = one_of_pictures places session (edit ∷ edits) told other one two
+
+one_settled : (view : SettledView) (session : Session) (edits : List Edit) (told other : Told) → IsSettledView view session edits told → IsSettledView view session edits other → told ≡ other
+one_settled (settled.Trace selected) session edits told other one two = one_of_run (trace_output selected) (after_edits session edits) told other one two
+one_settled settled.Session session edits told other one two = one_of_run (λ run. fine (document_of run)) (after_edits session edits) told other one two
+one_settled settled.Compare session edits told other one two = one_of_both session edits told other one two
+one_settled (settled.Timeline places) session edits told other one two = one_picture places session edits told other one two
+
+one_told : (command : Command) (session : Session) (edits : List Edit) (told other : Told) → IsTold command session edits told → IsTold command session edits other → told ≡ other
+one_told (Plain view) session edits told other one two = one ∙ sym two
+one_told (Settled view) session edits told other one two = one_settled view session edits told other one two
+
+-- a refusal, or what is one besides
+one_or_refused : (test : Bool) (code : List ℕ) (claim other_claim : Type 0) (told other : Told) → (claim → other_claim → told ≡ other) → IsRefusedOr test code claim told → IsRefusedOr test code other_claim other → told ≡ other
+one_or_refused true code claim other_claim told other both one two = one ∙ sym two
+one_or_refused false code claim other_claim told other both one two = both one two
+
+one_of_bench : (command : Command) (bench : Bench) (told other : Told) → IsToldOfBench command bench told → IsToldOfBench command bench other → told ≡ other
+one_of_bench command bench told other one two =
+    let session : Session = record { header = bench.header; steps = bench.steps } in
+    one_or_refused (nat_lt max_steps (length bench.steps)) (codes "J2") (IsTold command session bench.edits told) (IsTold command session bench.edits other) told other (one_told command session bench.edits told other) one two
+
+one_of_text : (command : Command) (text : Result Bench TextFault) (told other : Told) → IsToldOfText command text told → IsToldOfText command text other → told ≡ other
+one_of_text command (Ok bench) told other one two = one_of_bench command bench told other one two
+one_of_text command (Err fault) told other one two = one ∙ sym two
+
+pub one_view : ViewIsOne
+unfolding IsView
+one_view command input told other one two =
+    let text = bench_text input in
+    one_or_refused (nat_lt max_input (length input)) (codes "H3") (IsToldOfText command text told) (IsToldOfText command text other) told other (one_of_text command text told other) one two

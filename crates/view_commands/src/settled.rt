@@ -1,0 +1,275 @@
+//! What is told of the settled run of a session and of edits of it.
+ghost use Rattle.std.specs.Prelude.{◌≡◌, ◌≤◌, [], IfOk, OnOk, length, string_bytes};
+ghost use Rattle.bench_types.specs.Limits.{max_steps};
+ghost use Rattle.bench_types.specs.Session.{IsSession};
+ghost use Rattle.bench_model.specs.Edits.{after_edits};
+ghost use Rattle.settling.specs.declared.run.SettleFault.TheVariants.{TooManySteps};
+ghost use Rattle.view_commands.specs.SettledViews.{IsSettledPicture, IsSettledView, IsToldOfBoth, IsToldOfSettled, note_of, noted, too_long};
+ghost use Rattle.view_commands.specs.Views.{document_of, fine, picture_of_run, trace_output};
+
+use crate::answer::{Response, Shown, plain, refused_by};
+use crate::edited::{answer_output, document_output, fine, make_edits, second, trace_output};
+use crate::settled_pictures::pictures_told;
+use crate::{Selection, SettledView};
+use bench_types::{Edit, EditFault, Header, Step};
+use run_comparisons::{compare_settled, steps_of};
+use run_pictures::timeline;
+use run_views::Places;
+use session_store::Store;
+use settled_runs::WaitingCall;
+use settling::{SettleFault, Settled, push_left, settle};
+use smp_kernel::Meter;
+use std::alloc::{AllocError, Global};
+
+// That these calls were not made; nothing where there are none.
+fn note_of(alloc: Global, header: &Header, left: &[WaitingCall]) -> Result<String, AllocError>
+    ensures { IfOk result (λ note. string_bytes note ≡ note_of header.now left.now) }
+{
+    let mut note = String::new(alloc);
+    if left.len() == 0 {
+        return Ok(note);
+    }
+    note.push_str("not made: ")?;
+    push_left(&mut note, header, left)?;
+    note.push_str("\n")?;
+    Ok(note)
+}
+
+// What is shown, and the calls that were not made, unless it is a refusal.
+fn noted(
+    alloc: Global,
+    header: &Header,
+    left: &[WaitingCall],
+    shown: Shown,
+) -> Result<Response, AllocError>
+    ensures { IfOk result (λ told. told ≡ noted shown (note_of header.now left.now)) }
+{
+    if shown.is_refused {
+        return Ok(plain(alloc, shown));
+    }
+    let note = note_of(alloc, header, left)?;
+    Ok(Response { shown, note })
+}
+
+/// The answer where a session was not settled, which is one only for J2.
+pub(crate) fn not_settled(alloc: Global, fault: SettleFault) -> Result<Response, AllocError>
+    ensures why { OnOk result (fault ≡ TooManySteps) }
+    ensures line { IfOk result (λ told. told ≡ too_long) }
+{
+    match fault {
+        SettleFault::TooManySteps => refused_by(alloc, EditFault::TooLong.code()),
+        SettleFault::NoMemory => Err(AllocError),
+    }
+}
+
+fn trace_of_run(
+    alloc: Global,
+    meter: &mut Meter,
+    header: &Header,
+    settled: &Settled,
+    selection: &Selection,
+) -> Result<Response, AllocError>
+    requires session { IsSession (record {
+      header = header.now;
+      steps = settled.now.run.items;
+    }) }
+    requires few { length settled.now.run.items ≤ max_steps }
+    ensures { IfOk result
+        (λ told. told
+        ≡ noted
+        (trace_output selection.now
+        (record { header = header.now; steps = settled.now.run.items }))
+        (note_of header.now settled.now.left.items)) }
+{
+    let run = settled.run.as_slice();
+    let shown = trace_output(alloc, meter, header, run, selection)?;
+    noted(alloc, header, settled.left.as_slice(), shown)
+}
+
+fn document_of_run(
+    alloc: Global,
+    header: &Header,
+    settled: &Settled,
+) -> Result<Response, AllocError>
+    requires { IsSession (record { header = header.now; steps = settled.now.run.items }) }
+    ensures { IfOk result
+        (λ told. told
+        ≡ noted
+        (fine (document_of (record { header = header.now; steps = settled.now.run.items })))
+        (note_of header.now settled.now.left.items)) }
+{
+    let shown = document_output(alloc, header, settled.run.as_slice())?;
+    noted(alloc, header, settled.left.as_slice(), shown)
+}
+
+fn settled_trace(
+    alloc: Global,
+    meter: &mut Meter,
+    header: &Header,
+    steps: &[Step],
+    selection: &Selection,
+) -> Result<Response, AllocError>
+    requires { IsSession (record { header = header.now; steps = steps.now }) }
+    ensures { IfOk result
+        (λ told. IsToldOfSettled (trace_output selection.now)
+        (record { header = header.now; steps = steps.now }) told) }
+{
+    match settle(alloc, header, steps, meter) {
+        Ok(settled) => trace_of_run(alloc, meter, header, &settled, selection),
+        Err(fault) => not_settled(alloc, fault),
+    }
+}
+
+fn settled_document(
+    alloc: Global,
+    meter: &mut Meter,
+    header: &Header,
+    steps: &[Step],
+) -> Result<Response, AllocError>
+    requires { IsSession (record { header = header.now; steps = steps.now }) }
+    ensures { IfOk result
+        (λ told. IsToldOfSettled (λ run. fine (document_of run))
+        (record { header = header.now; steps = steps.now }) told) }
+{
+    match settle(alloc, header, steps, meter) {
+        Ok(settled) => document_of_run(alloc, header, &settled),
+        Err(fault) => not_settled(alloc, fault),
+    }
+}
+
+// The trace of the settled run of the session as it stands.
+fn trace_told(
+    alloc: Global,
+    meter: &mut Meter,
+    store: &Store,
+    selection: &Selection,
+) -> Result<Response, AllocError>
+    ensures { IfOk result
+        (λ told. IsToldOfSettled (trace_output selection.now) store.now.session told) }
+{
+    let steps = steps_of(alloc, store)?;
+    settled_trace(alloc, meter, store.header(), steps.as_slice(), selection)
+}
+
+// That run as a document.
+fn document_told(alloc: Global, meter: &mut Meter, store: &Store) -> Result<Response, AllocError>
+    ensures { IfOk result
+        (λ told. IsToldOfSettled (λ run. fine (document_of run)) store.now.session told) }
+{
+    let steps = steps_of(alloc, store)?;
+    settled_document(alloc, meter, store.header(), steps.as_slice())
+}
+
+// The settled runs of the session and of the session after the edits, beside each other.
+fn comparison_told(
+    alloc: Global,
+    meter: &mut Meter,
+    store: &mut Store,
+    edits: &[Edit],
+) -> Result<Response, AllocError>
+    ensures { IfOk result (λ told. IsToldOfBoth store.old.session edits.now told) }
+{
+    let before = second(alloc, meter, store)?;
+    match compare_settled(alloc, meter, &before, store, edits) {
+        Ok(text) => Ok(plain(alloc, fine(text.into_bytes()))),
+        Err(fault) => not_settled(alloc, fault),
+    }
+}
+
+fn picture_of_run(
+    alloc: Global,
+    meter: &mut Meter,
+    header: &Header,
+    settled: &Settled,
+    places: Places,
+) -> Result<Response, AllocError>
+    requires session { IsSession (record {
+      header = header.now;
+      steps = settled.now.run.items;
+    }) }
+    requires few { length settled.now.run.items ≤ max_steps }
+    ensures { IfOk result
+        (λ told. told
+        ≡ noted
+        (picture_of_run places
+        (record { header = header.now; steps = settled.now.run.items }))
+        (note_of header.now settled.now.left.items)) }
+{
+    let answer = timeline(alloc, meter, places, header, settled.run.as_slice())?;
+    let shown = answer_output(alloc, answer)?;
+    noted(alloc, header, settled.left.as_slice(), shown)
+}
+
+fn settled_picture(
+    alloc: Global,
+    meter: &mut Meter,
+    header: &Header,
+    steps: &[Step],
+    places: Places,
+) -> Result<Response, AllocError>
+    requires { IsSession (record { header = header.now; steps = steps.now }) }
+    ensures { IfOk result
+        (λ told. IsToldOfSettled (picture_of_run places)
+        (record { header = header.now; steps = steps.now }) told) }
+{
+    match settle(alloc, header, steps, meter) {
+        Ok(settled) => picture_of_run(alloc, meter, header, &settled, places),
+        Err(fault) => not_settled(alloc, fault),
+    }
+}
+
+// The picture of that run.
+fn picture_told(
+    alloc: Global,
+    meter: &mut Meter,
+    store: &Store,
+    places: Places,
+) -> Result<Response, AllocError>
+    ensures { IfOk result
+        (λ told. IsToldOfSettled (picture_of_run places) store.now.session told) }
+{
+    let steps = steps_of(alloc, store)?;
+    settled_picture(alloc, meter, store.header(), steps.as_slice(), places)
+}
+
+// The picture of the settled run, and with edits that of the settled run after them below it.
+fn pictured(
+    alloc: Global,
+    meter: &mut Meter,
+    store: &mut Store,
+    edits: &[Edit],
+    places: Places,
+) -> Result<Response, AllocError>
+    ensures { IfOk result (λ told. IsSettledPicture places store.old.session edits.now told) }
+{
+    if edits.len() == 0 {
+        return picture_told(alloc, meter, store, places);
+    }
+    pictures_told(alloc, meter, store, edits, places)
+}
+
+/// What the view tells of the session and its edits, settled; those that are refused are passed
+/// over.
+pub(crate) fn told_settled(
+    alloc: Global,
+    meter: &mut Meter,
+    store: &mut Store,
+    edits: &[Edit],
+    view: &SettledView,
+) -> Result<Response, AllocError>
+    ensures { IfOk result
+        (λ told. IsSettledView view.now store.old.session edits.now told) }
+{
+    match view {
+        SettledView::Trace(selection) => {
+            make_edits(alloc, meter, store, edits)?;
+            trace_told(alloc, meter, store, selection)
+        }
+        SettledView::Session => {
+            make_edits(alloc, meter, store, edits)?;
+            document_told(alloc, meter, store)
+        }
+        SettledView::Compare => comparison_told(alloc, meter, store, edits),
+        SettledView::Timeline(places) => pictured(alloc, meter, store, edits, *places),
+    }
+}

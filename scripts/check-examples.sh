@@ -1,6 +1,7 @@
 #!/usr/bin/env bash
 # Runs the built program over every document of examples/ and compares its whole output with the file beside it: NAME.out for
-# `replay`, NAME.tally, where there is one, for `replay --tally`, and NAME.whatif, which may stand alone, for `whatif`. A rig
+# `replay`, NAME.tally, where there is one, for `replay --tally`, and NAME.whatif, NAME.settled and NAME.compare, which may stand
+# alone, for `whatif`, for `smp_view settle` and a replay of what it writes, and for `smp_view compare --settle`. A rig
 # document is recorded, and the recording replayed. Then it
 # looks at what README.md and docs/ show of these documents and outputs, and at the texts and refusals of docs/FORMATS.md. One line where something differs, then a total;
 # status 1 where something does.
@@ -12,6 +13,11 @@ cd "$(dirname -- "${BASH_SOURCE[0]}")/.." || exit 1
 program="$PWD/crates/smp_bench/out/smp_bench"
 if ! [ -x "$program" ]; then
     echo "no program at $program: build it first, with (cd crates/smp_bench && rt run -- --help)" >&2
+    exit 1
+fi
+viewer="$PWD/crates/smp_view/out/smp_view"
+if ! [ -x "$viewer" ]; then
+    echo "no program at $viewer: build it first, with (cd crates/smp_view && rt run -- --help)" >&2
     exit 1
 fi
 write=no
@@ -55,6 +61,28 @@ hold() { # DOCUMENT FILE WORD..
     fi
 }
 
+# What both programs make of a document, which goes with status 0.
+hold_view() { # DOCUMENT FILE COMMAND
+    local document="$1" file="$2"
+    if ! "$3" <"$document" >"$folder/out" 2>"$folder/err"; then
+        wrong "$document: $(head -c 200 "$folder/err")"
+    elif [ "$write" = yes ]; then
+        cmp -s "$folder/out" "$file" || printf 'wrote %s\n' "$file"
+        cp -- "$folder/out" "$file"
+    elif diff -- "$file" "$folder/out" >"$folder/difference" 2>&1; then
+        good=$((good + 1))
+    else
+        wrong "$document"
+        head -n 5 "$folder/difference" | sed 's/^/      /'
+    fi
+}
+settled() {
+    "$viewer" settle >"$folder/run" && "$program" replay <"$folder/run"
+}
+compared() {
+    "$viewer" compare --settle
+}
+
 # The kinds of steps or actions, one a line, as they stand.
 kinds() {
     grep -o '"do": *"[a-z_]*"' | tr -d ' '
@@ -90,16 +118,22 @@ while IFS= read -r -d '' document; do
         hold_rig "$document"
         continue
     fi
-    if [ -e "${document%.json}.out" ] || ! [ -e "${document%.json}.whatif" ]; then
+    alone=no
+    for kind in whatif settled compare; do
+        ! [ -e "${document%.json}.$kind" ] || alone=yes
+    done
+    if [ -e "${document%.json}.out" ] || [ "$alone" = no ]; then
         hold "$document" "${document%.json}.out" replay
     fi
+    ! [ -e "${document%.json}.settled" ] || hold_view "$document" "${document%.json}.settled" settled
+    ! [ -e "${document%.json}.compare" ] || hold_view "$document" "${document%.json}.compare" compared
     ! [ -e "${document%.json}.tally" ] || hold "$document" "${document%.json}.tally" replay --tally
     ! [ -e "${document%.json}.whatif" ] || hold "$document" "${document%.json}.whatif" whatif
 done < <(find examples -name '*.json' -print0 | sort -z)
 
 while IFS= read -r -d '' file; do
     [ -e "${file%.*}.json" ] || wrong "$file: no such document"
-done < <(find examples \( -name '*.out' -o -name '*.tally' -o -name '*.whatif' \) -print0 | sort -z)
+done < <(find examples \( -name '*.out' -o -name '*.tally' -o -name '*.whatif' -o -name '*.settled' -o -name '*.compare' \) -print0 | sort -z)
 
 # A table of a folder names each document in it.
 while IFS= read -r -d '' document; do
@@ -110,9 +144,10 @@ done < <(find examples -mindepth 2 -name '*.json' -print0 | sort -z)
 
 # In README.md and docs/, what is shown belongs to the document that is named last before it. Lines of a block of JSON, and indented
 # lines that begin with a brace, are lines of it, but for spaces in front and a comma at the end. Indented lines of output are lines
-# of its output, one after the other; two spaces begin a remark, and `..` stands for lines that are left out. A block with the
+# of its output, one after the other; two spaces begin a remark, and `..` stands for lines that are left out. Lines with a mark and two
+# places, and gains, are lines of its comparison, without remarks. A block with the
 # title `as it was` has two columns, the outputs of the two documents that are named last.
-mapfile -d '' files < <(find examples \( -name '*.json' -o -name '*.out' -o -name '*.tally' -o -name '*.whatif' \) -print0 | sort -z)
+mapfile -d '' files < <(find examples \( -name '*.json' -o -name '*.out' -o -name '*.tally' -o -name '*.whatif' -o -name '*.settled' -o -name '*.compare' \) -print0 | sort -z)
 awk '
     function bare(line) {
         sub(/^ +/, "", line)
@@ -137,7 +172,8 @@ awk '
         return 0
     }
     function output(name) {
-        return (name ".tally") in lines ? name ".tally" : (name ".out") in lines ? name ".out" : name ".whatif"
+        return (name ".tally") in lines ? name ".tally" : (name ".out") in lines ? name ".out" : \
+            (name ".settled") in lines ? name ".settled" : name ".whatif"
     }
     function look(file, line) {
         held += 1
@@ -175,7 +211,7 @@ awk '
         first = 1
         gap = 0
         columns = index($0, "as it was") == 5 ? index($0, "with the edit") : 0
-        place[output(named)] = place[output(before)] = place[named ".json"] = 0
+        place[output(named)] = place[output(before)] = place[named ".json"] = place[named ".compare"] = 0
         if (columns) { first_left = 1; next }
     }
     columns {
@@ -192,6 +228,11 @@ awk '
         next
     }
     /^    \.\./ { gap = 1; next }
+    (named ".compare") in lines && (/^    [-+| ] ([0-9]+|-) ([0-9]+|-) / || /^    (task [^ ]+ .*[-+][0-9]|not made )/) {
+        look(named ".compare", substr($0, 5))
+        first = gap = 0
+        next
+    }
     /^    (start |edit [0-9]+ |[0-9]+ (done|blocked|true|false|value|waited|until|isr|refused) |task [^ ]+ run )/ {
         look(output(named), cut(substr($0, 5)))
         first = gap = 0

@@ -633,7 +633,16 @@ run_to 'a picture' docs/pictures/shared-mutex.svg timeline
 cp examples/priority-inversion-ended.json "$folder/in"
 run_to 'a picture before edits and after them' docs/pictures/priority-inversion-ended.svg timeline
 cp examples/held-kernel.json "$folder/in"
+run_to 'a picture of settled runs' docs/pictures/shorter-timeout.svg timeline --settle examples/settled/shorter-timeout.json
 run_to 'a picture with a hold' docs/pictures/held-kernel.svg timeline --to 4294967295 --from 0
+"$program" settle <"$folder/in" >"$folder/settled" 2>"$folder/err"
+status=$?
+: >"$folder/out"
+compare 'the calls that were not made' 0 '' $'not made: log 1\n'
+"$program" trace <"$folder/settled" >"$folder/settled-trace"
+cp "$folder/settled" "$folder/in"
+run_to 'a settled run, which is settled' "$folder/settled" settle
+run_to 'the trace of a settled run' "$folder/settled-trace" trace --settle
 
 # ---- files
 
@@ -727,16 +736,18 @@ run_to '--help behind what is no command' "$folder/help" --to 3 --help
 sed -n 's/^ *smp_view --help$/&/p; /^usage: smp_view trace/p' "$folder/help" >"$folder/out"
 status=0
 : >"$folder/err"
-compare 'the help names its commands' 0 'usage: smp_view trace [--from PLACE] [--to PLACE] [--task NAME].. [--core CORE].. [FILE]
+compare 'the help names its commands' 0 'usage: smp_view trace [--settle] [--from PLACE] [--to PLACE]
        smp_view --help
 ' ''
 
 # ---- bad command lines
 
-usage='usage: smp_view trace [--from PLACE] [--to PLACE] [--task NAME].. [--core CORE].. [FILE]
+usage='usage: smp_view trace [--settle] [--from PLACE] [--to PLACE]
+                      [--task NAME].. [--core CORE].. [FILE]
        smp_view session [FILE]
-       smp_view compare [FILE]
-       smp_view timeline [--from PLACE] [--to PLACE] [FILE]
+       smp_view settle [FILE]
+       smp_view compare [--settle] [FILE]
+       smp_view timeline [--settle] [--from PLACE] [--to PLACE] [FILE]
        smp_view --help
 '
 bad_line() { # NAME WORD..
@@ -765,12 +776,18 @@ bad_line 'a file before an option' trace "$first" --from 3
 bad_line 'a hyphen in place of a file' trace -
 bad_line 'a file whose name begins with a hyphen' trace -run.json
 bad_line 'the end of the options' trace --
+bad_line '--settle behind another option' trace --from 1 --settle
+bad_line '--settle twice' trace --settle --settle
+bad_line '--settle behind a file' compare "$first" --settle
 bad_line 'a session from a place' session --from 3
+bad_line 'a settled run from a place' settle --from 3
+bad_line 'a settled run that is settled' settle --settle
 bad_line 'a session of two files' session "$first" "$first"
 bad_line 'a comparison of a task' compare --task A
 bad_line 'a comparison with an unknown option' compare -x
 bad_line 'a picture of a task' timeline --task A
 bad_line 'a picture of a core' timeline --from 3 --core 0
+bad_line 'a settled picture of a task' timeline --settle --task A
 bad_line 'a word that is not UTF-8' $'\377'
 bad_line 'a file whose name is not UTF-8' trace $'run\300'
 for words in '' --help 'trace --from' 'session a b'; do
@@ -784,7 +801,7 @@ done
 
 # ---- devices that fail
 
-for command in trace session compare timeline; do
+for command in trace session settle compare timeline; do
     : >"$folder/out"
     "$program" "$command" </ >"$folder/out" 2>"$folder/err"
     status=$?

@@ -5,7 +5,7 @@ ghost use Rattle.bench_types.specs.Step.{settings_of, step_check};
 ghost use Rattle.list_orders.specs.Listings.{IsListing};
 ghost use Rattle.list_orders.specs.Search.{numbers};
 ghost use Rattle.bench_model.specs.Control.{core_at, current, is_allowed, task_at};
-ghost use Rattle.bench_model.specs.State.{holder_at};
+ghost use Rattle.bench_model.specs.State.{call_at, holder_at};
 ghost use Rattle.bench_model.specs.Refusals.{refusal};
 ghost use Rattle.bench_model.specs.Table.{Table, stamp_queues};
 ghost use Rattle.bench_model.specs.Start.{start};
@@ -21,7 +21,9 @@ ghost use Rattle.smp_kernel.specs.Raised.{raised_by, KeepsOthers};
 
 use crate::Meter;
 use crate::scheduler::Scheduler;
-use bench_types::{CoreLook, Fault, Header, NoteState, Refusal, Reply, Settings, Step, TaskLook};
+use bench_types::{
+    CoreLook, Fault, Header, NoteState, Refusal, Reply, Settings, Step, TaskLook, Unfinished,
+};
 use std::alloc::{AllocError, Global};
 use std::marker::Model;
 use thiserror::Error;
@@ -300,6 +302,14 @@ impl Kernel {
             → KeepsOthers result table.control (step_of step.now table).1.control }
     {
         self.scheduler.raised_by(step)
+    }
+
+    /// The call of the task that has not returned, if there is one. A blocked task waits in it.
+    pub fn unfinished(&self, task: u32) -> Option<Unfinished>
+        requires { task < self.now.settings.tasks }
+        ensures { result ≡ call_at self.now.calls task }
+    {
+        self.scheduler.unfinished(task)
     }
 
     /// The task that holds the mutex, if there is one (`xSemaphoreGetMutexHolder`).

@@ -13,7 +13,7 @@ ghost use Rattle.bench_model.specs.Control.{core_at, current, is_allowed, task_a
 ghost use Rattle.bench_model.specs.Holds.{depth_of};
 ghost use Rattle.bench_model.specs.Refusals.{give_refusal};
 ghost use Rattle.bench_model.specs.Start.{first_lists, unstarted, start_seen};
-ghost use Rattle.bench_model.specs.State.{holder_at, yielded, blocked};
+ghost use Rattle.bench_model.specs.State.{call_at, holder_at, yielded, blocked};
 ghost use Rattle.bench_model.specs.Seek.{effective, wake, after_switch, sliced};
 ghost use Rattle.bench_model.specs.Steps.{ticked, delayed_until, called, performed, after};
 ghost use Rattle.bench_model.specs.Lists.{list_queues, is_ready, wakes_first, advance, due_tasks};
@@ -244,6 +244,14 @@ impl Scheduler {
         ensures task { IfSome result (λ task. task < self.now.settings.tasks) }
     {
         self.cores.next_ready(task)
+    }
+
+    /// The task's unfinished call, if there is one.
+    pub fn unfinished(&self, task: u32) -> Option<Unfinished>
+        requires { task < self.now.settings.tasks }
+        ensures { result ≡ call_at self.now.calls task }
+    {
+        self.calls[task as usize]
     }
 
     /// The task that holds the mutex, if there is one.

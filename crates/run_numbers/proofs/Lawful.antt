@@ -1,0 +1,168 @@
+-- The laws of the numbers of a run.
+use Rattle.std.proofs.Common.{◌≡◌, ℕ, zero, suc, ◌+◌, ◌-◌, ◌<◌, ◌≤◌, max, Bool, true, false, cond, not, ◌&&◌, nat_lt, List, [], ◌∷◌, ◌++◌, length, map, refl, sym, ap, subst, ◌∙◌, arith, add-one, inl, inr}
+use Rattle.std.specs.Prelude.{count_by, if◌then◌else◌}
+use Rattle.std.specs.List.{range_with_len}
+use Rattle.std.proofs.Math.Bool.{and_assoc}
+use Rattle.std.proofs.lemmas.Bool.{cases_lt}
+use Rattle.std.proofs.lemmas.Bool.Decides.{nat_tests}
+use Rattle.bench_types.specs.declared.header.Header.{Header}
+use Rattle.bench_types.specs.declared.reply.Refusal.{Refusal}
+use Rattle.bench_types.specs.declared.reply.Refusal.TheVariants as refusal
+use Rattle.bench_types.specs.declared.reply.Reply.{Reply}
+use Rattle.bench_types.specs.declared.reply.Reply.TheVariants as reply
+use Rattle.bench_types.specs.declared.step.Step.{Step}
+use Rattle.bench_model.specs.Tally.{Moment, greatest, is_call_of, is_current, inverted_ticks, is_displacement, is_tick, outranks_some, steps_that}
+use Rattle.bench_model.specs.Table.{Stamps, stamp_queues}
+use Rattle.bench_model.specs.Tallied.{one_if}
+use Rattle.list_orders.specs.Search.{numbers}
+use Rattle.run_numbers.specs.declared.subject.Condition.{Condition}
+use Rattle.run_numbers.specs.declared.subject.Condition.TheVariants.{Inverted}
+use Rattle.run_numbers.specs.Events.{is_refusal}
+use Rattle.run_numbers.specs.NumberLaws.{ticks_between, HoldsBetween, NoneIsLonger, NumbersAreTallies, OneIsAsLong}
+use Rattle.run_numbers.specs.SoFar.{first_top, top}
+use Rattle.run_numbers.specs.Stretches.{holds_at, is_tick_at, longest_stretch, stretch_at, ticks_found}
+use Rattle.run_numbers.proofs.Places.{count_longer, greatest_more}
+
+displacement : (given : Reply) → is_refusal refusal.Displaced given ≡ is_displacement given
+displacement (reply.Refused refusal.Held) = refl
+displacement (reply.Refused refusal.Displaced) = refl
+displacement (reply.Refused refusal.SwitchDue) = refl
+displacement (reply.Refused refusal.InCall) = refl
+displacement (reply.Refused refusal.NotInCall) = refl
+displacement (reply.Refused refusal.HoldBlock) = refl
+displacement (reply.Refused refusal.NoHold) = refl
+displacement (reply.Refused refusal.HoldDeep) = refl
+displacement (reply.Refused refusal.NotHolder) = refl
+displacement (reply.Refused refusal.NotDue) = refl
+displacement reply.Done = refl
+displacement reply.Blocked = refl
+displacement (reply.Flag flag) = refl
+displacement (reply.Value value) = refl
+displacement (reply.Waited ok value) = refl
+displacement (reply.Until delayed wake) = refl
+displacement (reply.Isr pass pend) = refl
+
+inverted_is : (header : Header) (steps : List Step) (task : ℕ) → ticks_found header steps (Inverted task) ≡ inverted_ticks header steps task
+inverted_is header steps task =
+    sym
+    (λ i. steps_that header steps (λ moment.
+    and_assoc (is_tick moment.step) (stamp_queues.is_ready task moment.before.orders && not (is_current moment.before.control task)) (outranks_some moment.before.control task) i))
+
+pub numbers_are_tallies : NumbersAreTallies
+numbers_are_tallies = record {
+  run = λ header steps left task core. refl;
+  wait = λ header steps left task. refl;
+  inverted = λ header steps left task. inverted_is header steps task;
+  switched = λ header steps left task. refl;
+  displaced = λ header steps left task. λ i. steps_that header steps (λ moment. is_call_of task moment.step && displacement moment.reply i);
+  timeouts = λ header steps left task. refl;
+  top = λ header steps left task. refl;
+}
+
+below_top : (f : ℕ → ℕ) (n k : ℕ) → k ≤ n → f k ≤ top f n
+below_top f zero k low = let same : 0 ≡ k = omega (arith, low) in subst (λ j. f j ≤ top f 0) same (omega (arith, greatest_more f 0))
+below_top f (suc n) k low = elim (cases_lt k (suc n)) [
+  | inl under ↦ omega (arith, below_top f n k (omega (arith, under)), greatest_more f (suc n))
+  | inr over ↦ let same : suc n ≡ k = omega (arith, low, over) in subst (λ j. f j ≤ top f (suc n)) same (omega (arith, greatest_more f (suc n)))
+]
+
+-- Ticks between two places, one place further.
+module _ (header : Header) (steps : List Step) where
+  between_none : (first : ℕ) → ticks_between header steps first first ≡ 0
+  between_none first = let none : first - first ≡ 0 = omega arith in ap (λ n. count_by (is_tick_at header steps) (range_with_len first n)) none
+
+  between_more : (first last : ℕ) → first ≤ last → ticks_between header steps first (suc last) ≡ ticks_between header steps first last + one_if (is_tick_at header steps last)
+  between_more first last order =
+      let longer : suc last - first ≡ suc (last - first) = omega (arith, order) in
+      let there : first + (last - first) ≡ last = omega (arith, order) in
+      ap (λ n. count_by (is_tick_at header steps) (range_with_len first n)) longer ∙ count_longer (is_tick_at header steps) first (last - first)
+      ∙ ap (λ n. count_by (is_tick_at header steps) (range_with_len first (last - first)) + one_if (is_tick_at header steps n)) there
+
+  module _ (condition : Condition) where
+    -- where the condition holds throughout, the stretch at the end has all these ticks
+    stretch_holds : (first last : ℕ) → first ≤ last → ((place : ℕ) → first ≤ place → place < last → holds_at header steps condition place ≡ true) → ticks_between header steps first last ≤ stretch_at header steps condition last
+    stretch_holds first zero order throughout = omega (arith, order, ap (λ k. ticks_between header steps k zero) (starts first order), between_none zero)
+      where
+        starts : (k : ℕ) → k ≤ 0 → k ≡ 0
+        starts k low = omega (arith, low)
+    stretch_holds first (suc last) order throughout = elim (cases_lt last first) [
+      | inl under ↦
+          let same : first ≡ suc last = omega (arith, under, order) in
+          omega (arith, ap (λ k. ticks_between header steps k (suc last)) same, between_none (suc last))
+      | inr over ↦
+          let grown : stretch_at header steps condition (suc last) ≡ stretch_at header steps condition last + one_if (is_tick_at header steps last) = rw (throughout last over (omega arith)) refl in
+          omega (arith, grown, between_more first last over, stretch_holds first last over (λ place above below. throughout place above (omega (arith, below))))
+    ]
+
+    -- and each stretch begins somewhere
+    abbrev begins : ℕ → ℕ
+    begins zero = zero
+    begins (suc place) = if holds_at header steps condition place then begins place else suc place
+
+    begins_before : (place : ℕ) → begins place ≤ place
+    begins_before zero = omega arith
+    begins_before (suc place) = at (holds_at header steps condition place) refl (begins_before place)
+      where
+        at : (b : Bool) → holds_at header steps condition place ≡ b → begins place ≤ place → begins (suc place) ≤ suc place
+        at true holding before = rw holding (omega (arith, before))
+        at false holding before = rw holding (omega arith)
+
+    begins_holding : (last place : ℕ) → begins last ≤ place → place < last → holds_at header steps condition place ≡ true
+    begins_holding zero place above below = absurd (omega (arith, below))
+    begins_holding (suc last) place above below = at (holds_at header steps condition last) refl (begins_holding last place)
+      where
+        at : (b : Bool) → holds_at header steps condition last ≡ b → (begins last ≤ place → place < last → holds_at header steps condition place ≡ true) → holds_at header steps condition place ≡ true
+        at true holding before = elim (cases_lt place last) [
+          | inl early ↦ before (subst (λ b. (if b then begins last else suc last) ≤ place) holding above) early
+          | inr late ↦ let same : place ≡ last = omega (arith, late, below) in ap (holds_at header steps condition) same ∙ holding
+        ]
+        at false holding before = absurd (omega (arith, below, subst (λ b. (if b then begins last else suc last) ≤ place) holding above))
+
+    begins_ticks : (place : ℕ) → ticks_between header steps (begins place) place ≡ stretch_at header steps condition place
+    begins_ticks zero = between_none zero
+    begins_ticks (suc place) = at (holds_at header steps condition place) refl (begins_ticks place)
+      where
+        at : (b : Bool) → holds_at header steps condition place ≡ b → ticks_between header steps (begins place) place ≡ stretch_at header steps condition place → ticks_between header steps (begins (suc place)) (suc place) ≡ stretch_at header steps condition (suc place)
+        at true holding before = rw holding (between_more (begins place) place (begins_before place) ∙ ap (λ n. n + one_if (is_tick_at header steps place)) before)
+        at false holding before = rw holding (between_none (suc place))
+
+first_top_within : (f : ℕ → ℕ) (n : ℕ) → first_top f n ≤ n
+first_top_within f zero = omega arith
+first_top_within f (suc n) = at (nat_lt (top f n) (f (suc n))) (first_top_within f n)
+  where
+    at : (b : Bool) → first_top f n ≤ n → (if b then suc n else first_top f n) ≤ suc n
+    at true low = omega arith
+    at false low = omega (arith, low)
+
+top_there : (f : ℕ → ℕ) (n : ℕ) → f (first_top f n) ≡ top f n
+top_there f zero = omega (arith, greatest_more f 0)
+top_there f (suc n) = at (nat_lt (top f n) (f (suc n))) refl (top_there f n)
+  where
+    at : (b : Bool) → nat_lt (top f n) (f (suc n)) ≡ b → f (first_top f n) ≡ top f n → f (if b then suc n else first_top f n) ≡ top f (suc n)
+    at true more there = omega (arith, greatest_more f (suc n), less_so more)
+      where
+        less_so : nat_lt (top f n) (f (suc n)) ≡ true → top f n < f (suc n)
+        less_so is = grind (arith, nat_tests, is)
+    at false less there = omega (arith, greatest_more f (suc n), there, more_so less)
+      where
+        more_so : nat_lt (top f n) (f (suc n)) ≡ false → f (suc n) ≤ top f n
+        more_so is = grind (arith, nat_tests, is)
+
+pub none_is_longer : NoneIsLonger
+none_is_longer header steps condition first last holds =
+    omega (arith, stretch_holds header steps condition first last holds.order holds.throughout, below_top (stretch_at header steps condition) (length steps) last holds.within)
+
+pub one_is_as_long : OneIsAsLong
+one_is_as_long header steps condition =
+    let stretch = stretch_at header steps condition in
+    let last = first_top stretch (length steps) in
+    (
+      begins header steps condition last,
+      last,
+      record {
+        order = begins_before header steps condition last;
+        within = first_top_within stretch (length steps);
+        throughout = begins_holding header steps condition last;
+      },
+      begins_ticks header steps condition last ∙ top_there stretch (length steps),
+    )

@@ -1,0 +1,6 @@
+pub mod Seen
+pub mod Places
+pub mod Seeing
+pub mod Steps
+pub mod Runs
+pub mod Lawful

@@ -1,0 +1,108 @@
+-- The numbers of a subject at a place, and one place further.
+use Rattle.std.proofs.Common.{◌≡◌, ℕ, zero, suc, ◌+◌, ◌<◌, ◌≤◌, max, Bool, true, false, cond, ◌&&◌, ◌==◌, nat_lt, List, length, map, get_or, Option, Some, None, refl, sym, ap, subst, ◌∙◌, arith}
+use Rattle.std.specs.Prelude.{count_by, if◌then◌else◌, slice_get}
+use Rattle.std.specs.Option.{option_map_or}
+use Rattle.std.proofs.lemmas.Option.{slice_get-get_or}
+use Rattle.bench_types.specs.declared.header.Header.{Header}
+use Rattle.bench_types.specs.declared.reply.Reply.{Reply}
+use Rattle.bench_types.specs.declared.step.Step.{Step}
+use Rattle.list_orders.specs.Search.{numbers}
+use Rattle.bench_model.specs.Control.{task_at}
+use Rattle.bench_model.specs.Lists.{View, list_queues, view_of}
+use Rattle.bench_model.specs.Session.{state_at, step_of}
+use Rattle.bench_model.specs.Sound.{IsConsistent}
+use Rattle.bench_model.specs.Table.{Stamps, Table, stamp_queues}
+use Rattle.bench_model.specs.Tallied.{one_if}
+use Rattle.bench_model.specs.Tally.{Moment, greatest, is_tick, moment_at}
+use Rattle.smp_kernel.specs.Raised.{raised_by, KeepsOthers}
+use Rattle.smp_kernel.proofs.Raises.{step_others}
+use Rattle.run_numbers.specs.declared.gauge.Gauge.{Gauge}
+use Rattle.run_numbers.specs.declared.subject.Condition.{Condition}
+use Rattle.run_numbers.specs.declared.subject.Event.{Event}
+use Rattle.run_numbers.specs.declared.subject.Subject.{Subject}
+use Rattle.run_numbers.specs.declared.subject.Subject.TheVariants.{Ticks, Steps, TopPriority, NotMade}
+use Rattle.run_numbers.specs.AfterStep.{happens_after, told_before}
+use Rattle.run_numbers.specs.Conditions.{holds}
+use Rattle.run_numbers.specs.Events.{happens}
+use Rattle.run_numbers.specs.Gauges.{begun, spell_after}
+use Rattle.run_numbers.specs.Progress.{stepped}
+use Rattle.run_numbers.specs.Readings.{IsConditionOf, IsSubjectOf}
+use Rattle.run_numbers.specs.Stretches.{holds_at, is_found, is_tick_at, start_at, stretch_at}
+use Rattle.run_numbers.specs.SoFar.{first_top, gauge_at, in_use_at, passed, passes_at, top}
+use Rattle.run_numbers.proofs.Places.{count_more, greatest_more}
+use Rattle.run_numbers.proofs.Seeing.{happens_seen, holds_seen}
+
+same_gauge : {a a' b b' c c' d d' e e' : ℕ} → a ≡ a' → b ≡ b' → c ≡ c' → d ≡ d' → e ≡ e' →
+    let gauge : Gauge = record { reading = record { total = a; longest = b; from = c }; stretch = d; start = e } in
+    let gauge' : Gauge = record { reading = record { total = a'; longest = b'; from = c' }; stretch = d'; start = e' } in
+    gauge ≡ gauge'
+same_gauge a b c d e = cc
+
+-- One place further, with the step that stands there.
+module _ (header : Header) (steps : List Step) (place : ℕ) (step : Step) (there : slice_get steps place ≡ Some step) (sound : IsConsistent (state_at header steps place)) (next : (step_of step (state_at header steps place)).1 ≡ state_at header steps (suc place)) where
+  abbrev here : Table
+  here = state_at header steps place
+
+  abbrev later : Table
+  later = state_at header steps (suc place)
+
+  abbrev reply : Reply
+  reply = (step_of step here).0
+
+  abbrev moment : Moment Stamps
+  moment = record { before = here; step = step; reply = reply; after = later }
+
+  passes_here : (passes : Moment Stamps → Bool) → passes_at header steps passes place ≡ passes moment
+  unfolding moment_at
+  passes_here passes = rw there refl
+
+  passed_more : (passes : Moment Stamps → Bool) → passed header steps passes (suc place) ≡ passed header steps passes place + one_if (passes moment)
+  passed_more passes = count_more (passes_at header steps passes) place ∙ ap (λ b. passed header steps passes place + one_if b) (passes_here passes)
+
+  tick_here : is_tick_at header steps place ≡ is_tick step
+  tick_here = rw there refl
+
+  kept : KeepsOthers (raised_by (view_of here) step) here.control later.control
+  kept = subst (λ (table : Table). KeepsOthers (raised_by (view_of here) step) here.control table.control) next (step_others stamp_queues step here)
+
+  spell_more : (condition : Condition) (b t : Bool) → holds_at header steps condition place ≡ b → is_tick step ≡ t → spell_after b t place (gauge_at header steps place (Ticks condition)) ≡ gauge_at header steps (suc place) (Ticks condition)
+  spell_more condition true t holding tick =
+      let stretch = stretch_at header steps condition in
+      let grown : stretch (suc place) ≡ stretch place + one_if t = rw (holding, tick_here, tick) refl in
+      let found : passed header steps (is_found condition) (suc place) ≡ passed header steps (is_found condition) place + one_if t = passed_more (is_found condition) ∙ ap (λ b. passed header steps (is_found condition) place + one_if b) (rw (holding, tick) (with_true t)) in
+      same_gauge (sym found) (sym (greatest_more stretch (suc place) ∙ ap (max (top stretch place)) grown))
+      (chosen (nat_lt (top stretch place) (stretch place + one_if t)) (ap (nat_lt (top stretch place)) (sym grown))) (sym grown) refl
+    where
+      with_true : (t : Bool) → (t && true) ≡ t
+      with_true true = refl
+      with_true false = refl
+
+      chosen : (b : Bool) → b ≡ nat_lt (top (stretch_at header steps condition) place) (stretch_at header steps condition (suc place)) →
+          (if b then start_at header steps condition (suc place) else start_at header steps condition (first_top (stretch_at header steps condition) place))
+          ≡ start_at header steps condition (first_top (stretch_at header steps condition) (suc place))
+      chosen true is = rw (sym is) refl
+      chosen false is = rw (sym is) refl
+  spell_more condition false t holding tick =
+      let stretch = stretch_at header steps condition in
+      let grown : stretch (suc place) ≡ 0 = rw holding refl in
+      let none : is_found condition moment ≡ false = rw (holding, tick) (with_false t) in
+      let found : passed header steps (is_found condition) (suc place) ≡ passed header steps (is_found condition) place = omega (arith, passed_more (is_found condition) ∙ ap (λ b. passed header steps (is_found condition) place + one_if b) none) in
+      same_gauge (sym found) (omega (arith, greatest_more stretch (suc place), grown))
+      (chosen (nat_lt (top stretch place) (stretch (suc place))) refl (ap (nat_lt (top stretch place)) grown)) (sym grown) refl
+    where
+      with_false : (t : Bool) → (t && false) ≡ false
+      with_false true = refl
+      with_false false = refl
+
+      chosen : (b : Bool) → nat_lt (top (stretch_at header steps condition) place) (stretch_at header steps condition (suc place)) ≡ b → nat_lt (top (stretch_at header steps condition) place) (stretch_at header steps condition (suc place)) ≡ nat_lt (top (stretch_at header steps condition) place) 0 →
+          start_at header steps condition (first_top (stretch_at header steps condition) place)
+          ≡ start_at header steps condition (first_top (stretch_at header steps condition) (suc place))
+      chosen true is none = absurd (grind (arith, is, none))
+      chosen false is none = rw is refl
+
+  -- the numbers so far, one place further
+  pub gauge_more : (subject : Subject) → IsSubjectOf here.settings subject → stepped (view_of here) step reply later.control place subject (gauge_at header steps place subject) ≡ gauge_at header steps (suc place) subject
+  gauge_more (Ticks condition) known = rw (holds_seen here condition sound known) (spell_more condition (holds_at header steps condition place) (is_tick step) refl refl)
+  gauge_more (Steps event) known = ap begun (sym (passed_more (happens event) ∙ ap (λ b. passed header steps (happens event) place + one_if b) (sym (happens_seen event here later step reply kept))))
+  gauge_more (TopPriority task) known = ap begun (sym (greatest_more (in_use_at header steps task) (suc place)))
+  gauge_more (NotMade task) known = refl

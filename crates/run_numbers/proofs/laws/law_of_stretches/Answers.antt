@@ -1,0 +1,8 @@
+use Rattle.run_numbers.proofs.Lawful.{none_is_longer, one_is_as_long}
+use Rattle.run_numbers.proofs.laws.law_of_stretches.Goals as goal
+
+pub returns-clause-none_is_longer : goal.returns-clause-none_is_longer
+returns-clause-none_is_longer c = none_is_longer
+
+pub returns-clause-one_is_as_long : goal.returns-clause-one_is_as_long
+returns-clause-one_is_as_long c = one_is_as_long

@@ -1,0 +1,71 @@
+-- What holds of a task, a core or a mutex in a state.
+use Rattle.std.specs.Prelude.{ℕ, Bool, true, false, not, ◌&&◌, ◌==◌, nat_lt, Option, Some, None, is_some}
+use Rattle.std.specs.Option.{option_and_then, option_map_or}
+use Rattle.bench_types.specs.declared.step.Call.TheVariants.{Delay, DelayUntil, NotifyWait, NotifyTake}
+use Rattle.bench_types.specs.declared.step.Unfinished.{Unfinished}
+use Rattle.bench_types.specs.declared.step.Unfinished.TheVariants.{Made, Take}
+use Rattle.bench_model.specs.Control.{Control, current, is_due, is_idle, task_at}
+use Rattle.bench_model.specs.State.{State, QueueOps, call_at, holder_at}
+use Rattle.bench_model.specs.Tally.{is_current, outranks_some}
+use Rattle.run_numbers.specs.declared.subject.Cause.{Cause}
+use Rattle.run_numbers.specs.declared.subject.Cause.TheVariants as cause
+use Rattle.run_numbers.specs.declared.subject.Condition.{Condition}
+use Rattle.run_numbers.specs.declared.subject.Condition.TheVariants.{Running, RunningOn, Waiting, Inverted, Blocked, HeldUp, Busy, Idle, Due, Held}
+
+-- a task that is blocked in the unfinished call is blocked for the cause
+abbrev pub is_cause : Cause → Unfinished → Bool
+is_cause cause.Delay (Made (Delay ticks)) = true
+is_cause cause.Delay (Made (DelayUntil prev inc)) = true
+is_cause cause.Notification (Made (NotifyWait entry exit ticks index)) = true
+is_cause cause.Notification (Made (NotifyTake clear ticks index)) = true
+is_cause cause.AnyMutex (Take mutex mark) = true
+is_cause (cause.Mutex wanted) (Take mutex mark) = mutex == wanted
+is_cause cause call = false
+
+-- the mutex that the unfinished call takes
+abbrev pub mutex_of : Unfinished → Option ℕ
+mutex_of (Take mutex mark) = Some mutex
+mutex_of (Made call) = None
+
+-- the task has a lower base priority than the other, and is on no core
+abbrev pub holds_up : Control → ℕ → ℕ → Bool
+holds_up control task holder =
+    nat_lt (task_at control holder).base (task_at control task).base
+    && not (is_current control holder)
+
+module _ {Orders : Type 0} (ops : QueueOps Orders) where
+  -- the task is ready and on no core
+  abbrev pub is_waiting : ℕ → State Orders → Bool
+  is_waiting task state =
+      ops.is_ready task state.orders && not (is_current state.control task)
+
+  -- the task is blocked for the cause
+  abbrev pub is_blocked : ℕ → Cause → State Orders → Bool
+  is_blocked task cause state =
+      not (ops.is_ready task state.orders)
+      && option_map_or (is_cause cause) (call_at state.calls task) false
+
+  -- the task that holds the mutex for which the task is blocked
+  abbrev pub holder_before : ℕ → State Orders → Option ℕ
+  holder_before task state =
+      option_and_then (holder_at state.holders)
+      (option_and_then mutex_of (call_at state.calls task))
+
+  -- the task is blocked on a mutex whose holder has a lower base priority and is on no core
+  abbrev pub is_held_up : ℕ → State Orders → Bool
+  is_held_up task state =
+      not (ops.is_ready task state.orders)
+      && option_map_or (holds_up state.control task) (holder_before task state) false
+
+  -- the condition holds in the state
+  abbrev pub holds : Condition → State Orders → Bool
+  holds (Running task) state = is_current state.control task
+  holds (RunningOn task core) state = current state.control core == task
+  holds (Waiting task) state = is_waiting task state
+  holds (Inverted task) state = is_waiting task state && outranks_some state.control task
+  holds (Blocked task cause) state = is_blocked task cause state
+  holds (HeldUp task) state = is_held_up task state
+  holds (Busy core) state = not (is_idle state.control (current state.control core))
+  holds (Idle core) state = is_idle state.control (current state.control core)
+  holds (Due core) state = is_due state.control core
+  holds (Held mutex) state = is_some (holder_at state.holders mutex)

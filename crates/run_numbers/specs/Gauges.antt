@@ -1,0 +1,75 @@
+-- The numbers of a subject, one step further.
+use Rattle.std.specs.Prelude.{ℕ, ◌+◌, ◌-◌, ◌<◌, ◌≤◌, ◌^◌, max, ◌==◌, Bool, List, length, map, nat_lt, if◌then◌else◌, slice_index_or, ⊤}
+use Rattle.bench_types.specs.declared.kernel_data.Settings.{Settings}
+use Rattle.bench_types.specs.declared.reply.Reply.{Reply}
+use Rattle.bench_types.specs.declared.step.Step.{Step}
+use Rattle.list_orders.specs.Search.{numbers}
+use Rattle.bench_model.specs.Control.{Control, task_at}
+use Rattle.bench_model.specs.Lists.{View, list_queues}
+use Rattle.bench_model.specs.Tallied.{one_if}
+use Rattle.bench_model.specs.Tally.{is_tick}
+use Rattle.run_numbers.specs.declared.event.BeforeStep.{BeforeStep}
+use Rattle.run_numbers.specs.declared.gauge.Gauge.{Gauge}
+use Rattle.run_numbers.specs.declared.subject.Reading.{Reading}
+use Rattle.run_numbers.specs.declared.subject.Subject.{Subject}
+use Rattle.run_numbers.specs.declared.subject.Subject.TheVariants.{Ticks, Steps, TopPriority, NotMade}
+use Rattle.run_numbers.specs.AfterStep.{happens_after}
+use Rattle.run_numbers.specs.Conditions.{holds}
+use Rattle.run_numbers.specs.Readings.{only}
+
+-- before any step
+abbrev pub begun : ℕ → Gauge
+begun total = record { reading = only total; stretch = 0; start = 0 }
+
+-- the place, where no tick of the stretch came before
+abbrev pub start_after : ℕ → Gauge → ℕ
+start_after place gauge = if gauge.stretch == 0 then place else gauge.start
+
+-- the ticks of the stretch, with one more where a tick finds the condition
+abbrev pub stretch_after : Bool → Gauge → ℕ
+stretch_after tick gauge = gauge.stretch + one_if tick
+
+-- the numbers of a condition that holds
+abbrev pub reading_after : Bool → ℕ → Gauge → Reading
+reading_after tick place gauge = record {
+  total = gauge.reading.total + one_if tick;
+  longest = max gauge.reading.longest (stretch_after tick gauge);
+  from = if nat_lt gauge.reading.longest (stretch_after tick gauge) then start_after place gauge
+      else gauge.reading.from;
+}
+
+abbrev pub spell_after : Bool → Bool → ℕ → Gauge → Gauge
+spell_after holds tick place gauge = record {
+  reading = if holds then reading_after tick place gauge else gauge.reading;
+  stretch = if holds then stretch_after tick gauge else 0;
+  start = start_after place gauge;
+}
+
+-- with what the step finds at the place
+abbrev pub found : View → Step → ℕ → Subject → Gauge → Gauge
+found before step place (Ticks condition) gauge =
+    spell_after (holds list_queues condition before) (is_tick step) place gauge
+found before step place subject gauge = gauge
+
+abbrev pub with_total : ℕ → Gauge → Gauge
+with_total total gauge = record gauge { reading = record gauge.reading { total = total } }
+
+-- with what the step was, and the state after it
+abbrev pub left : BeforeStep → Step → Reply → Control → Subject → Gauge → Gauge
+left before step reply after (Steps event) gauge =
+    with_total (gauge.reading.total + one_if (happens_after event before step reply after)) gauge
+left before step reply after (TopPriority task) gauge =
+    with_total (max gauge.reading.total (task_at after task).in_use) gauge
+left before step reply after subject gauge = gauge
+
+-- no more ticks or steps than places
+abbrev pub HasRoom : ℕ → Subject → Gauge → Type 0
+HasRoom place (Ticks condition) gauge =
+    (gauge.reading.total ≤ place) × (gauge.stretch ≤ place)
+HasRoom place (Steps event) gauge = gauge.reading.total ≤ place
+HasRoom place subject gauge = ⊤
+
+-- one more step can be counted
+abbrev pub HasTotal : Subject → Gauge → Type 0
+HasTotal (Steps event) gauge = gauge.reading.total < 2 ^ 32 - 1
+HasTotal subject gauge = ⊤

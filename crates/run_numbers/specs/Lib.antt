@@ -1,0 +1,9 @@
+pub mod Conditions
+pub mod Events
+pub mod AfterStep
+pub mod Stretches
+pub mod Readings
+pub mod Gauges
+pub mod Progress
+pub mod SoFar
+pub mod NumberLaws

@@ -1,0 +1,64 @@
+-- The laws of the numbers of a run.
+use Rattle.std.specs.Prelude.{◌≡◌, ℕ, ◌-◌, ◌≤◌, ◌<◌, List, length, count_by, true}
+use Rattle.std.specs.List.{range_with_len}
+use Rattle.bench_types.specs.declared.header.Header.{Header}
+use Rattle.bench_types.specs.declared.reply.Refusal.TheVariants.{Displaced}
+use Rattle.bench_types.specs.declared.step.Step.{Step}
+use Rattle.bench_model.specs.Tally.{displaced_calls, inverted_ticks, run_ticks, switches_in, timeouts, top_priority, wait_ticks}
+use Rattle.settled_runs.specs.declared.waiting_call.WaitingCall.{WaitingCall}
+use Rattle.run_numbers.specs.declared.subject.Condition.{Condition}
+use Rattle.run_numbers.specs.declared.subject.Condition.TheVariants.{RunningOn, Waiting, Inverted}
+use Rattle.run_numbers.specs.declared.subject.Event.TheVariants.{SwitchedIn, TimesOut, Refused}
+use Rattle.run_numbers.specs.declared.subject.Subject.{Subject}
+use Rattle.run_numbers.specs.declared.subject.Subject.TheVariants.{Ticks, Steps, TopPriority}
+use Rattle.run_numbers.specs.Readings.{reading_of}
+use Rattle.run_numbers.specs.Stretches.{holds_at, is_tick_at, longest_stretch}
+
+-- the number of a subject
+abbrev pub total_of : Header → List Step → List WaitingCall → Subject → ℕ
+total_of header steps left subject = (reading_of header steps left subject).total
+
+-- what a tally counts of a task too is the same number here
+pub record NumbersAreTallies : Type 0 where
+  pub run : (header : Header) (steps : List Step) (left : List WaitingCall) (task core : ℕ)
+      → total_of header steps left (Ticks (RunningOn task core)) ≡ run_ticks header steps task core
+  pub wait : (header : Header) (steps : List Step) (left : List WaitingCall) (task : ℕ)
+      → total_of header steps left (Ticks (Waiting task)) ≡ wait_ticks header steps task
+  pub inverted : (header : Header) (steps : List Step) (left : List WaitingCall) (task : ℕ)
+      → total_of header steps left (Ticks (Inverted task)) ≡ inverted_ticks header steps task
+  pub switched : (header : Header) (steps : List Step) (left : List WaitingCall) (task : ℕ)
+      → total_of header steps left (Steps (SwitchedIn task)) ≡ switches_in header steps task
+  pub displaced : (header : Header) (steps : List Step) (left : List WaitingCall) (task : ℕ)
+      → total_of header steps left (Steps (Refused task Displaced))
+      ≡ displaced_calls header steps task
+  pub timeouts : (header : Header) (steps : List Step) (left : List WaitingCall) (task : ℕ)
+      → total_of header steps left (Steps (TimesOut task)) ≡ timeouts header steps task
+  pub top : (header : Header) (steps : List Step) (left : List WaitingCall) (task : ℕ)
+      → total_of header steps left (TopPriority task) ≡ top_priority header steps task
+
+-- the ticks between two places
+abbrev pub ticks_between : Header → List Step → ℕ → ℕ → ℕ
+ticks_between header steps first last =
+    count_by (is_tick_at header steps) (range_with_len first (last - first))
+
+-- the condition holds from one place until the other
+pub record HoldsBetween (header : Header) (steps : List Step) (condition : Condition)
+    (first last : ℕ) : Type 0 where
+  pub order : first ≤ last
+  pub within : last ≤ length steps
+  pub throughout : (place : ℕ) → first ≤ place → place < last
+      → holds_at header steps condition place ≡ true
+
+-- no stretch of places at which a condition holds has more ticks than the longest
+abbrev pub NoneIsLonger : Type 0
+NoneIsLonger =
+    (header : Header) (steps : List Step) (condition : Condition) (first last : ℕ)
+    → HoldsBetween header steps condition first last
+    → ticks_between header steps first last ≤ longest_stretch header steps condition
+
+-- and one has as many
+abbrev pub OneIsAsLong : Type 0
+OneIsAsLong =
+    (header : Header) (steps : List Step) (condition : Condition)
+    → (first : ℕ) × (last : ℕ) × HoldsBetween header steps condition first last
+    × (ticks_between header steps first last ≡ longest_stretch header steps condition)

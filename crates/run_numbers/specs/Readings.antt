@@ -1,0 +1,65 @@
+-- The numbers of a run.
+use Rattle.std.specs.Prelude.{◌≡◌, ℕ, ◌<◌, List, length, filter, ◌==◌, ⊤}
+use Rattle.bench_types.specs.declared.header.Header.{Header}
+use Rattle.bench_types.specs.declared.kernel_data.Settings.{Settings}
+use Rattle.bench_types.specs.declared.step.Step.{Step}
+use Rattle.bench_model.specs.Tally.{steps_that, top_priority}
+use Rattle.settled_runs.specs.declared.waiting_call.WaitingCall.{WaitingCall}
+use Rattle.run_numbers.specs.declared.subject.Cause.{Cause}
+use Rattle.run_numbers.specs.declared.subject.Condition.{Condition}
+use Rattle.run_numbers.specs.declared.subject.Condition.TheVariants.{Running, RunningOn, Waiting, Inverted, Blocked, HeldUp, Busy, Idle, Due, Held}
+use Rattle.run_numbers.specs.declared.subject.Event.{Event}
+use Rattle.run_numbers.specs.declared.subject.Event.TheVariants.{SwitchedIn, Inherits, TimesOut, Refused, Awaited}
+use Rattle.run_numbers.specs.declared.subject.Measured.{Measured}
+use Rattle.run_numbers.specs.declared.subject.Reading.{Reading}
+use Rattle.run_numbers.specs.declared.subject.Subject.{Subject}
+use Rattle.run_numbers.specs.declared.subject.Subject.TheVariants.{Ticks, Steps, TopPriority, NotMade}
+use Rattle.run_numbers.specs.Events.{happens}
+use Rattle.run_numbers.specs.Stretches.{longest_from, longest_stretch, ticks_found}
+
+-- a number that has no stretch
+abbrev pub only : ℕ → Reading
+only total = record { total = total; longest = 0; from = 0 }
+
+-- the calls of the task among those that were not made
+abbrev pub calls_of : ℕ → List WaitingCall → ℕ
+calls_of task left = length (filter (λ call. call.task == task) left)
+
+-- the numbers of a subject in a run, of which these calls were not made
+abbrev pub reading_of : Header → List Step → List WaitingCall → Subject → Reading
+reading_of header steps left (Ticks condition) = record {
+  total = ticks_found header steps condition;
+  longest = longest_stretch header steps condition;
+  from = longest_from header steps condition;
+}
+reading_of header steps left (Steps event) = only (steps_that header steps (happens event))
+reading_of header steps left (TopPriority task) = only (top_priority header steps task)
+reading_of header steps left (NotMade task) = only (calls_of task left)
+
+-- a subject with its numbers in a run
+abbrev pub measured : Header → List Step → List WaitingCall → Subject → Measured
+measured header steps left subject =
+    record { subject = subject; reading = reading_of header steps left subject }
+
+-- the settings have the task, the core or the mutex
+abbrev pub IsConditionOf : Settings → Condition → Type 0
+IsConditionOf settings (Running task) = task < settings.tasks
+IsConditionOf settings (RunningOn task core) = core < settings.cores
+IsConditionOf settings (Waiting task) = task < settings.tasks
+IsConditionOf settings (Inverted task) = task < settings.tasks
+IsConditionOf settings (Blocked task cause) = task < settings.tasks
+IsConditionOf settings (HeldUp task) = task < settings.tasks
+IsConditionOf settings (Busy core) = core < settings.cores
+IsConditionOf settings (Idle core) = core < settings.cores
+IsConditionOf settings (Due core) = core < settings.cores
+IsConditionOf settings (Held mutex) = mutex < settings.mutexes
+
+abbrev pub IsEventOf : Settings → Event → Type 0
+IsEventOf settings (Inherits task) = task < settings.tasks
+IsEventOf settings event = ⊤
+
+abbrev pub IsSubjectOf : Settings → Subject → Type 0
+IsSubjectOf settings (Ticks condition) = IsConditionOf settings condition
+IsSubjectOf settings (Steps event) = IsEventOf settings event
+IsSubjectOf settings (TopPriority task) = task < settings.tasks
+IsSubjectOf settings (NotMade task) = ⊤

@@ -1,0 +1,59 @@
+-- The numbers of a subject at a place.
+use Rattle.std.specs.Prelude.{◌≡◌, ℕ, zero, suc, ◌<◌, Bool, false, List, length, map, count_by, nat_lt, if◌then◌else◌}
+use Rattle.std.specs.Option.{option_map_or}
+use Rattle.bench_types.specs.declared.header.Header.{Header}
+use Rattle.bench_types.specs.declared.step.Step.{Step}
+use Rattle.list_orders.specs.Search.{numbers}
+use Rattle.bench_model.specs.Control.{task_at}
+use Rattle.bench_model.specs.Session.{state_at}
+use Rattle.bench_model.specs.Table.{Stamps}
+use Rattle.bench_model.specs.Tally.{Moment, greatest, moment_at}
+use Rattle.run_numbers.specs.declared.gauge.Gauge.{Gauge}
+use Rattle.run_numbers.specs.declared.subject.Subject.{Subject}
+use Rattle.run_numbers.specs.declared.subject.Subject.TheVariants.{Ticks, Steps, TopPriority, NotMade}
+use Rattle.run_numbers.specs.Events.{happens}
+use Rattle.run_numbers.specs.Gauges.{begun}
+use Rattle.run_numbers.specs.Progress.{gauge_in, subject_in}
+use Rattle.run_numbers.specs.Stretches.{is_found, start_at, stretch_at}
+
+-- the greatest number at the places up to this one
+abbrev pub top : (ℕ → ℕ) → ℕ → ℕ
+top f place = greatest (map f (numbers (suc place)))
+
+-- the first place that has it
+abbrev pub first_top : (ℕ → ℕ) → ℕ → ℕ
+first_top f zero = zero
+first_top f (suc place) = if nat_lt (top f place) (f (suc place)) then suc place else first_top f place
+
+module _ (header : Header) (steps : List Step) where
+  abbrev pub passes_at : (Moment Stamps → Bool) → ℕ → Bool
+  passes_at passes place = option_map_or passes (moment_at header steps place) false
+
+  -- how many of the first steps pass
+  abbrev pub passed : (Moment Stamps → Bool) → ℕ → ℕ
+  passed passes place = count_by (passes_at passes) (numbers place)
+
+  abbrev pub in_use_at : ℕ → ℕ → ℕ
+  in_use_at task place = (task_at (state_at header steps place).control task).in_use
+
+  -- the numbers of a subject so far
+  abbrev pub gauge_at : ℕ → Subject → Gauge
+  gauge_at place (Ticks condition) = let stretch = stretch_at header steps condition in record {
+    reading = record {
+      total = passed (is_found condition) place;
+      longest = top stretch place;
+      from = start_at header steps condition (first_top stretch place);
+    };
+    stretch = stretch place;
+    start = start_at header steps condition place;
+  }
+  gauge_at place (Steps event) = begun (passed (happens event) place)
+  gauge_at place (TopPriority task) = begun (top (in_use_at task) place)
+  gauge_at place (NotMade task) = begun 0
+
+-- the gauges of the subjects after so many steps
+pub record AreGauges (header : Header) (steps : List Step) (place : ℕ) (subjects : List Subject)
+    (gauges : List Gauge) : Type 0 where
+  pub size : length gauges ≡ length subjects
+  pub each : (k : ℕ) → k < length subjects
+      → gauge_in gauges k ≡ gauge_at header steps place (subject_in subjects k)

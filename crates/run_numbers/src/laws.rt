@@ -1,0 +1,15 @@
+//! The laws of the numbers of a run. Each function does nothing: its contract is the laws.
+ghost use Rattle.run_numbers.specs.NumberLaws.{NoneIsLonger, NumbersAreTallies, OneIsAsLong};
+
+/// What a tally counts too is the same number here.
+pub fn law_of_tallies()
+    ensures { NumbersAreTallies }
+{}
+
+/// The longest stretch of a condition.
+pub fn law_of_stretches()
+    // No stretch of places at which a condition holds has more ticks.
+    ensures none_is_longer { NoneIsLonger }
+    // One has as many.
+    ensures one_is_as_long { OneIsAsLong }
+{}

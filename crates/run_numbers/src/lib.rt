@@ -1,0 +1,14 @@
+//! The numbers of a run: how long its tasks, cores and mutexes were in each condition, how often
+//! something happened to them, and the longest stretch of ticks.
+#![tactic(auto)]
+
+mod event;
+mod gauge;
+mod laws;
+mod run;
+mod state;
+mod subject;
+
+pub use laws::{law_of_stretches, law_of_tallies};
+pub use run::measure;
+pub use subject::{Cause, Condition, Event, Measured, Reading, Subject};

@@ -1,0 +1,166 @@
+//! Whether a condition holds in a kernel's state.
+ghost use Rattle.std.specs.Prelude.{◌≡◌, ◌<◌};
+ghost use Rattle.std.specs.Option.{ForSome};
+ghost use Rattle.bench_model.specs.Control.{current, is_due, is_idle, task_at};
+ghost use Rattle.bench_model.specs.Lists.{list_queues};
+ghost use Rattle.bench_model.specs.State.{holder_at};
+ghost use Rattle.bench_model.specs.Tally.{outranks_some};
+ghost use Rattle.smp_kernel.specs.Kernel.{StandsForSome};
+ghost use Rattle.run_numbers.specs.Conditions.{holder_before, holds, holds_up, is_blocked, is_cause, is_held_up, is_waiting, mutex_of};
+ghost use Rattle.run_numbers.specs.Readings.{IsConditionOf};
+
+use crate::{Cause, Condition};
+use bench_types::{Call, Unfinished};
+use smp_kernel::Kernel;
+
+fn is_waiting(kernel: &Kernel, task: u32) -> bool
+    requires { task < kernel.now.settings.tasks }
+    ensures { result ≡ is_waiting list_queues task kernel.now }
+{
+    kernel.ready(task) && !kernel.is_current(task)
+}
+
+// Whether a core that the task may run on has a task of lower effective priority.
+fn outranks_some(kernel: &Kernel, task: u32) -> bool
+    requires { task < kernel.now.settings.tasks }
+    ensures { result ≡ outranks_some kernel.now.control task }
+{
+    let cores = kernel.settings().cores;
+    (0..cores).any(|core| {
+        kernel.is_allowed(core, task) && kernel.stands_below(kernel.running(core), task)
+    })
+}
+
+fn is_cause(cause: Cause, call: Unfinished) -> bool
+    ensures { result ≡ is_cause cause call }
+{
+    match (cause, call) {
+        (Cause::Delay, Unfinished::Made(Call::Delay(_) | Call::DelayUntil { .. })) => true,
+        (
+            Cause::Notification,
+            Unfinished::Made(Call::NotifyWait { .. } | Call::NotifyTake { .. }),
+        ) => true,
+        (Cause::AnyMutex, Unfinished::Take { .. }) => true,
+        (Cause::Mutex(wanted), Unfinished::Take { mutex, .. }) => mutex == wanted,
+        _ => false,
+    }
+}
+
+fn is_blocked(kernel: &Kernel, task: u32, cause: Cause) -> bool
+    requires { task < kernel.now.settings.tasks }
+    ensures { result ≡ is_blocked list_queues task cause kernel.now }
+{
+    if kernel.ready(task) {
+        return false;
+    }
+    match kernel.unfinished(task) {
+        Some(call) => is_cause(cause, call),
+        None => false,
+    }
+}
+
+// The mutex that the unfinished call takes.
+fn mutex_of(call: Unfinished) -> Option<u32>
+    ensures { result ≡ mutex_of call }
+{
+    match call {
+        Unfinished::Take { mutex, .. } => Some(mutex),
+        Unfinished::Made(_) => None,
+    }
+}
+
+// The holder of the mutex; none of a mutex that there is not.
+fn holder(kernel: &Kernel, mutex: u32) -> Option<u32>
+    requires sound { StandsForSome kernel.now }
+    ensures value { result ≡ holder_at kernel.now.holders mutex }
+    ensures task { ForSome result (λ holder. holder < kernel.now.settings.tasks) }
+{
+    if mutex < kernel.settings().mutexes {
+        kernel.holder(mutex)
+    } else {
+        None
+    }
+}
+
+// The task that holds the mutex for which the task is blocked.
+fn holder_before(kernel: &Kernel, task: u32) -> Option<u32>
+    requires task { task < kernel.now.settings.tasks }
+    requires sound { StandsForSome kernel.now }
+    ensures value { result ≡ holder_before list_queues task kernel.now }
+    ensures task { ForSome result (λ holder. holder < kernel.now.settings.tasks) }
+{
+    let call = kernel.unfinished(task)?;
+    let mutex = mutex_of(call)?;
+    holder(kernel, mutex)
+}
+
+/// The base priority of the task.
+pub(crate) fn base(kernel: &Kernel, task: u32) -> u32
+    requires task { task < kernel.now.settings.tasks }
+    requires sound { StandsForSome kernel.now }
+    ensures { result ≡ (task_at kernel.now.control task).base }
+{
+    kernel.look(task).base
+}
+
+// Whether the holder has a lower base priority than the task, and is on no core.
+fn holds_up(kernel: &Kernel, task: u32, holder: u32) -> bool
+    requires task { task < kernel.now.settings.tasks }
+    requires holder { holder < kernel.now.settings.tasks }
+    requires sound { StandsForSome kernel.now }
+    ensures { result ≡ holds_up kernel.now.control task holder }
+{
+    base(kernel, holder) < base(kernel, task) && !kernel.is_current(holder)
+}
+
+fn is_held_up(kernel: &Kernel, task: u32) -> bool
+    requires task { task < kernel.now.settings.tasks }
+    requires sound { StandsForSome kernel.now }
+    ensures { result ≡ is_held_up list_queues task kernel.now }
+{
+    if kernel.ready(task) {
+        return false;
+    }
+    match holder_before(kernel, task) {
+        Some(holder) => holds_up(kernel, task, holder),
+        None => false,
+    }
+}
+
+fn is_due(kernel: &Kernel, core: u32) -> bool
+    requires core { core < kernel.now.settings.cores }
+    requires sound { StandsForSome kernel.now }
+    ensures { result ≡ is_due kernel.now.control core }
+{
+    let look = kernel.core_look(core);
+    look.pend || look.asked
+}
+
+// Whether the core has an idle task.
+fn is_idle(kernel: &Kernel, core: u32) -> bool
+    requires core { core < kernel.now.settings.cores }
+    requires sound { StandsForSome kernel.now }
+    ensures { result ≡ is_idle kernel.now.control (current kernel.now.control core) }
+{
+    kernel.running(core) < kernel.settings().cores
+}
+
+/// Whether the condition holds in the kernel's state.
+pub(crate) fn holds(kernel: &Kernel, condition: Condition) -> bool
+    requires known { IsConditionOf kernel.now.settings condition }
+    requires sound { StandsForSome kernel.now }
+    ensures { result ≡ holds list_queues condition kernel.now }
+{
+    match condition {
+        Condition::Running { task } => kernel.is_current(task),
+        Condition::RunningOn { task, core } => kernel.running(core) == task,
+        Condition::Waiting { task } => is_waiting(kernel, task),
+        Condition::Inverted { task } => is_waiting(kernel, task) && outranks_some(kernel, task),
+        Condition::Blocked { task, cause } => is_blocked(kernel, task, cause),
+        Condition::HeldUp { task } => is_held_up(kernel, task),
+        Condition::Busy { core } => !is_idle(kernel, core),
+        Condition::Idle { core } => is_idle(kernel, core),
+        Condition::Due { core } => is_due(kernel, core),
+        Condition::Held { mutex } => holder(kernel, mutex).is_some(),
+    }
+}

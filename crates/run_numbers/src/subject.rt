@@ -1,0 +1,87 @@
+//! What a run is measured by.
+use bench_types::Refusal;
+
+/// Why a task is blocked.
+#[derive(Clone, Copy, Debug, PartialEq, Eq)]
+pub enum Cause {
+    /// It waits for some ticks (`vTaskDelay`, `xTaskDelayUntil`).
+    Delay,
+    /// It waits for a notification.
+    Notification,
+    /// It waits for a mutex, whichever.
+    AnyMutex,
+    /// It waits for this mutex.
+    Mutex(u32),
+}
+
+/// What holds of a task, a core or a mutex at a place, or does not.
+#[derive(Clone, Copy, Debug, PartialEq, Eq)]
+pub enum Condition {
+    /// The task is the current one of a core.
+    Running { task: u32 },
+    /// The task is the current one of this core.
+    RunningOn { task: u32, core: u32 },
+    /// The task is ready and on no core.
+    Waiting { task: u32 },
+    /// It waits so while a core that it may run on has a task of lower effective priority.
+    Inverted { task: u32 },
+    /// The task is blocked for this cause.
+    Blocked { task: u32, cause: Cause },
+    /// The task is blocked on a mutex whose holder has a lower base priority and is on no core.
+    HeldUp { task: u32 },
+    /// The core has a user task.
+    Busy { core: u32 },
+    /// The core has an idle task.
+    Idle { core: u32 },
+    /// The core is due to switch.
+    Due { core: u32 },
+    /// A task holds the mutex.
+    Held { mutex: u32 },
+}
+
+/// What a step is to a task or a mutex, or is not.
+#[derive(Clone, Copy, Debug, PartialEq, Eq)]
+pub enum Event {
+    /// The task comes onto a core that had another.
+    SwitchedIn { task: u32 },
+    /// The task inherits a priority: the one that it has in use rises above its base priority.
+    Inherits { task: u32 },
+    /// The task finishes a wait whose ticks ran out.
+    TimesOut { task: u32 },
+    /// A call of the task is refused, and this is why.
+    Refused { task: u32, why: Refusal },
+    /// A task begins to wait for the mutex.
+    Awaited { mutex: u32 },
+}
+
+/// What there is a number of.
+#[derive(Clone, Copy, Debug, PartialEq, Eq)]
+pub enum Subject {
+    /// The ticks that find the condition.
+    Ticks(Condition),
+    /// The steps that are the event.
+    Steps(Event),
+    /// The greatest priority that the task has in use.
+    TopPriority { task: u32 },
+    /// The calls of the task that a settled run did not make.
+    NotMade { task: u32 },
+}
+
+/// The numbers of a subject.
+#[derive(Clone, Copy, Debug, PartialEq, Eq)]
+pub struct Reading {
+    /// How many ticks, steps or calls there are, or the greatest priority.
+    pub total: u32,
+    /// Of a condition the most ticks in a row that find it, where it never fails between them; 0 of
+    /// another subject.
+    pub longest: u32,
+    /// The place of the first of these ticks; 0 where there are none.
+    pub from: u32,
+}
+
+/// A subject with its numbers.
+#[derive(Clone, Copy, Debug, PartialEq, Eq)]
+pub struct Measured {
+    pub subject: Subject,
+    pub reading: Reading,
+}

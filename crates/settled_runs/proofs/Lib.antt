@@ -1,5 +1,6 @@
 pub mod Endings
 pub mod Finishes
+pub mod Leavings
 pub mod Pieces
 pub mod Rests
 pub mod Settlings

@@ -95,6 +95,12 @@ SettlingKeepsEvents =
     → IsSettled header session run left →
     filter comes_from_outside session ≡ filter comes_from_outside run
 
+-- no more calls are left than the session has steps
+abbrev pub FewAreLeft : Type 0
+FewAreLeft =
+    (header : Header) (session run : List Step) (left : List WaitingCall)
+    → IsSettled header session run left → length left ≤ length session
+
 -- E6 to E9: the kernel's answer to a call that its task has come to
 abbrev pub is_answer : Refusal → Bool
 is_answer HoldBlock = true

@@ -2,7 +2,7 @@
 //! it. Each function does nothing: its contract is the laws, one a clause.
 #![tactic(auto)]
 
-ghost use Rattle.settled_runs.specs.SettleLaws.{ThereIsASettledRun, SettledRunIsOne, SettledRunIsSession, SettlingKeepsCalls, SettlingKeepsEvents, RefusalsAreAnswers, SettledRunIsAtRest, SettlingIsSettled, QuietWorkLessens, QuietWorkEnds};
+ghost use Rattle.settled_runs.specs.SettleLaws.{ThereIsASettledRun, SettledRunIsOne, SettledRunIsSession, SettlingKeepsCalls, SettlingKeepsEvents, FewAreLeft, RefusalsAreAnswers, SettledRunIsAtRest, SettlingIsSettled, QuietWorkLessens, QuietWorkEnds};
 
 mod waiting_call;
 
@@ -29,6 +29,8 @@ pub fn laws_of_settled_runs()
     ensures settling_keeps_calls { SettlingKeepsCalls }
     // The ticks and the interrupts are those of the run, in their order.
     ensures settling_keeps_events { SettlingKeepsEvents }
+    // No more calls were not made than the session has steps.
+    ensures few_are_left { FewAreLeft }
     // No step of the run is refused but by E6 to E9.
     ensures refusals_are_answers { RefusalsAreAnswers }
     // After its last step no switch, no `finish` and no waiting call can be made.

@@ -4,7 +4,7 @@ use Rattle.std.specs.Prelude.{nat_le, slice_get, slice_set}
 use Rattle.std.specs.List.{AllByRecursion, IsDistinct}
 use Rattle.std.proofs.lemmas.Bool.{cases_eq, cases_lt}
 use Rattle.std.proofs.lemmas.Bool.Decides.{nat_tests}
-use Rattle.std.proofs.lemmas.List.{ext_get_or, length-set, get_or-set_same, get_or-set_other, take_more, take_all, get_or_default}
+use Rattle.std.proofs.lemmas.List.{ext_get_or, length-set, get_or-set_same, get_or-set_other, take_more, take_all}
 use Rattle.std.proofs.lemmas.Option.{get_or_from_slice_get, slice_get_within, slice_get_cases}
 use Rattle.list_orders.specs.Listings.{IsListing}
 use Rattle.list_orders.specs.Search.{numbers, has}
@@ -78,23 +78,20 @@ module _ (before : View) where
     along_here low =
         along.each task low ∙ ap (λ b. with_inversion (b && is_inverted before task) (tally_at old task)) (not_before (ready_list before priority) place task listing.once is) ∙ none_added (tally_at old task)
 
-    pub along_more : (x : TaskTally) → task < length old → x ≡ get_or now task x → IsAlong priority old (place + 1) (slice_set now task (with_inversion (is_inverted before task) x))
-    along_more x low read = record {
-      size = length-set now task (with_inversion (is_inverted before task) x) ∙ along.size;
+    pub along_more : task < length old → IsAlong priority old (place + 1) (slice_set now task (with_inversion (is_inverted before task) (tally_at now task)))
+    along_more low = let after = with_inversion (is_inverted before task) (tally_at now task) in record {
+      size = length-set now task after ∙ along.size;
       each = λ t under. elim (cases_eq t task) [
-        | inl here ↦ subst (λ m. get_or (slice_set now task (with_inversion (is_inverted before task) x)) m nothing ≡ with_inversion (has m (take (place + 1) (ready_list before priority)) && is_inverted before m) (tally_at old m)) (sym here)
-            (get_or-set_same now task (with_inversion (is_inverted before task) x) nothing (omega (arith, low, along.size)) ∙ ap (with_inversion (is_inverted before task)) (value ∙ along_here low) ∙ ap (λ b. with_inversion (b && is_inverted before task) (tally_at old task)) (sym counted))
+        | inl here ↦ subst (λ m. get_or (slice_set now task after) m nothing ≡ with_inversion (has m (take (place + 1) (ready_list before priority)) && is_inverted before m) (tally_at old m)) (sym here)
+            (get_or-set_same now task after nothing (omega (arith, low, along.size)) ∙ ap (with_inversion (is_inverted before task)) (along_here low) ∙ ap (λ b. with_inversion (b && is_inverted before task) (tally_at old task)) (sym counted))
         | inr away ↦
-            get_or-set_other now task t (with_inversion (is_inverted before task) x) nothing away ∙ along.each t under
+            get_or-set_other now task t after nothing away ∙ along.each t under
             ∙ ap (λ b. with_inversion (b && is_inverted before t) (tally_at old t)) (sym (has_more (ready_list before priority) place task t is ∙ grind (arith, nat_tests, away)))
       ];
     }
       where
         counted : has task (take (place + 1) (ready_list before priority)) ≡ true
         counted = has_more (ready_list before priority) place task task is ∙ grind (arith, nat_tests)
-
-        value : x ≡ tally_at now task
-        value = read ∙ get_or_default now task x nothing (omega (arith, low, along.size))
 
   -- the list is at its end
   pub along_all : (priority : ℕ) (old now : List TaskTally) (place : ℕ) → IsAlong priority old place now → length (ready_list before priority) ≤ place → now ≡ inverted_in before priority old

@@ -5,6 +5,8 @@ pub mod Inversions
 pub mod Parts
 pub mod Rooms
 pub mod Runs
+pub mod TableSums
+pub mod Tables
 pub mod TickCounts
 pub mod TickFinds
 pub mod TickLoop

@@ -38,7 +38,7 @@ first_room settings control task d low =
     })
 
 -- A step adds at most one to each number.
-one_at_most : (b : Bool) → one_if b ≤ 1
+pub one_at_most : (b : Bool) → one_if b ≤ 1
 one_at_most true = omega arith
 one_at_most false = omega arith
 

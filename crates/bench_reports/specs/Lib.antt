@@ -1,4 +1,5 @@
 pub mod Counting
 pub mod Lines
 pub mod Sums
+pub mod Tables
 pub mod Tops

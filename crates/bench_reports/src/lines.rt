@@ -1,7 +1,8 @@
-ghost use Rattle.std.specs.Prelude.{◌≡◌, ◌<◌, ◌++◌, ◌^◌, length, OnOk, string_bytes};
+ghost use Rattle.std.specs.Prelude.{◌≡◌, ◌<◌, ◌++◌, length, OnOk, string_bytes};
+ghost use Rattle.bench_model.specs.Tallied.{tally_at};
 ghost use Rattle.bench_reports.specs.Lines.{count_text, counts_text, run_text, tally_line, tally_lines, task_text};
 
-use crate::counts::TaskCounts;
+use crate::counts::CountTable;
 use bench_types::{Header, Tally};
 use std::alloc::AllocError;
 
@@ -50,14 +51,15 @@ fn push_tally(
     text: &mut String,
     header: &Header,
     task: u32,
-    tally: &TaskCounts,
+    tallies: &CountTable,
 ) -> Result<(), AllocError>
-    ensures { OnOk result
-        (string_bytes text.new ≡ string_bytes text.old ++ tally_line header.now task tally.now) }
+    requires { task < length tallies.now }
+    ensures { OnOk result (string_bytes text.new
+        ≡ string_bytes text.old ++ tally_line header.now task (tally_at tallies.now task)) }
 {
     push_task(text, header, task)?;
-    push_run(text, tally.run())?;
-    push_counts(text, tally.counts())?;
+    push_run(text, tallies.run(task))?;
+    push_counts(text, tallies.counts(task))?;
     text.push_str("\n")
 }
 
@@ -65,14 +67,13 @@ fn push_tally(
 pub(crate) fn push_tallies(
     text: &mut String,
     header: &Header,
-    tallies: &[TaskCounts],
+    tallies: &CountTable,
 ) -> Result<(), AllocError>
-    requires { length tallies.now < 2 ^ 32 }
     ensures { OnOk result
         (string_bytes text.new ≡ string_bytes text.old ++ tally_lines header.now 0 tallies.now) }
 {
-    for (task, tally) in tallies.iter().enumerate() {
-        push_tally(text, header, task as u32, tally)?;
+    for task in 0..tallies.len() {
+        push_tally(text, header, task, tallies)?;
     }
     Ok(())
 }

@@ -12,7 +12,7 @@ ghost use Rattle.bench_reports.specs.Counting.{found, inverted, inverted_in, ran
 ghost use Rattle.bench_reports.specs.Lines.{tally_lines};
 ghost use Rattle.bench_reports.specs.Tops.{HasTops, HasOtherTops};
 
-use crate::counts::TaskCounts;
+use crate::counts::CountTable;
 use crate::event::{Event, event_of, left_by};
 use crate::found::{is_inverted, lowest_current};
 use crate::lines::push_tallies;
@@ -25,18 +25,16 @@ use std::marker::Model;
 /// the task on it, and its [`Tally`].
 #[derive(Debug, Drop)]
 pub struct Tallies {
-    tasks: Vec<TaskCounts>,
+    tasks: CountTable,
 }
 
 impl Model for Tallies {
-    ghost use Rattle.std.specs.Prelude.{◌<◌, ◌^◌, List, length};
+    ghost use Rattle.std.specs.Prelude.{List};
     ghost use Rattle.bench_model.specs.Tally.{TaskTally};
 
     ghost Value = { List TaskTally };
 
-    ghost view = { λ tallies. tallies.tasks.items };
-
-    ghost invariant = { λ tallies. length tallies.tasks.items < 2 ^ 32 };
+    ghost view = { λ tallies. tallies.tasks };
 }
 
 impl Tallies {
@@ -48,24 +46,21 @@ impl Tallies {
         ensures room { IfOk result (AllCountsBelow 1) }
         ensures tops { IfOk result (HasTops kernel.now.control) }
     {
-        let settings = kernel.settings();
-        let mut tasks = Vec::with_capacity(alloc, settings.tasks as usize)?;
-        for task in 0..settings.tasks {
-            tasks.push_reserved(TaskCounts::zeros(settings.cores, kernel.in_use(task)));
-        }
-        Ok(Tallies { tasks })
+        Ok(Tallies {
+            tasks: CountTable::begin(alloc, kernel)?,
+        })
     }
 
-    /// These become those before any step of the kernel, which has as many tasks. No memory is
-    /// taken.
+    /// These become those before any step of the kernel, which has as many tasks and as many cores.
+    /// No memory is taken.
     pub fn begin_again(&mut self, kernel: &Kernel)
-        requires { length self.old ≡ kernel.now.settings.tasks }
+        requires { shape self.old ≡ shape_of kernel.now.settings }
         ensures tallies { self.new ≡ first_tallies kernel.now.settings kernel.now.control }
         ensures shape { shape self.new ≡ shape_of kernel.now.settings }
         ensures room { AllCountsBelow 1 self.new }
         ensures tops { HasTops kernel.now.control self.new }
     {
-        begin_all(&mut self.tasks, kernel);
+        self.tasks.begin_again(kernel);
     }
 
     /// Counts a step, which the kernel `before` answered with this reply, and after which it is
@@ -160,25 +155,23 @@ impl Tallies {
         ensures added { self.new ≡ added self.old other.now }
         ensures kept { shape self.new ≡ shape self.old }
     {
-        add_counts(&mut self.tasks, &other.tasks);
+        self.tasks.add(&other.tasks);
     }
 
     /// A second value of the same numbers.
     pub fn copy(&self, alloc: Global) -> Result<Tallies, AllocError>
         ensures { IfOk result (λ copy. copy ≡ self.now) }
     {
-        let mut tasks = Vec::with_capacity(alloc, self.tasks.len())?;
-        for task in &self.tasks {
-            tasks.push(task.copy()?)?;
-        }
-        Ok(Tallies { tasks })
+        Ok(Tallies {
+            tasks: self.tasks.copy(alloc)?,
+        })
     }
 
     /// How many tasks there are.
     pub fn len(&self) -> usize
         ensures { result ≡ length self.now }
     {
-        self.tasks.len()
+        self.tasks.len() as usize
     }
 
     /// For how many cores the task has a number of ticks.
@@ -186,7 +179,7 @@ impl Tallies {
         requires { task < length self.now }
         ensures { result ≡ length (tally_at self.now task).run }
     {
-        self.tasks[task as usize].run().len()
+        self.tasks.run(task).len()
     }
 
     /// The counts of the task beside the ticks that it ran.
@@ -194,7 +187,7 @@ impl Tallies {
         requires { task < length self.now }
         ensures { result ≡ (tally_at self.now task).counts }
     {
-        self.tasks[task as usize].counts()
+        self.tasks.counts(task)
     }
 
     /// How many ticks found the task on the core.
@@ -203,7 +196,7 @@ impl Tallies {
         requires core { core < length (tally_at self.now task).run }
         ensures { result ≡ run_at (tally_at self.now task) core }
     {
-        self.tasks[task as usize].run()[core as usize]
+        self.tasks.run_on(task, core)
     }
 
     /// The line of each task, by the names of the header.
@@ -259,7 +252,7 @@ impl Tallies {
 }
 
 // Adds a tick.
-fn add_tick(tasks: &mut [TaskCounts], kernel: &Kernel)
+fn add_tick(tasks: &mut CountTable, kernel: &Kernel)
     requires shape { shape tasks.old ≡ shape_of kernel.now.settings }
     requires room { AllCountsBelow (2 ^ 32 - 1) tasks.old }
     ensures { tasks.new ≡ found kernel.now Tick tasks.old }
@@ -271,32 +264,32 @@ fn add_tick(tasks: &mut [TaskCounts], kernel: &Kernel)
 
 // Each core's task ran for one tick more.
 #[tactic(auto, unfolding(crate::specs::Counting::ran))]
-fn add_runs(tasks: &mut [TaskCounts], kernel: &Kernel)
+fn add_runs(tasks: &mut CountTable, kernel: &Kernel)
     requires shape { shape tasks.old ≡ shape_of kernel.now.settings }
     requires room { AllCountsBelow (2 ^ 32 - 1) tasks.old }
     ensures { tasks.new ≡ ran kernel.now.control tasks.old }
 {
     for core in 0..kernel.settings().cores {
-        tasks[kernel.running(core) as usize].add_run(core);
+        tasks.add_run(kernel.running(core), core);
     }
 }
 
 // Each ready task that is on no core waited for one tick more.
 #[tactic(auto, unfolding(crate::specs::Counting::waited))]
-fn add_waits(tasks: &mut [TaskCounts], kernel: &Kernel)
+fn add_waits(tasks: &mut CountTable, kernel: &Kernel)
     requires tasks { length tasks.old ≡ kernel.now.settings.tasks }
     requires room { All HasWaitRoom tasks.old }
     ensures { tasks.new ≡ waited kernel.now tasks.old }
 {
     let waiting = kernel.waiting();
     for task in 0..tasks.len() {
-        tasks[task].add_wait(waiting[task]);
+        tasks.add_wait(task, waiting[task as usize]);
     }
 }
 
 // Each task whose wait is inverted was so for one tick more. A task whose priority in use is below
 // the lowest effective priority of a current task stands above none.
-fn add_inversions(tasks: &mut [TaskCounts], kernel: &Kernel)
+fn add_inversions(tasks: &mut CountTable, kernel: &Kernel)
     requires tasks { length tasks.old ≡ kernel.now.settings.tasks }
     requires room { (task : ℕ) → task < length tasks.old
         → (tally_at tasks.old task).counts.inverted < 2 ^ 32 - 1 }
@@ -310,7 +303,7 @@ fn add_inversions(tasks: &mut [TaskCounts], kernel: &Kernel)
 }
 
 // The same for the tasks of one priority.
-fn add_inversions_in(tasks: &mut [TaskCounts], kernel: &Kernel, priority: u32)
+fn add_inversions_in(tasks: &mut CountTable, kernel: &Kernel, priority: u32)
     requires tasks { length tasks.old ≡ kernel.now.settings.tasks }
     requires priority { priority < kernel.now.settings.priorities }
     requires room { (task : ℕ) → task < length tasks.old
@@ -322,7 +315,7 @@ fn add_inversions_in(tasks: &mut [TaskCounts], kernel: &Kernel, priority: u32)
     for _place in 0..kernel.settings().tasks {
         match next {
             Some(task) => {
-                tasks[task as usize].add_inversion(is_inverted(kernel, task));
+                tasks.add_inversion(task, is_inverted(kernel, task));
                 next = kernel.next_ready(task);
             }
             None => return,
@@ -331,63 +324,37 @@ fn add_inversions_in(tasks: &mut [TaskCounts], kernel: &Kernel, priority: u32)
 }
 
 // Adds an event to the tally of its task, if there is one.
-fn add_event(tasks: &mut [TaskCounts], event: Option<Event>)
+fn add_event(tasks: &mut CountTable, event: Option<Event>)
     requires { All HasEventRoom tasks.old }
     ensures { tasks.new ≡ with_event event tasks.old }
 {
     if let Some(event) = event {
-        let place = event.task() as usize;
-        if place < tasks.len() {
-            tasks[place].add_event(event);
+        if event.task() < tasks.len() {
+            tasks.add_event(event);
         }
     }
 }
 
 // Each task's priority in use, where it is the greatest so far.
 #[tactic(auto, unfolding(crate::specs::Counting::topped))]
-fn raise_tops(tasks: &mut [TaskCounts], kernel: &Kernel)
+fn raise_tops(tasks: &mut CountTable, kernel: &Kernel)
     requires { length tasks.old ≡ kernel.now.settings.tasks }
     ensures topped { tasks.new ≡ topped kernel.now.control tasks.old }
     ensures sound { StandsForSome kernel.now }
 {
     for task in 0..kernel.settings().tasks {
-        tasks[task as usize].raise_top(kernel, task);
+        tasks.raise_top(kernel, task);
     }
 }
 
 // The priority in use of the task, if there is one, where it is the greatest so far.
-fn raise_top_of(tasks: &mut [TaskCounts], raised: Option<u32>, kernel: &Kernel)
+fn raise_top_of(tasks: &mut CountTable, raised: Option<u32>, kernel: &Kernel)
     requires tasks { length tasks.old ≡ kernel.now.settings.tasks }
     requires raised { IfSome raised (λ task. task < kernel.now.settings.tasks) }
     requires tops { HasOtherTops raised kernel.now.control tasks.old }
     ensures { tasks.new ≡ topped kernel.now.control tasks.old }
 {
     if let Some(task) = raised {
-        tasks[task as usize].raise_top(kernel, task);
-    }
-}
-
-// Each tally becomes that before any step of the kernel.
-fn begin_all(tasks: &mut [TaskCounts], kernel: &Kernel)
-    requires { length tasks.old ≡ kernel.now.settings.tasks }
-    ensures begun { tasks.new ≡ first_tallies kernel.now.settings kernel.now.control }
-    ensures tasks { length tasks.new ≡ length tasks.old }
-{
-    let settings = kernel.settings();
-    for task in 0..settings.tasks {
-        tasks[task as usize] = TaskCounts::zeros(settings.cores, kernel.in_use(task));
-    }
-}
-
-/// Adds the numbers of each task.
-#[tactic(auto, unfolding(bench_model::specs::Tallied::added))]
-fn add_counts(tasks: &mut [TaskCounts], more: &[TaskCounts])
-    requires shapes { shape tasks.old ≡ shape more.now }
-    requires sums { AllCountsBelow (2 ^ 32) (added tasks.old more.now) }
-    ensures added { tasks.new ≡ added tasks.old more.now }
-    ensures kept { shape tasks.new ≡ shape tasks.old }
-{
-    for task in 0..tasks.len() {
-        tasks[task].add(&more[task]);
+        tasks.raise_top(kernel, task);
     }
 }

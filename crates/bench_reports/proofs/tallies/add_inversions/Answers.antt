@@ -10,6 +10,10 @@ use Rattle.bench_reports.proofs.tallies.add_inversions.Goals as goal
 pub loop-priority-init : goal.loop-priority-init
 loop-priority-init c = upto_none c.args.kernel.now c.min-lowest.result c.args.tasks.now
 
+pub add_inversions_in-requires-clause-tasks : goal.add_inversions_in-requires-clause-tasks
+add_inversions_in-requires-clause-tasks c =
+    ap length c.loop-priority.invariant ∙ length_upto c.args.kernel.now c.min-lowest.result c.loop-priority.priority c.args.tasks.now ∙ c.requires.tasks
+
 pub add_inversions_in-requires-clause-room : goal.add_inversions_in-requires-clause-room
 add_inversions_in-requires-clause-room c =
     let kernel = c.args.kernel.now in

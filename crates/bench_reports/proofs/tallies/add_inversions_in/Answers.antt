@@ -1,4 +1,4 @@
-use Rattle.std.proofs.Common.{◌<◌, ◌+◌, ◌-◌, ◌^◌, ◌∙◌, get_or, length, sym, ap, subst, arith}
+use Rattle.std.proofs.Common.{◌<◌, ◌+◌, ◌-◌, ◌^◌, ◌∙◌, length, sym, ap, subst, arith}
 use Rattle.std.specs.Prelude.{slice_set, IfSome}
 use Rattle.bench_types.specs.declared.kernel_data.Settings.{Settings}
 use Rattle.bench_model.specs.Tally.{TaskTally}
@@ -6,8 +6,7 @@ use Rattle.list_orders.proofs.Listings.{listing_length}
 use Rattle.smp_kernel.specs.Kernel.{ready_list}
 use Rattle.bench_reports.specs.Counting.{with_inversion}
 use Rattle.bench_reports.proofs.Inversions.{IsAlong, along_all, along_first, along_here, along_more, ends_there, of_list}
-use Rattle.bench_reports.proofs.Additions.{nothing}
-use Rattle.std.proofs.lemmas.List.{get_or_default}
+use Rattle.bench_model.specs.Tallied.{tally_at}
 use Rattle.bench_reports.proofs.tallies.add_inversions_in.Goals as goal
 
 pub loop-place-init : goal.loop-place-init
@@ -29,8 +28,11 @@ add_inversion-requires c =
     let along = c.loop-place.invariant.along in
     let here = sym c.loop-place.invariant.next ∙ c.in-Some.is in
     let low : task < length old = omega (arith, c.requires.tasks, subst (λ o. IfSome o (λ task. task < kernel.settings.tasks)) c.in-Some.is c.loop-place.invariant.in_range) in
-    let tally = get_or_default now task c.index-tasks-task.result nothing (omega (arith, low, along.size)) ∙ along_here kernel c.args.priority old now c.loop-place._place task along kernel.settings.tasks c.first_ready-next.ensures.once here low in
-    subst (λ (t : TaskTally). t.counts.inverted < 2 ^ 32 - 1) (sym tally) (c.requires.room task low (of_list kernel c.args.priority c.loop-place._place task here).0)
+    let tally = along_here kernel c.args.priority old now c.loop-place._place task along kernel.settings.tasks c.first_ready-next.ensures.once here low in
+    record {
+      task = omega (arith, low, along.size);
+      room = subst (λ (t : TaskTally). t.counts.inverted < 2 ^ 32 - 1) (sym tally) (c.requires.room task low (of_list kernel c.args.priority c.loop-place._place task here).0);
+    }
 
 pub next_ready-next-requires-clause-ready : goal.next_ready-next-requires-clause-ready
 next_ready-next-requires-clause-ready c = (of_list c.args.kernel.now c.args.priority c.loop-place._place c.in-Some.task (sym c.loop-place.invariant.next ∙ c.in-Some.is)).1
@@ -49,10 +51,10 @@ loop-place-preserved c =
     let place = c.loop-place._place in
     let here = sym c.loop-place.invariant.next ∙ c.in-Some.is in
     let low : task < length old = omega (arith, c.requires.tasks, subst (λ o. IfSome o (λ task. task < kernel.settings.tasks)) c.in-Some.is c.loop-place.invariant.in_range) in
-    let made = c.add_inversion.ensures ∙ ap (λ b. with_inversion b (get_or now task c.index-tasks-task.result)) c.is_inverted.ensures in
+    let made = c.add_inversion.ensures ∙ ap (λ b. slice_set now task (with_inversion b (tally_at now task))) c.is_inverted.ensures in
     record {
-      along = subst (λ x. IsAlong kernel c.args.priority old (place + 1) (slice_set now task x)) (sym made)
-          (along_more kernel c.args.priority old now place task c.loop-place.invariant.along kernel.settings.tasks c.first_ready-next.ensures.once here (get_or now task c.index-tasks-task.result) low (ap (get_or now task) c.index-tasks-task.is));
+      along = subst (IsAlong kernel c.args.priority old (place + 1)) (sym made)
+          (along_more kernel c.args.priority old now place task c.loop-place.invariant.along kernel.settings.tasks c.first_ready-next.ensures.once here low);
       next = c.next_ready-next.ensures.next c.args.priority place c.requires.priority here;
       in_range = c.next_ready-next.ensures.task;
     }

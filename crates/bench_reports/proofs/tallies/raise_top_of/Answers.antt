@@ -1,8 +1,7 @@
-use Rattle.std.proofs.Common.{◌<◌, ℕ, length, get_or, ap, subst, sym, ◌∙◌, arith}
-use Rattle.std.specs.Prelude.{IfSome, slice_set}
-use Rattle.std.proofs.lemmas.List.{get_or_default}
+use Rattle.std.proofs.Common.{◌<◌, ℕ, length, refl, subst, sym, ◌∙◌, arith}
+use Rattle.std.specs.Prelude.{IfSome}
+use Rattle.bench_model.specs.Tallied.{tally_at}
 use Rattle.bench_reports.specs.Tops.{HasOtherTops}
-use Rattle.bench_reports.proofs.Additions.{nothing}
 use Rattle.bench_reports.proofs.Tops.{topped_none, topped_one}
 use Rattle.bench_reports.proofs.tallies.raise_top_of.Goals as goal
 
@@ -11,11 +10,10 @@ returns-in-Some c =
     let tasks = c.args.tasks.now in
     let control = c.args.kernel.now.control in
     let task = c.in-Some.task in
-    let x = get_or tasks task c.index-tasks-task.result in
     let inside : task < c.args.kernel.now.settings.tasks = subst (λ raised. IfSome raised (λ (task : ℕ). task < c.args.kernel.now.settings.tasks)) c.in-Some.is c.requires.raised in
     let low : task < length tasks = omega (arith, c.requires.tasks, inside) in
-    ap (slice_set tasks task) c.raise_top.ensures
-    ∙ sym (topped_one control task tasks x low (get_or_default tasks task c.index-tasks-task.result nothing low) (subst (λ raised. HasOtherTops raised control tasks) c.in-Some.is c.requires.tops))
+    c.raise_top.ensures
+    ∙ sym (topped_one control task tasks (tally_at tasks task) low refl (subst (λ raised. HasOtherTops raised control tasks) c.in-Some.is c.requires.tops))
 
 pub returns-in_default : goal.returns-in_default
 returns-in_default c =

@@ -155,8 +155,7 @@ none_is_longer header steps condition first last holds =
 pub one_is_as_long : OneIsAsLong
 one_is_as_long header steps condition =
     let stretch = stretch_at header steps condition in
-    let last = first_top stretch (length steps) in
-    (
+    let last = first_top stretch (length steps) in (
       begins header steps condition last,
       last,
       record {

@@ -1,4 +1,4 @@
--- What a step is to a task, by what was known before it, its reply and the cores and tasks after it.
+-- What a step is to a task, by what was known before it, its reply and the state after it.
 use Rattle.std.specs.Prelude.{ℕ, Bool, false, not, ◌&&◌, ◌==◌, nat_lt, Option, Some, None, option_map}
 use Rattle.std.specs.Option.{option_map_or}
 use Rattle.bench_types.specs.declared.reply.Reply.{Reply}

@@ -23,7 +23,8 @@ top f place = greatest (map f (numbers (suc place)))
 -- the first place that has it
 abbrev pub first_top : (ℕ → ℕ) → ℕ → ℕ
 first_top f zero = zero
-first_top f (suc place) = if nat_lt (top f place) (f (suc place)) then suc place else first_top f place
+first_top f (suc place) =
+    if nat_lt (top f place) (f (suc place)) then suc place else first_top f place
 
 module _ (header : Header) (steps : List Step) where
   abbrev pub passes_at : (Moment Stamps → Bool) → ℕ → Bool

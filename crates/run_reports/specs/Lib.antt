@@ -1,0 +1,6 @@
+pub mod Figures
+pub mod Limits
+pub mod Names
+pub mod Objects
+pub mod Subjects
+pub mod Table

@@ -1,0 +1,16 @@
+//! The numbers of a run as figures with names, in tables, as JSON, and against limits.
+#![tactic(auto)]
+
+mod figures;
+mod limits;
+mod names;
+mod objects;
+mod subjects;
+mod table;
+
+pub use figures::{Figure, Part, figures_of};
+pub use limits::{Bound, Limit, figure_called, is_kept, limits_text, push_names, push_unkept};
+pub use names::push_name;
+pub use objects::{run_json, runs_json};
+pub use subjects::subjects_of;
+pub use table::{run_table, runs_table};

@@ -1,0 +1,60 @@
+-- Whether a run keeps limits.
+use Rattle.std.specs.Prelude.{◌≡◌, ℕ, List, [], ◌∷◌, ◌++◌, find, flat_map, Bool, codes, Option, Some, None, is_none}
+use Rattle.bench_types.specs.declared.header.Header.{Header}
+use Rattle.bench_types.specs.Session.{Session}
+use Rattle.run_reports.specs.declared.figures.Figure.{Figure}
+use Rattle.run_reports.specs.declared.limits.Limit.{Limit}
+use Rattle.run_reports.specs.Limits.{has_name, limit_line, name_line}
+use Rattle.session_reports.specs.declared.limits.CheckStatus.TheVariants.{Kept, NotKept, Unknown}
+use Rattle.session_reports.specs.Asked.{Asked, Told}
+use Rattle.session_reports.specs.Figures.{AreFigures}
+
+-- the figure that is asked for
+abbrev pub figure_for : Header → List Figure → Asked → Option Figure
+figure_for header figures asked = find (has_name header asked.name) figures
+
+-- no figure has the name
+abbrev pub is_unknown : Header → List Figure → Asked → Bool
+is_unknown header figures asked = is_none (figure_for header figures asked)
+
+-- the limit with its figure
+abbrev pub limit_for : Asked → Option Figure → List Limit
+limit_for asked None = []
+limit_for asked (Some figure) = record { figure = figure; bound = asked.bound } ∷ []
+
+abbrev pub limits_in : Header → List Figure → Asked → List Limit
+limits_in header figures asked = limit_for asked (figure_for header figures asked)
+
+-- that no figure has the name, and the names that figures have
+unfoldable pub unknown_text : Header → List Figure → Asked → List ℕ
+unknown_text header figures asked =
+    codes "no number is called " ++ asked.name ++ codes "; these are:\n"
+    ++ flat_map (name_line header) figures
+
+-- all limits are kept where there are no lines
+abbrev pub kept_or : List ℕ → Told
+kept_or [] = record { status = Kept; text = [] }
+kept_or (byte ∷ lines) = record { status = NotKept; text = byte ∷ lines }
+
+-- the lines of the limits that are not kept
+abbrev pub unkept_lines : Header → List Figure → List Asked → List ℕ
+unkept_lines header figures wanted =
+    flat_map (limit_line header) (flat_map (limits_in header figures) wanted)
+
+-- what is told where some name is unknown, and where none is
+abbrev pub told_of : Header → List Figure → List Asked → Option Asked → Told
+told_of header figures wanted (Some asked) =
+    record { status = Unknown; text = unknown_text header figures asked }
+told_of header figures wanted None = kept_or (unkept_lines header figures wanted)
+
+-- what is told of figures and limits
+abbrev pub checked : Header → List Figure → List Asked → Told
+checked header figures wanted =
+    told_of header figures wanted (find (is_unknown header figures) wanted)
+
+-- what is told of the session's run, settled or as its steps stand
+pub record IsCheck (settled : Bool) (session : Session) (wanted : List Asked) (told : Told) :
+    Type 0 where
+  pub figures : List Figure
+  pub are : AreFigures settled session figures
+  pub is : told ≡ checked session.header figures wanted

@@ -1,0 +1,7 @@
+//! The laws of reports, each on a function that does nothing: its contract is the law.
+ghost use Rattle.session_reports.specs.ReportLaws.{FiguresAreOne};
+
+/// The run of a session has one list of figures alone.
+pub fn law_of_figures()
+    ensures { FiguresAreOne }
+{}

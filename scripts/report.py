@@ -1,0 +1,226 @@
+#!/usr/bin/env python3
+"""Measure a run: a second opinion, which shares no code with the bench.
+
+The kernel is that of settle.py, a flat table that is searched. A run is gone through step by step.
+Before each step it is asked of every condition whether it holds, and a tick counts those that do.
+A stretch of a condition ends where it fails. After each step the events of the step are counted.
+
+Standard input is a session, or an object of a `session` and its `edits`. It is taken to be well
+formed. With the word `--settle` the settled runs are measured. Standard output is the object that
+`smp_view report --json` writes.
+"""
+
+import copy
+import json
+import sys
+
+import settle
+
+BLOCKED_BY = {
+    **{"delay": "delay", "delay_until": "delay", "mutex_take": "mutex"},
+    **{"notify_wait": "notification", "notify_take": "notification"},
+}
+CODES = [f"E{number}" for number in range(1, 10)]
+
+
+# Steps as they stand.
+
+
+def refusal(table, core, task, call):
+    """The code of the first reason why a call is refused, or none."""
+    in_hold, do = table.hold_core == core, call["do"]
+    reasons = (
+        ("E1", lambda: table.hold_core not in (None, core)),
+        ("E2", lambda: table.current[core] != task),
+        ("E3", lambda: settle.is_due(table, core) and not in_hold),
+        ("E4", lambda: do != "finish" and table.unfinished[task] is not None),
+        ("E5", lambda: do == "finish" and table.unfinished[task] is None),
+        ("E6", lambda: in_hold and settle.would_block(table, task, call)),
+        ("E7", lambda: do == "hold_close" and not in_hold),
+        ("E8", lambda: do == "hold_open" and in_hold and table.depth == settle.DEEPEST),
+        ("E9", lambda: do == "mutex_give" and table.holder[call["mutex"]] not in (None, task)),
+    )
+    return next((code for code, applies in reasons if applies()), None)
+
+
+def runs_out(table, task):
+    """Whether the return from the task's call tells that its ticks ran out."""
+    call = table.unfinished[task]
+    if call["do"] == "mutex_take":
+        return table.holder[call["mutex"]] is not None and settle.is_over(table, task)
+    if call["do"] in ("notify_wait", "notify_take"):
+        return not settle.has_notification(table, task, call)
+    return False
+
+
+def call_events(table, task, call, code):
+    """The events that a call is by itself, of which some are told by what stands before it."""
+    if code is not None:
+        yield ("refused", task, code)
+    elif call["do"] == "finish":
+        if runs_out(table, task):
+            yield ("timeouts", task)
+    elif call["do"] == "mutex_take" and call["ticks"] > 0:
+        if table.holder[call["mutex"]] is not None:
+            yield ("waits", call["mutex"])
+
+
+def made(table, step):
+    """Make a step, and give the events of it."""
+    do, core = step["do"], step.get("core")
+    before, in_use = list(table.current), list(table.in_use)
+    events = []
+    if do == "tick":
+        settle.tick(table)
+    elif do == "isr_notify":
+        settle.notify(table, core, None, step)
+    elif do == "switch":
+        if table.hold_core is None and settle.is_due(table, core):
+            settle.switch(table, core)
+            if table.current[core] != before[core]:
+                events.append(("switches", table.current[core]))
+    else:
+        task = table.number[step["by"]]
+        code = refusal(table, core, task, step)
+        events += call_events(table, task, step, code)
+        if code is None:
+            settle.CALLS[do](table, core, task, step)
+    rows = enumerate(zip(in_use, table.in_use, table.base))
+    return events + [("inheritances", t) for t, (was, now, base) in rows if was < now and base < now]
+
+
+# What holds at a place.
+
+
+def lower_core(table, task):
+    """Whether a core that the task may run on has a task of lower effective priority."""
+    mine = settle.effective(table, task)
+    allowed = [c for c in range(table.cores) if task < table.cores or table.mask[task] >> c & 1]
+    return any(settle.effective(table, table.current[c]) < mine for c in allowed)
+
+
+def held_up(table, task):
+    """Whether the mutex of a blocked task has a lower holder that is on no core."""
+    holder = table.holder[table.unfinished[task]["mutex"]]
+    lower = holder is not None and table.base[holder] < table.base[task]
+    return lower and holder not in table.current
+
+
+def task_conditions(table, task):
+    """The names, after the task's, of the conditions of a task that hold."""
+    if task in table.current:
+        yield from ("run", f"run.{table.current.index(task)}")
+    if table.ready[task]:
+        if task not in table.current:
+            yield "ready"
+            if lower_core(table, task):
+                yield "ready.inverted"
+        return
+    call = table.unfinished[task]
+    cause = BLOCKED_BY[call["do"]]
+    yield f"blocked.{cause}"
+    if cause == "mutex":
+        yield f"blocked.mutex.{call['mutex']}"
+        if held_up(table, task):
+            yield "blocked.mutex.held_up"
+
+
+def conditions(table, names):
+    """The names of all conditions that hold."""
+    for task, name in names.items():
+        yield from (f"{name}.{rest}" for rest in task_conditions(table, task))
+    for core, task in enumerate(table.current):
+        yield f"core.{core}.{'idle' if task < table.cores else 'user'}"
+        if settle.is_due(table, core):
+            yield f"core.{core}.due"
+    for mutex, holder in enumerate(table.holder):
+        if holder is not None:
+            yield f"mutex.{mutex}.held"
+
+
+def event_name(event, names):
+    """The name of what an event is counted by; none of an idle task."""
+    kind, of, *code = event
+    if kind == "waits":
+        return f"mutex.{of}.waits"
+    return ".".join([names[of], kind, *code]) if of in names else None
+
+
+# Numbers.
+
+
+def all_conditions(session):
+    """The names of all conditions that may hold."""
+    cores, mutexes = range(session["cores"]), range(session["mutexes"])
+    for task in session["tasks"]:
+        rest = ["run", *(f"run.{core}" for core in cores), "ready", "ready.inverted"]
+        rest += ["blocked.delay", "blocked.notification", "blocked.mutex", "blocked.mutex.held_up"]
+        rest += [f"blocked.mutex.{mutex}" for mutex in mutexes]
+        yield from (f"{task['name']}.{one}" for one in rest)
+    for core in cores:
+        yield from (f"core.{core}.{one}" for one in ("user", "idle", "due"))
+    yield from (f"mutex.{mutex}.held" for mutex in mutexes)
+
+
+def all_counts(session):
+    """The names of all that is counted in steps or calls."""
+    for task in session["tasks"]:
+        rest = ["switches", "inheritances", "top_priority", "timeouts", "not_made"]
+        rest += [f"refused.{code}" for code in CODES]
+        yield from (f"{task['name']}.{one}" for one in rest)
+    yield from (f"mutex.{mutex}.waits" for mutex in range(session["mutexes"]))
+
+
+def measured(session, steps, left):
+    """The numbers of a run, and the places where the longest stretches begin."""
+    table = settle.start(session)
+    names = {number: name for name, number in table.number.items()}
+    values = dict.fromkeys(all_counts(session), 0)
+    for name in all_conditions(session):
+        values[name] = values[f"{name}.longest"] = 0
+    places, stretches = {}, {}
+    tops = {task: table.in_use[task] for task in names}
+    for place, step in enumerate(steps):
+        found = set(conditions(table, names))
+        stretches = {name: began for name, began in stretches.items() if name in found}
+        if step["do"] == "tick":
+            for name in found:
+                values[name] += 1
+                ticks, began = stretches.get(name, (0, place))
+                stretches[name] = (ticks + 1, began)
+                if ticks + 1 > values[f"{name}.longest"]:
+                    values[f"{name}.longest"], places[f"{name}.longest"] = ticks + 1, began
+        for event in made(table, step):
+            if event_name(event, names):
+                values[event_name(event, names)] += 1
+        tops = {task: max(top, table.in_use[task]) for task, top in tops.items()}
+    for task, name in names.items():
+        values[f"{name}.top_priority"] = tops[task]
+        values[f"{name}.not_made"] = sum(call["by"] == name for call in left)
+    return {"places": places, "values": values}
+
+
+def measure(session, settled):
+    """The numbers of a session's run, settled or as its steps stand."""
+    steps, left = settle.settle(session) if settled else (session["steps"], [])
+    return measured(session, steps, left)
+
+
+def report(document, settled):
+    """The report of a session, or of a session and of it after its edits."""
+    if not document.get("edits"):
+        return measure(document.get("session", document), settled) | {"settled": settled}
+    before = measure(copy.deepcopy(document["session"]), settled)
+    after = measure(settle.edited_session(document), settled)
+    change = {name: after["values"][name] - value for name, value in before["values"].items()}
+    return {"before": before, "after": after, "change": change, "settled": settled}
+
+
+def main():
+    """Report on the document on standard input."""
+    document = json.loads(sys.stdin.buffer.read())
+    print(json.dumps(report(document, "--settle" in sys.argv[1:]), sort_keys=True))
+
+
+if __name__ == "__main__":
+    main()

@@ -1,8 +1,8 @@
 pub mod KnownInput
-mod ClapAnswers
+pub mod ClapAnswers
 mod CommandLine
 mod KnownOutput
-mod OptionsRead
+pub mod OptionsRead
 mod Labelled
 mod Replays
 mod Prompted

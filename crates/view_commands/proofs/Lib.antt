@@ -1,11 +1,12 @@
 mod BothTold
+mod CommandLine
 mod EditsKept
 mod MemoryRefused
 mod NamesFound
+mod NumberTexts
 mod OneView
 mod Outputs
 mod Pictures
 mod PicturesTold
 mod SettledTold
-mod WordsRead
 mod Written

@@ -6,8 +6,7 @@ use Rattle.bench_commands.specs.declared.execution.RunFault.TheVariants.{Memory}
 use Rattle.bench_commands.specs.declared.program.Ending.TheVariants.{Ran}
 use Rattle.bench_commands.specs.Device.{ReadsSome}
 use Rattle.view_commands.specs.declared.ending.ViewEnding.TheVariants.{AsBench}
-use Rattle.view_commands.specs.declared.words.Request.{Request}
-use Rattle.view_commands.specs.declared.words.Request.TheVariants.{Show, Help, Bad}
+use Rattle.view_commands.specs.CommandLine.{Asked, a_view, help, a_mistake}
 use Rattle.view_commands.specs.ViewProgram.{Ends, Files}
 
 none_read : (bytes : Option (List ℕ)) → ReadsSome bytes bytes (max_input + 1)
@@ -15,8 +14,8 @@ none_read None = record { bytes = []; consumes = tt; within = omega arith }
 none_read (Some bytes) = record { bytes = []; consumes = refl; within = omega arith }
 
 -- whatever was asked for
-pub refused_first : (request : Request) (files : Files) (read write : Option (List ℕ)) → Ends request (AsBench (Ran (Fault Memory))) files read read write write
-refused_first (Show command (Some name)) files read write = inr (inr refl, (refl, refl))
-refused_first (Show command None) files read write = record { reads = none_read read; writes = refl }
-refused_first Help files read write = (refl, refl)
-refused_first Bad files read write = (tt, (refl, refl))
+pub refused_first : (asked : Asked) (files : Files) (read write : Option (List ℕ)) → Ends asked (AsBench (Ran (Fault Memory))) files read read write write
+refused_first (a_view command (Some name)) files read write = inr (inr refl, (refl, refl))
+refused_first (a_view command None) files read write = record { reads = none_read read; writes = refl }
+refused_first help files read write = (refl, refl)
+refused_first a_mistake files read write = (refl, refl)

@@ -21,10 +21,10 @@ use Rattle.run_comparisons.specs.SideBySide.{first_places, AreSettledRows}
 use Rattle.run_comparisons.proofs.Compared.{neither_too_long}
 use Rattle.run_comparisons.proofs.OneText.{one_list, one_text}
 use Rattle.bench_commands.specs.Answer.{Output}
-use Rattle.view_commands.specs.declared.words.Command.{Command}
-use Rattle.view_commands.specs.declared.words.Command.TheVariants.{Plain, Settled}
-use Rattle.view_commands.specs.declared.words.SettledView.{SettledView}
-use Rattle.view_commands.specs.declared.words.SettledView.TheVariants as settled
+use Rattle.view_commands.specs.declared.request.Command.{Command}
+use Rattle.view_commands.specs.declared.request.Command.TheVariants.{Plain, Settled}
+use Rattle.view_commands.specs.declared.request.SettledView.{SettledView}
+use Rattle.view_commands.specs.declared.request.SettledView.TheVariants as settled
 use Rattle.view_commands.specs.Commands.{IsRefusedOr, IsTold, IsToldOfBench, IsToldOfText, IsView, ViewIsOne}
 use Rattle.view_commands.specs.SettledViews.{noted, told_of_run, IsSettledPicture, IsSettledView, IsToldOfBoth, IsToldOfPair, IsToldOfPictures, IsToldOfSettled}
 use Rattle.view_commands.specs.Told.{Told, plain}

@@ -16,7 +16,7 @@ use Rattle.session_text.specs.declared.fault.Why.TheVariants.{NoMemory}
 use Rattle.session_text.specs.Bench.{bench_text, IsCheckedBench}
 use Rattle.bench_commands.specs.Answer.{refused, why_text}
 use Rattle.bench_commands.proofs.Opened.{few_steps, opens}
-use Rattle.view_commands.specs.declared.words.Command.{Command}
+use Rattle.view_commands.specs.declared.request.Command.{Command}
 use Rattle.view_commands.specs.Commands.{IsRefusedOr, IsTold, IsToldOfBench, IsToldOfText}
 use Rattle.view_commands.specs.Told.{Told, plain}
 

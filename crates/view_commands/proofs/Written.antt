@@ -4,7 +4,7 @@ use Rattle.std.specs.Io.KnownBytes.{Appends}
 use Rattle.bench_commands.specs.declared.execution.RunFault.TheVariants.{Write}
 use Rattle.bench_commands.specs.Device.{ReadsInput, AppendsPrefix}
 use Rattle.view_commands.specs.declared.ending.ViewEnding.{ViewEnding}
-use Rattle.view_commands.specs.declared.words.Command.{Command}
+use Rattle.view_commands.specs.declared.request.Command.{Command}
 use Rattle.view_commands.specs.Commands.{IsView}
 use Rattle.view_commands.specs.Told.{Told}
 use Rattle.view_commands.specs.ViewEndings.{failed}

@@ -7,8 +7,8 @@ use Rattle.session_text.specs.declared.bench.Bench.{Bench}
 use Rattle.session_text.specs.declared.fault.TextFault.{TextFault}
 use Rattle.session_text.specs.Bench.{bench_text}
 use Rattle.bench_commands.specs.Answer.{refused, why_text}
-use Rattle.view_commands.specs.declared.words.Command.{Command}
-use Rattle.view_commands.specs.declared.words.Command.TheVariants.{Plain, Settled}
+use Rattle.view_commands.specs.declared.request.Command.{Command}
+use Rattle.view_commands.specs.declared.request.Command.TheVariants.{Plain, Settled}
 use Rattle.view_commands.specs.SettledViews.{IsSettledView}
 use Rattle.view_commands.specs.Told.{Told, plain}
 use Rattle.view_commands.specs.Views.{shown}

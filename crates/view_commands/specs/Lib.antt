@@ -1,5 +1,7 @@
+pub mod CommandLine
 pub mod Commands
 pub mod Interests
+pub mod Options
 pub mod Selected
 pub mod SettledViews
 pub mod Source
@@ -8,4 +10,3 @@ pub mod ViewEndings
 pub mod ViewProgram
 pub mod ViewRun
 pub mod Views
-pub mod Words

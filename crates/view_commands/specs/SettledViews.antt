@@ -16,8 +16,8 @@ use Rattle.run_comparisons.specs.declared.settled.SettledPair.{SettledPair}
 use Rattle.run_comparisons.specs.Columns.{columns_of}
 use Rattle.run_comparisons.specs.Settled.{left_lines, IsComparisonTooLong, IsSettledComparison, IsSettledPair}
 use Rattle.bench_commands.specs.Answer.{Output, refused}
-use Rattle.view_commands.specs.declared.words.SettledView.{SettledView}
-use Rattle.view_commands.specs.declared.words.SettledView.TheVariants as settled
+use Rattle.view_commands.specs.declared.request.SettledView.{SettledView}
+use Rattle.view_commands.specs.declared.request.SettledView.TheVariants as settled
 use Rattle.view_commands.specs.Told.{Told, plain}
 use Rattle.view_commands.specs.Views.{document_of, fine, picture_of_run, picture_of_runs, trace_output}
 

@@ -8,7 +8,7 @@ use Rattle.bench_commands.specs.Device.{ReadsInput, AppendsPrefix}
 use Rattle.bench_commands.specs.Run.{WroteNothing}
 use Rattle.view_commands.specs.declared.ending.ViewEnding.{ViewEnding}
 use Rattle.view_commands.specs.declared.ending.ViewEnding.TheVariants.{AsBench, Shown}
-use Rattle.view_commands.specs.declared.words.Command.{Command}
+use Rattle.view_commands.specs.declared.request.Command.{Command}
 use Rattle.view_commands.specs.Commands.{IsView}
 use Rattle.view_commands.specs.Told.{Told}
 

@@ -13,8 +13,8 @@ use Rattle.run_pictures.specs.Limits.{max_places}
 use Rattle.run_pictures.specs.Picture.{count_of_both, picture_text, pictures_text, shown_count}
 use Rattle.run_comparisons.specs.Comparison.{compare_text}
 use Rattle.bench_commands.specs.Answer.{Output}
-use Rattle.view_commands.specs.declared.words.View.{View}
-use Rattle.view_commands.specs.declared.words.View.TheVariants as view
+use Rattle.view_commands.specs.declared.request.View.{View}
+use Rattle.view_commands.specs.declared.request.View.TheVariants as view
 use Rattle.view_commands.specs.Interests.{interest_of, unknown_core, unknown_task}
 use Rattle.view_commands.specs.Selected.{Selected}
 

@@ -2,20 +2,23 @@
 #![tactic(auto)]
 
 mod answer;
+mod command_line;
 mod edited;
 mod ending;
 mod execution;
 mod interest;
+mod options;
 mod program;
+mod request;
 mod settled;
 mod settled_pictures;
 mod source;
-mod words;
 
 pub use answer::law_of_views;
+pub use command_line::request_of;
 pub use edited::law_of_texts;
 pub use ending::ViewEnding;
 pub use execution::run;
 pub use program::{carry_out, run_program};
+pub use request::{Command, FileName, Request, Selection, SettledView, View};
 pub use source::{DocumentSource, Folder, Source};
-pub use words::{Command, FileName, Request, Selection, SettledView, View, request_in};

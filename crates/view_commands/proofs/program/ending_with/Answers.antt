@@ -1,16 +1,15 @@
-use Rattle.std.proofs.Common.{map, string_bytes, subst}
-use Rattle.view_commands.specs.declared.words.Request.{Request}
-use Rattle.view_commands.specs.Words.{asked}
+use Rattle.std.proofs.Common.{map, option_map, subst}
+use Rattle.view_commands.specs.CommandLine.{Asked, asked}
 use Rattle.view_commands.specs.ViewProgram.{Ends}
 use Rattle.view_commands.proofs.MemoryRefused.{refused_first}
 use Rattle.view_commands.proofs.program.ending_with.Goals as goal
 
 pub returns-in-Err-clause-bytes : goal.returns-in-Err-clause-bytes
 returns-in-Err-clause-bytes g c =
-    refused_first (asked (map string_bytes c.args.words.now)) (g.R.Source.file c.args.reader.now) (g.R.Read.remaining c.args.reader.now) (g.W.Write.contents c.args.writer.now)
+    refused_first (asked (option_map (λ all. map g.S.AsStr.text all.now) c.args.words)) (g.R.Source.file c.args.reader.now) (g.R.Read.remaining c.args.reader.now) (g.W.Write.contents c.args.writer.now)
 
 pub returns-in-Ok-clause-bytes : goal.returns-in-Ok-clause-bytes
 returns-in-Ok-clause-bytes g c =
     subst
-    (λ (request : Request). Ends request c.carry_out.result (g.R.Source.file c.args.reader.now) (g.R.Read.remaining c.args.reader.now) (g.R.Read.remaining c.carry_out.new.reader) (g.W.Write.contents c.args.writer.now) (g.W.Write.contents c.carry_out.new.writer))
+    (λ (asked : Asked). Ends asked c.carry_out.result (g.R.Source.file c.args.reader.now) (g.R.Read.remaining c.args.reader.now) (g.R.Read.remaining c.carry_out.new.reader) (g.W.Write.contents c.args.writer.now) (g.W.Write.contents c.carry_out.new.writer))
     c.in-Ok.ensures c.carry_out.ensures.bytes

@@ -1,0 +1,130 @@
+-- What a command line asks for: what clap is told, and what it answers.
+use Rattle.std.specs.Prelude.{◌≡◌, List, [], ◌∷◌, fold, true, false, codes, Option, Some, None, pos}
+use Rattle.clap.specs.Words.{App, Kinds, Row, Rule, Text, app_of, fault_of, new_app, new_rule, subcommand_of, with_rule, with_subcommand}
+use Rattle.clap.specs.declared.builder.action.ArgAction.TheVariants.{Append, SetTrue}
+use Rattle.clap.specs.declared.builder.command.Command.{Command as ClapCommand}
+use Rattle.clap.specs.declared.builder.command.Command.TheViews.{out-Command as fields_of}
+use Rattle.clap.specs.declared.builder.value_parser.ValueParser.{ValueParser}
+use Rattle.clap.specs.declared.builder.value_parser.ValueParser.TheVariants.{Signed}
+use Rattle.clap.specs.declared.error.kind.ErrorKind.{ErrorKind}
+use Rattle.clap.specs.declared.error.kind.ErrorKind.TheVariants as kind
+use Rattle.view_commands.specs.Options.{command_of, file_in}
+use Rattle.view_commands.specs.declared.request.Command.{Command}
+use Rattle.view_commands.specs.declared.request.Request.{Request}
+use Rattle.view_commands.specs.declared.request.Request.TheVariants.{Show, Help, Bad}
+
+-- a view of a file or of standard input, the text of help, or nothing that the program does
+pub data Asked : Type 0 where
+  a_view : Command → Option Text → Asked
+  help : Asked
+  a_mistake : Asked
+
+-- ---- what clap is told
+
+-- the flag `--settle`
+abbrev pub settle_rule : Rule
+settle_rule =
+    record (new_rule (codes "settle")) { long = Some (codes "settle"); action = Some SetTrue }
+
+-- a number below 2^32
+abbrev pub a_number : ValueParser
+a_number = Signed (pos 0) (pos 4294967295)
+
+-- an option of this name, whose value help has a name for
+abbrev pub option_rule : Text → Rule
+option_rule name = record (new_rule name) { long = Some name; value_names = 1 }
+
+-- the options `--from` and `--to`, each a number
+abbrev pub from_rule : Rule
+from_rule = record (option_rule (codes "from")) { parser = Some a_number }
+
+abbrev pub to_rule : Rule
+to_rule = record (option_rule (codes "to")) { parser = Some a_number }
+
+-- the option `--task`, which may stand several times
+abbrev pub task_rule : Rule
+task_rule = record (option_rule (codes "task")) { action = Some Append }
+
+-- the option `--core`, a number, which may stand several times
+abbrev pub core_rule : Rule
+core_rule = record (option_rule (codes "core")) { action = Some Append; parser = Some a_number }
+
+-- the name of a file, which may be left out
+abbrev pub file_rule : Rule
+file_rule = record (new_rule (codes "file")) { value_names = 1 }
+
+-- the command of this name, with these options
+abbrev pub command_app : Text → List Rule → App
+command_app name rules = fold with_rule (new_app name) rules
+
+abbrev pub trace_app : App
+trace_app =
+    command_app (codes "trace")
+    (settle_rule ∷ from_rule ∷ to_rule ∷ task_rule ∷ core_rule ∷ file_rule ∷ [])
+
+abbrev pub session_app : App
+session_app = command_app (codes "session") (file_rule ∷ [])
+
+abbrev pub settle_app : App
+settle_app = command_app (codes "settle") (file_rule ∷ [])
+
+abbrev pub compare_app : App
+compare_app = command_app (codes "compare") (settle_rule ∷ file_rule ∷ [])
+
+abbrev pub timeline_app : App
+timeline_app =
+    command_app (codes "timeline") (settle_rule ∷ from_rule ∷ to_rule ∷ file_rule ∷ [])
+
+-- the program, which wants a command, and of which `help` is none
+abbrev pub program_app : App
+program_app = record (new_app (codes "smp_view")) {
+  top = record (new_app (codes "smp_view")).top {
+    disable_help_subcommand = true;
+    subcommand_required = true;
+  };
+}
+
+-- the commands
+abbrev pub commands : List App
+commands = trace_app ∷ session_app ∷ settle_app ∷ compare_app ∷ timeline_app ∷ []
+
+-- the program with its commands
+abbrev pub view_app : App
+view_app = fold (λ program command. with_subcommand program command.top) program_app commands
+
+-- clap is told this of a command, none of whose options is one of other commands as well
+abbrev pub IsTold : ClapCommand → App → Type 0
+IsTold command app = (app_of command ≡ app) × ((fields_of command).has_globals ≡ false)
+
+-- ---- what it answers
+
+-- what a command with this name and these options asks for
+abbrev pub asked_for : Text → List Row → Asked
+asked_for name options = a_view (command_of name options) (file_in options)
+
+-- by the kind of an error, of which `--help` and `-h` make one too
+abbrev pub asked_by : ErrorKind → Asked
+asked_by kind.DisplayHelp = help
+asked_by _ = a_mistake
+
+-- by the kinds that clap's error may have, which all ask for the same, or else by what it met
+abbrev pub asked_of : Kinds → Option (Text × List Row) → Asked
+asked_of (kind ∷ kinds) met = asked_by kind
+asked_of [] None = a_mistake
+asked_of [] (Some met) = asked_for met.0 met.1
+
+-- the words of a command line, the program's name first
+unfoldable pub asked_in_words : List Text → Asked
+asked_in_words words = asked_of (fault_of view_app words) (subcommand_of view_app words)
+
+-- the same; none where one of the words is no text
+abbrev pub asked : Option (List Text) → Asked
+asked (Some words) = asked_in_words words
+asked None = a_mistake
+
+-- ---- what a request asks for
+
+abbrev pub asked_in : Request → Asked
+asked_in (Show command file) = a_view command file
+asked_in (Help text) = help
+asked_in (Bad text) = a_mistake

@@ -1,0 +1,237 @@
+//! What a command line asks for.
+ghost use Rattle.std.specs.Prelude.{◌≡◌, IfOk, IsErr, map, option_map};
+ghost use Rattle.clap.specs.Words.{app_of, kind_of, rule_of};
+ghost use Rattle.clap.specs.declared.error.kind.ErrorKind.TheVariants.{OutOfMemory};
+ghost use Rattle.view_commands.specs.CommandLine.{IsTold, a_mistake, asked, asked_by, asked_in, asked_in_words, compare_app, core_rule, file_rule, from_rule, session_app, settle_app, settle_rule, task_rule, timeline_app, to_rule, trace_app, view_app};
+
+use crate::options::asked_for;
+use crate::request::Request;
+use clap::error::ErrorKind;
+use clap::{Arg, ArgAction, Command, Error, value_parser};
+use std::alloc::{AllocError, Global};
+use std::convert::AsStr;
+
+// What stands below the commands in the program's help.
+const DOCUMENTS: &str = r#"Documents, each a JSON text, in FILE or on standard input:
+  session         the cores, priorities and tasks, and the steps of a run
+  bench document  a session, and edits of it: they are made one after another, and those that are
+                  refused are passed over
+
+Exit status:
+  0  it was shown
+  1  the document or its settled run is refused, or has no such task or core, or its picture has
+     more than 4000 places: standard output says which
+  2  a bad command line
+  3  memory was refused, a read or a write failed, or the file can't be opened
+
+Example: smp_view trace --from 2 --to 3 examples/first-run.json"#;
+
+// Below the options of a trace.
+const TRACES: &str =
+    "Without a task or a core that is named, each step is shown. A name that begins with a hyphen stands
+behind an equals sign: --task=-x
+
+Example: smp_view trace --from 2 --to 3 examples/first-run.json";
+
+// Below the arguments of a session.
+const SESSIONS: &str =
+    "The edits are made one after another, and those that are refused are passed over.
+
+Example: smp_view session examples/another-call.json";
+
+// Below the arguments of a settled run.
+const SETTLED_RUNS: &str =
+    "That is what a target makes of the calls, ticks and interrupts of the session: each switch and each
+return from a call is made by itself. Standard error says how many calls of which tasks were not
+made.
+
+Example: smp_view settle examples/held-kernel.json";
+
+// Below the options of a comparison.
+const COMPARISONS: &str =
+    "With --settle the calls that were not made are told beside the comparison, on standard error.
+
+Example: smp_view compare --settle examples/settled/shorter-timeout.json";
+
+// Below the options of a picture.
+const PICTURES: &str = "A picture shows at most 4000 places.
+
+Example: smp_view timeline examples/questions/shared-mutex.json";
+
+fn settle_flag<'a>(alloc: Global) -> Arg<'a>
+    ensures { rule_of result ≡ settle_rule }
+{
+    Arg::new(alloc, "settle")
+        .long("settle")
+        .help("Shows settled runs: what a target makes of the calls, ticks and interrupts")
+        .action(ArgAction::SetTrue)
+}
+
+fn from_option<'a>(alloc: Global) -> Arg<'a>
+    ensures { rule_of result ≡ from_rule }
+{
+    Arg::new(alloc, "from")
+        .long("from")
+        .value_name("PLACE")
+        .help("The first place that is shown, or 0 if left out")
+        .value_parser(value_parser!(u32))
+}
+
+fn to_option<'a>(alloc: Global) -> Arg<'a>
+    ensures { rule_of result ≡ to_rule }
+{
+    Arg::new(alloc, "to")
+        .long("to")
+        .value_name("PLACE")
+        .help("The last place that is shown, or the last of the run if left out")
+        .value_parser(value_parser!(u32))
+}
+
+fn task_option<'a>(alloc: Global) -> Arg<'a>
+    ensures { rule_of result ≡ task_rule }
+{
+    Arg::new(alloc, "task")
+        .long("task")
+        .value_name("NAME")
+        .help("Shows the steps that concern this task; may stand several times")
+        .action(ArgAction::Append)
+}
+
+fn core_option<'a>(alloc: Global) -> Arg<'a>
+    ensures { rule_of result ≡ core_rule }
+{
+    Arg::new(alloc, "core")
+        .long("core")
+        .value_name("CORE")
+        .help("Shows the steps that concern this core; may stand several times")
+        .action(ArgAction::Append)
+        .value_parser(value_parser!(u32))
+}
+
+fn file_argument<'a>(alloc: Global) -> Arg<'a>
+    ensures { rule_of result ≡ file_rule }
+{
+    Arg::new(alloc, "file").value_name("FILE").help(
+        "The file of the document; standard input if it is - or left out",
+    )
+}
+
+fn trace_command<'a>(alloc: Global) -> Result<Command<'a>, AllocError>
+    ensures { IfOk result (λ command. IsTold command trace_app) }
+{
+    Command::new(alloc, "trace")
+        .after_help(TRACES)
+        .about("Prints each place of a run, and each step with all that it changed")
+        .arg(settle_flag(alloc))?
+        .arg(from_option(alloc))?
+        .arg(to_option(alloc))?
+        .arg(task_option(alloc))?
+        .arg(core_option(alloc))?
+        .arg(file_argument(alloc))
+}
+
+fn session_command<'a>(alloc: Global) -> Result<Command<'a>, AllocError>
+    ensures { IfOk result (λ command. IsTold command session_app) }
+{
+    Command::new(alloc, "session")
+        .after_help(SESSIONS)
+        .about("Prints the session with its edits made, as a document")
+        .arg(file_argument(alloc))
+}
+
+fn settle_command<'a>(alloc: Global) -> Result<Command<'a>, AllocError>
+    ensures { IfOk result (λ command. IsTold command settle_app) }
+{
+    Command::new(alloc, "settle")
+        .after_help(SETTLED_RUNS)
+        .about("Prints the settled run of the session with its edits made, as a document")
+        .arg(file_argument(alloc))
+}
+
+fn compare_command<'a>(alloc: Global) -> Result<Command<'a>, AllocError>
+    ensures { IfOk result (λ command. IsTold command compare_app) }
+{
+    Command::new(alloc, "compare")
+        .after_help(COMPARISONS)
+        .about("Shows the runs before and after the edits, and what each task gained and lost")
+        .arg(settle_flag(alloc))?
+        .arg(file_argument(alloc))
+}
+
+fn timeline_command<'a>(alloc: Global) -> Result<Command<'a>, AllocError>
+    ensures { IfOk result (λ command. IsTold command timeline_app) }
+{
+    Command::new(alloc, "timeline")
+        .after_help(PICTURES)
+        .about("Draws the runs before and after the edits, as an SVG picture")
+        .arg(settle_flag(alloc))?
+        .arg(from_option(alloc))?
+        .arg(to_option(alloc))?
+        .arg(file_argument(alloc))
+}
+
+// The program with its commands. Help for one of them is asked for by its `--help`, so `help` is
+// no command.
+fn program_command<'a>(alloc: Global) -> Result<Command<'a>, AllocError>
+    ensures { IfOk result (λ command. app_of command ≡ view_app) }
+{
+    let trace = trace_command(alloc)?;
+    let session = session_command(alloc)?;
+    let settle = settle_command(alloc)?;
+    let compare = compare_command(alloc)?;
+    let timeline = timeline_command(alloc)?;
+    Command::new(alloc, "smp_view")
+        .about("Shows what a run of a scheduling session does, and why")
+        .after_help(DOCUMENTS)
+        .disable_help_subcommand(true)
+        .subcommand_required(true)
+        .subcommand(trace)?
+        .subcommand(session)?
+        .subcommand(settle)?
+        .subcommand(compare)?
+        .subcommand(timeline)
+}
+
+fn told(alloc: Global, error: &Error) -> Result<Request, AllocError>
+    ensures asked { IfOk result (λ request. asked_in request ≡ asked_by (kind_of error.now)) }
+    ensures memory { kind_of error.now ≡ OutOfMemory → IsErr result }
+{
+    match error.kind() {
+        ErrorKind::OutOfMemory => Err(AllocError),
+        ErrorKind::DisplayHelp => Ok(Request::Help(error.to_string(alloc)?)),
+        _ => Ok(Request::Bad(error.to_string(alloc)?)),
+    }
+}
+
+// The refusal of words that are no text, which clap is never given.
+fn not_text(alloc: Global) -> Result<Request, AllocError>
+    ensures { IfOk result (λ request. asked_in request ≡ a_mistake) }
+{
+    let error = program_command(alloc)?.error(
+        ErrorKind::InvalidValue,
+        "invalid UTF-8 was detected in one or more arguments",
+    )?;
+    told(alloc, &error)
+}
+
+fn request_in<S: AsStr>(alloc: Global, words: &[S]) -> Result<Request, AllocError>
+    ensures { IfOk result
+        (λ request. asked_in request ≡ asked_in_words (map S.text words.now)) }
+{
+    match program_command(alloc)?.try_get_matches_from(words) {
+        Ok(matches) => asked_for(alloc, &matches),
+        Err(error) => told(alloc, &error),
+    }
+}
+
+/// Reads a command line: its words, the program's name first, or `None` where one of them is no
+/// text. The texts are clap's.
+pub fn request_of<S: AsStr>(alloc: Global, words: Option<&[S]>) -> Result<Request, AllocError>
+    ensures { IfOk result
+        (λ request. asked_in request ≡ asked (option_map (λ all. map S.text all.now) words.entry)) }
+{
+    match words {
+        Some(words) => request_in(alloc, words),
+        None => not_text(alloc),
+    }
+}

@@ -1,0 +1,87 @@
+//! What the program may be asked for.
+use run_views::Places;
+use std::marker::Model;
+
+/// Which part of a trace is asked for.
+#[derive(Drop)]
+pub struct Selection {
+    pub places: Places,
+    /// Names of tasks.
+    pub tasks: Vec<String>,
+    /// Numbers of cores.
+    pub cores: Vec<u32>,
+}
+
+impl Model for Selection {
+    ghost use Rattle.std.specs.Prelude.{map, string_bytes};
+    ghost use Rattle.view_commands.specs.Selected.{Selected};
+
+    ghost Value = { Selected };
+
+    ghost view = { λ it.
+        record {
+          places = it.places;
+          tasks = map string_bytes it.tasks.items;
+          cores = it.cores.items;
+        } };
+}
+
+/// What is shown of a session and of edits of it.
+#[derive(Drop)]
+pub enum View {
+    /// The trace of the session with its edits made: this part of it.
+    Trace(Selection),
+    /// The session with its edits made, as a document.
+    Session,
+    /// The run before the edits beside the run after them.
+    Compare,
+    /// The picture of the run before the edits and of that after them, at these places.
+    Timeline(Places),
+}
+
+/// What is shown of settled runs.
+#[derive(Drop)]
+pub enum SettledView {
+    /// The trace of the settled run of the session with its edits made: this part of it.
+    Trace(Selection),
+    /// That run as a document.
+    Session,
+    /// The settled run of the session before the edits beside that of the session after them.
+    Compare,
+    /// The picture of these runs, at these places.
+    Timeline(Places),
+}
+
+/// What is to be shown of a document.
+#[derive(Drop)]
+pub enum Command {
+    /// Its runs, step by step as it says them.
+    Plain(View),
+    /// What a target makes of its calls, ticks and interrupts.
+    Settled(SettledView),
+}
+
+/// The name of a file.
+#[derive(Drop)]
+pub struct FileName {
+    pub text: String,
+}
+
+impl Model for FileName {
+    ghost use Rattle.std.specs.Prelude.{ℕ, List, string_bytes};
+
+    ghost Value = { List ℕ };
+
+    ghost view = { λ it. string_bytes it.text };
+}
+
+/// What a command line asks for.
+#[derive(Drop)]
+pub enum Request {
+    /// A view of the document in the file of this name, or on standard input.
+    Show(Command, Option<FileName>),
+    /// This help.
+    Help(String),
+    /// Nothing that the program does; the text says why.
+    Bad(String),
+}

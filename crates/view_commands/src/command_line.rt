@@ -27,9 +27,8 @@ Exit status:
 Example: smp_view trace --from 2 --to 3 examples/first-run.json"#;
 
 // Below the options of a trace.
-const TRACES: &str =
-    "Without a task or a core that is named, each step is shown. A name that begins with a hyphen stands
-behind an equals sign: --task=-x
+const TRACES: &str = "Without a task or a core that is named, each step is shown.
+A name that begins with a hyphen stands behind an equals sign: --task=-x
 
 Example: smp_view trace --from 2 --to 3 examples/first-run.json";
 
@@ -41,15 +40,14 @@ Example: smp_view session examples/another-call.json";
 
 // Below the arguments of a settled run.
 const SETTLED_RUNS: &str =
-    "That is what a target makes of the calls, ticks and interrupts of the session: each switch and each
-return from a call is made by itself. Standard error says how many calls of which tasks were not
-made.
+    "That is what a target makes of the calls, ticks and interrupts of the session: each switch and
+each return from a call is made by itself. Standard error says how many calls of which tasks were
+not made.
 
 Example: smp_view settle examples/held-kernel.json";
 
 // Below the options of a comparison.
-const COMPARISONS: &str =
-    "With --settle the calls that were not made are told beside the comparison, on standard error.
+const COMPARISONS: &str = "With --settle it also says which calls were not made.
 
 Example: smp_view compare --settle examples/settled/shorter-timeout.json";
 

@@ -4,9 +4,11 @@ mod EditsKept
 mod MemoryRefused
 mod NamesFound
 mod NumberTexts
+mod OneReport
 mod OneView
 mod Outputs
 mod Pictures
 mod PicturesTold
+mod ReportsTold
 mod SettledTold
 mod Written

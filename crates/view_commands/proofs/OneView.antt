@@ -22,12 +22,13 @@ use Rattle.run_comparisons.proofs.Compared.{neither_too_long}
 use Rattle.run_comparisons.proofs.OneText.{one_list, one_text}
 use Rattle.bench_commands.specs.Answer.{Output}
 use Rattle.view_commands.specs.declared.request.Command.{Command}
-use Rattle.view_commands.specs.declared.request.Command.TheVariants.{Plain, Settled}
+use Rattle.view_commands.specs.declared.request.Command.TheVariants.{Plain, Settled, Report}
 use Rattle.view_commands.specs.declared.request.SettledView.{SettledView}
 use Rattle.view_commands.specs.declared.request.SettledView.TheVariants as settled
 use Rattle.view_commands.specs.Commands.{IsRefusedOr, IsTold, IsToldOfBench, IsToldOfText, IsView, ViewIsOne}
 use Rattle.view_commands.specs.SettledViews.{noted, told_of_run, IsSettledPicture, IsSettledView, IsToldOfBoth, IsToldOfPair, IsToldOfPictures, IsToldOfSettled}
 use Rattle.view_commands.specs.Told.{Told, plain}
+use Rattle.view_commands.proofs.OneReport.{one_report}
 use Rattle.view_commands.specs.Views.{document_of, fine, picture_of_run, picture_of_runs, trace_output}
 
 one_of_run : (shown : Session → Output) (session : Session) (told other : Told) → IsToldOfSettled shown session told → IsToldOfSettled shown session other → told ≡ other
@@ -81,6 +82,7 @@ one_settled (settled.Timeline places) session edits told other one two = one_pic
 one_told : (command : Command) (session : Session) (edits : List Edit) (told other : Told) → IsTold command session edits told → IsTold command session edits other → told ≡ other
 one_told (Plain view) session edits told other one two = one ∙ sym two
 one_told (Settled view) session edits told other one two = one_settled view session edits told other one two
+one_told (Report view) session edits told other one two = one_report view session edits told other one two
 
 -- a refusal, or what is one besides
 one_or_refused : (test : Bool) (code : List ℕ) (claim other_claim : Type 0) (told other : Told) → (claim → other_claim → told ≡ other) → IsRefusedOr test code claim told → IsRefusedOr test code other_claim other → told ≡ other

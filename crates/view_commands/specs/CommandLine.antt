@@ -26,6 +26,11 @@ abbrev pub settle_rule : Rule
 settle_rule =
     record (new_rule (codes "settle")) { long = Some (codes "settle"); action = Some SetTrue }
 
+-- the flag `--json`
+abbrev pub json_rule : Rule
+json_rule =
+    record (new_rule (codes "json")) { long = Some (codes "json"); action = Some SetTrue }
+
 -- a number below 2^32
 abbrev pub a_number : ValueParser
 a_number = Signed (pos 0) (pos 4294967295)
@@ -75,6 +80,9 @@ abbrev pub timeline_app : App
 timeline_app =
     command_app (codes "timeline") (settle_rule ∷ from_rule ∷ to_rule ∷ file_rule ∷ [])
 
+abbrev pub report_app : App
+report_app = command_app (codes "report") (settle_rule ∷ json_rule ∷ file_rule ∷ [])
+
 -- the program, which wants a command, and of which `help` is none
 abbrev pub program_app : App
 program_app = record (new_app (codes "smp_view")) {
@@ -86,7 +94,8 @@ program_app = record (new_app (codes "smp_view")) {
 
 -- the commands
 abbrev pub commands : List App
-commands = trace_app ∷ session_app ∷ settle_app ∷ compare_app ∷ timeline_app ∷ []
+commands =
+    trace_app ∷ session_app ∷ settle_app ∷ compare_app ∷ timeline_app ∷ report_app ∷ []
 
 -- the program with its commands
 abbrev pub view_app : App

@@ -8,7 +8,8 @@ use Rattle.session_text.specs.declared.fault.TextFault.{TextFault}
 use Rattle.session_text.specs.Bench.{bench_text}
 use Rattle.bench_commands.specs.Answer.{refused, why_text}
 use Rattle.view_commands.specs.declared.request.Command.{Command}
-use Rattle.view_commands.specs.declared.request.Command.TheVariants.{Plain, Settled}
+use Rattle.view_commands.specs.declared.request.Command.TheVariants.{Plain, Settled, Report}
+use Rattle.view_commands.specs.ReportViews.{IsReported}
 use Rattle.view_commands.specs.SettledViews.{IsSettledView}
 use Rattle.view_commands.specs.Told.{Told, plain}
 use Rattle.view_commands.specs.Views.{shown}
@@ -17,6 +18,7 @@ use Rattle.view_commands.specs.Views.{shown}
 abbrev pub IsTold : Command → Session → List Edit → Told → Type 0
 IsTold (Plain view) session edits told = told ≡ plain (shown view session edits)
 IsTold (Settled view) session edits told = IsSettledView view session edits told
+IsTold (Report view) session edits told = IsReported view session edits told
 
 -- the refusal line of a code where the test says so, and else what the claim says
 abbrev pub IsRefusedOr : Bool → List ℕ → Type 0 → Told → Type 0

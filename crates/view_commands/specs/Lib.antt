@@ -2,6 +2,7 @@ pub mod CommandLine
 pub mod Commands
 pub mod Interests
 pub mod Options
+pub mod ReportViews
 pub mod Selected
 pub mod SettledViews
 pub mod Source

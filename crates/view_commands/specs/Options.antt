@@ -8,9 +8,10 @@ use Rattle.clap.specs.ValueTests.{is_numeral}
 use Rattle.clap.specs.Words.{Row, Text, all_of, first_of, many_of, one_of}
 use Rattle.bench_commands.specs.Command.{is_flag, number_of}
 use Rattle.run_views.specs.declared.places.Places.{Places}
+use Rattle.session_reports.specs.declared.report.Form.TheVariants.{Json, Table}
 use Rattle.view_commands.specs.Selected.{Selected}
 use Rattle.view_commands.specs.declared.request.Command.{Command}
-use Rattle.view_commands.specs.declared.request.Command.TheVariants.{Plain, Settled}
+use Rattle.view_commands.specs.declared.request.Command.TheVariants.{Plain, Settled, Report}
 use Rattle.view_commands.specs.declared.request.SettledView.TheVariants as settled
 use Rattle.view_commands.specs.declared.request.View.TheVariants as view
 
@@ -19,6 +20,9 @@ use Rattle.view_commands.specs.declared.request.View.TheVariants as view
 -- whether the flag is there
 abbrev pub settle_in : List Row → Bool
 settle_in options = option_map_or (bytes_eq (codes "true")) (one_of (codes "settle") options) false
+
+abbrev pub json_in : List Row → Bool
+json_in options = option_map_or (bytes_eq (codes "true")) (one_of (codes "json") options) false
 
 -- the number that an option gives, or else this one
 abbrev pub number_in : Text → List Row → ℕ → ℕ
@@ -71,6 +75,12 @@ picture_of options =
     if settle_in options then Settled (settled.Timeline (places_in options))
     else Plain (view.Timeline (places_in options))
 
+abbrev pub report_of : List Row → Command
+report_of options = Report (record {
+  settled = settle_in options;
+  form = if json_in options then Json else Table;
+})
+
 -- by the name of a command and its options
 abbrev pub command_of : Text → List Row → Command
 command_of name options =
@@ -78,6 +88,7 @@ command_of name options =
     else if bytes_eq name (codes "session") then Plain view.Session
     else if bytes_eq name (codes "settle") then Settled settled.Session
     else if bytes_eq name (codes "compare") then comparison_of options
+    else if bytes_eq name (codes "report") then report_of options
     else picture_of options
 
 -- ---- what clap takes as a value
@@ -89,6 +100,7 @@ is_number text = is_numeral (without_leading_plus text) && nat_lt (number_of tex
 -- options whose values clap took
 pub record AreTaken (options : List Row) : Type 0 where
   pub settle : IfSome (one_of (codes "settle") options) (λ text. is_flag text ≡ true)
+  pub json : IfSome (one_of (codes "json") options) (λ text. is_flag text ≡ true)
   pub from : IfSome (one_of (codes "from") options) (λ text. is_number text ≡ true)
   pub to : IfSome (one_of (codes "to") options) (λ text. is_number text ≡ true)
   pub cores : IfSome (many_of (codes "core") options) (λ texts. list_all is_number texts ≡ true)

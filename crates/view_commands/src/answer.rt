@@ -9,6 +9,7 @@ ghost use Rattle.view_commands.specs.Told.{plain};
 
 use crate::Command;
 use crate::edited::shown;
+use crate::reports::told_report;
 use crate::settled::told_settled;
 use bench_commands::{Answer, refused, refused_for};
 use bench_types::{Edit, EditFault, MAX_INPUT, MAX_SPAN};
@@ -113,6 +114,7 @@ fn told_of_store(
     match command {
         Command::Plain(view) => Ok(plain(alloc, shown(alloc, meter, store, edits, view)?)),
         Command::Settled(view) => told_settled(alloc, meter, store, edits, view),
+        Command::Report(view) => told_report(alloc, meter, store, edits, *view),
     }
 }
 

@@ -2,7 +2,7 @@
 ghost use Rattle.std.specs.Prelude.{◌≡◌, IfOk, IsErr, map, option_map};
 ghost use Rattle.clap.specs.Words.{app_of, kind_of, rule_of};
 ghost use Rattle.clap.specs.declared.error.kind.ErrorKind.TheVariants.{OutOfMemory};
-ghost use Rattle.view_commands.specs.CommandLine.{IsTold, a_mistake, asked, asked_by, asked_in, asked_in_words, compare_app, core_rule, file_rule, from_rule, session_app, settle_app, settle_rule, task_rule, timeline_app, to_rule, trace_app, view_app};
+ghost use Rattle.view_commands.specs.CommandLine.{IsTold, a_mistake, asked, asked_by, asked_in, asked_in_words, compare_app, core_rule, file_rule, from_rule, json_rule, report_app, session_app, settle_app, settle_rule, task_rule, timeline_app, to_rule, trace_app, view_app};
 
 use crate::options::asked_for;
 use crate::request::Request;
@@ -56,12 +56,28 @@ const PICTURES: &str = "A picture shows at most 4000 places.
 
 Example: smp_view timeline examples/questions/shared-mutex.json";
 
+// Below the options of a report.
+const REPORTS: &str =
+    "Ticks in each condition with the longest stretch of them, switches, refusals and the like, of
+each task, core and mutex. The table leaves out what is 0; the JSON object has everything.
+
+Example: smp_view report --settle examples/settled/shorter-timeout.json";
+
 fn settle_flag<'a>(alloc: Global) -> Arg<'a>
     ensures { rule_of result ≡ settle_rule }
 {
     Arg::new(alloc, "settle")
         .long("settle")
         .help("Shows settled runs: what a target makes of the calls, ticks and interrupts")
+        .action(ArgAction::SetTrue)
+}
+
+fn json_flag<'a>(alloc: Global) -> Arg<'a>
+    ensures { rule_of result ≡ json_rule }
+{
+    Arg::new(alloc, "json")
+        .long("json")
+        .help("Prints one JSON object")
         .action(ArgAction::SetTrue)
 }
 
@@ -168,6 +184,17 @@ fn timeline_command<'a>(alloc: Global) -> Result<Command<'a>, AllocError>
         .arg(file_argument(alloc))
 }
 
+fn report_command<'a>(alloc: Global) -> Result<Command<'a>, AllocError>
+    ensures { IfOk result (λ command. IsTold command report_app) }
+{
+    Command::new(alloc, "report")
+        .after_help(REPORTS)
+        .about("Prints the numbers of the run, or of the runs before and after the edits")
+        .arg(settle_flag(alloc))?
+        .arg(json_flag(alloc))?
+        .arg(file_argument(alloc))
+}
+
 // The program with its commands. Help for one of them is asked for by its `--help`, so `help` is
 // no command.
 fn program_command<'a>(alloc: Global) -> Result<Command<'a>, AllocError>
@@ -178,6 +205,7 @@ fn program_command<'a>(alloc: Global) -> Result<Command<'a>, AllocError>
     let settle = settle_command(alloc)?;
     let compare = compare_command(alloc)?;
     let timeline = timeline_command(alloc)?;
+    let report = report_command(alloc)?;
     Command::new(alloc, "smp_view")
         .about("Shows what a run of a scheduling session does, and why")
         .after_help(DOCUMENTS)
@@ -187,7 +215,8 @@ fn program_command<'a>(alloc: Global) -> Result<Command<'a>, AllocError>
         .subcommand(session)?
         .subcommand(settle)?
         .subcommand(compare)?
-        .subcommand(timeline)
+        .subcommand(timeline)?
+        .subcommand(report)
 }
 
 fn told(alloc: Global, error: &Error) -> Result<Request, AllocError>

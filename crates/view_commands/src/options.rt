@@ -3,11 +3,12 @@ ghost use Rattle.std.specs.Prelude.{◌≡◌, IfOk, IfSome, map, string_bytes};
 ghost use Rattle.std.specs.Option.{IsSomeAnd};
 ghost use Rattle.clap.specs.Words.{found_of, rows_of, subcommand_rows_of};
 ghost use Rattle.view_commands.specs.CommandLine.{asked_for, asked_in};
-ghost use Rattle.view_commands.specs.Options.{AreTaken, command_of, comparison_of, cores_in, file_in, picture_of, places_in, selection_in, settle_in, tasks_in, trace_of};
+ghost use Rattle.view_commands.specs.Options.{AreTaken, command_of, comparison_of, cores_in, file_in, json_in, picture_of, places_in, report_of, selection_in, settle_in, tasks_in, trace_of};
 
-use crate::request::{Command, FileName, Request, Selection, SettledView, View};
+use crate::request::{Command, FileName, ReportView, Request, Selection, SettledView, View};
 use clap::ArgMatches;
 use run_views::Places;
+use session_reports::Form;
 use std::alloc::{AllocError, Global};
 
 fn settle_in(options: &ArgMatches) -> bool
@@ -15,6 +16,13 @@ fn settle_in(options: &ArgMatches) -> bool
     ensures { result ≡ settle_in (rows_of (found_of options.now)) }
 {
     options.get_flag("settle")
+}
+
+fn json_in(options: &ArgMatches) -> bool
+    requires { AreTaken (rows_of (found_of options.now)) }
+    ensures { result ≡ json_in (rows_of (found_of options.now)) }
+{
+    options.get_flag("json")
 }
 
 fn places_in(options: &ArgMatches) -> Places
@@ -114,6 +122,21 @@ fn picture_of(options: &ArgMatches) -> Command
     Command::Plain(View::Timeline(places))
 }
 
+fn report_of(options: &ArgMatches) -> Command
+    requires { AreTaken (rows_of (found_of options.now)) }
+    ensures { result ≡ report_of (rows_of (found_of options.now)) }
+{
+    let form = if json_in(options) {
+        Form::Json
+    } else {
+        Form::Table
+    };
+    Command::Report(ReportView {
+        settled: settle_in(options),
+        form,
+    })
+}
+
 fn command_of(alloc: Global, name: &str, options: &ArgMatches) -> Result<Command, AllocError>
     requires { AreTaken (rows_of (found_of options.now)) }
     ensures { IfOk result
@@ -130,6 +153,9 @@ fn command_of(alloc: Global, name: &str, options: &ArgMatches) -> Result<Command
     }
     if name == "compare" {
         return Ok(comparison_of(options));
+    }
+    if name == "report" {
+        return Ok(report_of(options));
     }
     Ok(picture_of(options))
 }

@@ -1,5 +1,6 @@
 //! What the program may be asked for.
 use run_views::Places;
+use session_reports::Form;
 use std::marker::Model;
 
 /// Which part of a trace is asked for.
@@ -52,6 +53,14 @@ pub enum SettledView {
     Timeline(Places),
 }
 
+/// Which report is made of the session's run, and of the run after the edits.
+#[derive(Clone, Copy, Debug, PartialEq, Eq)]
+pub struct ReportView {
+    /// Whether the runs are settled.
+    pub settled: bool,
+    pub form: Form,
+}
+
 /// What is to be shown of a document.
 #[derive(Drop)]
 pub enum Command {
@@ -59,6 +68,8 @@ pub enum Command {
     Plain(View),
     /// What a target makes of its calls, ticks and interrupts.
     Settled(SettledView),
+    /// The numbers of its runs.
+    Report(ReportView),
 }
 
 /// The name of a file.

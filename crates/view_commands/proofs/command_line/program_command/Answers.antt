@@ -12,4 +12,5 @@ returns c =
     let sessions = one_more c.in_ok-subcommand.field-0 c.in_ok-subcommand-2.field-0 _ c.in_ok-session.session _ traces c.in_ok-session.ensures c.in_ok-subcommand-2.ensures in
     let settles = one_more c.in_ok-subcommand-2.field-0 c.in_ok-subcommand-3.field-0 _ c.in_ok-settle.settle _ sessions c.in_ok-settle.ensures c.in_ok-subcommand-3.ensures in
     let compares = one_more c.in_ok-subcommand-3.field-0 c.in_ok-subcommand-4.field-0 _ c.in_ok-compare.compare _ settles c.in_ok-compare.ensures c.in_ok-subcommand-4.ensures in
-    IfOk-weaker c.subcommand-5.result _ _ (λ command added. one_more c.in_ok-subcommand-4.field-0 command _ c.in_ok-timeline.timeline _ compares c.in_ok-timeline.ensures added) c.subcommand-5.ensures
+    let timelines = one_more c.in_ok-subcommand-4.field-0 c.in_ok-subcommand-5.field-0 _ c.in_ok-timeline.timeline _ compares c.in_ok-timeline.ensures c.in_ok-subcommand-5.ensures in
+    IfOk-weaker c.subcommand-6.result _ _ (λ command added. one_more c.in_ok-subcommand-5.field-0 command _ c.in_ok-report.report _ timelines c.in_ok-report.ensures added) c.subcommand-6.ensures

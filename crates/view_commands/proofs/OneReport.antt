@@ -1,0 +1,45 @@
+-- One thing alone is told of the numbers of runs.
+use Rattle.std.proofs.Common.{◌≡◌, ◌⊎◌, ◌<◌, ℕ, List, [], ◌∷◌, length, Bool, true, false, inl, inr, ap, ap₂, sym, ◌∙◌, arith}
+use Rattle.bench_types.specs.declared.edit.Edit.{Edit}
+use Rattle.bench_types.specs.Session.{Session}
+use Rattle.bench_model.specs.Edits.{after_edits}
+use Rattle.run_reports.specs.declared.figures.Figure.{Figure}
+use Rattle.session_reports.specs.Figures.{AreFigures, IsTooLong}
+use Rattle.session_reports.specs.Reports.{run_text, runs_text, IsReportOfRun, IsReportOfRuns}
+use Rattle.session_reports.proofs.OneList.{figures_are_one}
+use Rattle.view_commands.specs.declared.request.ReportView.{ReportView}
+use Rattle.view_commands.specs.ReportViews.{IsReported, IsReportedAlone, IsReportedBeside}
+use Rattle.view_commands.specs.Told.{Told, plain}
+use Rattle.view_commands.specs.Views.{fine}
+
+-- a session that has figures is not too long
+not_too_long : {A : Type 0} (settled : Bool) (session : Session) (figures : List Figure) → AreFigures settled session figures → IsTooLong settled session → A
+not_too_long true session figures are long = absurd (omega (arith, are.few, long are.settled))
+not_too_long false session figures are long = absurd long
+
+one_alone : (view : ReportView) (session : Session) (told other : Told) → IsReportedAlone view session told → IsReportedAlone view session other → told ≡ other
+one_alone view session told other (inl one) (inl two) =
+    let same = figures_are_one view.settled session one.is_text.figures two.is_text.figures one.is_text.are two.is_text.are in
+    one.is_told ∙ ap (λ (text : List ℕ). plain (fine text)) (one.is_text.is ∙ ap (run_text view.form view.settled session.header) same ∙ sym two.is_text.is) ∙ sym two.is_told
+one_alone view session told other (inl one) (inr two) = not_too_long view.settled session one.is_text.figures one.is_text.are two.0
+one_alone view session told other (inr one) (inl two) = not_too_long view.settled session two.is_text.figures two.is_text.are one.0
+one_alone view session told other (inr one) (inr two) = one.1 ∙ sym two.1
+
+neither_is_too_long : {A : Type 0} (view : ReportView) (session edited : Session) (text : List ℕ) → IsReportOfRuns view.form view.settled session edited text → IsTooLong view.settled session ⊎ IsTooLong view.settled edited → A
+neither_is_too_long view session edited text is (inl long) = not_too_long view.settled session is.before is.are_before long
+neither_is_too_long view session edited text is (inr long) = not_too_long view.settled edited is.after is.are_after long
+
+one_beside : (view : ReportView) (session edited : Session) (told other : Told) → IsReportedBeside view session edited told → IsReportedBeside view session edited other → told ≡ other
+one_beside view session edited told other (inl one) (inl two) =
+    let before = figures_are_one view.settled session one.is_text.before two.is_text.before one.is_text.are_before two.is_text.are_before in
+    let after = figures_are_one view.settled edited one.is_text.after two.is_text.after one.is_text.are_after two.is_text.are_after in
+    one.is_told
+    ∙ ap (λ (text : List ℕ). plain (fine text)) (one.is_text.is ∙ ap₂ (λ (figures later : List Figure). runs_text view.form view.settled session.header figures later) before after ∙ sym two.is_text.is)
+    ∙ sym two.is_told
+one_beside view session edited told other (inl one) (inr two) = neither_is_too_long view session edited one.text one.is_text two.0
+one_beside view session edited told other (inr one) (inl two) = neither_is_too_long view session edited two.text two.is_text one.0
+one_beside view session edited told other (inr one) (inr two) = one.1 ∙ sym two.1
+
+pub one_report : (view : ReportView) (session : Session) (edits : List Edit) (told other : Told) → IsReported view session edits told → IsReported view session edits other → told ≡ other
+one_report view session [] told other one two = one_alone view session told other one two
+one_report view session (edit ∷ edits) told other one two = one_beside view session (after_edits session (edit ∷ edits)) told other one two

@@ -1,0 +1,21 @@
+use Rattle.std.proofs.Common.{◌≡◌, ◌⊎◌, rules, Err, ap, inl}
+use Rattle.std.specs.Prelude.{string_bytes}
+use Rattle.bench_types.specs.Session.{Session}
+use Rattle.settling.specs.declared.run.SettleFault.{SettleFault}
+use Rattle.session_reports.specs.Figures.{IsTooLong}
+use Rattle.session_reports.specs.Reports.{IsReportOfRun, IsReportOfRuns}
+use Rattle.view_commands.specs.Told.{plain}
+use Rattle.view_commands.specs.Views.{fine}
+use Rattle.view_commands.proofs.ReportsTold.{long_report}
+use Rattle.view_commands.proofs.reports.report_of.Goals as goal
+
+pub returns-in-Ok : goal.returns-in-Ok
+returns-in-Ok c =
+    let told : c.plain.result ≡ plain (fine (string_bytes c.in-Ok.text)) = search rules in
+    inl (record { text = string_bytes c.in-Ok.text; is_text = c.in-Ok.ensures.text; is_told = told })
+
+pub returns-in-Err : goal.returns-in-Err
+returns-in-Err c =
+    let session : Session = record { header = c.args.header.now; steps = c.args.steps.now } in
+    long_report (IsReportOfRun c.args.view.form c.args.view.settled session) (IsTooLong c.args.view.settled session) c.in-Err.fault c.not_settled.result
+    (λ is. c.in-Err.ensures.long (ap (λ (fault : SettleFault). Err fault) is)) c.not_settled.ensures.why c.not_settled.ensures.line

@@ -1,0 +1,35 @@
+-- What is told of the numbers of runs.
+use Rattle.std.specs.Prelude.{◌≡◌, ◌⊎◌, ℕ, List, [], ◌∷◌}
+use Rattle.bench_types.specs.declared.edit.Edit.{Edit}
+use Rattle.bench_types.specs.Session.{Session}
+use Rattle.bench_model.specs.Edits.{after_edits}
+use Rattle.session_reports.specs.Figures.{IsTooLong}
+use Rattle.session_reports.specs.Reports.{IsReportOfRun, IsReportOfRuns}
+use Rattle.view_commands.specs.declared.request.ReportView.{ReportView}
+use Rattle.view_commands.specs.SettledViews.{too_long}
+use Rattle.view_commands.specs.Told.{Told, plain}
+use Rattle.view_commands.specs.Views.{fine}
+
+-- told is a text of which the claim holds
+pub record IsToldText (claim : List ℕ → Type 0) (told : Told) : Type 0 where
+  pub text : List ℕ
+  pub is_text : claim text
+  pub is_told : told ≡ plain (fine text)
+
+-- the report of the session's run; J2 where its settled run has too many steps
+abbrev pub IsReportedAlone : ReportView → Session → Told → Type 0
+IsReportedAlone view session told =
+    IsToldText (IsReportOfRun view.form view.settled session) told
+    ⊎ (IsTooLong view.settled session × (told ≡ too_long))
+
+-- the report of both sessions' runs; J2 where a settled run has too many steps
+abbrev pub IsReportedBeside : ReportView → Session → Session → Told → Type 0
+IsReportedBeside view session edited told =
+    IsToldText (IsReportOfRuns view.form view.settled session edited) told
+    ⊎ ((IsTooLong view.settled session ⊎ IsTooLong view.settled edited) × (told ≡ too_long))
+
+-- the report of the session's run, and with edits that of the run after them beside it
+abbrev pub IsReported : ReportView → Session → List Edit → Told → Type 0
+IsReported view session [] told = IsReportedAlone view session told
+IsReported view session (edit ∷ edits) told =
+    IsReportedBeside view session (after_edits session (edit ∷ edits)) told

@@ -1,5 +1,6 @@
 mod BothTold
 mod CommandLine
+mod CommandLines
 mod EditsKept
 mod MemoryRefused
 mod NamesFound

@@ -1,4 +1,5 @@
 pub mod CommandLine
+pub mod CommandLines
 pub mod Commands
 pub mod Interests
 pub mod Options

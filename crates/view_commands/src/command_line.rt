@@ -40,9 +40,9 @@ Example: smp_view session examples/another-call.json";
 
 // Below the arguments of a settled run.
 const SETTLED_RUNS: &str =
-    "That is what a target makes of the calls, ticks and interrupts of the session: each switch and
-each return from a call is made by itself. Standard error says how many calls of which tasks were
-not made.
+    "A settled run is what a target makes of the calls, ticks and interrupts of a session: each switch
+and each return from a call is made by itself. Standard error says how many calls of which tasks
+were not made.
 
 Example: smp_view settle examples/held-kernel.json";
 

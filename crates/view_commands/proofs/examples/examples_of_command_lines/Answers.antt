@@ -1,0 +1,14 @@
+use Rattle.view_commands.proofs.CommandLines.{helps, mistakes, traces, views}
+use Rattle.view_commands.proofs.examples.examples_of_command_lines.Goals as goal
+
+pub returns-clause-traces : goal.returns-clause-traces
+returns-clause-traces c = traces
+
+pub returns-clause-views : goal.returns-clause-views
+returns-clause-views c = views
+
+pub returns-clause-helps : goal.returns-clause-helps
+returns-clause-helps c = helps
+
+pub returns-clause-mistakes : goal.returns-clause-mistakes
+returns-clause-mistakes c = mistakes

@@ -1,0 +1,119 @@
+-- Worked command lines.
+use Rattle.std.specs.Prelude.{◌≡◌, ℕ, List, [], ◌∷◌, Option, Some, None, codes}
+use Rattle.clap.specs.Words.{Text}
+use Rattle.run_views.specs.declared.places.Places.{Places}
+use Rattle.view_commands.specs.declared.request.Command.TheVariants.{Plain, Settled}
+use Rattle.view_commands.specs.declared.request.SettledView.TheVariants as settled
+use Rattle.view_commands.specs.declared.request.View.TheVariants as view
+use Rattle.view_commands.specs.CommandLine.{Asked, a_view, help, a_mistake, asked}
+
+-- by the words after the program's name
+abbrev pub asked_after : List Text → Asked
+asked_after words = asked (Some (codes "smp_view" ∷ words))
+
+abbrev pub places : ℕ → ℕ → Places
+places from to = record { from = from; to = to }
+
+-- the last place, where none is given
+abbrev pub most : ℕ
+most = 4294967295
+
+-- a trace of these places, tasks and cores, of a file or of standard input
+abbrev pub a_trace : Places → List Text → List ℕ → Option Text → Asked
+a_trace places tasks cores =
+    a_view (Plain (view.Trace (record { places = places; tasks = tasks; cores = cores })))
+
+-- the same of the settled run
+abbrev pub a_settled_trace : Places → List Text → List ℕ → Option Text → Asked
+a_settled_trace places tasks cores =
+    a_view (Settled (settled.Trace (record { places = places; tasks = tasks; cores = cores })))
+
+pub record WorkedTraces : Type 0 where
+  pub bare : asked_after (codes "trace" ∷ []) ≡ a_trace (places 0 most) [] [] None
+  pub from :
+      asked_after (codes "trace" ∷ codes "--from" ∷ codes "3" ∷ [])
+      ≡ a_trace (places 3 most) [] [] None
+  pub between :
+      asked_after (codes "trace" ∷ codes "--to=+7" ∷ codes "--from=003" ∷ [])
+      ≡ a_trace (places 3 7) [] [] None
+  pub hyphen_before_zero :
+      asked_after (codes "trace" ∷ codes "--from=-0" ∷ []) ≡ a_trace (places 0 most) [] [] None
+  pub tasks_and_cores :
+      asked_after (codes "trace" ∷ codes "--task" ∷ codes "B" ∷ codes "--core" ∷ codes "1"
+      ∷ codes "--task=-x" ∷ codes "--core=0" ∷ [])
+      ≡ a_trace (places 0 most) (codes "B" ∷ codes "-x" ∷ []) (1 ∷ 0 ∷ []) None
+  pub file :
+      asked_after (codes "trace" ∷ codes "run.json" ∷ [])
+      ≡ a_trace (places 0 most) [] [] (Some (codes "run.json"))
+  pub file_before_options :
+      asked_after (codes "trace" ∷ codes "run.json" ∷ codes "--from" ∷ codes "3" ∷ [])
+      ≡ a_trace (places 3 most) [] [] (Some (codes "run.json"))
+  pub file_behind_options :
+      asked_after (codes "trace" ∷ codes "--from" ∷ codes "3" ∷ codes "run.json" ∷ [])
+      ≡ a_trace (places 3 most) [] [] (Some (codes "run.json"))
+  pub standard_input :
+      asked_after (codes "trace" ∷ codes "-" ∷ []) ≡ a_trace (places 0 most) [] [] None
+  pub end_of_options :
+      asked_after (codes "trace" ∷ codes "--" ∷ codes "-x" ∷ [])
+      ≡ a_trace (places 0 most) [] [] (Some (codes "-x"))
+  pub settled :
+      asked_after (codes "trace" ∷ codes "--from" ∷ codes "3" ∷ codes "--settle" ∷ [])
+      ≡ a_settled_trace (places 3 most) [] [] None
+
+pub record WorkedViews : Type 0 where
+  pub session : asked_after (codes "session" ∷ []) ≡ a_view (Plain view.Session) None
+  pub session_of_file :
+      asked_after (codes "session" ∷ codes "run.json" ∷ [])
+      ≡ a_view (Plain view.Session) (Some (codes "run.json"))
+  pub settle : asked_after (codes "settle" ∷ codes "-" ∷ []) ≡ a_view (Settled settled.Session) None
+  pub compare : asked_after (codes "compare" ∷ []) ≡ a_view (Plain view.Compare) None
+  pub compare_settled :
+      asked_after (codes "compare" ∷ codes "run.json" ∷ codes "--settle" ∷ [])
+      ≡ a_view (Settled settled.Compare) (Some (codes "run.json"))
+  pub picture :
+      asked_after (codes "timeline" ∷ []) ≡ a_view (Plain (view.Timeline (places 0 most))) None
+  pub picture_between :
+      asked_after (codes "timeline" ∷ codes "--from" ∷ codes "3" ∷ codes "--to" ∷ codes "7" ∷ [])
+      ≡ a_view (Plain (view.Timeline (places 3 7))) None
+  pub picture_settled :
+      asked_after (codes "timeline" ∷ codes "--to" ∷ codes "7" ∷ codes "--settle" ∷ [])
+      ≡ a_view (Settled (settled.Timeline (places 0 7))) None
+
+pub record WorkedHelp : Type 0 where
+  pub of_program : asked_after (codes "--help" ∷ []) ≡ help
+  pub by_letter : asked_after (codes "-h" ∷ codes "again" ∷ []) ≡ help
+  pub of_trace :
+      asked_after (codes "trace" ∷ codes "--settle" ∷ codes "--from" ∷ codes "3"
+      ∷ codes "--help" ∷ [])
+      ≡ help
+  pub of_session : asked_after (codes "session" ∷ codes "run.json" ∷ codes "-h" ∷ []) ≡ help
+  pub of_settle : asked_after (codes "settle" ∷ codes "--help" ∷ []) ≡ help
+  pub of_compare : asked_after (codes "compare" ∷ codes "-h" ∷ []) ≡ help
+  pub of_timeline : asked_after (codes "timeline" ∷ codes "--help" ∷ []) ≡ help
+
+pub record WorkedMistakes : Type 0 where
+  pub no_command : asked_after [] ≡ a_mistake
+  pub help_as_command : asked_after (codes "help" ∷ []) ≡ a_mistake
+  pub unknown_command : asked_after (codes "trce" ∷ []) ≡ a_mistake
+  pub option_before_command : asked_after (codes "--settle" ∷ codes "trace" ∷ []) ≡ a_mistake
+  pub unknown_option : asked_after (codes "trace" ∷ codes "-x" ∷ []) ≡ a_mistake
+  pub no_value : asked_after (codes "trace" ∷ codes "--from" ∷ []) ≡ a_mistake
+  pub option_as_value :
+      asked_after (codes "trace" ∷ codes "--task" ∷ codes "--settle" ∷ []) ≡ a_mistake
+  pub negative_place : asked_after (codes "trace" ∷ codes "--from=-1" ∷ []) ≡ a_mistake
+  pub place_too_great :
+      asked_after (codes "trace" ∷ codes "--to" ∷ codes "4294967296" ∷ []) ≡ a_mistake
+  pub core_no_number : asked_after (codes "trace" ∷ codes "--core" ∷ codes "x" ∷ []) ≡ a_mistake
+  pub two_first_places :
+      asked_after (codes "trace" ∷ codes "--from" ∷ codes "3" ∷ codes "--from=3" ∷ []) ≡ a_mistake
+  pub two_settles :
+      asked_after (codes "compare" ∷ codes "--settle" ∷ codes "--settle" ∷ []) ≡ a_mistake
+  pub settle_with_value : asked_after (codes "compare" ∷ codes "--settle=x" ∷ []) ≡ a_mistake
+  pub two_files :
+      asked_after (codes "session" ∷ codes "run.json" ∷ codes "other.json" ∷ []) ≡ a_mistake
+  pub session_from_place :
+      asked_after (codes "session" ∷ codes "--from" ∷ codes "3" ∷ []) ≡ a_mistake
+  pub settled_settle : asked_after (codes "settle" ∷ codes "--settle" ∷ []) ≡ a_mistake
+  pub compared_task : asked_after (codes "compare" ∷ codes "--task" ∷ codes "A" ∷ []) ≡ a_mistake
+  pub picture_of_core : asked_after (codes "timeline" ∷ codes "--core" ∷ codes "0" ∷ []) ≡ a_mistake
+  pub no_text : asked None ≡ a_mistake

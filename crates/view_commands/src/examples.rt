@@ -1,0 +1,14 @@
+//! Command lines that were worked out by hand.
+ghost use Rattle.view_commands.specs.CommandLines.{WorkedHelp, WorkedMistakes, WorkedTraces, WorkedViews};
+
+/// Command lines with what they ask for. It does nothing: its contract is the laws, one a clause.
+pub fn examples_of_command_lines()
+    // A trace is asked for, with the places, tasks, cores and file that were worked out by hand.
+    ensures traces { WorkedTraces }
+    // Another view is asked for.
+    ensures views { WorkedViews }
+    // Help is asked for.
+    ensures helps { WorkedHelp }
+    // Nothing that the program does is asked for.
+    ensures mistakes { WorkedMistakes }
+{}

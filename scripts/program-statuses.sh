@@ -604,6 +604,8 @@ step 3: yield core 0 by C
   core 0 pend set
 place 5, tick 1; core 0 C; core 1 B
 ' '' trace --task C
+run 'a trace of places behind equals signs' 0 'place 5, tick 1; core 0 C; core 1 B
+' '' trace --from=5 --to=7
 run 'a trace of a core of which no step is' 0 'place 5, tick 1; core 0 C; core 1 B
 ' '' trace --core 1
 run 'a trace of all tasks and cores' 0 'place 0, tick 0; core 0 A; core 1 B
@@ -650,6 +652,9 @@ run_to 'the trace of a settled run' "$folder/settled-trace" trace --settle
 run 'a trace of a file' 0 "$traced" '' trace "$first"
 run 'a trace of places of a file' 0 'place 5, tick 1; core 0 C; core 1 B
 ' '' trace --from 5 "$first"
+run 'a file before an option' 0 'place 5, tick 1; core 0 C; core 1 B
+' '' trace "$first" --from 5
+run 'a file behind the end of the options' 0 "$traced" '' trace -- "$first"
 run_to 'the comparison of a file' "$folder/compared" compare examples/compare/shared-mutex.json
 run_to 'a picture of a file' docs/pictures/held-kernel.svg timeline examples/held-kernel.json
 run 'a file whose document is refused' 1 $'refused H2 edits\n' '' trace examples/rigs/interrupt-driven-driver.json
@@ -665,6 +670,18 @@ cp "$first" "$folder/-run.json"
 )
 status=$?
 compare 'a file whose name begins with a hyphen, by its path' 0 "$traced" ''
+(
+    cd "$folder" || exit 126
+    exec "$program" trace -- -run.json <in >out 2>err
+)
+status=$?
+compare 'a file whose name begins with a hyphen, behind the end of the options' 0 "$traced" ''
+cp "$first" "$folder/in"
+run 'a hyphen in place of a file' 0 "$traced" '' trace -
+run 'a hyphen, then an option' 0 'place 5, tick 1; core 0 C; core 1 B
+' '' trace - --from 5
+run_to 'a settled trace, --settle behind a file' "$folder/settled-trace" trace --from 0 "$folder/settled" --settle
+: >"$folder/in"
 if [ "$(id -u)" != 0 ]; then
     cp "$first" "$folder/closed.json"
     chmod 0 "$folder/closed.json"
@@ -729,67 +746,178 @@ done
 # ---- help
 
 session '' ''
-"$program" --help </dev/null >"$folder/help" 2>"$folder/err"
-run_to 'trace --help' "$folder/help" trace --help
-run_to 'a file, then --help' "$folder/help" trace "$folder/none" --help
-run_to '--help behind what is no command' "$folder/help" --to 3 --help
-sed -n 's/^ *smp_view --help$/&/p; /^usage: smp_view trace/p' "$folder/help" >"$folder/out"
-status=0
-: >"$folder/err"
-compare 'the help names its commands' 0 'usage: smp_view trace [--settle] [--from PLACE] [--to PLACE]
-       smp_view --help
-' ''
+view_help='Shows what a run of a scheduling session does, and why
+
+Usage: smp_view <COMMAND>
+
+Commands:
+  trace     Prints each place of a run, and each step with all that it changed
+  session   Prints the session with its edits made, as a document
+  settle    Prints the settled run of the session with its edits made, as a document
+  compare   Shows the runs before and after the edits, and what each task gained and lost
+  timeline  Draws the runs before and after the edits, as an SVG picture
+
+Options:
+  -h, --help  Print help
+
+Documents, each a JSON text, in FILE or on standard input:
+  session         the cores, priorities and tasks, and the steps of a run
+  bench document  a session, and edits of it: they are made one after another, and those that are
+                  refused are passed over
+
+Exit status:
+  0  it was shown
+  1  the document or its settled run is refused, or has no such task or core, or its picture has
+     more than 4000 places: standard output says which
+  2  a bad command line
+  3  memory was refused, a read or a write failed, or the file can'\''t be opened
+
+Example: smp_view trace --from 2 --to 3 examples/first-run.json
+'
+trace_help='Prints each place of a run, and each step with all that it changed
+
+Usage: smp_view trace [OPTIONS] [FILE]
+
+Arguments:
+  [FILE]  The file of the document; standard input if it is - or left out
+
+Options:
+      --settle        Shows settled runs: what a target makes of the calls, ticks and interrupts
+      --from <PLACE>  The first place that is shown, or 0 if left out
+      --to <PLACE>    The last place that is shown, or the last of the run if left out
+      --task <NAME>   Shows the steps that concern this task; may stand several times
+      --core <CORE>   Shows the steps that concern this core; may stand several times
+  -h, --help          Print help
+
+Without a task or a core that is named, each step is shown.
+A name that begins with a hyphen stands behind an equals sign: --task=-x
+
+Example: smp_view trace --from 2 --to 3 examples/first-run.json
+'
+session_help='Prints the session with its edits made, as a document
+
+Usage: smp_view session [FILE]
+
+Arguments:
+  [FILE]  The file of the document; standard input if it is - or left out
+
+Options:
+  -h, --help  Print help
+
+The edits are made one after another, and those that are refused are passed over.
+
+Example: smp_view session examples/another-call.json
+'
+settle_help='Prints the settled run of the session with its edits made, as a document
+
+Usage: smp_view settle [FILE]
+
+Arguments:
+  [FILE]  The file of the document; standard input if it is - or left out
+
+Options:
+  -h, --help  Print help
+
+A settled run is what a target makes of the calls, ticks and interrupts of a session: each switch
+and each return from a call is made by itself. Standard error says how many calls of which tasks
+were not made.
+
+Example: smp_view settle examples/held-kernel.json
+'
+compare_help='Shows the runs before and after the edits, and what each task gained and lost
+
+Usage: smp_view compare [OPTIONS] [FILE]
+
+Arguments:
+  [FILE]  The file of the document; standard input if it is - or left out
+
+Options:
+      --settle  Shows settled runs: what a target makes of the calls, ticks and interrupts
+  -h, --help    Print help
+
+With --settle it also says which calls were not made.
+
+Example: smp_view compare --settle examples/settled/shorter-timeout.json
+'
+timeline_help='Draws the runs before and after the edits, as an SVG picture
+
+Usage: smp_view timeline [OPTIONS] [FILE]
+
+Arguments:
+  [FILE]  The file of the document; standard input if it is - or left out
+
+Options:
+      --settle        Shows settled runs: what a target makes of the calls, ticks and interrupts
+      --from <PLACE>  The first place that is shown, or 0 if left out
+      --to <PLACE>    The last place that is shown, or the last of the run if left out
+  -h, --help          Print help
+
+A picture shows at most 4000 places.
+
+Example: smp_view timeline examples/questions/shared-mutex.json
+'
+run '--help' 0 "$view_help" '' --help
+run '-h' 0 "$view_help" '' -h
+run '--help, then more words' 0 "$view_help" '' --help trace
+run 'trace --help' 0 "$trace_help" '' trace --help
+run 'trace -h, then more words' 0 "$trace_help" '' trace -h again
+run 'a file, then --help' 0 "$trace_help" '' trace "$folder/none" --help
+run 'options, then --help' 0 "$trace_help" '' trace --settle --task A --from=3 --help
+run 'session --help' 0 "$session_help" '' session --help
+run 'settle -h' 0 "$settle_help" '' settle -h
+run 'compare --help' 0 "$compare_help" '' compare --help
+run 'timeline --help' 0 "$timeline_help" '' timeline --help
 
 # ---- bad command lines
 
-usage='usage: smp_view trace [--settle] [--from PLACE] [--to PLACE]
-                      [--task NAME].. [--core CORE].. [FILE]
-       smp_view session [FILE]
-       smp_view settle [FILE]
-       smp_view compare [--settle] [FILE]
-       smp_view timeline [--settle] [--from PLACE] [--to PLACE] [FILE]
-       smp_view --help
-'
-bad_line() { # NAME WORD..
-    local name="$1"
-    shift
-    run "$name" 2 '' "$usage" "$@"
+bad_line() { # NAME TEXT WORD..: TEXT is how clap's text begins, behind its first word
+    local name="$1" text="$2"
+    shift 2
+    run "$name" 2 '' "error: $text" "$@"
 }
-bad_line 'no command'
-bad_line 'an unknown command' replay
-bad_line 'a command in capitals' TRACE
-bad_line 'an empty word' ''
-bad_line 'a file before the command' "$first" trace
-bad_line 'an option before the command' --from 3 trace
-bad_line '-h' -h
-bad_line 'an unknown option' trace --until 3
-bad_line 'an option without its word' trace --from
-bad_line 'a task without its word' trace --from 3 --task
-bad_line 'a place that is no number' trace --from x
-bad_line 'a negative place' trace --from -1
-bad_line 'a place that is too great' trace --to 4294967296
-bad_line 'a core that is no number' trace --core x
-bad_line 'two first places' trace --from 3 --from 3
-bad_line 'a place behind an equals sign' trace --from=3
-bad_line 'two files' trace "$first" "$first"
-bad_line 'a file before an option' trace "$first" --from 3
-bad_line 'a hyphen in place of a file' trace -
-bad_line 'a file whose name begins with a hyphen' trace -run.json
-bad_line 'the end of the options' trace --
-bad_line '--settle behind another option' trace --from 1 --settle
-bad_line '--settle twice' trace --settle --settle
-bad_line '--settle behind a file' compare "$first" --settle
-bad_line 'a session from a place' session --from 3
-bad_line 'a settled run from a place' settle --from 3
-bad_line 'a settled run that is settled' settle --settle
-bad_line 'a session of two files' session "$first" "$first"
-bad_line 'a comparison of a task' compare --task A
-bad_line 'a comparison with an unknown option' compare -x
-bad_line 'a picture of a task' timeline --task A
-bad_line 'a picture of a core' timeline --from 3 --core 0
-bad_line 'a settled picture of a task' timeline --settle --task A
-bad_line 'a word that is not UTF-8' $'\377'
-bad_line 'a file whose name is not UTF-8' trace $'run\300'
+bad_line 'no command' "'smp_view' requires a subcommand but one was not provided"
+bad_line 'an unknown command' "unrecognized subcommand 'replay'" replay
+bad_line 'a misspelt command' "unrecognized subcommand 'tracee'
+
+  tip: a similar subcommand exists: 'trace'
+" tracee
+bad_line 'a command in capitals' "unrecognized subcommand 'TRACE'" TRACE
+bad_line 'help, which is no command' "unrecognized subcommand 'help'" help trace
+bad_line 'an empty word' "unrecognized subcommand ''" ''
+bad_line 'a file before the command' "unrecognized subcommand '$first'" "$first" trace
+bad_line 'an option before the command' "unexpected argument '--from' found" --from 3 trace
+bad_line '--help behind what is no command' "unexpected argument '--to' found" --to 3 --help
+bad_line '--version' "unexpected argument '--version' found" --version
+bad_line 'an unknown option' "unexpected argument '--until' found" trace --until 3
+bad_line 'a misspelt option' "unexpected argument '--setle' found
+
+  tip: a similar argument exists: '--settle'
+" trace --setle
+bad_line 'an option without its value' "a value is required for '--from <PLACE>' but none was supplied" trace --from
+bad_line 'an option in place of a value' "a value is required for '--from <PLACE>' but none was supplied" trace --from --help
+bad_line 'a task without its name' "a value is required for '--task <NAME>' but none was supplied" trace --from 3 --task
+bad_line 'a place that is no number' "invalid value 'x' for '--from <PLACE>'" trace --from x
+bad_line 'a negative place' "unexpected argument '-1' found" trace --from -1
+bad_line 'a negative place behind an equals sign' "invalid value '-1' for '--from <PLACE>'" trace --from=-1
+bad_line 'a place that is too great' "invalid value '4294967296' for '--to <PLACE>'" trace --to 4294967296
+bad_line 'a core that is no number' "invalid value 'x' for '--core <CORE>'" trace --core 1 --core x
+bad_line 'two first places' "the argument '--from <PLACE>' cannot be used multiple times" trace --from 3 --from=3
+bad_line 'two files' "unexpected argument '$first' found" trace "$first" "$first"
+bad_line 'a file behind a hyphen' "unexpected argument '$first' found" trace - "$first"
+bad_line 'a file whose name begins with a hyphen' "unexpected argument '-r' found" trace -run.json
+bad_line '--settle twice' "the argument '--settle' cannot be used multiple times" trace --settle --settle
+bad_line '--settle with a value' "unexpected value 'x' for '--settle' found" trace --settle=x
+bad_line 'a session from a place' "unexpected argument '--from' found" session --from 3
+bad_line 'a settled run from a place' "unexpected argument '--from' found" settle --from 3
+bad_line 'a settled run that is settled' "unexpected argument '--settle' found" settle --settle
+bad_line 'a session of two files' "unexpected argument '$first' found" session "$first" "$first"
+bad_line 'a comparison of a task' "unexpected argument '--task' found" compare --task A
+bad_line 'a comparison with an unknown option' "unexpected argument '-x' found" compare -x
+bad_line 'a picture of a task' "unexpected argument '--task' found" timeline --task A
+bad_line 'a picture of a core' "unexpected argument '--core' found" timeline --from 3 --core 0
+bad_line 'a settled picture of a task' "unexpected argument '--task' found" timeline --settle --task A
+bad_line 'a word that is not UTF-8' 'invalid UTF-8 was detected in one or more arguments' $'\377'
+bad_line 'a file whose name is not UTF-8' 'invalid UTF-8 was detected in one or more arguments' trace $'run\300'
 for words in '' --help 'trace --from' 'session a b'; do
     # shellcheck disable=SC2086
     { "$program" $words >/dev/null 2>&1; cat >"$folder/out"; } <"$first"

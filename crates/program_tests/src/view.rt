@@ -3,6 +3,7 @@ mod command_lines;
 mod files;
 mod pictures;
 mod processes;
+mod reports;
 mod samples;
 mod settled;
 mod traces;

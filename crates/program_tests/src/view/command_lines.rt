@@ -1,20 +1,28 @@
 //! What a command line asks for.
 
+use run_pictures::MAX_PLACES;
+use session_reports::Form;
 use std::alloc::{AllocError, Global};
 use std::process::Abort;
 use std::test::Fail;
-use view_commands::{Command, FileName, Request, Selection, SettledView, View, request_in};
+use view_commands::{
+    Command, FileName, ReportView, Request, Selection, SettledView, View, request_of,
+};
 
 /// Command lines, and what each asks for: a trace with its first place, its last, its tasks and its
-/// cores, maybe of a settled run, another command, each with the file that is named, help, or
-/// nothing that the program does.
+/// cores, maybe of a settled run, another command, each with the file that is named, help with its
+/// first line, or nothing that the program does.
 const COMMAND_LINES: &str = "\
 smp_view trace => 0 4294967295
 smp_view trace --from 3 => 3 4294967295
+smp_view trace --from=3 => 3 4294967295
 smp_view trace --to +7 --from 003 => 3 7
-smp_view trace --task B --core 1 --to 7 --task --to => 0 7 task B task --to core 1
+smp_view trace --task B --core 1 --to 7 --task C --core=0 => 0 7 task B task C core 1 core 0
+smp_view trace --task=--to => 0 4294967295 task --to
 smp_view trace --settle => settled 0 4294967295
 smp_view trace --settle --to 7 --task B => settled 0 7 task B
+smp_view trace --from 1 --settle => settled 1 4294967295
+smp_view trace run.json --settle --from 1 => settled 1 4294967295 file run.json
 smp_view session => session
 smp_view settle => settled
 smp_view compare => compare
@@ -22,53 +30,77 @@ smp_view compare --settle => settled compare
 smp_view timeline => picture 0 4294967295
 smp_view timeline --to 7 --from 3 => picture 3 7
 smp_view timeline --settle => settled picture 0 4294967295
+smp_view timeline --from 3 --settle => settled picture 3 4294967295
 smp_view timeline --settle --to 7 run.json => settled picture 0 7 file run.json
+smp_view report => report table
+smp_view report --json => report object
+smp_view report --settle => report settled table
+smp_view report run.json --json --settle => report settled object file run.json
 smp_view trace run.json => 0 4294967295 file run.json
 smp_view trace 3 => 0 4294967295 file 3
+smp_view trace session => 0 4294967295 file session
 smp_view trace --from 3 --task A run.json => 3 4294967295 task A file run.json
+smp_view trace run.json --from 3 => 3 4294967295 file run.json
 smp_view trace --task run.json => 0 4294967295 task run.json
 smp_view trace --settle run.json => settled 0 4294967295 file run.json
 smp_view trace --settle --core 1 run.json => settled 0 4294967295 core 1 file run.json
-smp_view trace --task --settle => 0 4294967295 task --settle
+smp_view trace - => 0 4294967295
+smp_view trace - --from 3 => 3 4294967295
+smp_view trace -- - => 0 4294967295
+smp_view trace -- -x => 0 4294967295 file -x
+smp_view session - => session
 smp_view session run.json => session file run.json
 smp_view settle run.json => settled file run.json
-smp_view compare ./--run => compare file ./--run
+smp_view compare ./- => compare file ./-
 smp_view compare --settle run.json => settled compare file run.json
+smp_view compare run.json --settle => settled compare file run.json
 smp_view timeline --to 7 run.json => picture 0 7 file run.json
-smp_view --help => help
-smp_view trace --from --help => help
-smp_view nothing --help => help
+smp_view --help => help: Shows what a run of a scheduling session does, and why
+smp_view -h => help: Shows what a run of a scheduling session does, and why
+smp_view trace --help => help: Prints each place of a run, and each step with all that it changed
+smp_view trace -h --from => help: Prints each place of a run, and each step with all that it changed
+smp_view session run.json -h => help: Prints the session with its edits made, as a document
+smp_view timeline --from 3 -h => help: Draws the runs before and after the edits, as an SVG picture
 smp_view => bad
 smp_view help => bad
-smp_view trace - => bad
+smp_view help trace => bad
+smp_view nothing --help => bad
+smp_view trce => bad
+smp_view TRACE => bad
+smp_view --from 3 trace => bad
+smp_view --settle trace => bad
 smp_view trace -x => bad
-smp_view trace run.json --from 3 => bad
 smp_view trace run.json other.json => bad
+smp_view trace - run.json => bad
 smp_view trace --from => bad
+smp_view trace --from --help => bad
 smp_view trace --task => bad
+smp_view trace --task --settle => bad
 smp_view trace --core x => bad
+smp_view trace --core 4294967296 => bad
 smp_view trace --from 4294967296 => bad
 smp_view trace --from -1 => bad
+smp_view trace --from=-1 => bad
 smp_view trace --from 3 --from 3 => bad
+smp_view trace --to 3 --from 3 --to=3 => bad
 smp_view trace --until 3 => bad
-smp_view trace --from 1 --settle => bad
-smp_view trace --from 1 --settle run.json => bad
 smp_view trace --settle --settle => bad
-smp_view trace --settle --from 3 --from 3 => bad
+smp_view trace --settle=no => bad
 smp_view session --from 3 => bad
 smp_view session --settle => bad
 smp_view settle --settle => bad
 smp_view settle --from 3 => bad
 smp_view settle run.json other.json => bad
 smp_view compare run.json other.json => bad
-smp_view compare run.json --settle => bad
 smp_view compare --settle --from 3 => bad
-smp_view timeline --from 3 --settle => bad
-smp_view timeline --settle --task A => bad
+smp_view compare --task A => bad
 smp_view compare -x => bad
+smp_view compare --json => bad
+smp_view report --json --json => bad
+smp_view report --from 3 => bad
 smp_view timeline -3 => bad
 smp_view timeline --task A => bad
-smp_view --from 3 trace => bad";
+smp_view timeline --settle --core 0 => bad";
 
 #[test]
 fn command_lines(rt: HostRuntime) -> Result<(), Fail> {
@@ -79,12 +111,44 @@ fn command_lines(rt: HostRuntime) -> Result<(), Fail> {
     Ok(())
 }
 
+#[test]
+fn words_that_are_no_text(rt: HostRuntime) -> Result<(), Fail> {
+    let request = request_of(rt.alloc(), None::<&[&str]>)?;
+    check_mistake(&rt, text_of(&request));
+    Ok(())
+}
+
+/// The help of a picture says how many places it shows at most.
+#[test]
+fn most_places_in_help(rt: HostRuntime) -> Result<(), Fail> {
+    let words = ["smp_view", "timeline", "--help"];
+    let request = request_of(rt.alloc(), Some(words.as_slice()))?;
+    let most = format!(in rt.alloc(); " {MAX_PLACES} places")?;
+    check_told(&rt, text_of(&request), most.as_str());
+    Ok(())
+}
+
+fn check_mistake(rt: &impl Abort, text: &str) {
+    assert_eq!(rt; mistake_told(text), "bad");
+}
+
+fn check_told(rt: &impl Abort, text: &str, part: &str) {
+    assert!(rt; text.contains(part), "{text}");
+}
+
+fn text_of(request: &Request) -> &str {
+    match request {
+        Request::Show(_, _) => "",
+        Request::Help(text) | Request::Bad(text) => text.as_str(),
+    }
+}
+
 fn check_line(rt: &impl Abort, alloc: Global, line: &str, asked: &str) -> Result<(), AllocError> {
     let mut words = Vec::new(alloc);
     for word in line.split(' ') {
         words.push(String::from_str(alloc, word)?)?;
     }
-    let request = request_in(alloc, words.as_slice())?;
+    let request = request_of(alloc, Some(words.as_slice()))?;
     let told = told_of(alloc, &request)?;
     assert_eq!(rt; told.as_str(), asked, "{line}");
     Ok(())
@@ -93,9 +157,21 @@ fn check_line(rt: &impl Abort, alloc: Global, line: &str, asked: &str) -> Result
 fn told_of(alloc: Global, request: &Request) -> Result<String, AllocError> {
     match request {
         Request::Show(command, file) => view_told(alloc, command, file.as_ref()),
-        Request::Help => String::from_str(alloc, "help"),
-        Request::Bad => String::from_str(alloc, "bad"),
+        Request::Help(text) => help_told(alloc, text.as_str()),
+        Request::Bad(text) => String::from_str(alloc, mistake_told(text.as_str())),
     }
+}
+
+fn help_told(alloc: Global, text: &str) -> Result<String, AllocError> {
+    let first = text.lines().next().unwrap_or("");
+    format!(in alloc; "help: {first}")
+}
+
+fn mistake_told(text: &str) -> &str {
+    if text.starts_with("error: ") {
+        return "bad";
+    }
+    text
 }
 
 fn view_told(
@@ -115,7 +191,17 @@ fn command_told(alloc: Global, command: &Command) -> Result<String, AllocError> 
     match command {
         Command::Plain(view) => plain_told(alloc, view),
         Command::Settled(view) => settled_told(alloc, view),
+        Command::Report(view) => report_told(alloc, *view),
     }
+}
+
+fn report_told(alloc: Global, view: ReportView) -> Result<String, AllocError> {
+    let settled = if view.settled { "settled " } else { "" };
+    let form = match view.form {
+        Form::Table => "table",
+        Form::Json => "object",
+    };
+    format!(in alloc; "report {settled}{form}")
 }
 
 fn plain_told(alloc: Global, view: &View) -> Result<String, AllocError> {

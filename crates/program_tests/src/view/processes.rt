@@ -17,6 +17,7 @@ use view_commands::{DocumentSource, run_program};
 fn a_trace_by_the_program(rt: HostRuntime) -> Result<(), Fail> {
     for (line, standard, file) in [
         ("smp_view trace", FIRST_RUN, ""),
+        ("smp_view trace -", FIRST_RUN, ""),
         ("smp_view trace run.json", "", FIRST_RUN),
     ] {
         let words = Ok(args_of(rt.alloc(), line)?);

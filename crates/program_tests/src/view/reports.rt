@@ -1,0 +1,111 @@
+//! Reports: tables and JSON. What is wanted is what `scripts/report.py` makes of the documents.
+use crate::processes::args_of;
+use crate::view::processes::{Wanted, check_program};
+use crate::view::samples::{FIRST_RUN, SHARED_MUTEX};
+use std::alloc::AllocError;
+use std::process::Abort;
+use std::test::Fail;
+
+/// The numbers of `FIRST_RUN`.
+const ONE_RUN: &str = "     value number
+         1 A.blocked.delay
+         1 A.blocked.delay.longest from place 2
+         2 A.top_priority
+         1 B.run
+         1 B.run.longest from place 2
+         1 B.run.1
+         1 B.run.1.longest from place 2
+         1 B.top_priority
+         1 C.run
+         1 C.run.longest from place 2
+         1 C.run.0
+         1 C.run.0.longest from place 2
+         1 C.switches
+         1 C.top_priority
+         1 core.0.user
+         1 core.0.user.longest from place 2
+         1 core.1.user
+         1 core.1.user.longest from place 2
+";
+
+/// Those of the settled runs of `SHARED_MUTEX`, before its edits and after them.
+const TWO_RUNS: &str = "    before      after     change number
+         0          1         +1 control.run
+         0          1         +1 control.run.longest
+         0          1         +1 control.run.0
+         0          1         +1 control.run.0.longest
+         1          0         -1 control.blocked.mutex
+         1          0         -1 control.blocked.mutex.longest
+         1          0         -1 control.blocked.mutex.0
+         1          0         -1 control.blocked.mutex.0.longest
+         1          0         -1 control.switches
+         3          3          0 control.top_priority
+         1          1          0 logger.run
+         1          1          0 logger.run.longest
+         1          1          0 logger.run.1
+         1          1          0 logger.run.1.longest
+         1          0         -1 logger.inheritances
+         3          1         -2 logger.top_priority
+         0          1         +1 core.0.user
+         0          1         +1 core.0.user.longest
+         1          0         -1 core.0.idle
+         1          0         -1 core.0.idle.longest
+         1          1          0 core.1.user
+         1          1          0 core.1.user.longest
+         1          1          0 mutex.0.held
+         1          1          0 mutex.0.held.longest
+         1          0         -1 mutex.0.waits
+";
+
+/// A has a core, and a tick finds it there.
+const ONE_TICK: &str = "\
+    {\"format\": 1, \"cores\": 2, \"priorities\": 2, \"slicing\": false, \"tick\": 0, \"\
+    mutexes\": 0, \"tasks\": [{\"name\": \"A\", \"priority\": 1, \"mask\": 3}], \"steps\
+    \": [{\"do\": \"tick\"}]}";
+
+/// All numbers of its settled run.
+const OBJECT: &str = "\
+    {\"places\":{\"A.run.0.longest\":0,\"A.run.longest\":0,\"core.0.user.longest\":0,\"c\
+    ore.1.idle.longest\":0},\"settled\":true,\"values\":{\"A.blocked.delay\":0,\"A.block\
+    ed.delay.longest\":0,\"A.blocked.mutex\":0,\"A.blocked.mutex.held_up\":0,\"A.blocked\
+    .mutex.held_up.longest\":0,\"A.blocked.mutex.longest\":0,\"A.blocked.notification\":\
+    0,\"A.blocked.notification.longest\":0,\"A.inheritances\":0,\"A.not_made\":0,\"A.rea\
+    dy\":0,\"A.ready.inverted\":0,\"A.ready.inverted.longest\":0,\"A.ready.longest\":0,\
+    \"A.refused.E1\":0,\"A.refused.E2\":0,\"A.refused.E3\":0,\"A.refused.E4\":0,\"A.refu\
+    sed.E5\":0,\"A.refused.E6\":0,\"A.refused.E7\":0,\"A.refused.E8\":0,\"A.refused.E9\"\
+    :0,\"A.run\":1,\"A.run.0\":1,\"A.run.0.longest\":1,\"A.run.1\":0,\"A.run.1.longest\"\
+    :0,\"A.run.longest\":1,\"A.switches\":0,\"A.timeouts\":0,\"A.top_priority\":1,\"core\
+    .0.due\":0,\"core.0.due.longest\":0,\"core.0.idle\":0,\"core.0.idle.longest\":0,\"co\
+    re.0.user\":1,\"core.0.user.longest\":1,\"core.1.due\":0,\"core.1.due.longest\":0,\"\
+    core.1.idle\":1,\"core.1.idle.longest\":1,\"core.1.user\":0,\"core.1.user.longest\":\
+    0}}\n";
+
+#[test]
+fn reports(rt: HostRuntime) -> Result<(), Fail> {
+    for (line, document, output) in [
+        ("smp_view report", FIRST_RUN, ONE_RUN),
+        ("smp_view report --settle", SHARED_MUTEX, TWO_RUNS),
+        ("smp_view report --json --settle", ONE_TICK, OBJECT),
+    ] {
+        check(&rt, &rt, line, document, output)?;
+    }
+    Ok(())
+}
+
+/// What the program shows by the words of the line of the document on standard input.
+fn check(
+    rt: &impl Abort,
+    host: &HostRuntime,
+    line: &str,
+    document: &str,
+    output: &str,
+) -> Result<(), AllocError> {
+    let words = Ok(args_of(host.alloc(), line)?);
+    let wanted = Wanted {
+        code: 0,
+        output,
+        errors: "",
+    };
+    check_program(rt, host, words, document, "", wanted);
+    Ok(())
+}

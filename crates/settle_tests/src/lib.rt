@@ -5,4 +5,6 @@
 #[cfg(test)]
 mod compared;
 #[cfg(test)]
+mod numbers;
+#[cfg(test)]
 mod settled;

@@ -13,7 +13,7 @@ use std::test::Fail;
 
 pub(crate) const TICK: Step = Step::Tick;
 
-const fn switch(core: u32) -> Step {
+pub(crate) const fn switch(core: u32) -> Step {
     Step::Switch { core }
 }
 
@@ -35,7 +35,7 @@ fn are_checked(header: &Header, steps: &[Step]) -> bool
 }
 
 /// Each step may stand under the header, or the test fails.
-fn need_checked(rt: &impl Abort, header: &Header, steps: &[Step])
+pub(crate) fn need_checked(rt: &impl Abort, header: &Header, steps: &[Step])
     ensures { All (IsCheckedStep (settings_of header.now)) steps.now }
 {
     assert!(rt; are_checked(header, steps));

@@ -1,0 +1,122 @@
+//! The numbers of runs, and limits of them. Each was counted by hand.
+ghost use Rattle.std.specs.Prelude.{◌≡◌, Ok};
+ghost use Rattle.bench_types.specs.Header.{header_check};
+
+use crate::settled::{TICK, call, need_checked, switch};
+use bench_samples::three_tasks;
+use bench_types::{Call, Header, Step};
+use run_reports::{Bound, figure_called, figures_of, subjects_of};
+use session_reports::{CheckStatus, Checked, Wanted, check, figures_of_session};
+use smp_kernel::Meter;
+use std::process::Abort;
+use std::test::Fail;
+
+/// A waits for two ticks, and is ready when the third comes, while B and C have the cores.
+fn session() -> [Step; 5] {
+    [call(0, 2, Call::Delay(2)), switch(0), TICK, TICK, TICK]
+}
+
+fn value(
+    rt: &impl Abort,
+    host: &HostRuntime,
+    header: &Header,
+    settled: bool,
+    name: &str,
+) -> Result<Option<u32>, Fail>
+    requires { header_check header.now ≡ Ok tt }
+{
+    header.check()?;
+    let steps = session();
+    need_checked(rt, header, &steps);
+    let mut meter = Meter::new(host);
+    let alloc = host.alloc();
+    let figures = figures_of_session(alloc, &mut meter, header, &steps, settled)?;
+    let figure = figure_called(alloc, header, figures.as_slice(), name)?;
+    Ok(figure.map(|figure| figure.value))
+}
+
+fn check_values(
+    rt: &impl Abort,
+    host: &HostRuntime,
+    settled: bool,
+    wanted: &[(&str, Option<u32>)],
+) -> Result<(), Fail> {
+    let header = three_tasks(host.alloc(), false)?;
+    for (name, number) in wanted {
+        let found = value(rt, host, &header, settled, name)?;
+        assert_eq!(rt; found, *number, "{name}");
+    }
+    Ok(())
+}
+
+#[test]
+fn numbers_of_runs(rt: HostRuntime) -> Result<(), Fail> {
+    let as_it_stands = [
+        ("A.blocked.delay", Some(2)),
+        ("A.blocked.delay.longest", Some(2)),
+        ("A.ready", Some(1)),
+        ("A.ready.inverted", Some(1)),
+        ("A.run", Some(0)),
+        ("B.run.1", Some(3)),
+        ("C.switches", Some(1)),
+        ("A.top_priority", Some(2)),
+        ("core.1.due", Some(1)),
+        ("IDLE0.run", None),
+    ];
+    check_values(&rt, &rt, false, &as_it_stands)?;
+    let settled = [
+        ("A.ready", Some(0)),
+        ("A.run", Some(1)),
+        ("A.switches", Some(1)),
+    ];
+    check_values(&rt, &rt, true, &settled)
+}
+
+fn checked(rt: &impl Abort, host: &HostRuntime, name: &str, bound: Bound) -> Result<Checked, Fail> {
+    let alloc = host.alloc();
+    let header = three_tasks(alloc, false)?;
+    header.check()?;
+    let steps = session();
+    need_checked(rt, &header, &steps);
+    let name = String::from_str(alloc, name)?;
+    let limits = [Wanted { name, bound }];
+    Ok(check(
+        alloc,
+        &mut Meter::new(host),
+        &header,
+        &steps,
+        false,
+        &limits,
+    )?)
+}
+
+#[test]
+fn limits_of_a_run(rt: HostRuntime) -> Result<(), Fail> {
+    let kept = checked(&rt, &rt, "A.blocked.delay", Bound::AtMost(2))?;
+    assert_eq!(&rt; kept.status, CheckStatus::Kept);
+    assert_eq!(&rt; kept.text.as_str(), "");
+    let more = checked(&rt, &rt, "A.blocked.delay", Bound::AtMost(1))?;
+    assert_eq!(&rt; more.status, CheckStatus::NotKept);
+    assert_eq!(&rt;
+        more.text.as_str(),
+        "A.blocked.delay is 2, at most 1; the longest stretch begins at place 2\n"
+    );
+    let less = checked(&rt, &rt, "C.switches", Bound::AtLeast(2))?;
+    assert_eq!(&rt; less.text.as_str(), "C.switches is 1, at least 2\n");
+    let unknown = checked(&rt, &rt, "A.blocked", Bound::AtMost(1))?;
+    assert_eq!(&rt; unknown.status, CheckStatus::Unknown);
+    let told = "no number is called A.blocked; these are:\nA.run\nA.run.longest\n";
+    assert!(&rt; unknown.text.starts_with(told));
+    Ok(())
+}
+
+/// All that is measured of a session has a figure.
+#[test]
+fn figures_of_all_subjects(rt: HostRuntime) -> Result<(), Fail> {
+    let header = three_tasks(rt.alloc(), false)?;
+    let subjects = subjects_of(rt.alloc(), &header)?;
+    let none = figures_of(rt.alloc(), &[])?;
+    assert_eq!(&rt; none.len(), 0);
+    assert_eq!(&rt; subjects.len(), 3 * 23 + 2 * 3);
+    Ok(())
+}

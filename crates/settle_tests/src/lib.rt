@@ -1,7 +1,10 @@
-//! Tests of settled runs, alone and beside each other, and of why a kernel would refuse a step.
+//! Tests of settled runs, alone and beside each other, of the numbers of runs and of changes that are
+//! ranked by them, and of why a kernel would refuse a step.
 //! There is nothing else here.
 #![tactic(auto)]
 
+#[cfg(test)]
+mod advice;
 #[cfg(test)]
 mod compared;
 #[cfg(test)]

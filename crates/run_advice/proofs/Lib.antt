@@ -1,0 +1,6 @@
+pub mod Allowed
+pub mod ChangedSessions
+pub mod Orders
+pub mod Few
+pub mod Rankings
+pub mod Ranges

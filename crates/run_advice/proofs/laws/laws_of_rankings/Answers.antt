@@ -1,0 +1,8 @@
+use Rattle.run_advice.proofs.Orders.{entries_same, others_no_better}
+use Rattle.run_advice.proofs.laws.laws_of_rankings.Goals as goal
+
+pub returns-clause-entries_are_compared : goal.returns-clause-entries_are_compared
+returns-clause-entries_are_compared c = entries_same
+
+pub returns-clause-others_are_no_better : goal.returns-clause-others_are_no_better
+returns-clause-others_are_no_better c = others_no_better

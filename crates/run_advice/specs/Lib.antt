@@ -1,0 +1,5 @@
+pub mod Changes
+pub mod Changed
+pub mod Verdicts
+pub mod Ranking
+pub mod ChangeLaws

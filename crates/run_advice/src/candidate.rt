@@ -1,0 +1,85 @@
+//! What the judge says of a session with a change made.
+ghost use Rattle.std.specs.Prelude.{◌≡◌, ◌≤◌, IfOk, length};
+ghost use Rattle.bench_types.specs.Limits.{max_steps};
+ghost use Rattle.bench_types.specs.Session.{IsSession};
+ghost use Rattle.bench_types.specs.Step.{settings_of};
+ghost use Rattle.run_numbers.specs.Readings.{IsSubjectOf};
+ghost use Rattle.run_advice.specs.Changed.{changed, changed_header, changed_steps, IsChangeOf};
+ghost use Rattle.run_advice.specs.Verdicts.{IsVerdict};
+
+use crate::changed::{header_with, steps_with};
+use crate::judge::verdict_of;
+use crate::{Change, Judge, Verdict};
+use bench_types::{Header, Step};
+use smp_kernel::Meter;
+use std::alloc::{AllocError, Global};
+
+// A change that leaves the steps as they are.
+fn judge_task(
+    alloc: Global,
+    meter: &mut Meter,
+    header: &Header,
+    steps: &[Step],
+    change: Change,
+    judge: Judge,
+) -> Result<Verdict, AllocError>
+    requires session { IsSession (record { header = header.now; steps = steps.now }) }
+    requires few { length steps.now ≤ max_steps }
+    requires known { IsSubjectOf (settings_of header.now) judge.subject }
+    requires allowed { IsChangeOf (record { header = header.now; steps = steps.now }) change }
+    requires same { changed_steps steps.now change ≡ steps.now }
+    ensures { IfOk result
+        (IsVerdict judge
+        (changed (record { header = header.now; steps = steps.now }) change)) }
+{
+    let made = header_with(alloc, header, change)?;
+    verdict_of(alloc, meter, &made, steps, judge)
+}
+
+// A change that leaves the header as it is.
+fn judge_order(
+    alloc: Global,
+    meter: &mut Meter,
+    header: &Header,
+    steps: &[Step],
+    change: Change,
+    judge: Judge,
+) -> Result<Verdict, AllocError>
+    requires session { IsSession (record { header = header.now; steps = steps.now }) }
+    requires few { length steps.now ≤ max_steps }
+    requires known { IsSubjectOf (settings_of header.now) judge.subject }
+    requires allowed { IsChangeOf (record { header = header.now; steps = steps.now }) change }
+    requires same { changed_header header.now change ≡ header.now }
+    ensures { IfOk result
+        (IsVerdict judge
+        (changed (record { header = header.now; steps = steps.now }) change)) }
+{
+    let made = steps_with(alloc, steps, change)?;
+    verdict_of(alloc, meter, header, made.as_slice(), judge)
+}
+
+/// What the judge says of the session with the change made. It is an error only where memory is
+/// refused.
+pub fn judge_change(
+    alloc: Global,
+    meter: &mut Meter,
+    header: &Header,
+    steps: &[Step],
+    change: Change,
+    judge: Judge,
+) -> Result<Verdict, AllocError>
+    requires session { IsSession (record { header = header.now; steps = steps.now }) }
+    requires few { length steps.now ≤ max_steps }
+    requires known { IsSubjectOf (settings_of header.now) judge.subject }
+    requires allowed { IsChangeOf (record { header = header.now; steps = steps.now }) change }
+    ensures { IfOk result
+        (IsVerdict judge
+        (changed (record { header = header.now; steps = steps.now }) change)) }
+{
+    match change {
+        Change::Priority { .. } | Change::Mask { .. } => {
+            judge_task(alloc, meter, header, steps, change, judge)
+        }
+        Change::Order { .. } => judge_order(alloc, meter, header, steps, change, judge),
+    }
+}

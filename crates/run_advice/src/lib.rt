@@ -1,0 +1,22 @@
+//! Advice: each change of a family is tried in a session and judged by one number of its whole
+//! run, and all are ranked.
+#![tactic(auto)]
+
+mod candidate;
+mod change;
+mod changed;
+mod changes;
+mod judge;
+mod laws;
+mod masks;
+mod rank;
+mod trying;
+
+pub use candidate::judge_change;
+pub use change::{Change, Family};
+pub use changed::{changed_session, header_with, steps_with};
+pub use changes::changes_of;
+pub use judge::{Judge, Measure, Verdict, verdict_of};
+pub use laws::{laws_of_changes, laws_of_rankings};
+pub use rank::{Ranked, Size, size_of};
+pub use trying::{Advice, advise};

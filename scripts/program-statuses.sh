@@ -657,6 +657,26 @@ run 'a file before an option' 0 'place 5, tick 1; core 0 C; core 1 B
 run 'a file behind the end of the options' 0 "$traced" '' trace -- "$first"
 run_to 'the comparison of a file' "$folder/compared" compare examples/compare/shared-mutex.json
 run_to 'a picture of a file' docs/pictures/held-kernel.svg timeline examples/held-kernel.json
+run 'a report of a file' 0 '     value number
+         1 A.blocked.delay
+         1 A.blocked.delay.longest from place 2
+         2 A.top_priority
+         1 B.run
+         1 B.run.longest from place 2
+         1 B.run.1
+         1 B.run.1.longest from place 2
+         1 B.top_priority
+         1 C.run
+         1 C.run.longest from place 2
+         1 C.run.0
+         1 C.run.0.longest from place 2
+         1 C.switches
+         1 C.top_priority
+         1 core.0.user
+         1 core.0.user.longest from place 2
+         1 core.1.user
+         1 core.1.user.longest from place 2
+' '' report "$first"
 run 'a file whose document is refused' 1 $'refused H2 edits\n' '' trace examples/rigs/interrupt-driven-driver.json
 run 'a file that is not there' 3 '' $'fault open\n' trace "$folder/none"
 run 'a file without a name' 3 '' $'fault open\n' session ''
@@ -756,6 +776,7 @@ Commands:
   settle    Prints the settled run of the session with its edits made, as a document
   compare   Shows the runs before and after the edits, and what each task gained and lost
   timeline  Draws the runs before and after the edits, as an SVG picture
+  report    Prints the numbers of the run, or of the runs before and after the edits
 
 Options:
   -h, --help  Print help
@@ -856,6 +877,23 @@ A picture shows at most 4000 places.
 
 Example: smp_view timeline examples/questions/shared-mutex.json
 '
+report_help='Prints the numbers of the run, or of the runs before and after the edits
+
+Usage: smp_view report [OPTIONS] [FILE]
+
+Arguments:
+  [FILE]  The file of the document; standard input if it is - or left out
+
+Options:
+      --settle  Shows settled runs: what a target makes of the calls, ticks and interrupts
+      --json    Prints one JSON object
+  -h, --help    Print help
+
+Ticks in each condition with the longest stretch of them, switches, refusals and the like, of
+each task, core and mutex. The table leaves out what is 0; the JSON object has everything.
+
+Example: smp_view report --settle examples/settled/shorter-timeout.json
+'
 run '--help' 0 "$view_help" '' --help
 run '-h' 0 "$view_help" '' -h
 run '--help, then more words' 0 "$view_help" '' --help trace
@@ -867,6 +905,7 @@ run 'session --help' 0 "$session_help" '' session --help
 run 'settle -h' 0 "$settle_help" '' settle -h
 run 'compare --help' 0 "$compare_help" '' compare --help
 run 'timeline --help' 0 "$timeline_help" '' timeline --help
+run 'report --help' 0 "$report_help" '' report --help
 
 # ---- bad command lines
 
@@ -915,6 +954,8 @@ bad_line 'a comparison of a task' "unexpected argument '--task' found" compare -
 bad_line 'a comparison with an unknown option' "unexpected argument '-x' found" compare -x
 bad_line 'a picture of a task' "unexpected argument '--task' found" timeline --task A
 bad_line 'a picture of a core' "unexpected argument '--core' found" timeline --from 3 --core 0
+bad_line 'a report of a task' "unexpected argument '--task' found" report --task A
+bad_line '--json twice' "the argument '--json' cannot be used multiple times" report --json --json
 bad_line 'a settled picture of a task' "unexpected argument '--task' found" timeline --settle --task A
 bad_line 'a word that is not UTF-8' 'invalid UTF-8 was detected in one or more arguments' $'\377'
 bad_line 'a file whose name is not UTF-8' 'invalid UTF-8 was detected in one or more arguments' trace $'run\300'
@@ -929,7 +970,7 @@ done
 
 # ---- devices that fail
 
-for command in trace session settle compare timeline; do
+for command in trace session settle compare timeline report; do
     : >"$folder/out"
     "$program" "$command" </ >"$folder/out" 2>"$folder/err"
     status=$?

@@ -1,5 +1,5 @@
-//! Tests of settled runs, alone and beside each other, of the numbers of runs and of changes that are
-//! ranked by them, and of why a kernel would refuse a step.
+//! Tests of settled runs, alone and beside each other, of the numbers of runs and of changes that
+//! are ranked by them, and of why a kernel would refuse a step.
 //! There is nothing else here.
 #![tactic(auto)]
 

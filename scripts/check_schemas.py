@@ -280,7 +280,7 @@ def described(name, schema, check):
     """Each member has a description with its unit. `if`, and what is no type of its own, has none."""
     if isinstance(schema, dict):
         if schema.get("type") == "object":
-            for member_name, inner in schema["properties"].items():
+            for member_name, inner in schema.get("properties", {}).items():
                 if "Unit: " not in inner.get("description", ""):
                     check.fault("no unit", "%s, %s" % (name, member_name))
         schema = list(schema.values())

@@ -9,10 +9,11 @@ use Rattle.bench_model.specs.Edits.{after_edits, args_of}
 use Rattle.run_advice.specs.declared.change.Change.{Change}
 use Rattle.run_advice.specs.declared.change.Change.TheVariants as change
 use Rattle.run_advice.specs.declared.change.Family.{Family}
+use Rattle.run_advice.specs.declared.judge.Judge.{Judge}
 use Rattle.run_advice.specs.declared.rank.Ranked.{Ranked}
 use Rattle.run_advice.specs.Changed.{changed, IsChangeOf}
 use Rattle.run_advice.specs.Changes.{changes_of}
-use Rattle.run_advice.specs.Ranking.{is_before, AreBestFirst}
+use Rattle.run_advice.specs.Ranking.{is_before, AreBestFirst, IsRanking}
 
 -- the step at the place; a tick past the last
 abbrev pub step_at : List Step → ℕ → Step
@@ -52,3 +53,10 @@ OthersAreNoBetter =
     (ranked : List Ranked) (best : ℕ) → AreBestFirst ranked
     → All (λ kept. All (λ other. is_before other kept ≡ false) (drop best ranked))
     (take best ranked)
+
+-- by a judge the changes of a session have one ranking alone
+abbrev pub RankingsAreOne : Type 0
+RankingsAreOne =
+    (judge : Judge) (session : Session) (changes : List Change) (ranked others : List Ranked)
+    → IsRanking judge session changes ranked → IsRanking judge session changes others
+    → ranked ≡ others

@@ -9,8 +9,8 @@ use crate::Change;
 use bench_types::{Header, Items, Step, TaskArgs};
 use std::alloc::{AllocError, Global};
 
-// What the user task is created with.
-pub(crate) fn args_of(header: &Header, task: u32) -> &TaskArgs
+/// What the user task is created with.
+pub fn args_of(header: &Header, task: u32) -> &TaskArgs
     requires { IsUserTask header.now task }
     ensures { result.now ≡ args_of header.now task }
 {

@@ -1,7 +1,7 @@
 //! The laws of changes and of their ranking. Each function does nothing: its contract is the laws,
 //! one a clause.
 ghost use Rattle.std.specs.Prelude.{◌≡◌};
-ghost use Rattle.run_advice.specs.ChangeLaws.{ChangesAreEdits, ChangesKeepSessions, FamiliesAreAllowed, OthersAreNoBetter};
+ghost use Rattle.run_advice.specs.ChangeLaws.{ChangesAreEdits, ChangesKeepSessions, FamiliesAreAllowed, OthersAreNoBetter, RankingsAreOne};
 ghost use Rattle.run_advice.specs.Ranking.{ranked_cmp};
 
 use crate::Ranked;
@@ -23,4 +23,6 @@ pub fn laws_of_rankings()
         → ⟦<Ranked as Ord>⟧.cmp one other ≡ ranked_cmp one other }
     // However many of the first are kept, no other one is better than one of them.
     ensures others_are_no_better { OthersAreNoBetter }
+    // By a judge the changes of a session have one ranking alone, whatever the threads do.
+    ensures rankings_are_one { RankingsAreOne }
 {}

@@ -12,7 +12,7 @@ ghost use Rattle.run_advice.specs.Verdicts.{IsVerdict};
 use crate::candidate::judge_change;
 use crate::changes::changes_of;
 use crate::rank::{size_of, sorted};
-use crate::{Change, Family, Judge, Ranked, Verdict};
+use crate::{Change, Family, Judge, Progress, Ranked, Verdict};
 use bench_types::{Header, Step};
 use rayon::prelude::*;
 use smp_kernel::Meter;
@@ -27,8 +27,11 @@ pub struct Advice {
     pub ranked: Vec<Ranked>,
 }
 
-// What is said of each of the changes, each made alone.
-fn verdicts_of<R: Threads + Sync>(
+// So many changes are tried side by side before it is told how far the work is.
+const PART: usize = 64;
+
+// What is said of each of these changes, each made alone.
+fn part_verdicts<R: Threads + Sync>(
     rt: &R,
     host: &HostRuntime,
     alloc: Global,
@@ -65,6 +68,39 @@ fn verdicts_of<R: Threads + Sync>(
         .collect(rt, alloc)
 }
 
+// What is said of each of the changes, part by part.
+fn verdicts_of<R: Threads + Sync, P: Progress>(
+    rt: &R,
+    host: &HostRuntime,
+    alloc: Global,
+    progress: &mut P,
+    header: &Header,
+    steps: &[Step],
+    changes: &[Change],
+    judge: Judge,
+) -> Result<Vec<Result<Verdict, AllocError>>, AllocError>
+    requires session { IsSession (record { header = header.now; steps = steps.now }) }
+    requires few { length steps.now ≤ max_steps }
+    requires known { IsSubjectOf (settings_of header.now) judge.subject }
+    requires allowed { All (IsChangeOf (record { header = header.now; steps = steps.now }))
+        changes.now }
+    ensures { IfOk result
+        (λ verdicts. AreVerdicts judge (record { header = header.now; steps = steps.now })
+        changes.now verdicts.items) }
+{
+    let mut verdicts = Vec::new(alloc);
+    let mut done = 0;
+    while done < changes.len() {
+        let end = done + PART.min(changes.len() - done);
+        let part = &changes[done..end];
+        let mut more = part_verdicts(rt, host, alloc, header, steps, part, judge)?;
+        verdicts.append(&mut more)?;
+        done = end;
+        progress.tell(done, changes.len());
+    }
+    Ok(verdicts)
+}
+
 // The entries of the changes, in their order. It is an error where one was refused memory.
 fn entries_of(
     alloc: Global,
@@ -92,14 +128,16 @@ fn entries_of(
 
 /// Tries each change of the family in the session, each alone, and ranks them. The work is split
 /// among as many threads as there are processors, and a thread that can't be started leaves its
-/// part to the one that would have.
+/// part to the one that would have. From time to time the progress is told how many of the changes
+/// were tried.
 ///
 /// The lower number is the better one, of equals the smaller change, of equals the one that comes
 /// first among the changes. It is an error only where memory is refused.
-pub fn advise<R: Threads + Sync>(
+pub fn advise<R: Threads + Sync, P: Progress>(
     rt: &R,
     host: &HostRuntime,
     alloc: Global,
+    progress: &mut P,
     header: &Header,
     steps: &[Step],
     judge: Judge,
@@ -123,7 +161,16 @@ pub fn advise<R: Threads + Sync>(
         advice.changes.items) }
 {
     let changes = changes_of(alloc, header, steps, family)?;
-    let verdicts = verdicts_of(rt, host, alloc, header, steps, changes.as_slice(), judge)?;
+    let verdicts = verdicts_of(
+        rt,
+        host,
+        alloc,
+        progress,
+        header,
+        steps,
+        changes.as_slice(),
+        judge,
+    )?;
     let entries = entries_of(alloc, header, changes.as_slice(), verdicts.as_slice())?;
     let ranked = sorted(entries)?;
     Ok(Advice { changes, ranked })

@@ -1,3 +1,3 @@
 mod Floats
-mod Measurable
-mod Ranges
+pub mod Measurable
+pub mod Ranges

@@ -9,8 +9,10 @@ mod subjects;
 mod table;
 
 pub use figures::{Figure, Part, figures_of};
-pub use limits::{Bound, Limit, figure_called, is_kept, limits_text, push_names, push_unkept};
+pub use limits::{
+    Bound, Limit, figure_called, is_kept, limits_text, push_names, push_unkept, push_value,
+};
 pub use names::push_name;
 pub use objects::{run_json, runs_json};
 pub use subjects::subjects_of;
-pub use table::{run_table, runs_table};
+pub use table::{change_of, push_name_at, run_table, runs_table, value_at};

@@ -77,8 +77,9 @@ pub fn push_unkept(
     text.push_str("\n")
 }
 
+/// Writes the value of the figure after the text, behind its name.
 #[tactic(auto, unfolding(crate::specs::Limits::value_text))]
-fn push_value(text: &mut String, header: &Header, figure: Figure) -> Result<(), AllocError>
+pub fn push_value(text: &mut String, header: &Header, figure: Figure) -> Result<(), AllocError>
     ensures { OnOk result
         (string_bytes text.new ≡ string_bytes text.old ++ value_text header.now figure) }
 {

@@ -167,7 +167,8 @@ fn push_values(alloc: Global, text: &mut String, before: u32, after: u32) -> Res
     text.push_str(" ")
 }
 
-fn change_of(alloc: Global, before: u32, after: u32) -> Result<String, AllocError>
+/// What there is more than before, with its sign; 0 where there is as much.
+pub fn change_of(alloc: Global, before: u32, after: u32) -> Result<String, AllocError>
     ensures { IfOk result (λ text. string_bytes text ≡ change_text before after) }
 {
     if before < after {
@@ -180,7 +181,7 @@ fn change_of(alloc: Global, before: u32, after: u32) -> Result<String, AllocErro
 }
 
 /// Writes the name of the figure at an index after the text, nothing where there is none.
-pub(crate) fn push_name_at(
+pub fn push_name_at(
     text: &mut String,
     header: &Header,
     figures: &[Figure],
@@ -196,7 +197,7 @@ pub(crate) fn push_name_at(
 }
 
 /// The value of the figure at an index, 0 where there is none.
-pub(crate) fn value_at(figures: &[Figure], index: usize) -> u32
+pub fn value_at(figures: &[Figure], index: usize) -> u32
     ensures { result ≡ value_at figures.now index }
 {
     match figures.get(index) {

@@ -1,5 +1,5 @@
 -- The run of a session has one list of figures.
-use Rattle.std.proofs.Common.{◌≡◌, List, Bool, true, false, ap₂, sym, ◌∙◌}
+use Rattle.std.proofs.Common.{List, true, false, ap₂, sym, ◌∙◌}
 use Rattle.bench_types.specs.declared.step.Step.{Step}
 use Rattle.settled_runs.specs.declared.waiting_call.WaitingCall.{WaitingCall}
 use Rattle.settled_runs.proofs.Settlings.{settled_run_is_one}

@@ -26,9 +26,9 @@ abbrev pub limits_in : Header → List Figure → Asked → List Limit
 limits_in header figures asked = limit_for asked (figure_for header figures asked)
 
 -- that no figure has the name, and the names that figures have
-unfoldable pub unknown_text : Header → List Figure → Asked → List ℕ
-unknown_text header figures asked =
-    codes "no number is called " ++ asked.name ++ codes "; these are:\n"
+unfoldable pub unknown_text : Header → List Figure → List ℕ → List ℕ
+unknown_text header figures name =
+    codes "no number is called " ++ name ++ codes "; these are:\n"
     ++ flat_map (name_line header) figures
 
 -- all limits are kept where there are no lines
@@ -44,7 +44,7 @@ unkept_lines header figures wanted =
 -- what is told where some name is unknown, and where none is
 abbrev pub told_of : Header → List Figure → List Asked → Option Asked → Told
 told_of header figures wanted (Some asked) =
-    record { status = Unknown; text = unknown_text header figures asked }
+    record { status = Unknown; text = unknown_text header figures asked.name }
 told_of header figures wanted None = kept_or (unkept_lines header figures wanted)
 
 -- what is told of figures and limits

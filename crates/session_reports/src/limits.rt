@@ -127,20 +127,20 @@ fn limits_of(
     Ok(limits)
 }
 
-// That no figure has the name, and the names that figures have.
+/// That no figure has the name, and then the names that figures have, each on a line of its own.
 #[tactic(auto, unfolding(crate::specs::Checks::unknown_text))]
-fn unknown_text(
+pub fn unknown_text(
     alloc: Global,
     header: &Header,
     figures: &[Figure],
-    wanted: &Wanted,
+    name: &str,
 ) -> Result<String, AllocError>
     ensures { IfOk result
-        (λ text. string_bytes text ≡ unknown_text header.now figures.now wanted.now) }
+        (λ text. string_bytes text ≡ unknown_text header.now figures.now name.now) }
 {
     let mut text = String::new(alloc);
     text.push_str("no number is called ")?;
-    text.push_str(wanted.name.as_str())?;
+    text.push_str(name)?;
     text.push_str("; these are:\n")?;
     push_names(&mut text, header, figures)?;
     Ok(text)
@@ -174,7 +174,7 @@ fn told_of(
     if let Some(unknown) = first_unknown(alloc, header, figures, wanted)? {
         return Ok(Checked {
             status: CheckStatus::Unknown,
-            text: unknown_text(alloc, header, figures, unknown)?,
+            text: unknown_text(alloc, header, figures, unknown.name.as_str())?,
         });
     }
     let limits = limits_of(alloc, header, figures, wanted)?;

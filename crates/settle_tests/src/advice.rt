@@ -3,18 +3,41 @@ ghost use Rattle.std.specs.Prelude.{◌≡◌, ◌<◌, Ok};
 ghost use Rattle.bench_types.specs.Header.{header_check};
 
 use crate::settled::{TICK, call, need_checked, switch};
-use bench_samples::three_tasks;
+use bench_samples::{PLAIN, crowd, three_tasks};
 use bench_types::{Call, Header};
-use run_advice::{Advice, Change, Family, Judge, Measure, Verdict, advise};
+use run_advice::{Advice, Change, Family, Judge, Measure, Progress, Verdict, advise};
 use run_numbers::{Condition, Subject};
 use std::process::Abort;
 use std::test::Fail;
 use std::thread::Threads;
 
+/// How far the work was when it was told last, and how often it was told.
+#[derive(Drop)]
+struct Last {
+    done: usize,
+    all: usize,
+    times: u32,
+}
+
+const NOT_YET: Last = Last {
+    done: 0,
+    all: 0,
+    times: 0,
+};
+
+impl Progress for Last {
+    fn tell(&mut self, done: usize, all: usize) {
+        self.done = done;
+        self.all = all;
+        self.times = self.times.saturating_add(1);
+    }
+}
+
 /// Changes of priorities, by how many ticks core 1 has a user task.
 fn advice<R: Threads + Abort + Sync>(
     rt: &R,
     host: &HostRuntime,
+    last: &mut Last,
     header: &Header,
 ) -> Result<Advice, Fail>
     requires checked { header_check header.now ≡ Ok tt }
@@ -33,14 +56,16 @@ fn advice<R: Threads + Abort + Sync>(
         mask: false,
         order: false,
     };
-    Ok(advise(rt, host, host.alloc(), header, &steps, judge, family)?)
+    Ok(advise(rt, host, host.alloc(), last, header, &steps, judge, family)?)
 }
 
 /// Core 1 is busy at each tick whatever the priorities, so the smaller change is the better one,
 /// and of equals the first.
 fn check_order<R: Threads + Abort + Sync>(rt: &R, host: &HostRuntime) -> Result<(), Fail> {
     let header = three_tasks(host.alloc(), false)?;
-    let advice = advice(rt, host, &header)?;
+    let mut last = NOT_YET;
+    let advice = advice(rt, host, &mut last, &header)?;
+    assert_eq!(rt; (last.done, last.all, last.times), (12, 12, 1));
     let changes = advice.changes.as_slice();
     assert_eq!(rt; changes.len(), 12);
     assert_eq!(rt;
@@ -56,6 +81,22 @@ fn check_order<R: Threads + Abort + Sync>(rt: &R, host: &HostRuntime) -> Result<
         assert_eq!(rt; order.get(place).copied(), Some(entry.index));
     }
     Ok(())
+}
+
+/// More changes than are tried side by side: four other priorities of each of 20 tasks.
+fn check_parts<R: Threads + Abort + Sync>(rt: &R, host: &HostRuntime) -> Result<(), Fail> {
+    let header = crowd(host.alloc(), PLAIN, 20)?;
+    header.check()?;
+    let mut last = NOT_YET;
+    let advice = advice(rt, host, &mut last, &header)?;
+    assert_eq!(rt; (last.done, last.all, last.times), (80, 80, 2));
+    assert_eq!(rt; advice.ranked.len(), 80);
+    Ok(())
+}
+
+#[test]
+fn progress_is_told_part_by_part(rt: HostRuntime) -> Result<(), Fail> {
+    check_parts(&rt, &rt)
 }
 
 #[test]

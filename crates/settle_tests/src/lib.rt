@@ -1,10 +1,12 @@
 //! Tests of settled runs, alone and beside each other, of the numbers of runs and of changes that
-//! are ranked by them, and of why a kernel would refuse a step.
+//! are ranked by them, of advice in words, and of why a kernel would refuse a step.
 //! There is nothing else here.
 #![tactic(auto)]
 
 #[cfg(test)]
 mod advice;
+#[cfg(test)]
+mod advised;
 #[cfg(test)]
 mod compared;
 #[cfg(test)]

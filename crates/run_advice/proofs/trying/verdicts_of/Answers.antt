@@ -1,19 +1,24 @@
-use Rattle.std.proofs.Common.{ap, ◌∙◌}
-use Rattle.std.specs.Prelude.{IfOk, Result}
+use Rattle.std.proofs.Common.{◌+◌, ◌≤◌, take, sym, subst, arith}
+use Rattle.std.specs.Prelude.{IfOk, List, Result}
 use Rattle.std.specs.declared.alloc.AllocError.{AllocError}
-use Rattle.rayon.proofs.ListFacts.{IfOk-then}
-use Rattle.rayon.proofs.ToStd.{slice-AllZip}
 use Rattle.bench_types.specs.Session.{Session}
 use Rattle.run_advice.specs.declared.change.Change.{Change}
 use Rattle.run_advice.specs.declared.judge.Verdict.{Verdict}
 use Rattle.run_advice.specs.Changed.{changed}
+use Rattle.run_advice.specs.Ranking.{AreVerdicts}
 use Rattle.run_advice.specs.Verdicts.{IsVerdict}
+use Rattle.run_advice.proofs.Parts.{part_more}
 use Rattle.run_advice.proofs.trying.verdicts_of.Goals as goal
 
-pub returns : goal.returns
-returns g c =
+pub loop-done-preserved : goal.loop-done-preserved
+loop-done-preserved g c =
     let session : Session = record { header = c.args.header.now; steps = c.args.steps.now } in
-    let slice = ap (λ it. it.slice.now) c.map.ensures.base ∙ c.par_iter.ensures in
-    IfOk-then c.collect.result _ _ c.collect.ensures (λ v h.
-    let chain = rw (c.with_min_len.ensures.base, c.map.ensures.f) at h.1 in
-    rw h.2 (slice-AllZip chain.0 c.args.changes.now (chain.1 ∙ slice) (λ (made : Change) (verdict : Result Verdict AllocError). IfOk verdict (IsVerdict c.args.judge (changed session made))) h.0 chain.2))
+    let done = c.loop-done.done in
+    let end = done + c.min.result in
+    let more : done ≤ end = omega arith in
+    record {
+      within = omega arith;
+      judged = subst (λ (verdicts : List (Result Verdict AllocError)). AreVerdicts c.args.judge session (take end c.args.changes.now) verdicts) (sym c.in_ok-append.ensures.items)
+          (part_more (λ (made : Change) (verdict : Result Verdict AllocError). IfOk verdict (IsVerdict c.args.judge (changed session made)))
+          c.args.changes.now c.loop-done.verdicts.items c.in_ok-more.more.items done end more c.loop-done.invariant.judged c.in_ok-more.ensures);
+    }

@@ -1,11 +1,9 @@
-use Rattle.std.proofs.Common.{◌≡◌, ◌≤◌, List, length, refl, ap, sym, subst, ◌∙◌, arith}
+use Rattle.std.proofs.Common.{List, length, refl, ap, sym, subst, ◌∙◌, arith}
 use Rattle.bench_types.specs.declared.step.Step.{Step}
 use Rattle.bench_types.specs.Session.{IsSession}
-use Rattle.bench_types.specs.Limits.{max_steps}
 use Rattle.settled_runs.specs.declared.waiting_call.WaitingCall.{WaitingCall}
 use Rattle.settled_runs.proofs.Leavings.{few_are_left}
 use Rattle.settled_runs.proofs.Rests.{settled_run_is_session}
-use Rattle.session_reports.specs.Figures.{run_figures}
 use Rattle.session_reports.proofs.figures.settled_figures.Goals as goal
 
 pub figures_of_steps-requires-clause-session : goal.figures_of_steps-requires-clause-session

@@ -1,0 +1,53 @@
+-- A figure of a run is one of a subject that the session has.
+use Rattle.std.proofs.Common.{◌≡◌, Bool, true, false, List, [], ◌∷◌, map, flat_map, Some, sym, subst}
+use Rattle.std.specs.Prelude.{find}
+use Rattle.std.specs.List.{AllByRecursion}
+use Rattle.std.proofs.lemmas.List.Elements.{recursion_from_All}
+use Rattle.bench_types.specs.declared.header.Header.{Header}
+use Rattle.bench_types.specs.declared.step.Step.{Step}
+use Rattle.bench_types.specs.Session.{Session}
+use Rattle.bench_types.specs.Step.{settings_of}
+use Rattle.list_orders.proofs.Filters.{All-append}
+use Rattle.settled_runs.specs.declared.waiting_call.WaitingCall.{WaitingCall}
+use Rattle.settled_runs.proofs.Pieces.{find_among}
+use Rattle.run_numbers.specs.declared.subject.Subject.{Subject}
+use Rattle.run_numbers.specs.declared.subject.Subject.TheVariants.{Ticks, Steps, TopPriority, NotMade}
+use Rattle.run_numbers.specs.Readings.{measured, IsSubjectOf}
+use Rattle.run_reports.specs.declared.figures.Figure.{Figure}
+use Rattle.run_reports.specs.Figures.{figures_in}
+use Rattle.run_reports.specs.Subjects.{subjects_of}
+use Rattle.run_reports.proofs.Measurable.{subjects_fit}
+use Rattle.session_reports.specs.Figures.{run_figures, AreFigures}
+
+module _ (header : Header) (run : List Step) (left : List WaitingCall) where
+  abbrev IsOf : Figure → Type 0
+  IsOf figure = IsSubjectOf (settings_of header) figure.subject
+
+  figures_fit : (subject : Subject) → IsSubjectOf (settings_of header) subject → AllByRecursion IsOf (figures_in (measured header run left subject))
+  figures_fit (Ticks condition) fits = (fits, (fits, tt))
+  figures_fit (Steps event) fits = (fits, tt)
+  figures_fit (TopPriority task) fits = (fits, tt)
+  figures_fit (NotMade task) fits = (fits, tt)
+
+  each_fits : (subjects : List Subject) → AllByRecursion (IsSubjectOf (settings_of header)) subjects
+      → AllByRecursion IsOf (flat_map figures_in (map (measured header run left) subjects))
+  each_fits [] all = tt
+  each_fits (subject ∷ subjects) all =
+      All-append IsOf (figures_in (measured header run left subject)) (flat_map figures_in (map (measured header run left) subjects))
+      (figures_fit subject all.0) (each_fits subjects all.1)
+
+  run_fits : AllByRecursion IsOf (run_figures header run left)
+  run_fits = each_fits (subjects_of header) (recursion_from_All (IsSubjectOf (settings_of header)) (subjects_of header) (subjects_fit header))
+
+all_fit : (settled : Bool) (session : Session) (figures : List Figure) → AreFigures settled session figures
+    → AllByRecursion (λ figure. IsSubjectOf (settings_of session.header) figure.subject) figures
+all_fit true session figures are =
+    subst (AllByRecursion (λ (figure : Figure). IsSubjectOf (settings_of session.header) figure.subject)) (sym are.are)
+    (run_fits session.header are.settled.run are.settled.left)
+all_fit false session figures are =
+    subst (AllByRecursion (λ (figure : Figure). IsSubjectOf (settings_of session.header) figure.subject)) (sym are) (run_fits session.header session.steps [])
+
+pub found_fits : (settled : Bool) (session : Session) (figures : List Figure) (test : Figure → Bool) (figure : Figure) → AreFigures settled session figures
+    → find test figures ≡ Some figure → IsSubjectOf (settings_of session.header) figure.subject
+found_fits settled session figures test figure are found =
+    find_among test (λ (figure : Figure). IsSubjectOf (settings_of session.header) figure.subject) figures figure (all_fit settled session figures are) found

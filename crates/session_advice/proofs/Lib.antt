@@ -1,0 +1,4 @@
+mod Found
+mod Judged
+pub mod OneAdvice
+mod Texts

@@ -1,0 +1,17 @@
+use Rattle.std.proofs.Common.{◌≡◌, ℕ, List, ◌++◌, append_assoc, codes, decimal, string_bytes, subst, ap, ◌∙◌}
+use Rattle.std.specs.Prelude.{OnOk}
+use Rattle.run_reports.specs.Limits.{value_text}
+use Rattle.session_advice.specs.Advice.{head_line}
+use Rattle.session_advice.proofs.entries.push_head.Goals as goal
+
+joined : (old value count words : List ℕ) → (old ++ value) ++ (codes "; " ++ (count ++ words)) ≡ old ++ (value ++ codes "; " ++ count ++ words)
+joined old value count words = simp append_assoc
+
+pub returns : goal.returns
+unfolding head_line
+returns c =
+    let value : List ℕ = value_text c.args.base.now.header.now c.args.base.now.judged in
+    let words : List ℕ = codes " changes tried\n" in
+    let same = ap (λ (bytes : List ℕ). bytes ++ (codes "; " ++ (decimal c.args.count ++ words))) c.in_ok-push_value.ensures
+    ∙ joined (string_bytes c.args.text.now) value (decimal c.args.count) words in
+    subst (λ (bytes : List ℕ). OnOk c.write.result (string_bytes c.write.new.self ≡ bytes)) same c.write.ensures.bytes

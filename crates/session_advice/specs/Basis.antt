@@ -1,0 +1,47 @@
+-- What a session with a change made is compared with.
+use Rattle.std.specs.Prelude.{◌≤◌, List, Bool, length}
+use Rattle.bench_types.specs.Limits.{max_steps}
+use Rattle.bench_types.specs.Session.{IsSession, Session}
+use Rattle.bench_types.specs.Step.{settings_of}
+use Rattle.run_numbers.specs.Readings.{IsSubjectOf}
+use Rattle.run_advice.specs.declared.judge.Judge.{Judge}
+use Rattle.run_advice.specs.declared.judge.Measure.{Measure}
+use Rattle.run_advice.specs.declared.judge.Measure.TheVariants as measure
+use Rattle.run_reports.specs.declared.figures.Figure.{Figure}
+use Rattle.run_reports.specs.declared.figures.Part.{Part}
+use Rattle.run_reports.specs.declared.figures.Part.TheVariants.{Total, Longest}
+use Rattle.session_advice.specs.declared.basis.Base.{Base}
+
+-- a session, whether runs are settled, the figures of its run, and the one that is to be lower
+pub record Basis : Type 0 where
+  pub session : Session
+  pub settled : Bool
+  pub figures : List Figure
+  pub judged : Figure
+
+abbrev pub basis_of : Base → Basis
+basis_of base = record {
+  session = record { header = base.header.now; steps = base.steps.now };
+  settled = base.settled;
+  figures = base.figures.now;
+  judged = base.judged;
+}
+
+-- the number of a subject that a figure tells
+abbrev pub measure_of : Part → Measure
+measure_of Total = measure.Total
+measure_of Longest = measure.Longest
+
+-- the judge that goes by the figure
+abbrev pub judge_of : Basis → Judge
+judge_of basis = record {
+  settled = basis.settled;
+  subject = basis.judged.subject;
+  measure = measure_of basis.judged.part;
+}
+
+-- a session of not too many steps, and a figure of one of its subjects
+pub record IsBasis (basis : Basis) : Type 0 where
+  pub session : IsSession basis.session
+  pub few : length basis.session.steps ≤ max_steps
+  pub known : IsSubjectOf (settings_of basis.session.header) basis.judged.subject

@@ -1,0 +1,100 @@
+-- What a change costs other tasks.
+use Rattle.std.specs.Prelude.{◌≡◌, ℕ, ◌==◌, ◌&&◌, not, Bool, true, false, List, [], ◌++◌, length, flat_map, codes, Option, Some, None, slice_get, if◌then◌else◌}
+use Rattle.std.specs.Option.{option_map_or}
+use Rattle.list_orders.specs.Search.{numbers}
+use Rattle.run_numbers.specs.declared.subject.Cause.TheVariants.{AnyMutex}
+use Rattle.run_numbers.specs.declared.subject.Condition.{Condition}
+use Rattle.run_numbers.specs.declared.subject.Condition.TheVariants.{Running, RunningOn, Waiting, Inverted, Blocked, HeldUp}
+use Rattle.run_numbers.specs.declared.subject.Event.{Event}
+use Rattle.run_numbers.specs.declared.subject.Event.TheVariants.{SwitchedIn, Inherits, TimesOut, Refused}
+use Rattle.run_numbers.specs.declared.subject.Subject.{Subject}
+use Rattle.run_numbers.specs.declared.subject.Subject.TheVariants.{Ticks, Steps, TopPriority, NotMade}
+use Rattle.run_advice.specs.declared.change.Change.{Change}
+use Rattle.run_advice.specs.declared.judge.Verdict.{Verdict}
+use Rattle.run_advice.specs.declared.judge.Verdict.TheVariants.{Number, TooLong}
+use Rattle.run_advice.specs.Changed.{changed}
+use Rattle.run_reports.specs.declared.figures.Figure.{Figure}
+use Rattle.run_reports.specs.declared.figures.Part.{Part}
+use Rattle.run_reports.specs.declared.figures.Part.TheVariants.{Total, Longest}
+use Rattle.run_reports.specs.Table.{name_at, value_at}
+use Rattle.session_reports.specs.Figures.{AreFigures}
+use Rattle.session_advice.specs.Basis.{Basis}
+use Rattle.session_advice.specs.Words.{number_words}
+
+-- the task that a condition is of, if it is of a task
+abbrev pub task_in : Condition → Option ℕ
+task_in (Running task) = Some task
+task_in (RunningOn task core) = Some task
+task_in (Waiting task) = Some task
+task_in (Inverted task) = Some task
+task_in (Blocked task cause) = Some task
+task_in (HeldUp task) = Some task
+task_in condition = None
+
+-- the task that an event is of
+abbrev pub task_at : Event → Option ℕ
+task_at (SwitchedIn task) = Some task
+task_at (Inherits task) = Some task
+task_at (TimesOut task) = Some task
+task_at (Refused task why) = Some task
+task_at event = None
+
+-- the task that a subject is of
+abbrev pub task_of : Subject → Option ℕ
+task_of (Ticks condition) = task_in condition
+task_of (Steps event) = task_at event
+task_of (TopPriority task) = Some task
+task_of (NotMade task) = Some task
+
+-- the task that bears what the subject tells: it runs, waits for a core or for a mutex, its wait
+-- runs out, or its calls are not made
+abbrev pub bearer : Subject → Option ℕ
+bearer (Ticks (Running task)) = Some task
+bearer (Ticks (Waiting task)) = Some task
+bearer (Ticks (Inverted task)) = Some task
+bearer (Ticks (Blocked task AnyMutex)) = Some task
+bearer (Steps (TimesOut task)) = Some task
+bearer (NotMade task) = Some task
+bearer subject = None
+
+-- there is a task, and it is not the other one
+abbrev pub is_another : Option ℕ → Option ℕ → Bool
+is_another None judged = false
+is_another (Some task) None = true
+is_another (Some task) (Some judged) = not (task == judged)
+
+-- it is a total that another task bears than the judged subject is of
+abbrev pub is_cost : Subject → Subject → Part → Bool
+is_cost judged subject Total = is_another (bearer subject) (task_of judged)
+is_cost judged subject Longest = false
+
+-- so is the figure at an index
+abbrev pub is_cost_at : Subject → List Figure → ℕ → Bool
+is_cost_at judged figures index =
+    option_map_or (λ figure. is_cost judged figure.subject figure.part) (slice_get figures index)
+    false
+
+-- the values at an index differ
+abbrev pub is_changed_at : List Figure → List Figure → ℕ → Bool
+is_changed_at before after index = not (value_at before index == value_at after index)
+
+-- the line of a cost that is not as it was
+unfoldable pub cost_line : Basis → List Figure → ℕ → List ℕ
+cost_line basis after index =
+    if is_cost_at basis.judged.subject basis.figures index
+    && is_changed_at basis.figures after index
+    then codes "   " ++ name_at basis.session.header basis.figures index ++ codes " "
+    ++ number_words (value_at basis.figures index) (value_at after index) ++ codes "\n"
+    else []
+
+-- those of all costs, in the order of the figures
+abbrev pub cost_lines : Basis → List Figure → List ℕ
+cost_lines basis after = flat_map (cost_line basis after) (numbers (length basis.figures))
+
+-- the lines tell the figures of the run of the session with the change made; of a run that is too
+-- long there are none
+abbrev pub AreCosts : Basis → Change → Verdict → List ℕ → Type 0
+AreCosts basis made (Number number) lines =
+    (after : List Figure) × AreFigures basis.settled (changed basis.session made) after
+    × (lines ≡ cost_lines basis after)
+AreCosts basis made TooLong lines = lines ≡ []

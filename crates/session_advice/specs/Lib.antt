@@ -1,0 +1,6 @@
+pub mod Questions
+pub mod Basis
+pub mod Words
+pub mod Costs
+pub mod Advice
+pub mod AdviceLaws

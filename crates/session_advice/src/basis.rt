@@ -1,0 +1,37 @@
+//! What a session with a change made is compared with.
+ghost use Rattle.std.specs.Prelude.{◌≡◌};
+ghost use Rattle.session_advice.specs.Basis.{basis_of, judge_of, measure_of};
+
+use bench_types::{Header, Step};
+use run_advice::{Judge, Measure};
+use run_reports::{Figure, Part};
+
+// The session as it is, the figures of its run, and the one that is to be lower.
+#[derive(Clone, Copy)]
+pub(crate) struct Base<'a> {
+    pub(crate) header: &'a Header,
+    pub(crate) steps: &'a [Step],
+    pub(crate) settled: bool,
+    pub(crate) figures: &'a [Figure],
+    pub(crate) judged: Figure,
+}
+
+fn measure_of(part: Part) -> Measure
+    ensures { result ≡ measure_of part }
+{
+    match part {
+        Part::Total => Measure::Total,
+        Part::Longest => Measure::Longest,
+    }
+}
+
+/// The one that goes by the figure.
+pub(crate) fn judge_of(base: &Base<'_>) -> Judge
+    ensures { result ≡ judge_of (basis_of base.now) }
+{
+    Judge {
+        settled: base.settled,
+        subject: base.judged.subject,
+        measure: measure_of(base.judged.part),
+    }
+}

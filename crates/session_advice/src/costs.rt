@@ -1,0 +1,205 @@
+//! What a change costs other tasks.
+ghost use Rattle.std.specs.Prelude.{◌≡◌, ◌≤◌, ◌++◌, IfOk, OnOk, length, string_bytes};
+ghost use Rattle.bench_types.specs.Limits.{max_steps};
+ghost use Rattle.bench_types.specs.Session.{IsSession};
+ghost use Rattle.run_advice.specs.Changed.{changed, IsChangeOf};
+ghost use Rattle.run_advice.specs.Verdicts.{IsVerdict};
+ghost use Rattle.session_reports.specs.Figures.{AreFigures, IsTooLong};
+ghost use Rattle.session_advice.specs.Advice.{AddsCosts};
+ghost use Rattle.session_advice.specs.Basis.{basis_of, judge_of, IsBasis};
+ghost use Rattle.session_advice.specs.Costs.{bearer, cost_line, cost_lines, is_another, is_changed_at, is_cost, is_cost_at, task_at, task_in, task_of};
+
+use crate::basis::Base;
+use crate::words::push_number;
+use bench_types::{Header, Step};
+use run_advice::{Change, Verdict, changed_session};
+use run_numbers::{Cause, Condition, Event, Subject};
+use run_reports::{Figure, Part, push_name_at, value_at};
+use session_reports::figures_of_session;
+use settling::SettleFault;
+use smp_kernel::Meter;
+use std::alloc::{AllocError, Global};
+
+fn task_in(condition: Condition) -> Option<u32>
+    ensures { result ≡ task_in condition }
+{
+    match condition {
+        Condition::Running { task }
+        | Condition::RunningOn { task, .. }
+        | Condition::Waiting { task }
+        | Condition::Inverted { task }
+        | Condition::Blocked { task, .. }
+        | Condition::HeldUp { task } => Some(task),
+        Condition::Busy { .. }
+        | Condition::Idle { .. }
+        | Condition::Due { .. }
+        | Condition::Held { .. } => None,
+    }
+}
+
+fn task_at(event: Event) -> Option<u32>
+    ensures { result ≡ task_at event }
+{
+    match event {
+        Event::SwitchedIn { task }
+        | Event::Inherits { task }
+        | Event::TimesOut { task }
+        | Event::Refused { task, .. } => Some(task),
+        Event::Awaited { .. } => None,
+    }
+}
+
+// The task that the subject is of.
+fn task_of(subject: Subject) -> Option<u32>
+    ensures { result ≡ task_of subject }
+{
+    match subject {
+        Subject::Ticks(condition) => task_in(condition),
+        Subject::Steps(event) => task_at(event),
+        Subject::TopPriority { task } | Subject::NotMade { task } => Some(task),
+    }
+}
+
+// The task that bears what the subject tells.
+fn bearer(subject: Subject) -> Option<u32>
+    ensures { result ≡ bearer subject }
+{
+    match subject {
+        Subject::Ticks(Condition::Running { task })
+        | Subject::Ticks(Condition::Waiting { task })
+        | Subject::Ticks(Condition::Inverted { task })
+        | Subject::Ticks(
+            Condition::Blocked {
+                task,
+                cause: Cause::AnyMutex,
+            },
+        )
+        | Subject::Steps(Event::TimesOut { task })
+        | Subject::NotMade { task } => Some(task),
+        _ => None,
+    }
+}
+
+fn is_another(task: Option<u32>, judged: Option<u32>) -> bool
+    ensures { result ≡ is_another task judged }
+{
+    match (task, judged) {
+        (None, _) => false,
+        (Some(_), None) => true,
+        (Some(task), Some(judged)) => task != judged,
+    }
+}
+
+fn is_cost(judged: Subject, subject: Subject, part: Part) -> bool
+    ensures { result ≡ is_cost judged subject part }
+{
+    match part {
+        Part::Total => is_another(bearer(subject), task_of(judged)),
+        Part::Longest => false,
+    }
+}
+
+fn is_cost_at(judged: Subject, figures: &[Figure], index: usize) -> bool
+    ensures { result ≡ is_cost_at judged figures.now index }
+{
+    match figures.get(index) {
+        Some(figure) => is_cost(judged, figure.subject, figure.part),
+        None => false,
+    }
+}
+
+fn is_changed_at(before: &[Figure], after: &[Figure], index: usize) -> bool
+    ensures { result ≡ is_changed_at before.now after.now index }
+{
+    value_at(before, index) != value_at(after, index)
+}
+
+#[tactic(auto, unfolding(crate::specs::Costs::cost_line))]
+fn push_cost_line(
+    alloc: Global,
+    text: &mut String,
+    base: &Base<'_>,
+    after: &[Figure],
+    index: usize,
+) -> Result<(), AllocError>
+    ensures { OnOk result
+        (string_bytes text.new
+        ≡ string_bytes text.old ++ cost_line (basis_of base.now) after.now index) }
+{
+    let before = base.figures;
+    if !is_cost_at(base.judged.subject, before, index) || !is_changed_at(before, after, index) {
+        return Ok(());
+    }
+    text.push_str("   ")?;
+    push_name_at(text, base.header, before, index)?;
+    text.push_str(" ")?;
+    push_number(alloc, text, value_at(before, index), value_at(after, index))?;
+    text.push_str("\n")
+}
+
+fn push_cost_lines(
+    alloc: Global,
+    text: &mut String,
+    base: &Base<'_>,
+    after: &[Figure],
+) -> Result<(), AllocError>
+    ensures { OnOk result
+        (string_bytes text.new
+        ≡ string_bytes text.old ++ cost_lines (basis_of base.now) after.now) }
+{
+    for index in 0..base.figures.len() {
+        push_cost_line(alloc, text, base, after, index)?;
+    }
+    Ok(())
+}
+
+// The figures of a run that is known not to be too long.
+fn figures_after(
+    alloc: Global,
+    meter: &mut Meter,
+    header: &Header,
+    steps: &[Step],
+    settled: bool,
+) -> Result<Vec<Figure>, AllocError>
+    requires session { IsSession (record { header = header.now; steps = steps.now }) }
+    requires few { length steps.now ≤ max_steps }
+    requires short { ¬ (IsTooLong settled (record { header = header.now; steps = steps.now })) }
+    ensures { IfOk result
+        (λ figures. AreFigures settled (record { header = header.now; steps = steps.now })
+        figures.items) }
+{
+    match figures_of_session(alloc, meter, header, steps, settled) {
+        Ok(figures) => Ok(figures),
+        Err(SettleFault::NoMemory) => Err(AllocError),
+        Err(SettleFault::TooManySteps) => unreachable!(),
+    }
+}
+
+/// Writes after the text what the change costs other tasks, of which the verdict was said.
+pub(crate) fn push_costs(
+    alloc: Global,
+    meter: &mut Meter,
+    text: &mut String,
+    base: &Base<'_>,
+    change: Change,
+    verdict: Verdict,
+) -> Result<(), AllocError>
+    requires basis { IsBasis (basis_of base.now) }
+    requires allowed { IsChangeOf (basis_of base.now).session change }
+    requires said { IsVerdict (judge_of (basis_of base.now))
+        (changed (basis_of base.now).session change) verdict }
+    ensures { OnOk result
+        (AddsCosts (basis_of base.now) change verdict (string_bytes text.old)
+        (string_bytes text.new)) }
+{
+    match verdict {
+        Verdict::Number(_) => {
+            let (header, steps) = changed_session(alloc, base.header, base.steps, change)?;
+            let steps = steps.as_slice();
+            let after = figures_after(alloc, meter, &header, steps, base.settled)?;
+            push_cost_lines(alloc, text, base, after.as_slice())?;
+            Ok(())
+        }
+        Verdict::TooLong => Ok(()),
+    }
+}

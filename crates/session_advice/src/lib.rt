@@ -1,0 +1,14 @@
+//! Advice of sessions: which changes help a number of the run most, and what they cost others.
+#![tactic(auto)]
+
+mod advice;
+mod basis;
+mod costs;
+mod entries;
+mod laws;
+mod question;
+mod words;
+
+pub use advice::advise_session;
+pub use laws::law_of_advice;
+pub use question::{AdviceStatus, Advised, Question};

@@ -10,6 +10,7 @@ use Rattle.session_store.specs.declared.fault.OpenRefusal.TheVariants as refusal
 use Rattle.session_store.specs.declared.fault.OpenRefusal.TheVariants.{TooLong}
 use Rattle.session_store.specs.Opening.{open_check}
 use Rattle.session_text.specs.declared.bench.Bench.{Bench}
+use Rattle.session_text.specs.declared.detail.Detail.TheVariants.{None}
 use Rattle.session_text.specs.declared.fault.TextFault.{TextFault}
 use Rattle.session_text.specs.declared.fault.Why.TheVariants.{NoMemory}
 use Rattle.session_text.specs.Bench.{bench_text, IsCheckedBench}
@@ -18,7 +19,7 @@ use Rattle.bench_commands.specs.declared.execution.Mode.{Mode}
 use Rattle.bench_commands.specs.Answer.{why_text, refused, bench_output, output_of, output_of_bench, span_of, store_text, Output}
 use Rattle.bench_commands.proofs.Opened.{few_steps, opens}
 
-pub refused_output : {E : Type 0} (text : Bench → List ℕ) (input : List ℕ) (fault : TextFault) (result : Result (Output × String Global) E) → (bench_text input ≡ Err fault) ⊎ (fault ≡ record { why = NoMemory; path = [] })
+pub refused_output : {E : Type 0} (text : Bench → List ℕ) (input : List ℕ) (fault : TextFault) (result : Result (Output × String Global) E) → (bench_text input ≡ Err fault) ⊎ (fault ≡ record { why = NoMemory; path = []; detail = None })
     → IfOk result (λ told. told.0 ≡ refused (why_text fault.why) fault.path) → (fault.why ≡ NoMemory → IsErr result) → IfOk result (λ told. told.0 ≡ output_of text (bench_text input))
 refused_output text input fault (Err e) reading line memory = tt
 refused_output text input fault (Ok told) (inl read) line memory = line ∙ sym (ap (output_of text) read)

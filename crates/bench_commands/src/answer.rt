@@ -206,7 +206,7 @@ fn answer_of_bench<T: Threads + Sync>(
 }
 
 /// The answer to a text that was not read for this, and what people are told.
-pub(crate) fn explained(
+pub fn explained(
     alloc: Global,
     input: &[u8],
     fault: TextFault,
@@ -215,7 +215,8 @@ pub(crate) fn explained(
         (λ told. told.0
         ≡ record { is_refused = true; text = refusal_line (why_text fault.why) fault.path }) }
     ensures hint { IfOk result
-        (λ told. IsFaultHint input.now fault.why fault.path (string_bytes told.1)) }
+        (λ told. IsFaultHint input.now fault.why fault.path fault.detail
+        (string_bytes told.1)) }
     ensures memory { fault.why ≡ NoMemory → IsErr result }
 {
     let hint = fault_hint(alloc, input, &fault)?;
@@ -224,7 +225,7 @@ pub(crate) fn explained(
 }
 
 /// The same of an input that is too long to be read.
-pub(crate) fn too_long(alloc: Global) -> Result<(Answer, String), AllocError>
+pub fn too_long(alloc: Global) -> Result<(Answer, String), AllocError>
     ensures line { IfOk result (λ told. told.0 ≡ refused (codes "H3") []) }
     ensures hint { IfOk result (λ told. string_bytes told.1 ≡ too_long_line) }
 {

@@ -2,16 +2,17 @@
 ghost use Rattle.std.specs.Prelude.{◌≡◌, ◌++◌, None, IfOk, IsErr, OnOk, string_bytes, true};
 ghost use Rattle.serde_json.specs.Read.{read};
 ghost use Rattle.bench_types.specs.declared.fault.Fault.TheVariants.{BadHeader};
+ghost use Rattle.session_text.specs.declared.detail.Detail.TheVariants.{OnePerCore};
 ghost use Rattle.session_text.specs.declared.fault.Why.TheVariants.{NoMemory};
 ghost use Rattle.session_text.specs.Flaw.{flaw_in};
-ghost use Rattle.bench_commands.specs.Hint.{IsFaultHint, IsNotJsonHint, IsShortTextHint, TellsPlace, fault_line, flaw_line, header_line, limits_line, line_at, task_limit_line, task_line, too_long_line, too_many_steps_line};
+ghost use Rattle.bench_commands.specs.Hint.{IsFaultHint, IsNotJsonHint, IsShortTextHint, TellsPlace, expected_text, fault_line, flaw_line, found_text, header_line, limits_line, line_at, shape_text, task_limit_line, task_line, too_long_line, too_many_steps_line, whole_text, wrong_text};
 
 use bench_types::{
     Fault, MAX_CORES, MAX_INPUT, MAX_MUTEXES, MAX_NOTES, MAX_PRIORITIES, MAX_STEPS, MAX_TASKS,
     MIN_CORES,
 };
 use serde_json::{Error, Value};
-use session_text::{HeaderFlaw, TextFault, Why, header_flaw};
+use session_text::{Detail, Expected, Found, HeaderFlaw, TextFault, Why, header_flaw};
 use std::alloc::{AllocError, Global};
 
 /// The most bytes that are read again for the place of a fault: serde_json's tree of them takes up
@@ -55,6 +56,12 @@ fn short_text_hint(alloc: Global, input: &[u8]) -> Result<String, AllocError>
 fn not_json_hint(alloc: Global, input: &[u8]) -> Result<String, AllocError>
     ensures { IfOk result (λ hint. IsNotJsonHint input.now (string_bytes hint)) }
 {
+    if input.starts_with(b"\xEF\xBB\xBF") {
+        return String::from_str(
+            alloc,
+            "not JSON: the text begins with a byte order mark; save it without one\n",
+        );
+    }
     if input.len() > MAX_PLACED {
         return String::from_str(alloc, "not JSON\n");
     }
@@ -153,6 +160,101 @@ fn hint_at(alloc: Global, path: &str, meaning: &str) -> Result<String, AllocErro
     Ok(hint)
 }
 
+fn expected_text(expected: Expected) -> &'static str
+    ensures { result.now ≡ expected_text expected }
+{
+    match expected {
+        Expected::Number => "a whole number from 0 to 4294967295",
+        Expected::Text => "a text",
+        Expected::Flag => "true or false",
+        Expected::Array => "an array",
+        Expected::Object => "an object",
+    }
+}
+
+fn whole_text(expected: Expected) -> &'static str
+    ensures { result.now ≡ whole_text expected }
+{
+    match expected {
+        Expected::Number => "a greater one",
+        Expected::Text | Expected::Flag | Expected::Array | Expected::Object => "a whole number",
+    }
+}
+
+fn found_text(expected: Expected, found: Found) -> &'static str
+    ensures { result.now ≡ found_text expected found }
+{
+    match found {
+        Found::Whole => whole_text(expected),
+        Found::Other => "null or another number",
+        Found::Text => "a text",
+        Found::Flag => "true or false",
+        Found::Array => "an array",
+        Found::Object => "an object",
+    }
+}
+
+fn push_wrong(text: &mut String, expected: Expected, found: Found) -> Result<(), AllocError>
+    ensures { OnOk result
+        (string_bytes text.new ≡ string_bytes text.old ++ wrong_text expected found) }
+{
+    text.push_str("expected ")?;
+    text.push_str(expected_text(expected))?;
+    text.push_str(", found ")?;
+    text.push_str(found_text(expected, found))
+}
+
+fn push_both(text: &mut String, first: &str, second: &str) -> Result<(), AllocError>
+    ensures { OnOk result
+        (string_bytes text.new ≡ string_bytes text.old ++ first.now ++ second.now) }
+{
+    text.push_str(first)?;
+    text.push_str(second)
+}
+
+fn push_per_core(text: &mut String, cores: u32) -> Result<(), AllocError>
+    ensures { OnOk result
+        (string_bytes text.new ≡ string_bytes text.old ++ shape_text (OnePerCore cores)) }
+{
+    write!(text, "expected an array for each core, {cores} of them")
+}
+
+fn push_shape(text: &mut String, detail: &Detail) -> Result<(), AllocError>
+    ensures { OnOk result
+        (string_bytes text.new ≡ string_bytes text.old ++ shape_text detail.now) }
+{
+    match detail {
+        Detail::None => text.push_str("a member is missing, ill-typed or unknown"),
+        Detail::Missing => text.push_str("this member is missing"),
+        Detail::Unknown(names) => push_both(
+            text,
+            "there is another member than these: ",
+            names.as_str(),
+        ),
+        Detail::Wrong { expected, found } => push_wrong(text, *expected, *found),
+        Detail::NoWord(words) => push_both(
+            text,
+            "no word that stands here; these are: ",
+            words.as_str(),
+        ),
+        Detail::NoFormat => text.push_str("expected 1 or 2"),
+        Detail::HasSteps => text.push_str("the session of a rig has no steps"),
+        Detail::OnePerCore(cores) => push_per_core(text, *cores),
+    }
+}
+
+// H2 at the path.
+fn shape_hint(alloc: Global, path: &str, detail: &Detail) -> Result<String, AllocError>
+    ensures { IfOk result
+        (λ hint. string_bytes hint ≡ line_at path.now (shape_text detail.now)) }
+{
+    let mut hint = String::from_str(alloc, path)?;
+    hint.push_str(": ")?;
+    push_shape(&mut hint, detail)?;
+    hint.push_str("\n")?;
+    Ok(hint)
+}
+
 // F1, of the header where there is no path.
 fn bad_header_hint(alloc: Global, input: &[u8], path: &str) -> Result<String, AllocError>
     ensures { IfOk result (λ hint. string_bytes hint ≡ fault_line input.now BadHeader path.now) }
@@ -196,13 +298,14 @@ pub(crate) fn fault_hint(
     fault: &TextFault,
 ) -> Result<String, AllocError>
     ensures line { IfOk result
-        (λ hint. IsFaultHint input.now fault.now.why fault.now.path (string_bytes hint)) }
+        (λ hint. IsFaultHint input.now fault.now.why fault.now.path fault.now.detail
+        (string_bytes hint)) }
     ensures memory { fault.now.why ≡ NoMemory → IsErr result }
 {
     let path = fault.path.as_str();
     match fault.why {
         Why::NotJson => not_json_hint(alloc, input),
-        Why::BadShape => hint_at(alloc, path, "a member is missing, ill-typed or unknown"),
+        Why::BadShape => shape_hint(alloc, path, &fault.detail),
         Why::Bench(fault) => bench_fault_hint(alloc, input, fault, path),
         Why::NoMemory => Err(AllocError),
     }
@@ -217,7 +320,8 @@ pub(crate) fn too_long_hint(alloc: Global) -> Result<String, AllocError>
     Ok(hint)
 }
 
-fn too_many_steps_hint(alloc: Global) -> Result<String, AllocError>
+/// What people are told of a session that has too many steps, a line.
+pub fn too_many_steps_hint(alloc: Global) -> Result<String, AllocError>
     ensures { IfOk result (λ hint. string_bytes hint ≡ too_many_steps_line) }
 {
     let mut hint = String::new(alloc);

@@ -19,12 +19,13 @@ mod shown_row;
 mod trials;
 mod writing;
 
-pub use answer::{Answer, refused, refused_for};
+pub use answer::{Answer, explained, refused, refused_for, too_long};
 pub use command::{DEFAULT_SPAN, Request, request_of};
 pub use core_scripts::Gate;
 pub use device::{Counted, CountedRead, CountedWrite};
 pub use examples::examples_of_command_lines;
 pub use execution::{Mode, RunFault, Status, run};
+pub use hint::too_many_steps_hint;
 pub use input::{InputFault, read_input};
 pub use program::{Ending, carry_out, run_program};
 pub use prompt::Prompting;

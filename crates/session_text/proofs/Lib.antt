@@ -4,3 +4,4 @@ mod Lists
 mod Loops
 mod NewNames
 mod Scripts
+mod Shown

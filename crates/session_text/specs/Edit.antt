@@ -6,12 +6,14 @@ use Rattle.bench_types.specs.declared.step.Step.{Step}
 use Rattle.bench_types.specs.declared.edit.Edit.{Edit}
 use Rattle.bench_types.specs.declared.edit.Edit.TheVariants as edit
 use Rattle.bench_types.specs.Edit.{edit_check}
+use Rattle.session_text.specs.declared.detail.Detail.TheVariants.{NoWord}
 use Rattle.session_text.specs.declared.fault.TextFault.{TextFault}
 use Rattle.session_text.specs.declared.format.Format.{Format}
 use Rattle.session_text.specs.declared.format.Format.TheVariants.{Two}
 use Rattle.session_text.specs.declared.edit.EditKind.{EditKind}
 use Rattle.session_text.specs.declared.edit.EditKind.TheVariants.{Insert, Remove, Replace, Change}
 use Rattle.session_text.specs.Accepted.{item_accepted}
+use Rattle.session_text.specs.Detail.{listed, words_of}
 use Rattle.session_text.specs.Member.{object_at, member_at, number_at, text_at, only_at}
 use Rattle.session_text.specs.Names.{TaskNames, names_of}
 use Rattle.session_text.specs.Outcome.{◌>>=◌, found}
@@ -31,7 +33,7 @@ edit_kind_of word = option_map (λ entry. entry.1) (find (λ entry. bytes_eq wor
 unfoldable pub edit_kind_at : List ℕ → Data → Result EditKind TextFault
 edit_kind_at at d = do
   word ← text_at at (codes "edit") d
-  found (edit_kind_of word) (member_path at (codes "edit"))
+  found (edit_kind_of word) (member_path at (codes "edit")) (NoWord (listed (words_of edit_kinds)))
 
 abbrev pub edit_members_of : EditKind → List (List ℕ)
 edit_members_of Insert = codes "edit" ∷ codes "at" ∷ codes "step" ∷ []

@@ -1,6 +1,6 @@
 -- For what a header is not accepted: the first of these things, the numbers of its settings, how
 -- many user tasks there are, then their names, priorities and masks, and names that come twice.
-use Rattle.std.specs.Prelude.{ℕ, ◌==◌, List, [], length, codes, count_by, position, bytes_eq, Bool, not, nat_lt, nat_le, Option, Some, None, option_map, Result, Ok, Err, if◌then◌else◌}
+use Rattle.std.specs.Prelude.{ℕ, ◌==◌, List, [], length, codes, count_by, position, bytes_eq, not, nat_lt, nat_le, Option, Some, None, option_map, Result, Ok, Err, if◌then◌else◌}
 use Rattle.std.specs.Option.{option_or}
 use Rattle.serde_json.specs.Data.{Data}
 use Rattle.serde_json.specs.Find.{get}

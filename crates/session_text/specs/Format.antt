@@ -2,6 +2,7 @@
 -- how many it has, and `index` which of them a step means.
 use Rattle.std.specs.Prelude.{ℕ, ◌==◌, List, [], ◌∷◌, codes, Option, Some, None, Result, Ok, if◌then◌else◌}
 use Rattle.serde_json.specs.Data.{Data}
+use Rattle.session_text.specs.declared.detail.Detail.TheVariants.{NoFormat}
 use Rattle.session_text.specs.declared.fault.TextFault.{TextFault}
 use Rattle.session_text.specs.declared.format.Format.{Format}
 use Rattle.session_text.specs.declared.format.Format.TheVariants.{One, Two}
@@ -16,7 +17,7 @@ format_of number =
 unfoldable pub format_at : List ℕ → Data → Result Format TextFault
 format_at at d = do
   number ← number_at at (codes "format") d
-  found (format_of number) (member_path at (codes "format"))
+  found (format_of number) (member_path at (codes "format")) NoFormat
 
 -- the member that only a session of the second format has
 abbrev pub notes_member : Format → List (List ℕ)

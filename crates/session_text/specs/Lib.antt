@@ -3,6 +3,7 @@ pub mod Act
 pub mod Action
 pub mod Array
 pub mod Bench
+pub mod Detail
 pub mod Edit
 pub mod Flaw
 pub mod Format

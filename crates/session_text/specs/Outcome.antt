@@ -1,5 +1,7 @@
 -- What a reading gives: a value, or the first fault. And what a function that reads may answer.
 use Rattle.std.specs.Prelude.{◌≡◌, ℕ, List, [], Option, Some, None, Result, Ok, Err}
+use Rattle.session_text.specs.declared.detail.Detail.{Detail}
+use Rattle.session_text.specs.declared.detail.Detail.TheVariants as detail
 use Rattle.session_text.specs.declared.fault.Why.TheVariants.{BadShape, NoMemory}
 use Rattle.session_text.specs.declared.fault.TextFault.{TextFault}
 use Rattle.session_text.specs.declared.fault.ReadFault.{ReadFault}
@@ -12,14 +14,14 @@ abbrev pub ◌>>=◌ : {A B : Type 0} → Result A TextFault → (A → Result B
 Ok x >>= next = next x
 Err fault >>= next = Err fault
 
--- H2 at a place
-abbrev pub bad_shape : List ℕ → TextFault
-bad_shape at = record { why = BadShape; path = path_text at }
+-- H2 at a place, with what more is known of it
+abbrev pub bad_shape : List ℕ → Detail → TextFault
+bad_shape at more = record { why = BadShape; path = path_text at; detail = more }
 
 -- what was looked for at a place, or H2 there
-abbrev pub found : {A : Type 0} → Option A → List ℕ → Result A TextFault
-found (Some x) at = Ok x
-found None at = Err (bad_shape at)
+abbrev pub found : {A : Type 0} → Option A → List ℕ → Detail → Result A TextFault
+found (Some x) at more = Ok x
+found None at more = Err (bad_shape at more)
 
 -- A reading stops at this fault, unless memory runs out before.
 abbrev pub StopsAt : TextFault → ReadFault → Type 0
@@ -38,5 +40,5 @@ Gives view (Err stop) reading = Ends stop reading
 
 -- what a caller is told of it
 abbrev pub told : ReadFault → TextFault
-told Memory = record { why = NoMemory; path = [] }
+told Memory = record { why = NoMemory; path = []; detail = detail.None }
 told (Fault fault) = fault

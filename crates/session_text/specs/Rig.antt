@@ -11,6 +11,7 @@ use Rattle.bench_types.specs.declared.act.Act.{Act}
 use Rattle.bench_types.specs.declared.fault.Fault.{Fault}
 use Rattle.bench_types.specs.declared.fault.Fault.TheVariants.{BadArgument}
 use Rattle.bench_types.specs.declared.header.Header.{Header}
+use Rattle.session_text.specs.declared.detail.Detail.TheVariants as detail
 use Rattle.session_text.specs.declared.fault.TextFault.{TextFault}
 use Rattle.session_text.specs.declared.fault.Why.TheVariants.{Bench}
 use Rattle.session_text.specs.declared.format.Format.{Format}
@@ -26,11 +27,16 @@ use Rattle.session_text.specs.Outcome.{◌>>=◌, bad_shape}
 use Rattle.session_text.specs.Path.{item_path, member_path, path_text}
 use Rattle.session_text.specs.Session.{document, session_members}
 
+-- the array at a place has no items, or H2 there
+abbrev pub no_items_at : List ℕ → Items → Result ⊤ TextFault
+no_items_at at items =
+    if items_len items == 0 then Ok tt else Err (bad_shape at detail.HasSteps)
+
 -- `steps` has no items, or H2 there
 unfoldable pub no_steps_at : List ℕ → Data → Result ⊤ TextFault
 no_steps_at at d = do
   items ← array_at at (codes "steps") d
-  if items_len items == 0 then Ok tt else Err (bad_shape (member_path at (codes "steps")))
+  no_items_at (member_path at (codes "steps")) items
 
 -- the format, the number of cores, and the header, accepted or not, of a session with no steps
 unfoldable pub stepless_at :
@@ -55,7 +61,8 @@ has_arrays count items = (items_len items == count) && are_arrays items
 
 -- a wrong number of scripts, and one that is no array, is H2 at `scripts`
 abbrev pub one_per_core : ℕ → List ℕ → Items → Result ⊤ TextFault
-one_per_core cores at items = if has_arrays cores items then Ok tt else Err (bad_shape at)
+one_per_core cores at items =
+    if has_arrays cores items then Ok tt else Err (bad_shape at (detail.OnePerCore cores))
 
 -- one script per core
 unfoldable pub scripts_at :
@@ -85,7 +92,11 @@ rig_shapes_at at d = do
 abbrev pub limit_accepted : List ℕ → ℕ → Result ⊤ TextFault
 limit_accepted at limit =
     if nat_lt max_steps limit
-    then Err (record { why = Bench BadArgument; path = path_text (member_path at (codes "limit")) })
+    then Err (record {
+      why = Bench BadArgument;
+      path = path_text (member_path at (codes "limit"));
+      detail = detail.None;
+    })
     else Ok tt
 
 -- the first fault of the scripts from a core's on, which stand in the array at a place
@@ -98,7 +109,8 @@ scripts_accepted header at core (script ∷ rest) = do
 -- F1 of the header has no place; the fault of the limit comes before those of the scripts
 unfoldable pub rig_accepted :
     List ℕ → Result Header Fault → ℕ → List (List Act) → Result RigScript TextFault
-rig_accepted at (Err fault) limit scripts = Err (record { why = Bench fault; path = [] })
+rig_accepted at (Err fault) limit scripts =
+    Err (record { why = Bench fault; path = []; detail = detail.None })
 rig_accepted at (Ok header) limit scripts = do
   few ← limit_accepted at limit
   done ← scripts_accepted header (member_path at (codes "scripts")) 0 scripts

@@ -7,6 +7,7 @@ use Rattle.bench_types.specs.declared.fault.Fault.{Fault}
 use Rattle.bench_types.specs.declared.header.Header.{Header}
 use Rattle.bench_types.specs.declared.step.Step.{Step}
 use Rattle.bench_types.specs.Step.{settings_of, step_check}
+use Rattle.session_text.specs.declared.detail.Detail.TheVariants as detail
 use Rattle.session_text.specs.declared.fault.Why.TheVariants.{NotJson, Bench, NoMemory}
 use Rattle.session_text.specs.declared.fault.TextFault.{TextFault}
 use Rattle.session_text.specs.declared.format.Format.{Format}
@@ -23,7 +24,7 @@ use Rattle.session_text.specs.Step.{step_at}
 -- H1 where the bytes are no UTF-8, or no JSON
 abbrev pub json_or_fault : Option Data → Result Data TextFault
 json_or_fault (Some d) = Ok d
-json_or_fault None = Err (record { why = NotJson; path = [] })
+json_or_fault None = Err (record { why = NotJson; path = []; detail = detail.None })
 
 abbrev pub document : List ℕ → Result Data TextFault
 document text = json_or_fault (if is_utf8 text then read text else None)
@@ -51,7 +52,8 @@ step_fault header step = step_check (settings_of header) step
 -- F1 of the header has no place
 unfoldable pub session_accepted :
     List ℕ → Result Header Fault → List Step → Result (Header × List Step) TextFault
-session_accepted at (Err fault) steps = Err (record { why = Bench fault; path = [] })
+session_accepted at (Err fault) steps =
+    Err (record { why = Bench fault; path = []; detail = detail.None })
 session_accepted at (Ok header) steps = do
   done ← items_accepted (step_fault header) (member_path at (codes "steps")) 0 steps
   Ok (header, steps)
@@ -67,4 +69,4 @@ session text = do
 abbrev pub Answers : {A B : Type 0} → (A → B) → Result A TextFault → Result B TextFault → Type 0
 Answers view (Ok x) reading = reading ≡ Ok (view x)
 Answers view (Err fault) reading =
-    (reading ≡ Err fault) ⊎ (fault ≡ record { why = NoMemory; path = [] })
+    (reading ≡ Err fault) ⊎ (fault ≡ record { why = NoMemory; path = []; detail = detail.None })

@@ -8,12 +8,14 @@ use Rattle.bench_types.specs.declared.step.Step.{Step}
 use Rattle.bench_types.specs.declared.step.Step.TheVariants as step
 use Rattle.bench_types.specs.declared.step.Call.{Call}
 use Rattle.bench_types.specs.declared.step.Call.TheVariants as call
+use Rattle.session_text.specs.declared.detail.Detail.TheVariants.{NoWord}
 use Rattle.session_text.specs.declared.fault.TextFault.{TextFault}
 use Rattle.session_text.specs.declared.step.Kind.{Kind}
 use Rattle.session_text.specs.declared.step.Kind.TheVariants as kind
 use Rattle.session_text.specs.declared.call.CallKind.{CallKind}
 use Rattle.session_text.specs.declared.call.CallKind.TheVariants as callkind
 use Rattle.session_text.specs.declared.format.Format.{Format}
+use Rattle.session_text.specs.Detail.{listed, words_of}
 use Rattle.session_text.specs.Action.{action_at, action_number}
 use Rattle.session_text.specs.Format.{index_at, index_member}
 use Rattle.session_text.specs.Member.{object_at, number_at, text_at, flag_at, only_at}
@@ -51,7 +53,7 @@ kind_of word = option_map (λ entry. entry.1) (find (λ entry. bytes_eq word ent
 unfoldable pub kind_at : List ℕ → Data → Result Kind TextFault
 kind_at at d = do
   word ← text_at at (codes "do") d
-  found (kind_of word) (member_path at (codes "do"))
+  found (kind_of word) (member_path at (codes "do")) (NoWord (listed (words_of kinds)))
 
 -- the members of a notification: `value` is one where the action has a number
 abbrev pub note_members : Format → Option ℕ → List (List ℕ)

@@ -3,6 +3,7 @@ ghost use Rattle.session_text.specs.Accepted.{item_accepted, items_accepted};
 ghost use Rattle.session_text.specs.Outcome.{Gives};
 ghost use Rattle.session_text.specs.Path.{path_of};
 
+use crate::detail::Detail;
 use crate::fault::{ReadFault, Why};
 use crate::path::Place;
 use bench_types::{Edit, Fault, Header, Step};
@@ -60,7 +61,7 @@ pub(crate) fn item_accepted<H, T: Judged<H>>(
 {
     match item.judge(header) {
         Ok(()) => Ok(()),
-        Err(fault) => Err(ReadFault::at(alloc, place, Why::Bench(fault))),
+        Err(fault) => Err(ReadFault::at(alloc, place, Why::Bench(fault), Detail::None)),
     }
 }
 

@@ -1,6 +1,7 @@
-ghost use Rattle.std.specs.Prelude.{◌≡◌};
+ghost use Rattle.std.specs.Prelude.{◌≡◌, map};
 ghost use Rattle.bench_types.specs.Step.{IsActionOfWord};
-ghost use Rattle.session_text.specs.Action.{action_at, action_kind_at, action_kind_of, action_number, action_of_kind_at};
+ghost use Rattle.session_text.specs.Action.{action_at, action_kind_at, action_kind_of, action_kinds, action_number, action_of_kind_at};
+ghost use Rattle.session_text.specs.Detail.{words_of};
 ghost use Rattle.session_text.specs.Node.{data_of, place_of};
 ghost use Rattle.session_text.specs.Outcome.{Gives};
 
@@ -23,10 +24,20 @@ fn action_kind_at(node: &Node<'_, '_>) -> Result<ActionKind, ReadFault>
     ensures { Gives (λ kind. kind) result
         (action_kind_at (place_of node.now) (data_of node.now)) }
 {
-    node.found("action", ActionKind::of(node.text("action")?))
+    node.meant(
+        "action",
+        ActionKind::words(),
+        ActionKind::of(node.text("action")?),
+    )
 }
 
 impl ActionKind {
+    fn words() -> &'static [&'static str]
+        ensures { map (λ word. word.now) result.now ≡ words_of action_kinds }
+    {
+        &["none", "set_bits", "increment", "set", "set_new"]
+    }
+
     fn of(word: &str) -> Option<ActionKind>
         ensures { result ≡ action_kind_of word.now }
     {

@@ -1,7 +1,8 @@
 ghost use Rattle.std.specs.Prelude.{◌≡◌, IfOk, Ok, map};
 ghost use Rattle.bench_types.specs.Edit.{IsCheckedEdit};
 ghost use Rattle.bench_types.specs.Header.{header_check};
-ghost use Rattle.session_text.specs.Edit.{edit_kind_at, edit_kind_of, edit_members_of, edit_of_kind_at, edit_text, new_step_at};
+ghost use Rattle.session_text.specs.Detail.{words_of};
+ghost use Rattle.session_text.specs.Edit.{edit_kind_at, edit_kind_of, edit_kinds, edit_members_of, edit_of_kind_at, edit_text, new_step_at};
 ghost use Rattle.session_text.specs.Node.{data_of, place_of};
 ghost use Rattle.session_text.specs.Outcome.{Gives};
 ghost use Rattle.session_text.specs.Session.{Answers};
@@ -65,6 +66,12 @@ pub(crate) enum EditKind {
 }
 
 impl EditKind {
+    fn words() -> &'static [&'static str]
+        ensures { map (λ word. word.now) result.now ≡ words_of edit_kinds }
+    {
+        &["insert", "remove", "replace", "change"]
+    }
+
     fn of(word: &str) -> Option<EditKind>
         ensures { result ≡ edit_kind_of word.now }
     {
@@ -93,7 +100,7 @@ impl EditKind {
 fn edit_kind_at(node: &Node<'_, '_>) -> Result<EditKind, ReadFault>
     ensures { Gives (λ kind. kind) result (edit_kind_at (place_of node.now) (data_of node.now)) }
 {
-    node.found("edit", EditKind::of(node.text("edit")?))
+    node.meant("edit", EditKind::words(), EditKind::of(node.text("edit")?))
 }
 
 /// The step that the edit brings.
@@ -150,6 +157,7 @@ pub(crate) struct EditReader<'n, 'a> {
 impl<'v> ReadItem<'v> for EditReader<'_, '_> {
     type Item = Edit;
 
+    ghost use Rattle.session_text.specs.Detail.{words_of};
     ghost use Rattle.session_text.specs.Edit.{edit_at};
 
     ghost reading = { λ edits. edit_at edits.format edits.names.now };

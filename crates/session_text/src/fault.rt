@@ -3,6 +3,7 @@ ghost use Rattle.session_text.specs.declared.fault.ReadFault.TheVariants.{Memory
 ghost use Rattle.session_text.specs.Outcome.{told, StopsAt};
 ghost use Rattle.session_text.specs.Path.{path_of, path_text};
 
+use crate::detail::Detail;
 use crate::path::{Path, Place};
 use bench_types::Fault;
 use std::alloc::{AllocError, AllocFailed, Global};
@@ -33,6 +34,8 @@ pub struct TextFault {
     pub why: Why,
     /// Empty for H1, for F1 of the header, and where memory ran out.
     pub path: Path,
+    /// Said of H2 alone.
+    pub detail: Detail,
 }
 
 impl fmt::Display for TextFault {
@@ -55,11 +58,13 @@ pub(crate) enum ReadFault {
 
 impl ReadFault {
     /// The fault at the place, or that no memory is left for its path.
-    pub(crate) fn at(alloc: Global, place: &Place<'_>, why: Why) -> ReadFault
-        ensures { StopsAt (record { why = why; path = path_text (path_of place.now) }) result }
+    #[cold]
+    pub(crate) fn at(alloc: Global, place: &Place<'_>, why: Why, detail: Detail) -> ReadFault
+        ensures { StopsAt
+            (record { why = why; path = path_text (path_of place.now); detail = detail }) result }
     {
         match place.to_path(alloc) {
-            Ok(path) => ReadFault::Fault(TextFault { why, path }),
+            Ok(path) => ReadFault::Fault(TextFault { why, path, detail }),
             Err(_) => ReadFault::Memory,
         }
     }
@@ -73,6 +78,7 @@ impl From<ReadFault> for TextFault {
             ReadFault::Memory => TextFault {
                 why: Why::NoMemory,
                 path: Path::empty(),
+                detail: Detail::None,
             },
             ReadFault::Fault(fault) => fault,
         }

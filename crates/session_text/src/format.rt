@@ -3,6 +3,7 @@ ghost use Rattle.session_text.specs.Format.{format_at, format_of, index_at, note
 ghost use Rattle.session_text.specs.Node.{data_of, place_of};
 ghost use Rattle.session_text.specs.Outcome.{Gives};
 
+use crate::detail::Detail;
 use crate::fault::ReadFault;
 use crate::node::Node;
 
@@ -33,7 +34,10 @@ pub(crate) fn format_at(node: &Node<'_, '_>) -> Result<Format, ReadFault>
     ensures { Gives (λ format. format) result
         (format_at (place_of node.now) (data_of node.now)) }
 {
-    node.found("format", Format::of(node.number("format")?))
+    match Format::of(node.number("format")?) {
+        Some(format) => Ok(format),
+        None => Err(node.bad_member("format", Detail::NoFormat)),
+    }
 }
 
 /// How many notifications each task has.

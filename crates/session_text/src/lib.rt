@@ -8,6 +8,7 @@ mod action;
 mod array;
 mod bench;
 mod call;
+mod detail;
 mod edit;
 mod fault;
 mod flaw;
@@ -22,6 +23,7 @@ mod session;
 mod step;
 
 pub use bench::{Bench, read_bench};
+pub use detail::{Detail, Expected, Found, Words};
 pub use edit::read_edit;
 pub use fault::{TextFault, Why};
 pub use flaw::{HeaderFlaw, header_flaw};

@@ -1,22 +1,46 @@
 ghost use Rattle.std.specs.Prelude.{◌≡◌, map};
 ghost use Rattle.json_data.specs.ObjectView.{members_view};
 ghost use Rattle.json_data.specs.View.{items_view, view};
+ghost use Rattle.session_text.specs.declared.detail.Detail.TheVariants.{Unknown, Wrong};
+ghost use Rattle.session_text.specs.Detail.{found_of, listed};
 ghost use Rattle.session_text.specs.Member.{array_at, as_u32, flag_at, items_at, member_at, number_at, number_or_at, object_at, only_at, text_at};
 ghost use Rattle.session_text.specs.Node.{data_of, place_of};
-ghost use Rattle.session_text.specs.Outcome.{Gives};
+ghost use Rattle.session_text.specs.Outcome.{bad_shape, Gives, StopsAt};
 
+use crate::detail::{Detail, Expected, Words, found_of};
 use crate::fault::ReadFault;
 use crate::node::Node;
 use json_data::{Item, Items, Object};
 
 impl<'p, 'v> Node<'p, 'v> {
+    /// H2 here, where another value is expected.
+    fn bad_value(&self, expected: Expected) -> ReadFault
+        ensures { StopsAt
+            (bad_shape (place_of self.now) (Wrong expected (found_of (data_of self.now)))) result }
+    {
+        let found = found_of(self.value);
+        self.bad_shape(Detail::Wrong { expected, found })
+    }
+
+    /// H2 here, where the object has a member with none of the names.
+    fn unknown(&self, names: &[&str]) -> ReadFault
+        ensures { StopsAt
+            (bad_shape (place_of self.now)
+            (Unknown (listed (map (λ name. name.now) names.now)))) result }
+    {
+        match Words::listed(self.alloc, names) {
+            Ok(names) => self.bad_shape(Detail::Unknown(names)),
+            Err(_) => ReadFault::Memory,
+        }
+    }
+
     pub(crate) fn object(&self) -> Result<Object<'p, 'p, 'v>, ReadFault>
         ensures { Gives members_view result
             (object_at (place_of self.now) (data_of self.now)) }
     {
         match self.value.as_object() {
             Some(members) => Ok(members),
-            None => Err(self.bad_shape()),
+            None => Err(self.bad_value(Expected::Object)),
         }
     }
 
@@ -26,7 +50,7 @@ impl<'p, 'v> Node<'p, 'v> {
     {
         match self.value.as_array() {
             Some(items) => Ok(items),
-            None => Err(self.bad_shape()),
+            None => Err(self.bad_value(Expected::Array)),
         }
     }
 
@@ -34,7 +58,10 @@ impl<'p, 'v> Node<'p, 'v> {
         ensures { Gives view result
             (member_at (place_of self.now) name.now (data_of self.now)) }
     {
-        self.found(name, self.value.get(name))
+        match self.value.get(name) {
+            Some(value) => Ok(value),
+            None => Err(self.bad_member(name, Detail::Missing)),
+        }
     }
 
     #[tactic(auto, unfolding(crate::specs::Member::number_at))]
@@ -42,7 +69,8 @@ impl<'p, 'v> Node<'p, 'v> {
         ensures { Gives (λ number. number) result
             (number_at (place_of self.now) name.now (data_of self.now)) }
     {
-        self.found(name, as_u32(&self.member(name)?))
+        let value = self.member(name)?;
+        self.typed(name, Expected::Number, &value, as_u32(&value))
     }
 
     /// The number, or the other one where the member is left out.
@@ -52,7 +80,7 @@ impl<'p, 'v> Node<'p, 'v> {
             (number_or_at other (place_of self.now) name.now (data_of self.now)) }
     {
         match self.value.get(name) {
-            Some(value) => self.found(name, as_u32(&value)),
+            Some(value) => self.typed(name, Expected::Number, &value, as_u32(&value)),
             None => Ok(other),
         }
     }
@@ -62,7 +90,8 @@ impl<'p, 'v> Node<'p, 'v> {
         ensures { Gives (λ text. text.now) result
             (text_at (place_of self.now) name.now (data_of self.now)) }
     {
-        self.found(name, self.member(name)?.as_str())
+        let value = self.member(name)?;
+        self.typed(name, Expected::Text, &value, value.as_str())
     }
 
     #[tactic(auto, unfolding(crate::specs::Member::flag_at))]
@@ -70,7 +99,8 @@ impl<'p, 'v> Node<'p, 'v> {
         ensures { Gives (λ flag. flag) result
             (flag_at (place_of self.now) name.now (data_of self.now)) }
     {
-        self.found(name, self.member(name)?.as_bool())
+        let value = self.member(name)?;
+        self.typed(name, Expected::Flag, &value, value.as_bool())
     }
 
     #[tactic(auto, unfolding(crate::specs::Member::array_at))]
@@ -78,7 +108,8 @@ impl<'p, 'v> Node<'p, 'v> {
         ensures { Gives items_view result
             (array_at (place_of self.now) name.now (data_of self.now)) }
     {
-        self.found(name, self.member(name)?.as_array())
+        let value = self.member(name)?;
+        self.typed(name, Expected::Array, &value, value.as_array())
     }
 
     /// H2 here, where the object has a member that is none of the names.
@@ -90,7 +121,7 @@ impl<'p, 'v> Node<'p, 'v> {
         if members.has_only(names) {
             Ok(())
         } else {
-            Err(self.bad_shape())
+            Err(self.unknown(names))
         }
     }
 }

@@ -1,7 +1,13 @@
+ghost use Rattle.std.specs.Prelude.{map};
+ghost use Rattle.json_data.specs.View.{view};
+ghost use Rattle.session_text.specs.declared.detail.Detail.TheVariants.{NoWord};
+ghost use Rattle.session_text.specs.Detail.{found_of, listed};
+ghost use Rattle.session_text.specs.Member.{typed};
 ghost use Rattle.session_text.specs.Node.{place_of};
 ghost use Rattle.session_text.specs.Outcome.{bad_shape, found, Gives, StopsAt};
 ghost use Rattle.session_text.specs.Path.{member_path};
 
+use crate::detail::{Detail, Expected, Words, found_of};
 use crate::fault::{ReadFault, Why};
 use crate::path::Place;
 use json_data::Item;
@@ -17,27 +23,66 @@ pub(crate) struct Node<'p, 'v> {
 
 impl<'v> Node<'_, 'v> {
     /// H2 here.
-    pub(crate) fn bad_shape(&self) -> ReadFault
-        ensures { StopsAt (bad_shape (place_of self.now)) result }
+    pub(crate) fn bad_shape(&self, detail: Detail) -> ReadFault
+        ensures { StopsAt (bad_shape (place_of self.now) detail) result }
     {
-        ReadFault::at(self.alloc, self.place, Why::BadShape)
+        ReadFault::at(self.alloc, self.place, Why::BadShape, detail)
     }
 
     /// H2 at the member.
-    pub(crate) fn bad_member(&self, name: &str) -> ReadFault
-        ensures { StopsAt (bad_shape (member_path (place_of self.now) name.now)) result }
+    pub(crate) fn bad_member(&self, name: &str, detail: Detail) -> ReadFault
+        ensures { StopsAt (bad_shape (member_path (place_of self.now) name.now) detail) result }
     {
-        ReadFault::at(self.alloc, &Place::Member(self.place, name), Why::BadShape)
+        let place = Place::Member(self.place, name);
+        ReadFault::at(self.alloc, &place, Why::BadShape, detail)
     }
 
-    /// What was looked for at the member, or H2 there.
-    pub(crate) fn found<T: Drop>(&self, name: &str, sought: Option<T>) -> Result<T, ReadFault>
+    /// What was looked for in the value, which is the member, or H2 there.
+    pub(crate) fn typed<T: Drop>(
+        &self,
+        name: &str,
+        expected: Expected,
+        value: &Item<'_, '_>,
+        sought: Option<T>,
+    ) -> Result<T, ReadFault>
         ensures { Gives (λ it. it) result
-            (found sought (member_path (place_of self.now) name.now)) }
+            (typed expected (view value.now) sought (member_path (place_of self.now) name.now)) }
     {
         match sought {
             Some(it) => Ok(it),
-            None => Err(self.bad_member(name)),
+            None => {
+                let found = found_of(value);
+                Err(self.bad_member(name, Detail::Wrong { expected, found }))
+            }
+        }
+    }
+
+    /// H2 at the member, which has to be one of the words.
+    fn no_word(&self, name: &str, words: &[&str]) -> ReadFault
+        ensures { StopsAt
+            (bad_shape (member_path (place_of self.now) name.now)
+            (NoWord (listed (map (λ word. word.now) words.now)))) result }
+    {
+        match Words::listed(self.alloc, words) {
+            Ok(words) => self.bad_member(name, Detail::NoWord(words)),
+            Err(_) => ReadFault::Memory,
+        }
+    }
+
+    /// What the text that is the member means, or H2 there: it has to be one of the words.
+    pub(crate) fn meant<T: Drop>(
+        &self,
+        name: &str,
+        words: &[&str],
+        meaning: Option<T>,
+    ) -> Result<T, ReadFault>
+        ensures { Gives (λ it. it) result
+            (found meaning (member_path (place_of self.now) name.now)
+            (NoWord (listed (map (λ word. word.now) words.now)))) }
+    {
+        match meaning {
+            Some(it) => Ok(it),
+            None => Err(self.no_word(name, words)),
         }
     }
 }

@@ -15,6 +15,7 @@ ghost use Rattle.session_text.specs.Session.{Answers};
 use crate::accepted::items_accepted;
 use crate::act::{OnCore, ScriptReader};
 use crate::array::list_at;
+use crate::detail::Detail;
 use crate::fault::{ReadFault, TextFault, Why};
 use crate::format::{Format, format_at};
 use crate::header::{config_at, header_of};
@@ -123,7 +124,7 @@ fn no_steps_at(node: &Node<'_, '_>) -> Result<(), ReadFault>
 {
     match node.array("steps")?.next() {
         None => Ok(()),
-        Some(_) => Err(node.bad_member("steps")),
+        Some(_) => Err(node.bad_member("steps", Detail::HasSteps)),
     }
 }
 
@@ -154,7 +155,7 @@ fn scripts_at(
     ensures one_per_core { IfOk result (λ scripts. length scripts.items ≡ cores) }
 {
     if !has_arrays(cores, &mut node.array("scripts")?) {
-        return Err(node.bad_member("scripts"));
+        return Err(node.bad_member("scripts", Detail::OnePerCore(cores)));
     }
     list_at(&ScriptReader { format, names }, node, "scripts")
 }
@@ -178,6 +179,7 @@ fn rig_accepted(
         Err(fault) => Err(ReadFault::Fault(TextFault {
             why: Why::Bench(fault),
             path: Path::empty(),
+            detail: Detail::None,
         })),
         Ok(header) => {
             limit_accepted(alloc, place, limit)?;
@@ -198,7 +200,8 @@ fn limit_accepted(alloc: Global, place: &Place<'_>, limit: u32) -> Result<(), Re
 {
     if limit > MAX_STEPS {
         let place = Place::Member(place, "limit");
-        Err(ReadFault::at(alloc, &place, Why::Bench(Fault::BadArgument)))
+        let why = Why::Bench(Fault::BadArgument);
+        Err(ReadFault::at(alloc, &place, why, Detail::None))
     } else {
         Ok(())
     }

@@ -15,6 +15,7 @@ ghost use Rattle.session_text.specs.Session.{document, session, session_accepted
 
 use crate::accepted::items_accepted;
 use crate::array::list_at;
+use crate::detail::Detail;
 use crate::fault::{ReadFault, TextFault, Why};
 use crate::format::{Format, format_at};
 use crate::header::header_at;
@@ -67,6 +68,7 @@ pub(crate) fn document<'a>(
         Err(Refused::NotJson) => Err(ReadFault::Fault(TextFault {
             why: Why::NotJson,
             path: Path::empty(),
+            detail: Detail::None,
         })),
     }
 }
@@ -175,6 +177,7 @@ pub(crate) fn session_accepted(
         Err(fault) => Err(ReadFault::Fault(TextFault {
             why: Why::Bench(fault),
             path: Path::empty(),
+            detail: Detail::None,
         })),
         Ok(header) => {
             items_accepted(

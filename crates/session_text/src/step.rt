@@ -1,7 +1,8 @@
 ghost use Rattle.std.specs.Prelude.{◌≡◌, map};
+ghost use Rattle.session_text.specs.Detail.{words_of};
 ghost use Rattle.session_text.specs.Node.{data_of, place_of};
 ghost use Rattle.session_text.specs.Outcome.{Gives};
-ghost use Rattle.session_text.specs.Step.{kind_at, kind_of, members_of, step_at, step_of_kind_at};
+ghost use Rattle.session_text.specs.Step.{kind_at, kind_of, kinds, members_of, step_at, step_of_kind_at};
 
 use crate::array::ReadItem;
 use crate::call::{CallKind, call_at, call_members, interrupt_members, note_at};
@@ -21,6 +22,33 @@ pub(crate) enum Kind {
 }
 
 impl Kind {
+    fn words() -> &'static [&'static str]
+        ensures { map (λ word. word.now) result.now ≡ words_of kinds }
+    {
+        &[
+            "tick",
+            "switch",
+            "isr_notify",
+            "yield",
+            "delay",
+            "delay_until",
+            "priority_set",
+            "affinity_set",
+            "preempt_off",
+            "preempt_on",
+            "notify",
+            "notify_wait",
+            "notify_take",
+            "state_clear",
+            "value_clear",
+            "mutex_take",
+            "mutex_give",
+            "finish",
+            "hold_open",
+            "hold_close",
+        ]
+    }
+
     fn of(word: &str) -> Option<Kind>
         ensures { result ≡ kind_of word.now }
     {
@@ -66,7 +94,7 @@ fn known_members(format: Format, step: &Step) -> &'static [&'static str]
 pub(crate) fn kind_at(node: &Node<'_, '_>) -> Result<Kind, ReadFault>
     ensures { Gives (λ kind. kind) result (kind_at (place_of node.now) (data_of node.now)) }
 {
-    node.found("do", Kind::of(node.text("do")?))
+    node.meant("do", Kind::words(), Kind::of(node.text("do")?))
 }
 
 #[tactic(auto, unfolding(crate::specs::Step::step_of_kind_at))]

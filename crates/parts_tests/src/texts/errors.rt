@@ -4,7 +4,7 @@ use crate::expected::expect_text;
 use crate::texts::sessions::with_steps;
 use bench_types::{EditFault, Fault};
 use json_data::Refused;
-use session_text::{Path, TextFault, Why, read_session};
+use session_text::{Detail, Path, TextFault, Why, read_session};
 use std::alloc::Global;
 use std::fmt::Display;
 use std::process::Abort;
@@ -91,6 +91,7 @@ fn what_refused_sessions_say(rt: HostRuntime) -> Result<(), Fail> {
     let no_memory = TextFault {
         why: Why::NoMemory,
         path: Path::empty(),
+        detail: Detail::None,
     };
     says(&rt, rt.alloc(), &no_memory, "out of memory")
 }

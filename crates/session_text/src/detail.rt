@@ -1,0 +1,125 @@
+//! What is known of a fault beside its code and its place.
+ghost use Rattle.std.specs.Prelude.{◌≡◌, ◌++◌, codes, flat_map, map, string_bytes, IfOk, OnOk};
+ghost use Rattle.json_data.specs.View.{view};
+ghost use Rattle.session_text.specs.Detail.{found_of, listed};
+
+use json_data::Item;
+use std::alloc::{AllocError, Global};
+use std::marker::Model;
+
+/// Words or names, one after another, as a text.
+#[derive(Debug, Drop)]
+pub struct Words {
+    text: String,
+}
+
+impl Model for Words {
+    ghost use Rattle.std.specs.Prelude.{List, ℕ, string_bytes};
+
+    ghost Value = { List ℕ };
+
+    ghost view = { λ words. string_bytes words.text };
+}
+
+impl Words {
+    /// The words with a comma and a space between them.
+    pub(crate) fn listed(alloc: Global, words: &[&str]) -> Result<Words, AllocError>
+        ensures { IfOk result
+            (λ text. text ≡ listed (map (λ word. word.now) words.now)) }
+    {
+        let mut text = String::new(alloc);
+        match words {
+            [] => Ok(Words { text }),
+            [first, others @ ..] => {
+                text.push_str(first)?;
+                push_others(&mut text, others)?;
+                Ok(Words { text })
+            }
+        }
+    }
+
+    pub fn as_str(&self) -> &str
+        ensures { result.now ≡ self.now }
+    {
+        self.text.as_str()
+    }
+}
+
+fn push_others(text: &mut String, words: &[&str]) -> Result<(), AllocError>
+    ensures { OnOk result
+        (string_bytes text.new
+        ≡ string_bytes text.old ++ flat_map (λ word. codes ", " ++ word.now) words.now) }
+{
+    for word in words {
+        text.push_str(", ")?;
+        text.push_str(word)?;
+    }
+    Ok(())
+}
+
+/// What a value has to be.
+#[derive(Clone, Copy, Debug, PartialEq, Eq)]
+pub enum Expected {
+    /// A whole number from 0 to 4294967295, written without point and exponent.
+    Number,
+    Text,
+    /// `true` or `false`.
+    Flag,
+    Array,
+    Object,
+}
+
+/// What a value is.
+#[derive(Clone, Copy, Debug, PartialEq, Eq)]
+pub enum Found {
+    /// A whole number of 64 bits from 0 on, written without point and exponent.
+    Whole,
+    /// Another number, or `null`.
+    Other,
+    Text,
+    /// `true` or `false`.
+    Flag,
+    Array,
+    Object,
+}
+
+/// What is known of a fault beside its code and its place.
+#[derive(Debug, Drop)]
+pub enum Detail {
+    /// Nothing more is known.
+    None,
+    /// The member at the place is missing.
+    Missing,
+    /// The object has a member with none of these names.
+    Unknown(Words),
+    /// The value is of another type.
+    Wrong { expected: Expected, found: Found },
+    /// The text is none of these words.
+    NoWord(Words),
+    /// There is no such format.
+    NoFormat,
+    /// The session of a rig has steps.
+    HasSteps,
+    /// The scripts are not so many arrays, one a core.
+    OnePerCore(u32),
+}
+
+/// What the value is.
+#[tactic(auto, using(crate::proofs::Shown::found_by_tests))]
+pub(crate) fn found_of(value: &Item<'_, '_>) -> Found
+    ensures { result ≡ found_of (view value.now) }
+{
+    if value.as_str().is_some() {
+        Found::Text
+    } else if value.as_bool().is_some() {
+        Found::Flag
+    } else if value.as_array().is_some() {
+        Found::Array
+    } else if value.as_object().is_some() {
+        Found::Object
+    } else if value.as_u64().is_some() {
+        Found::Whole
+    } else {
+        Found::Other
+    }
+}

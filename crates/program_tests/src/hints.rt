@@ -46,7 +46,7 @@ fn inputs_that_are_no_documents(rt: HostRuntime) {
             &rt,
             word,
             b"[]",
-            "top: a member is missing, ill-typed or unknown\n",
+            "top: expected an object, found an array\n",
         );
     }
 }

@@ -2,6 +2,7 @@
 //! written, against lines that are made here.
 use crate::devices::{expect, expect_same};
 use bench_commands::{Counted, Ending, carry_out};
+use run_advice::Silent;
 use run_views::Places;
 use std::alloc::{AllocError, Global};
 use std::process::Abort;
@@ -42,8 +43,8 @@ fn document_of(alloc: Global, session: &str, edits: &str) -> Result<String, Allo
 }
 
 /// What the command shows of a document.
-fn check_view(
-    rt: &impl Abort,
+fn check_view<R: Threads + Abort + Sync>(
+    rt: &R,
     host: &HostRuntime,
     command: &Command,
     document: &str,
@@ -52,7 +53,8 @@ fn check_view(
     let mut shown = Vec::new(host.alloc());
     let mut reader = Counted::new(document.as_bytes());
     let mut writer = Counted::new(&mut shown);
-    let ending = view_commands::run(host, host.alloc(), &mut reader, &mut writer, command);
+    let (progress, alloc) = (&mut Silent, host.alloc());
+    let ending = view_commands::run(rt, host, progress, alloc, &mut reader, &mut writer, command);
     expect_same(rt, "status", ending.code(), 0);
     expect_same(rt, "bytes", shown.len(), wanted.len());
     expect(rt, "the whole text", shown.as_slice() == wanted.as_bytes());

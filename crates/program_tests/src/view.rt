@@ -1,4 +1,5 @@
 //! What a run shows: its trace and its picture, and the command that makes them.
+mod checks;
 mod command_lines;
 mod files;
 mod pictures;

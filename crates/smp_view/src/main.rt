@@ -2,12 +2,17 @@
 #![tactic(auto)]
 
 use bench_commands::Counted;
+use std::io::IsTerminal;
 use std::process::ExitCode;
-use view_commands::{DocumentSource, run_program};
+use view_commands::{DocumentSource, Telling, run_program};
 
 fn main(rt: HostRuntime) -> ExitCode {
+    let stderr = rt.stderr();
+    let is_terminal = stderr.is_terminal();
     run_program(
         &rt,
+        &rt,
+        &mut Telling::new(rt.alloc(), stderr, is_terminal),
         std::env::args(&rt),
         &mut DocumentSource::new(rt.stdin(), &rt),
         &mut Counted::new(rt.stdout()),

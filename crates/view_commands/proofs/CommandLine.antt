@@ -70,7 +70,13 @@ commands_fit = (
         record { rules = (as_told _ refl, (as_told _ refl, (as_told _ refl, tt))); helpless = refl },
         (
           record { rules = (as_told _ refl, (as_told _ refl, (as_told _ refl, (as_told _ refl, (as_told _ refl, tt))))); helpless = refl },
-          (record { rules = (as_told _ refl, (as_told _ refl, (as_told _ refl, (as_told _ refl, tt)))); helpless = refl }, tt),
+          (
+            record { rules = (as_told _ refl, (as_told _ refl, (as_told _ refl, (as_told _ refl, tt)))); helpless = refl },
+            (
+              record { rules = (as_told _ refl, (as_told _ refl, (as_told _ refl, (as_told _ refl, (as_told _ refl, tt))))); helpless = refl },
+              (record { rules = (as_told _ refl, (as_told _ refl, (as_told _ refl, (as_told _ refl, (as_told _ refl, (as_told _ refl, (as_told _ refl, tt))))))); helpless = refl }, tt),
+            ),
+          ),
         ),
       ),
     ),
@@ -107,6 +113,7 @@ taken rows fit = record {
   json = one_fit (codes "json") bench.is_flag (λ how given read value. subst (λ how. bench.is_flag (read_as how given) ≡ true) read value) rows fit;
   from = one_fit (codes "from") is_number (λ how given read value. subst (λ how. is_number (read_as how given) ≡ true) read (number_taken given value)) rows fit;
   to = one_fit (codes "to") is_number (λ how given read value. subst (λ how. is_number (read_as how given) ≡ true) read (number_taken given value)) rows fit;
+  best = one_fit (codes "best") is_number (λ how given read value. subst (λ how. is_number (read_as how given) ≡ true) read (number_taken given value)) rows fit;
   cores = all_fit (codes "core") is_number (λ how given read value. subst (λ how. is_number (read_as how given) ≡ true) read (number_taken given value)) rows fit;
 }
 

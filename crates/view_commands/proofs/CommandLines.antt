@@ -1,8 +1,9 @@
 -- What clap's definitions compute to on worked command lines.
 use Rattle.std.proofs.Common.{refl}
+use Rattle.std.specs.Path.{rsplit_once}
 use Rattle.clap.proofs.OnLiterals.{clap_on_literals}
 use Rattle.view_commands.specs.CommandLine.{asked_in_words}
-use Rattle.view_commands.specs.CommandLines.{WorkedHelp, WorkedMistakes, WorkedTraces, WorkedViews}
+use Rattle.view_commands.specs.CommandLines.{WorkedAdvice, WorkedChecks, WorkedHelp, WorkedMistakes, WorkedTraces, WorkedViews}
 
 pub traces : WorkedTraces
 unfolding clap_on_literals asked_in_words
@@ -11,6 +12,14 @@ traces = record { bare = refl; from = refl; between = refl; hyphen_before_zero =
 pub views : WorkedViews
 unfolding clap_on_literals asked_in_words
 views = record { session = refl; session_of_file = refl; settle = refl; compare = refl; compare_settled = refl; picture = refl; picture_between = refl; picture_settled = refl }
+
+pub checks : WorkedChecks
+unfolding clap_on_literals asked_in_words rsplit_once
+checks = record { one_limit = refl; greatest_first = refl; last_sign = refl; no_limit = refl; no_number = refl; no_sign = refl }
+
+pub advice : WorkedAdvice
+unfolding clap_on_literals asked_in_words
+advice = record { usual = refl; settled_best = refl; no_task = refl; no_number = refl; no_family = refl }
 
 pub helps : WorkedHelp
 unfolding clap_on_literals asked_in_words

@@ -2,9 +2,12 @@ mod BothTold
 mod CommandLine
 mod CommandLines
 mod EditsKept
+mod LastSign
 mod MemoryRefused
 mod NamesFound
 mod NumberTexts
+mod OneAdvice
+mod OneCheck
 mod OneReport
 mod OneView
 mod Outputs
@@ -12,4 +15,5 @@ mod Pictures
 mod PicturesTold
 mod ReportsTold
 mod SettledTold
+mod Texts
 mod Written

@@ -15,7 +15,7 @@ none_read (Some bytes) = record { bytes = []; consumes = refl; within = omega ar
 
 -- whatever was asked for
 pub refused_first : (asked : Asked) (files : Files) (read write : Option (List ℕ)) → Ends asked (AsBench (Ran (Fault Memory))) files read read write write
-refused_first (a_view command (Some name)) files read write = inr (inr refl, (refl, refl))
+refused_first (a_view command (Some name)) files read write = inr (refl, (refl, refl))
 refused_first (a_view command None) files read write = record { reads = none_read read; writes = refl }
 refused_first help files read write = (refl, refl)
 refused_first a_mistake files read write = (refl, refl)

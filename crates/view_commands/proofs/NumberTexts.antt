@@ -120,3 +120,31 @@ module _ (E : Type 0) (Gives : Text → Result ℕ E → Type 0) (parses : (text
   pub all_read : (before after : List Text) → StepsValues {T = ℕ} Gives before after None → before ≡ []
   all_read [] after steps = refl
   all_read (text ∷ texts) after steps = absurd steps
+
+-- ---- texts that `u32` reads
+
+all_digits : (ds : Text) → AllDigits 10 ds → list_all (λ d. nat_lt (digit_value d) 10) ds ≡ true
+all_digits [] all = refl
+all_digits (d ∷ ds) all =
+    let digit : nat_lt (digit_value d) 10 ≡ true = grind (arith, nat_tests, all.0) in
+    rw (digit, all_digits ds all.1) refl
+
+-- `u32` reads it
+abbrev pub Reads : Text → Type 0
+Reads text = IsNumeral 10 (without_leading_plus text) × (number_of text < 2 ^ 32)
+
+-- what is read is a number
+pub read_is_number : (text : Text) → Reads text → is_number text ≡ true
+read_is_number text reads =
+    let digits = without_leading_plus text in
+    let long : nat_lt 0 (length digits) ≡ true = grind (arith, nat_tests, reads.0.0) in
+    let small : nat_lt (number_of text) (2 ^ 32) ≡ true = grind (arith, nat_tests, reads.1) in
+    rw (long, all_digits digits reads.0.1, small) refl
+
+-- what is not read is none
+pub unread_is_none : (text : Text) → (Reads text → ⊥) → is_number text ≡ false
+unread_is_none text fails = go (is_number text) refl
+  where
+    go : (is : Bool) → is_number text ≡ is → is ≡ false
+    go true is = absurd (fails (is_read text is))
+    go false is = refl

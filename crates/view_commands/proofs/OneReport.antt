@@ -1,11 +1,11 @@
 -- One thing alone is told of the numbers of runs.
-use Rattle.std.proofs.Common.{◌≡◌, ◌⊎◌, ◌<◌, ℕ, List, [], ◌∷◌, length, Bool, true, false, inl, inr, ap, ap₂, sym, ◌∙◌, arith}
+use Rattle.std.proofs.Common.{◌≡◌, ◌⊎◌, ℕ, List, [], ◌∷◌, Bool, true, false, inl, inr, ap, ap₂, sym, ◌∙◌, arith}
 use Rattle.bench_types.specs.declared.edit.Edit.{Edit}
 use Rattle.bench_types.specs.Session.{Session}
 use Rattle.bench_model.specs.Edits.{after_edits}
 use Rattle.run_reports.specs.declared.figures.Figure.{Figure}
 use Rattle.session_reports.specs.Figures.{AreFigures, IsTooLong}
-use Rattle.session_reports.specs.Reports.{run_text, runs_text, IsReportOfRun, IsReportOfRuns}
+use Rattle.session_reports.specs.Reports.{run_text, runs_text, IsReportOfRuns}
 use Rattle.session_reports.proofs.OneList.{figures_are_one}
 use Rattle.view_commands.specs.declared.request.ReportView.{ReportView}
 use Rattle.view_commands.specs.ReportViews.{IsReported, IsReportedAlone, IsReportedBeside}
@@ -13,7 +13,7 @@ use Rattle.view_commands.specs.Told.{Told, plain}
 use Rattle.view_commands.specs.Views.{fine}
 
 -- a session that has figures is not too long
-not_too_long : {A : Type 0} (settled : Bool) (session : Session) (figures : List Figure) → AreFigures settled session figures → IsTooLong settled session → A
+pub not_too_long : {A : Type 0} (settled : Bool) (session : Session) (figures : List Figure) → AreFigures settled session figures → IsTooLong settled session → A
 not_too_long true session figures are long = absurd (omega (arith, are.few, long are.settled))
 not_too_long false session figures are long = absurd long
 

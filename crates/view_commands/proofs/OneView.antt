@@ -1,5 +1,5 @@
 -- One thing alone is told of each input.
-use Rattle.std.proofs.Common.{◌≡◌, ℕ, List, [], ◌∷◌, length, Bool, true, false, Result, Ok, Err, nat_lt, codes, inl, inr, ap, ap₂, sym, subst, ◌∙◌}
+use Rattle.std.proofs.Common.{◌≡◌, ℕ, List, [], ◌∷◌, ◌++◌, length, Bool, true, false, Result, Ok, Err, nat_lt, inl, inr, refl, ap, ap₂, sym, subst, ◌∙◌}
 use Rattle.bench_types.specs.declared.edit.Edit.{Edit}
 use Rattle.bench_types.specs.declared.header.Header.{Header}
 use Rattle.bench_types.specs.declared.step.Step.{Step}
@@ -7,7 +7,10 @@ use Rattle.bench_types.specs.Limits.{max_input, max_steps}
 use Rattle.bench_types.specs.Session.{Session}
 use Rattle.bench_model.specs.Edits.{after_edits}
 use Rattle.session_text.specs.declared.bench.Bench.{Bench}
+use Rattle.session_text.specs.declared.detail.Detail.{Detail}
 use Rattle.session_text.specs.declared.fault.TextFault.{TextFault}
+use Rattle.session_text.specs.declared.fault.Why.{Why}
+use Rattle.session_text.specs.declared.fault.Why.TheVariants as why
 use Rattle.session_text.specs.Bench.{bench_text}
 use Rattle.settled_runs.specs.declared.waiting_call.WaitingCall.{WaitingCall}
 use Rattle.settled_runs.proofs.Settlings.{settled_run_is_one}
@@ -20,14 +23,17 @@ use Rattle.run_comparisons.specs.Shared.{shared_events}
 use Rattle.run_comparisons.specs.SideBySide.{first_places, AreSettledRows}
 use Rattle.run_comparisons.proofs.Compared.{neither_too_long}
 use Rattle.run_comparisons.proofs.OneText.{one_list, one_text}
-use Rattle.bench_commands.specs.Answer.{Output}
+use Rattle.bench_commands.specs.Answer.{Output, refusal_line, why_text}
+use Rattle.bench_commands.specs.Hint.{IsFaultHint}
 use Rattle.view_commands.specs.declared.request.Command.{Command}
-use Rattle.view_commands.specs.declared.request.Command.TheVariants.{Plain, Settled, Report}
+use Rattle.view_commands.specs.declared.request.Command.TheVariants.{Plain, Settled, Report, Check, Advise}
 use Rattle.view_commands.specs.declared.request.SettledView.{SettledView}
 use Rattle.view_commands.specs.declared.request.SettledView.TheVariants as settled
-use Rattle.view_commands.specs.Commands.{IsRefusedOr, IsTold, IsToldOfBench, IsToldOfText, IsView, ViewIsOne}
-use Rattle.view_commands.specs.SettledViews.{noted, told_of_run, IsSettledPicture, IsSettledView, IsToldOfBoth, IsToldOfPair, IsToldOfPictures, IsToldOfSettled}
-use Rattle.view_commands.specs.Told.{Told, plain}
+use Rattle.view_commands.specs.Commands.{is_json, is_json_fault, too_long_input, too_many_steps, IsRefusedOr, IsSame, IsTold, IsToldFault, IsToldOfBench, IsToldOfText, IsView, ViewIsOne}
+use Rattle.view_commands.specs.SettledViews.{told_of_run, IsSettledPicture, IsSettledView, IsToldOfBoth, IsToldOfPair, IsToldOfPictures, IsToldOfSettled}
+use Rattle.view_commands.specs.Told.{Told, noted, plain}
+use Rattle.view_commands.proofs.OneAdvice.{one_advice}
+use Rattle.view_commands.proofs.OneCheck.{one_check}
 use Rattle.view_commands.proofs.OneReport.{one_report}
 use Rattle.view_commands.specs.Views.{document_of, fine, picture_of_run, picture_of_runs, trace_output}
 
@@ -83,23 +89,48 @@ one_told : (command : Command) (session : Session) (edits : List Edit) (told oth
 one_told (Plain view) session edits told other one two = one ∙ sym two
 one_told (Settled view) session edits told other one two = one_settled view session edits told other one two
 one_told (Report view) session edits told other one two = one_report view session edits told other one two
+one_told (Check view) session edits told other one two = one_check view (after_edits session edits) told other one two
+one_told (Advise question) session edits told other one two = one_advice question (after_edits session edits) told other one two
+
+-- ---- by the input
+
+-- what is told in full is the same
+same_told : (input : List ℕ) (told other : Told) → told ≡ other → IsSame input told other
+same_told input told other same = record { status = ap (λ (t : Told). t.status) same; text = ap (λ (t : Told). t.text) same; note = λ json. ap (λ (t : Told). t.note) same }
 
 -- a refusal, or what is one besides
-one_or_refused : (test : Bool) (code : List ℕ) (claim other_claim : Type 0) (told other : Told) → (claim → other_claim → told ≡ other) → IsRefusedOr test code claim told → IsRefusedOr test code other_claim other → told ≡ other
-one_or_refused true code claim other_claim told other both one two = one ∙ sym two
-one_or_refused false code claim other_claim told other both one two = both one two
+one_or_refused : (test : Bool) (refused : Told) (claim other_claim : Type 0) (input : List ℕ) (told other : Told) → (claim → other_claim → IsSame input told other) → IsRefusedOr test refused claim told → IsRefusedOr test refused other_claim other → IsSame input told other
+one_or_refused true refused claim other_claim input told other both one two = same_told input told other (one ∙ sym two)
+one_or_refused false refused claim other_claim input told other both one two = both one two
 
-one_of_bench : (command : Command) (bench : Bench) (told other : Told) → IsToldOfBench command bench told → IsToldOfBench command bench other → told ≡ other
-one_of_bench command bench told other one two =
+one_of_bench : (command : Command) (input : List ℕ) (bench : Bench) (told other : Told) → IsToldOfBench command bench told → IsToldOfBench command bench other → IsSame input told other
+one_of_bench command input bench told other one two =
     let session : Session = record { header = bench.header; steps = bench.steps } in
-    one_or_refused (nat_lt max_steps (length bench.steps)) (codes "J2") (IsTold command session bench.edits told) (IsTold command session bench.edits other) told other (one_told command session bench.edits told other) one two
+    one_or_refused (nat_lt max_steps (length bench.steps)) too_many_steps (IsTold command session bench.edits told) (IsTold command session bench.edits other) input told other
+    (λ first second. same_told input told other (one_told command session bench.edits told other first second)) one two
 
-one_of_text : (command : Command) (text : Result Bench TextFault) (told other : Told) → IsToldOfText command text told → IsToldOfText command text other → told ≡ other
-one_of_text command (Ok bench) told other one two = one_of_bench command bench told other one two
-one_of_text command (Err fault) told other one two = one ∙ sym two
+-- a text that is JSON has one hint
+one_hint : (input : List ℕ) (why : Why) (path : List ℕ) (more : Detail) (hint other : List ℕ) → is_json_fault why ≡ true → IsFaultHint input why path more hint → IsFaultHint input why path more other → hint ≡ other
+one_hint input why.NotJson path more hint other json one two = absurd (cc json)
+one_hint input why.BadShape path more hint other json one two = one ∙ sym two
+one_hint input (why.Bench fault) path more hint other json one two = one ∙ sym two
+one_hint input why.NoMemory path more hint other json one two = absurd one
+
+one_of_fault : (input : List ℕ) (fault : TextFault) (told other : Told) → bench_text input ≡ Err fault → IsToldFault input fault told → IsToldFault input fault other → IsSame input told other
+one_of_fault input fault told other read one two = record {
+  status = ap (λ (t : Told). t.status) one.is_told ∙ sym (ap (λ (t : Told). t.status) two.is_told);
+  text = ap (λ (t : Told). t.text) one.is_told ∙ sym (ap (λ (t : Told). t.text) two.is_told);
+  note = λ json.
+      let hint = one_hint input fault.why fault.path fault.detail one.hint two.hint (sym (ap is_json read) ∙ json) one.is_hint two.is_hint in
+      ap (λ (t : Told). t.note) one.is_told ∙ ap (λ hint. refusal_line (why_text fault.why) fault.path ++ hint) hint ∙ sym (ap (λ (t : Told). t.note) two.is_told);
+}
+
+one_of_text : (command : Command) (input : List ℕ) (text : Result Bench TextFault) (told other : Told) → bench_text input ≡ text → IsToldOfText command input text told → IsToldOfText command input text other → IsSame input told other
+one_of_text command input (Ok bench) told other read one two = one_of_bench command input bench told other one two
+one_of_text command input (Err fault) told other read one two = one_of_fault input fault told other read one two
 
 pub one_view : ViewIsOne
 unfolding IsView
 one_view command input told other one two =
     let text = bench_text input in
-    one_or_refused (nat_lt max_input (length input)) (codes "H3") (IsToldOfText command text told) (IsToldOfText command text other) told other (one_of_text command text told other) one two
+    one_or_refused (nat_lt max_input (length input)) too_long_input (IsToldOfText command input text told) (IsToldOfText command input text other) input told other (one_of_text command input text told other refl) one two

@@ -1,6 +1,6 @@
 -- What is told of a document, whether it was read and opened or not.
-use Rattle.std.proofs.Common.{◌≡◌, ◌⊎◌, ℕ, List, [], length, Bool, true, false, Result, Ok, Err, IfOk, nat_lt, nat_le, codes, refl, sym, ap, subst, arith, inl, inr}
-use Rattle.std.specs.Prelude.{IsErr, OnOk}
+use Rattle.std.proofs.Common.{◌≡◌, ◌⊎◌, ℕ, List, [], length, Bool, true, false, Result, Ok, Err, IfOk, nat_lt, nat_le, refl, sym, subst, arith, inl, inr}
+use Rattle.std.specs.Prelude.{OnOk}
 use Rattle.std.proofs.lemmas.Bool.Decides.{nat_tests}
 use Rattle.bench_types.specs.Name.{is_within}
 use Rattle.bench_types.specs.Limits.{max_span, max_steps}
@@ -11,30 +11,31 @@ use Rattle.session_store.specs.declared.fault.OpenRefusal.TheVariants as refusal
 use Rattle.session_store.specs.declared.fault.OpenRefusal.TheVariants.{TooLong}
 use Rattle.session_store.specs.Opening.{open_check}
 use Rattle.session_text.specs.declared.bench.Bench.{Bench}
+use Rattle.session_text.specs.declared.detail.Detail.TheVariants.{None}
 use Rattle.session_text.specs.declared.fault.TextFault.{TextFault}
 use Rattle.session_text.specs.declared.fault.Why.TheVariants.{NoMemory}
 use Rattle.session_text.specs.Bench.{bench_text, IsCheckedBench}
-use Rattle.bench_commands.specs.Answer.{refused, why_text}
+use Rattle.bench_commands.specs.Hint.{IsFaultHint}
 use Rattle.bench_commands.proofs.Opened.{few_steps, opens}
 use Rattle.view_commands.specs.declared.request.Command.{Command}
-use Rattle.view_commands.specs.Commands.{IsRefusedOr, IsTold, IsToldOfBench, IsToldOfText}
-use Rattle.view_commands.specs.Told.{Told, plain}
+use Rattle.view_commands.specs.Commands.{IsRefusedOr, IsTold, IsToldFault, IsToldOfBench, IsToldOfText, too_many_steps}
+use Rattle.view_commands.specs.Told.{Told}
 
 -- what is told of a text that was not read
-pub refused_told : {E : Type 0} (command : Command) (input : List ℕ) (fault : TextFault) (result : Result Told E) → (bench_text input ≡ Err fault) ⊎ (fault ≡ record { why = NoMemory; path = [] })
-    → IfOk result (λ told. told ≡ plain (refused (why_text fault.why) fault.path)) → (fault.why ≡ NoMemory → IsErr result) → IfOk result (λ told. IsToldOfText command (bench_text input) told)
-refused_told command input fault (Err e) reading line memory = tt
-refused_told command input fault (Ok told) (inl read) line memory = subst (λ text. IsToldOfText command text told) (sym read) line
-refused_told command input fault (Ok told) (inr none) line memory = absurd (cc (memory (ap (λ (f : TextFault). f.why) none)))
+pub refused_told : {E : Type 0} (command : Command) (input : List ℕ) (fault : TextFault) (result : Result Told E) → (bench_text input ≡ Err fault) ⊎ (fault ≡ record { why = NoMemory; path = []; detail = None })
+    → IfOk result (λ told. IsToldFault input fault told) → IfOk result (λ told. IsToldOfText command input (bench_text input) told)
+refused_told command input fault (Err e) reading line = tt
+refused_told command input fault (Ok told) (inl read) line = subst (λ text. IsToldOfText command input text told) (sym read) line
+refused_told command input fault (Ok told) (inr none) line = absurd (subst (λ (f : TextFault). IsFaultHint input f.why f.path f.detail line.hint) none line.is_hint)
 
 -- where the test says so it is the refusal, and else the claim holds
-or_refused : (test : Bool) (code : List ℕ) (claim : Type 0) (told : Told) → test ≡ true → told ≡ plain (refused code []) → IsRefusedOr test code claim told
-or_refused true code claim told holds line = line
-or_refused false code claim told holds line = absurd (cc holds)
+or_refused : (test : Bool) (refused : Told) (claim : Type 0) (told : Told) → test ≡ true → told ≡ refused → IsRefusedOr test refused claim told
+or_refused true refused claim told holds line = line
+or_refused false refused claim told holds line = absurd (cc holds)
 
-or_claim : (test : Bool) (code : List ℕ) (claim : Type 0) (told : Told) → test ≡ false → claim → IsRefusedOr test code claim told
-or_claim true code claim told fails is = absurd (cc fails)
-or_claim false code claim told fails is = is
+or_claim : (test : Bool) (refused : Told) (claim : Type 0) (told : Told) → test ≡ false → claim → IsRefusedOr test refused claim told
+or_claim true refused claim told fails is = absurd (cc fails)
+or_claim false refused claim told fails is = is
 
 -- a session that was checked is not opened only where it has too many steps
 pub too_long_bench : (bench : Bench) (span : ℕ) (why : OpenRefusal) → IsCheckedBench bench → is_within 1 max_span span ≡ true → (open_check bench.header bench.steps span ≡ Ok tt → why ≡ refusal.NoMemory) → why ≡ TooLong
@@ -48,11 +49,11 @@ too_long_bench bench span why checked within memory long = go (nat_lt max_steps 
         absurd (cc (memory (opens bench.header bench.steps span checked.is_session within fits), long))
 
 -- what is told of a session that was not opened
-pub not_opened_told : {E : Type 0} (command : Command) (bench : Bench) (why : OpenRefusal) (result : Result Told E) → OnOk result (why ≡ TooLong) → IfOk result (λ told. told ≡ plain (refused (codes "J2") []))
+pub not_opened_told : {E : Type 0} (command : Command) (bench : Bench) (why : OpenRefusal) (result : Result Told E) → OnOk result (why ≡ TooLong) → IfOk result (λ told. told ≡ too_many_steps)
     → (why ≡ TooLong → nat_lt max_steps (length bench.steps) ≡ true) → IfOk result (λ told. IsToldOfBench command bench told)
 not_opened_told command bench why (Err e) long line many = tt
 not_opened_told command bench why (Ok told) long line many =
-    or_refused (nat_lt max_steps (length bench.steps)) (codes "J2") (IsTold command (record { header = bench.header; steps = bench.steps }) bench.edits told) told (many long) line
+    or_refused (nat_lt max_steps (length bench.steps)) too_many_steps (IsTold command (record { header = bench.header; steps = bench.steps }) bench.edits told) told (many long) line
 
 -- what is told of a session that was opened
 pub opened_told : {E : Type 0} (command : Command) (bench : Bench) (span : ℕ) (kept : CheckpointedSession) (result : Result Told E) → open_check bench.header bench.steps span ≡ Ok tt → kept ≡ first_kept span (record { header = bench.header; steps = bench.steps })
@@ -60,6 +61,6 @@ pub opened_told : {E : Type 0} (command : Command) (bench : Bench) (span : ℕ) 
 opened_told command bench span kept (Err e) accepted same is = tt
 opened_told command bench span kept (Ok told) accepted same is =
     let session : Session = record { header = bench.header; steps = bench.steps } in
-    or_claim (nat_lt max_steps (length bench.steps)) (codes "J2") (IsTold command session bench.edits told) told
+    or_claim (nat_lt max_steps (length bench.steps)) too_many_steps (IsTold command session bench.edits told) told
     (few_steps bench.header bench.steps span accepted)
     (subst (λ (k : CheckpointedSession). IsTold command k.session bench.edits told) same is)

@@ -11,8 +11,8 @@ use Rattle.settled_runs.proofs.Endings.{there_is_a_settled_run}
 use Rattle.settling.specs.declared.run.SettleFault.{SettleFault}
 use Rattle.settling.specs.declared.run.SettleFault.TheVariants.{TooManySteps}
 use Rattle.bench_commands.specs.Answer.{Output}
-use Rattle.view_commands.specs.SettledViews.{note_of, noted, too_long, IsToldOfSettled}
-use Rattle.view_commands.specs.Told.{Told}
+use Rattle.view_commands.specs.SettledViews.{note_of, too_long, IsToldOfSettled}
+use Rattle.view_commands.specs.Told.{Told, noted}
 
 -- each settled run is too long, and there is one
 pub long_run_told : {E : Type 0} (shown : Session → Output) (session : Session) (fault : SettleFault) (result : Result Told E) → IsSession session

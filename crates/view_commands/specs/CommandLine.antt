@@ -54,6 +54,31 @@ task_rule = record (option_rule (codes "task")) { action = Some Append }
 abbrev pub core_rule : Rule
 core_rule = record (option_rule (codes "core")) { action = Some Append; parser = Some a_number }
 
+-- the options `--at-most` and `--at-least`, which may stand several times
+abbrev pub at_most_rule : Rule
+at_most_rule = record (option_rule (codes "at-most")) { action = Some Append }
+
+abbrev pub at_least_rule : Rule
+at_least_rule = record (option_rule (codes "at-least")) { action = Some Append }
+
+-- the options `--task` and `--less` of advice, each of which has to be there
+abbrev pub judged_rule : Rule
+judged_rule = record (new_rule (codes "judged")) {
+  long = Some (codes "task");
+  value_names = 1;
+  required = true;
+}
+
+abbrev pub less_rule : Rule
+less_rule = record (option_rule (codes "less")) { required = true }
+
+-- the options `--over` and `--best`, a number
+abbrev pub over_rule : Rule
+over_rule = option_rule (codes "over")
+
+abbrev pub best_rule : Rule
+best_rule = record (option_rule (codes "best")) { parser = Some a_number }
+
 -- the name of a file, which may be left out
 abbrev pub file_rule : Rule
 file_rule = record (new_rule (codes "file")) { value_names = 1 }
@@ -83,6 +108,15 @@ timeline_app =
 abbrev pub report_app : App
 report_app = command_app (codes "report") (settle_rule ∷ json_rule ∷ file_rule ∷ [])
 
+abbrev pub check_app : App
+check_app =
+    command_app (codes "check") (settle_rule ∷ at_most_rule ∷ at_least_rule ∷ file_rule ∷ [])
+
+abbrev pub advise_app : App
+advise_app =
+    command_app (codes "advise")
+    (settle_rule ∷ judged_rule ∷ less_rule ∷ over_rule ∷ best_rule ∷ file_rule ∷ [])
+
 -- the program, which wants a command, and of which `help` is none
 abbrev pub program_app : App
 program_app = record (new_app (codes "smp_view")) {
@@ -95,7 +129,8 @@ program_app = record (new_app (codes "smp_view")) {
 -- the commands
 abbrev pub commands : List App
 commands =
-    trace_app ∷ session_app ∷ settle_app ∷ compare_app ∷ timeline_app ∷ report_app ∷ []
+    trace_app ∷ session_app ∷ settle_app ∷ compare_app ∷ timeline_app ∷ report_app
+    ∷ check_app ∷ advise_app ∷ []
 
 -- the program with its commands
 abbrev pub view_app : App
@@ -107,9 +142,14 @@ IsTold command app = (app_of command ≡ app) × ((fields_of command).has_global
 
 -- ---- what it answers
 
+-- a command with the name of a file; none is a mistake
+abbrev asked_with : Option Command → Option Text → Asked
+asked_with (Some command) file = a_view command file
+asked_with None file = a_mistake
+
 -- what a command with this name and these options asks for
 abbrev pub asked_for : Text → List Row → Asked
-asked_for name options = a_view (command_of name options) (file_in options)
+asked_for name options = asked_with (command_of name options) (file_in options)
 
 -- by the kind of an error, of which `--help` and `-h` make one too
 abbrev pub asked_by : ErrorKind → Asked

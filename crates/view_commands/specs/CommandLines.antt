@@ -1,8 +1,11 @@
 -- Worked command lines.
-use Rattle.std.specs.Prelude.{◌≡◌, ℕ, List, [], ◌∷◌, Option, Some, None, codes}
+use Rattle.std.specs.Prelude.{◌≡◌, ℕ, List, [], ◌∷◌, Bool, true, false, Option, Some, None, codes}
 use Rattle.clap.specs.Words.{Text}
+use Rattle.run_advice.specs.declared.change.Family.{Family}
+use Rattle.run_reports.specs.declared.limits.Bound.TheVariants.{AtMost, AtLeast}
 use Rattle.run_views.specs.declared.places.Places.{Places}
-use Rattle.view_commands.specs.declared.request.Command.TheVariants.{Plain, Settled}
+use Rattle.session_reports.specs.Asked as limit
+use Rattle.view_commands.specs.declared.request.Command.TheVariants.{Plain, Settled, Check, Advise}
 use Rattle.view_commands.specs.declared.request.SettledView.TheVariants as settled
 use Rattle.view_commands.specs.declared.request.View.TheVariants as view
 use Rattle.view_commands.specs.CommandLine.{Asked, a_view, help, a_mistake, asked}
@@ -78,6 +81,58 @@ pub record WorkedViews : Type 0 where
   pub picture_settled :
       asked_after (codes "timeline" ∷ codes "--to" ∷ codes "7" ∷ codes "--settle" ∷ [])
       ≡ a_view (Settled (settled.Timeline (places 0 7))) None
+
+-- the value of this name may be at most so much, or at least so much
+abbrev pub at_most : Text → ℕ → limit.Asked
+at_most name number = record { name = name; bound = AtMost number }
+
+abbrev pub at_least : Text → ℕ → limit.Asked
+at_least name number = record { name = name; bound = AtLeast number }
+
+-- a check of these limits, of a file or of standard input
+abbrev pub a_check : Bool → List limit.Asked → Option Text → Asked
+a_check settled limits = a_view (Check (record { settled = settled; limits = limits }))
+
+pub record WorkedChecks : Type 0 where
+  pub one_limit :
+      asked_after (codes "check" ∷ codes "--at-most" ∷ codes "A.run=3" ∷ [])
+      ≡ a_check false (at_most (codes "A.run") 3 ∷ []) None
+  pub greatest_first :
+      asked_after (codes "check" ∷ codes "--at-least=A.run=1" ∷ codes "--settle"
+      ∷ codes "run.json" ∷ codes "--at-most=B.run=+2" ∷ [])
+      ≡ a_check true (at_most (codes "B.run") 2 ∷ at_least (codes "A.run") 1 ∷ [])
+      (Some (codes "run.json"))
+  pub last_sign :
+      asked_after (codes "check" ∷ codes "--at-most" ∷ codes "a=b.run=3" ∷ [])
+      ≡ a_check false (at_most (codes "a=b.run") 3 ∷ []) None
+  pub no_limit : asked_after (codes "check" ∷ codes "run.json" ∷ []) ≡ a_mistake
+  pub no_number :
+      asked_after (codes "check" ∷ codes "--at-most" ∷ codes "A.run=x" ∷ []) ≡ a_mistake
+  pub no_sign : asked_after (codes "check" ∷ codes "--at-least" ∷ codes "A.run" ∷ []) ≡ a_mistake
+
+-- advice on the number of this name, over these families, and so many of the best, of a file or of
+-- standard input
+abbrev pub some_advice : Text → Bool → Family → ℕ → Option Text → Asked
+some_advice name settled family best =
+    a_view (Advise (record { name = name; settled = settled; family = family; best = best }))
+
+abbrev pub families : Bool → Bool → Bool → Family
+families priority mask order = record { priority = priority; mask = mask; order = order }
+
+pub record WorkedAdvice : Type 0 where
+  pub usual :
+      asked_after (codes "advise" ∷ codes "--task" ∷ codes "A" ∷ codes "--less=run" ∷ [])
+      ≡ some_advice (codes "A.run") false (families true true true) 10 None
+  pub settled_best :
+      asked_after (codes "advise" ∷ codes "--settle" ∷ codes "--less=ready" ∷ codes "run.json"
+      ∷ codes "--task=B" ∷ codes "--best=3" ∷ codes "--over" ∷ codes "order,priority" ∷ [])
+      ≡ some_advice (codes "B.ready") true (families true false true) 3 (Some (codes "run.json"))
+  pub no_task : asked_after (codes "advise" ∷ codes "--less=run" ∷ []) ≡ a_mistake
+  pub no_number : asked_after (codes "advise" ∷ codes "--task=A" ∷ []) ≡ a_mistake
+  pub no_family :
+      asked_after (codes "advise" ∷ codes "--task=A" ∷ codes "--less=run" ∷ codes "--over=masks"
+      ∷ [])
+      ≡ a_mistake
 
 pub record WorkedHelp : Type 0 where
   pub of_program : asked_after (codes "--help" ∷ []) ≡ help

@@ -1,8 +1,12 @@
+pub mod AdviceViews
+pub mod CheckViews
 pub mod CommandLine
 pub mod CommandLines
 pub mod Commands
+pub mod Families
 pub mod Interests
 pub mod Options
+pub mod Progress
 pub mod ReportViews
 pub mod Selected
 pub mod SettledViews

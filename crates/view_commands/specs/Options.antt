@@ -1,5 +1,6 @@
 -- What clap's answers mean: the options of a command, a row for each, and the name of a file.
-use Rattle.std.specs.Prelude.{◌≡◌, ◌&&◌, ◌^◌, ◌-◌, ℕ, List, [], map, Bool, true, false, codes, nat_lt, Option, Some, None, IfSome, option_and_then, unwrap_or, if◌then◌else◌}
+use Rattle.std.specs.Prelude.{◌≡◌, ◌&&◌, ◌^◌, ◌-◌, ◌==◌, ℕ, List, [], ◌∷◌, ◌++◌, flat_map, length, map, Bool, true, false, codes, nat_lt, Option, Some, None, IfSome, is_some, option_and_then, unwrap_or, if◌then◌else◌}
+use Rattle.std.specs.Path.{rsplit_once}
 use Rattle.std.specs.List.{list_all}
 use Rattle.std.specs.Option.{option_map_or}
 use Rattle.std.specs.Str.{bytes_eq}
@@ -7,13 +8,22 @@ use Rattle.std.specs.Str.Parse.{without_leading_plus}
 use Rattle.clap.specs.ValueTests.{is_numeral}
 use Rattle.clap.specs.Words.{Row, Text, all_of, first_of, many_of, one_of}
 use Rattle.bench_commands.specs.Command.{is_flag, number_of}
+use Rattle.run_advice.specs.declared.change.Family.{Family}
+use Rattle.run_reports.specs.declared.limits.Bound.{Bound}
+use Rattle.run_reports.specs.declared.limits.Bound.TheVariants.{AtMost, AtLeast}
 use Rattle.run_views.specs.declared.places.Places.{Places}
+use Rattle.session_reports.specs.Asked.{Asked}
 use Rattle.session_reports.specs.declared.report.Form.TheVariants.{Json, Table}
+use Rattle.view_commands.specs.Families.{family_of}
 use Rattle.view_commands.specs.Selected.{Selected}
 use Rattle.view_commands.specs.declared.request.Command.{Command}
-use Rattle.view_commands.specs.declared.request.Command.TheVariants.{Plain, Settled, Report}
+use Rattle.view_commands.specs.declared.request.Command.TheVariants.{Plain, Settled, Report, Check, Advise}
 use Rattle.view_commands.specs.declared.request.SettledView.TheVariants as settled
 use Rattle.view_commands.specs.declared.request.View.TheVariants as view
+
+-- digits that write a number below 2^32, with or without a plus sign before them
+abbrev pub is_number : Text → Bool
+is_number text = is_numeral (without_leading_plus text) && nat_lt (number_of text) (2 ^ 32)
 
 -- ---- each option
 
@@ -35,9 +45,13 @@ places_in options = record {
   to = number_in (codes "to") options (2 ^ 32 - 1);
 }
 
--- the names of tasks, one for each time that the option stands
+-- what stands behind the option of this id, each time
+abbrev pub texts_in : Text → List Row → List Text
+texts_in id options = unwrap_or (all_of id options) []
+
+-- the names of tasks
 abbrev pub tasks_in : List Row → List Text
-tasks_in options = unwrap_or (all_of (codes "task") options) []
+tasks_in options = texts_in (codes "task") options
 
 -- the numbers of cores, likewise
 abbrev pub cores_in : List Row → List ℕ
@@ -50,6 +64,41 @@ file_named name = if bytes_eq name (codes "-") then None else Some name
 -- the file that is named; none is standard input
 abbrev pub file_in : List Row → Option Text
 file_in options = option_and_then file_named (first_of (codes "file") options)
+
+-- ---- limits
+
+-- the name that stands before the sign `=`, and the number behind it
+abbrev pub number_behind : Text × Text → Option (Text × ℕ)
+number_behind parts =
+    if is_number parts.1 then Some (parts.0, number_of parts.1) else None
+
+-- a limit is cut at its last `=`, since names of tasks may have one
+abbrev pub limit_parts : Text → Option (Text × ℕ)
+limit_parts text = option_and_then number_behind (rsplit_once 61 text)
+
+-- it is written as a limit
+abbrev pub is_limit : Text → Bool
+is_limit text = is_some (limit_parts text)
+
+-- by what a value may be, the limit of a name
+abbrev pub limit_with : (ℕ → Bound) → Option (Text × ℕ) → List Asked
+limit_with bound None = []
+limit_with bound (Some parts) = record { name = parts.0; bound = bound parts.1 } ∷ []
+
+abbrev pub limits_from : (ℕ → Bound) → Text → List Asked
+limits_from bound text = limit_with bound (limit_parts text)
+
+-- there are some of either kind, and each is written as a limit
+abbrev pub are_limits : List Text → List Text → Bool
+are_limits most least =
+    if length most == 0 && length least == 0 then false
+    else (list_all is_limit most && list_all is_limit least)
+
+-- the greatest values, then the least ones
+abbrev pub limits_in : List Row → List Asked
+limits_in options =
+    flat_map (limits_from AtMost) (texts_in (codes "at-most") options)
+    ++ flat_map (limits_from AtLeast) (texts_in (codes "at-least") options)
 
 -- ---- commands
 
@@ -81,9 +130,9 @@ report_of options = Report (record {
   form = if json_in options then Json else Table;
 })
 
--- by the name of a command and its options
-abbrev pub command_of : Text → List Row → Command
-command_of name options =
+-- by the name of a command that lacks nothing
+abbrev pub view_of : Text → List Row → Command
+view_of name options =
     if bytes_eq name (codes "trace") then trace_of options
     else if bytes_eq name (codes "session") then Plain view.Session
     else if bytes_eq name (codes "settle") then Settled settled.Session
@@ -91,11 +140,53 @@ command_of name options =
     else if bytes_eq name (codes "report") then report_of options
     else picture_of options
 
--- ---- what clap takes as a value
+-- a check, if there are limits and all are written as such
+abbrev pub check_of : List Row → Option Command
+check_of options =
+    if are_limits (texts_in (codes "at-most") options) (texts_in (codes "at-least") options)
+    then Some (Check (record {
+      settled = settle_in options;
+      limits = limits_in options;
+    })) else None
 
--- digits that write a number below 2^32, with or without a plus sign before them
-abbrev pub is_number : Text → Bool
-is_number text = is_numeral (without_leading_plus text) && nat_lt (number_of text) (2 ^ 32)
+-- all changes are tried, where none are named
+abbrev pub all_families : Family
+all_families = record { priority = true; mask = true; order = true }
+
+abbrev pub family_in : List Row → Option Family
+family_in options = option_map_or family_of (first_of (codes "over") options) (Some all_families)
+
+-- how many of the best are told, where no number is given
+abbrev pub usual_best : ℕ
+usual_best = 10
+
+-- the number of a task's: its name, a full stop, and what follows
+abbrev pub number_name : Text → Text → Text
+number_name task rest = task ++ codes "." ++ rest
+
+-- advice, if there is a task, a number of it and changes to try
+abbrev pub advice_with : Option Text → Option Text → Option Family → List Row → Option Command
+advice_with (Some task) (Some rest) (Some family) options = Some (Advise (record {
+  name = number_name task rest;
+  settled = settle_in options;
+  family = family;
+  best = number_in (codes "best") options usual_best;
+}))
+advice_with task rest family options = None
+
+abbrev pub advice_of : List Row → Option Command
+advice_of options =
+    advice_with (first_of (codes "judged") options) (first_of (codes "less") options)
+    (family_in options) options
+
+-- By the name of a command and its options. None is one that lacks what clap does not ask for.
+abbrev pub command_of : Text → List Row → Option Command
+command_of name options =
+    if bytes_eq name (codes "check") then check_of options
+    else if bytes_eq name (codes "advise") then advice_of options
+    else Some (view_of name options)
+
+-- ---- what clap takes as a value
 
 -- options whose values clap took
 pub record AreTaken (options : List Row) : Type 0 where
@@ -103,4 +194,5 @@ pub record AreTaken (options : List Row) : Type 0 where
   pub json : IfSome (one_of (codes "json") options) (λ text. is_flag text ≡ true)
   pub from : IfSome (one_of (codes "from") options) (λ text. is_number text ≡ true)
   pub to : IfSome (one_of (codes "to") options) (λ text. is_number text ≡ true)
+  pub best : IfSome (one_of (codes "best") options) (λ text. is_number text ≡ true)
   pub cores : IfSome (many_of (codes "core") options) (λ texts. list_all is_number texts ≡ true)

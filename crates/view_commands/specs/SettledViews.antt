@@ -1,5 +1,5 @@
 -- What is told of the settled run of a session and of edits of it.
-use Rattle.std.specs.Prelude.{◌≡◌, ◌⊎◌, ◌<◌, ℕ, ◌+◌, ◌^◌, List, [], ◌∷◌, ◌++◌, ◌==◌, length, codes, nat_lt, if◌then◌else◌}
+use Rattle.std.specs.Prelude.{◌≡◌, ◌⊎◌, ◌<◌, ℕ, ◌+◌, ◌^◌, List, [], ◌∷◌, ◌++◌, ◌==◌, length, codes, decimal, nat_lt, if◌then◌else◌}
 use Rattle.bench_types.specs.declared.edit.Edit.{Edit}
 use Rattle.bench_types.specs.declared.header.Header.{Header}
 use Rattle.bench_types.specs.declared.step.Step.{Step}
@@ -15,10 +15,10 @@ use Rattle.run_comparisons.specs.declared.columns.Side.TheVariants.{Before, Afte
 use Rattle.run_comparisons.specs.declared.settled.SettledPair.{SettledPair}
 use Rattle.run_comparisons.specs.Columns.{columns_of}
 use Rattle.run_comparisons.specs.Settled.{left_lines, IsComparisonTooLong, IsSettledComparison, IsSettledPair}
-use Rattle.bench_commands.specs.Answer.{Output, refused}
+use Rattle.bench_commands.specs.Answer.{Output}
 use Rattle.view_commands.specs.declared.request.SettledView.{SettledView}
 use Rattle.view_commands.specs.declared.request.SettledView.TheVariants as settled
-use Rattle.view_commands.specs.Told.{Told, plain}
+use Rattle.view_commands.specs.Told.{Told, noted, plain, refused_for}
 use Rattle.view_commands.specs.Views.{document_of, fine, picture_of_run, picture_of_runs, trace_output}
 
 -- that these calls were not made; nothing where there are none
@@ -27,14 +27,14 @@ note_of header left =
     if length left == 0 then []
     else codes "not made: " ++ left_text header left ++ codes "\n"
 
--- an output with a note, unless it is a refusal
-abbrev pub noted : Output → List ℕ → Told
-noted output note =
-    if output.is_refused then plain output else record { output = output; note = note }
+-- that the settled run has more steps than a session may have
+abbrev pub settled_too_long_line : List ℕ
+settled_too_long_line =
+    codes "the settled run has more than " ++ decimal max_steps ++ codes " steps\n"
 
--- J2: the settled run has more steps than a session may have
+-- J2: the same, with the refusal line
 abbrev pub too_long : Told
-too_long = plain (refused (codes "J2") [])
+too_long = refused_for (codes "J2") settled_too_long_line
 
 -- what is told of a settled run and the calls that were not made, by what is shown of a session
 abbrev pub told_of_run :

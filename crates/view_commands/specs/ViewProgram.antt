@@ -11,7 +11,7 @@ use Rattle.view_commands.specs.declared.ending.ViewEnding.{ViewEnding}
 use Rattle.view_commands.specs.declared.ending.ViewEnding.TheVariants.{AsBench, NotOpened}
 use Rattle.view_commands.specs.declared.request.Command.{Command}
 use Rattle.view_commands.specs.CommandLine.{Asked, a_view, help, a_mistake, asked}
-use Rattle.view_commands.specs.ViewEndings.{all_reads_well, all_writes_well, exit_code, failed, message}
+use Rattle.view_commands.specs.ViewEndings.{all_reads_well, all_writes_well, exit_code, failed, message, open_line}
 use Rattle.view_commands.specs.ViewRun.{Viewed}
 
 -- what a device has left or holds, where that is known
@@ -22,21 +22,22 @@ Bytes = Option (List ℕ)
 abbrev pub Files : Type 0
 Files = List ℕ → Bytes
 
--- the file that is named can't be opened, or memory was refused before
-abbrev pub IsNotOpened : ViewEnding → Type 0
-IsNotOpened ending = (ending ≡ NotOpened) ⊎ (ending ≡ failed Memory)
+-- it is told that the file of this name can't be opened, or memory was refused before
+abbrev pub IsNotOpened : List ℕ → ViewEnding → Type 0
+IsNotOpened name (NotOpened line) = string_bytes line ≡ open_line name
+IsNotOpened name ending = ending ≡ failed Memory
 
--- A view of a file: once that was opened, it is what was read. Before that nothing was read or
--- written.
-abbrev pub EndsFile : Command → ViewEnding → Bytes → Bytes → Bytes → Bytes → Bytes → Type 0
-EndsFile command ending file read_old read_new write_old write_new =
+-- A view of the file of a name: once that was opened, it is what was read. Before that nothing was
+-- read or written.
+abbrev pub EndsFile : Command → List ℕ → ViewEnding → Bytes → Bytes → Bytes → Bytes → Bytes → Type 0
+EndsFile command name ending file read_old read_new write_old write_new =
     Viewed command ending file read_new write_old write_new
-    ⊎ (IsNotOpened ending × Untouched read_old read_new write_old write_new)
+    ⊎ (IsNotOpened name ending × Untouched read_old read_new write_old write_new)
 
 -- by what was asked, how the program ends, and what was read and written then
 abbrev pub Ends : Asked → ViewEnding → Files → Bytes → Bytes → Bytes → Bytes → Type 0
 Ends (a_view command (Some name)) ending files read_old read_new write_old write_new =
-    EndsFile command ending (files name) read_old read_new write_old write_new
+    EndsFile command name ending (files name) read_old read_new write_old write_new
 Ends (a_view command None) ending files read_old read_new write_old write_new =
     Viewed command ending read_old read_new write_old write_new
 Ends help (AsBench ending) files read_old read_new write_old write_new =

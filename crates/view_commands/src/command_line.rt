@@ -2,7 +2,7 @@
 ghost use Rattle.std.specs.Prelude.{◌≡◌, IfOk, IsErr, map, option_map};
 ghost use Rattle.clap.specs.Words.{app_of, kind_of, rule_of};
 ghost use Rattle.clap.specs.declared.error.kind.ErrorKind.TheVariants.{OutOfMemory};
-ghost use Rattle.view_commands.specs.CommandLine.{IsTold, a_mistake, asked, asked_by, asked_in, asked_in_words, compare_app, core_rule, file_rule, from_rule, json_rule, report_app, session_app, settle_app, settle_rule, task_rule, timeline_app, to_rule, trace_app, view_app};
+ghost use Rattle.view_commands.specs.CommandLine.{IsTold, a_mistake, advise_app, asked, asked_by, asked_in, asked_in_words, at_least_rule, at_most_rule, best_rule, check_app, compare_app, core_rule, file_rule, from_rule, json_rule, judged_rule, less_rule, over_rule, report_app, session_app, settle_app, settle_rule, task_rule, timeline_app, to_rule, trace_app, view_app};
 
 use crate::options::asked_for;
 use crate::request::Request;
@@ -20,9 +20,11 @@ const DOCUMENTS: &str = r#"Documents, each a JSON text, in FILE or on standard i
 Exit status:
   0  it was shown
   1  the document or its settled run is refused, or has no such task or core, or its picture has
-     more than 4000 places: standard output says which
-  2  a bad command line
+     more than 4000 places, or a limit is not kept
+  2  a bad command line, or a number that has no such name
   3  memory was refused, a read or a write failed, or the file can't be opened
+
+Standard error says why nothing is shown.
 
 Example: smp_view trace --from 2 --to 3 examples/first-run.json"#;
 
@@ -62,6 +64,24 @@ const REPORTS: &str =
 each task, core and mutex. The table leaves out what is 0; the JSON object has everything.
 
 Example: smp_view report --settle examples/settled/shorter-timeout.json";
+
+// Below the options of a check.
+const CHECKS: &str =
+    "The names are those that `report` prints. Each limit that is not kept is printed, a line each. The
+exit status is 0 where all are kept, 1 where not, and 2 where a name is none.
+
+Example: smp_view check --settle --at-most control.blocked.mutex=3 \
+    examples/settled/shorter-timeout.json";
+
+// Below the options of advice.
+const ADVICE: &str =
+    "It tries each change of one task's priority (priority) and mask (mask: of at most 4 cores all masks, of
+more each core alone and all cores), and each exchange of two neighbouring calls of different tasks
+(order), each alone, and prints the best: the least number first, of equals the smaller change, with
+what it costs the other tasks.
+
+Example: smp_view advise --settle --task control --less blocked.mutex --over priority \
+    examples/settled/mutex-events.json";
 
 fn settle_flag<'a>(alloc: Global) -> Arg<'a>
     ensures { rule_of result ≡ settle_rule }
@@ -119,6 +139,67 @@ fn core_option<'a>(alloc: Global) -> Arg<'a>
         .value_name("CORE")
         .help("Shows the steps that concern this core; may stand several times")
         .action(ArgAction::Append)
+        .value_parser(value_parser!(u32))
+}
+
+fn at_most_option<'a>(alloc: Global) -> Arg<'a>
+    ensures { rule_of result ≡ at_most_rule }
+{
+    Arg::new(alloc, "at-most")
+        .long("at-most")
+        .value_name("NAME=N")
+        .help("The number of this name is to be N or less; may stand several times")
+        .action(ArgAction::Append)
+}
+
+fn at_least_option<'a>(alloc: Global) -> Arg<'a>
+    ensures { rule_of result ≡ at_least_rule }
+{
+    Arg::new(alloc, "at-least")
+        .long("at-least")
+        .value_name("NAME=N")
+        .help("The number of this name is to be N or more; may stand several times")
+        .action(ArgAction::Append)
+}
+
+fn judged_option<'a>(alloc: Global) -> Arg<'a>
+    ensures { rule_of result ≡ judged_rule }
+{
+    Arg::new(alloc, "judged")
+        .long("task")
+        .value_name("NAME")
+        .help("The task that is to have less of a number")
+        .required(true)
+}
+
+fn less_option<'a>(alloc: Global) -> Arg<'a>
+    ensures { rule_of result ≡ less_rule }
+{
+    Arg::new(alloc, "less")
+        .long("less")
+        .value_name("NUMBER")
+        .help("The number of the task, as `report` names it: blocked.mutex, ready.longest, ..")
+        .required(true)
+}
+
+fn over_option<'a>(alloc: Global) -> Arg<'a>
+    ensures { rule_of result ≡ over_rule }
+{
+    Arg::new(alloc, "over")
+        .long("over")
+        .value_name("CHANGES")
+        .help(
+            "Which changes are tried, with commas between them, or priority,mask,order if left out",
+        )
+}
+
+fn best_option<'a>(alloc: Global) -> Arg<'a>
+    ensures { rule_of result ≡ best_rule }
+{
+    Arg::new(alloc, "best")
+        .long("best")
+        .value_name("COUNT")
+        .help("How many of the best are printed, or 10 if left out")
         .value_parser(value_parser!(u32))
 }
 
@@ -195,6 +276,32 @@ fn report_command<'a>(alloc: Global) -> Result<Command<'a>, AllocError>
         .arg(file_argument(alloc))
 }
 
+fn check_command<'a>(alloc: Global) -> Result<Command<'a>, AllocError>
+    ensures { IfOk result (λ command. IsTold command check_app) }
+{
+    Command::new(alloc, "check")
+        .after_help(CHECKS)
+        .about("Says whether numbers of the run after the edits keep limits")
+        .arg(settle_flag(alloc))?
+        .arg(at_most_option(alloc))?
+        .arg(at_least_option(alloc))?
+        .arg(file_argument(alloc))
+}
+
+fn advise_command<'a>(alloc: Global) -> Result<Command<'a>, AllocError>
+    ensures { IfOk result (λ command. IsTold command advise_app) }
+{
+    Command::new(alloc, "advise")
+        .after_help(ADVICE)
+        .about("Tries changes of the session, and prints those that make a number lowest")
+        .arg(settle_flag(alloc))?
+        .arg(judged_option(alloc))?
+        .arg(less_option(alloc))?
+        .arg(over_option(alloc))?
+        .arg(best_option(alloc))?
+        .arg(file_argument(alloc))
+}
+
 // The program with its commands. Help for one of them is asked for by its `--help`, so `help` is
 // no command.
 fn program_command<'a>(alloc: Global) -> Result<Command<'a>, AllocError>
@@ -206,6 +313,8 @@ fn program_command<'a>(alloc: Global) -> Result<Command<'a>, AllocError>
     let compare = compare_command(alloc)?;
     let timeline = timeline_command(alloc)?;
     let report = report_command(alloc)?;
+    let check = check_command(alloc)?;
+    let advise = advise_command(alloc)?;
     Command::new(alloc, "smp_view")
         .about("Shows what a run of a scheduling session does, and why")
         .after_help(DOCUMENTS)
@@ -216,7 +325,9 @@ fn program_command<'a>(alloc: Global) -> Result<Command<'a>, AllocError>
         .subcommand(settle)?
         .subcommand(compare)?
         .subcommand(timeline)?
-        .subcommand(report)
+        .subcommand(report)?
+        .subcommand(check)?
+        .subcommand(advise)
 }
 
 fn told(alloc: Global, error: &Error) -> Result<Request, AllocError>

@@ -1,19 +1,43 @@
 //! How the program ends.
 ghost use Rattle.std.specs.Prelude.{◌≡◌};
-ghost use Rattle.view_commands.specs.ViewEndings.{exit_code, message};
+ghost use Rattle.view_commands.specs.ViewEndings.{exit_code, message, status_code};
 
 use bench_commands::Ending;
+
+/// How a view of a document ends.
+#[derive(Clone, Copy, Debug, PartialEq, Eq)]
+pub enum ViewStatus {
+    /// What was asked for was told.
+    Fine,
+    /// The document is refused, or a limit is not kept.
+    Failed,
+    /// There is no number of a name that was asked for.
+    Unknown,
+}
+
+impl ViewStatus {
+    /// The exit status of the process.
+    fn code(self) -> u8
+        ensures { result ≡ status_code self }
+    {
+        match self {
+            ViewStatus::Fine => 0,
+            ViewStatus::Failed => 1,
+            ViewStatus::Unknown => 2,
+        }
+    }
+}
 
 /// How the program ends.
 #[derive(Debug, Drop)]
 pub enum ViewEnding {
-    /// As the bench ends: help was shown, a document is refused, the command line is a bad one, or
-    /// memory or a device failed.
+    /// As the bench ends: help was shown, the command line is a bad one, or memory or a device
+    /// failed.
     AsBench(Ending),
-    /// A view was shown. This note is told beside it, where it is not empty.
-    Shown(String),
-    /// The file that the command line names can't be opened.
-    NotOpened,
+    /// A document was viewed, with this status. The note is told beside what was written.
+    Viewed(ViewStatus, Vec<u8>),
+    /// The file that the command line names can't be opened, as this line says.
+    NotOpened(String),
 }
 
 impl ViewEnding {
@@ -23,19 +47,19 @@ impl ViewEnding {
     {
         match self {
             ViewEnding::AsBench(ending) => ending.code(),
-            ViewEnding::Shown(_) => 0,
-            ViewEnding::NotOpened => 3,
+            ViewEnding::Viewed(status, _) => status.code(),
+            ViewEnding::NotOpened(_) => 3,
         }
     }
 
     /// What goes to standard error.
-    pub fn message(&self) -> &str
+    pub fn message(&self) -> &[u8]
         ensures { result.now ≡ message self.now }
     {
         match self {
-            ViewEnding::AsBench(ending) => ending.message(),
-            ViewEnding::Shown(note) => note.as_str(),
-            ViewEnding::NotOpened => "fault open\n",
+            ViewEnding::AsBench(ending) => ending.message().as_bytes(),
+            ViewEnding::Viewed(_, note) => note.as_slice(),
+            ViewEnding::NotOpened(line) => line.as_bytes(),
         }
     }
 }

@@ -1,5 +1,5 @@
 //! Command lines that were worked out by hand.
-ghost use Rattle.view_commands.specs.CommandLines.{WorkedHelp, WorkedMistakes, WorkedTraces, WorkedViews};
+ghost use Rattle.view_commands.specs.CommandLines.{WorkedAdvice, WorkedChecks, WorkedHelp, WorkedMistakes, WorkedTraces, WorkedViews};
 
 /// Command lines with what they ask for. It does nothing: its contract is the laws, one a clause.
 pub fn examples_of_command_lines()
@@ -7,6 +7,10 @@ pub fn examples_of_command_lines()
     ensures traces { WorkedTraces }
     // Another view is asked for.
     ensures views { WorkedViews }
+    // A check is asked for, or limits are missing.
+    ensures checks { WorkedChecks }
+    // Advice is asked for, or something of it is missing.
+    ensures advice { WorkedAdvice }
     // Help is asked for.
     ensures helps { WorkedHelp }
     // Nothing that the program does is asked for.

@@ -10,7 +10,9 @@ use crate::ending::ViewEnding;
 use bench_commands::{
     CountedRead, CountedWrite, Ending, InputFault, RunFault, Status, read_input, write_text,
 };
+use run_advice::Progress;
 use std::alloc::Global;
+use std::thread::Threads;
 
 fn failed(fault: RunFault) -> ViewEnding
     ensures { result ≡ failed fault }
@@ -19,9 +21,12 @@ fn failed(fault: RunFault) -> ViewEnding
 }
 
 /// Reads a document to its end, or one byte past the most that it is, and then writes what the
-/// command shows of it.
-pub fn run<R: CountedRead, W: CountedWrite>(
+/// command shows of it. Changes are tried in several threads, and how far that is goes to
+/// `progress`.
+pub fn run<T: Threads + Sync, P: Progress, R: CountedRead, W: CountedWrite>(
+    rt: &T,
     host: &HostRuntime,
+    progress: &mut P,
     alloc: Global,
     reader: &mut R,
     writer: &mut W,
@@ -39,16 +44,12 @@ pub fn run<R: CountedRead, W: CountedWrite>(
         Err(InputFault::Memory) => return failed(RunFault::Memory),
         Err(InputFault::Read) => return failed(RunFault::Read),
     };
-    let Ok(response) = told_of(host, alloc, &input, command) else {
+    let Ok(response) = told_of(rt, host, progress, alloc, &input, command) else {
         return failed(RunFault::Memory);
     };
-    let Response { shown, note } = response;
-    if write_text(writer, shown.text.as_slice()).is_err() {
+    let Response { status, text, note } = response;
+    if write_text(writer, text.as_slice()).is_err() {
         return failed(RunFault::Write);
     }
-    if shown.is_refused {
-        ViewEnding::AsBench(Ending::Ran(Status::Refused))
-    } else {
-        ViewEnding::Shown(note)
-    }
+    ViewEnding::Viewed(status, note)
 }

@@ -1,15 +1,20 @@
 //! What the program `smp_view` does, over any reader and writer.
 #![tactic(auto)]
 
+mod advice;
 mod answer;
+mod checks;
 mod command_line;
 mod edited;
 mod ending;
 mod examples;
 mod execution;
+mod families;
 mod interest;
+mod limits;
 mod options;
 mod program;
+mod progress;
 mod reports;
 mod request;
 mod settled;
@@ -19,9 +24,12 @@ mod source;
 pub use answer::law_of_views;
 pub use command_line::request_of;
 pub use edited::law_of_texts;
-pub use ending::ViewEnding;
+pub use ending::{ViewEnding, ViewStatus};
 pub use examples::examples_of_command_lines;
 pub use execution::run;
 pub use program::{carry_out, run_program};
-pub use request::{Command, FileName, ReportView, Request, Selection, SettledView, View};
+pub use progress::Telling;
+pub use request::{
+    CheckView, Command, FileName, ReportView, Request, Selection, SettledView, View,
+};
 pub use source::{DocumentSource, Folder, Source};

@@ -1,15 +1,44 @@
 //! What the options of a command say.
-ghost use Rattle.std.specs.Prelude.{◌≡◌, IfOk, IfSome, map, string_bytes};
+ghost use Rattle.std.specs.Prelude.{◌≡◌, codes, IfOk, IfSome, map, option_map, string_bytes};
 ghost use Rattle.std.specs.Option.{IsSomeAnd};
 ghost use Rattle.clap.specs.Words.{found_of, rows_of, subcommand_rows_of};
 ghost use Rattle.view_commands.specs.CommandLine.{asked_for, asked_in};
-ghost use Rattle.view_commands.specs.Options.{AreTaken, command_of, comparison_of, cores_in, file_in, json_in, picture_of, places_in, report_of, selection_in, settle_in, tasks_in, trace_of};
+ghost use Rattle.view_commands.specs.Options.{AreTaken, advice_of, advice_with, check_of, command_of, comparison_of, cores_in, family_in, file_in, json_in, number_in, number_name, picture_of, places_in, report_of, selection_in, settle_in, tasks_in, texts_in, trace_of, usual_best, view_of};
 
-use crate::request::{Command, FileName, ReportView, Request, Selection, SettledView, View};
+use crate::families::family_of;
+use crate::limits::{are_limits, limits_in};
+use crate::request::{
+    CheckView, Command, FileName, ReportView, Request, Selection, SettledView, View,
+};
 use clap::ArgMatches;
+use run_advice::Family;
 use run_views::Places;
+use session_advice::Question;
 use session_reports::Form;
 use std::alloc::{AllocError, Global};
+
+// What is told where a check has no limits, or one that is not written as such.
+const NO_LIMITS: &str = "error: check takes limits, each a name and a whole number: --at-most \
+control.blocked.mutex=3
+
+For more information, try '--help'.
+";
+
+// What is told where a word names no changes.
+const NO_FAMILIES: &str = "error: --over takes priority, mask and order, with commas between them
+
+For more information, try '--help'.
+";
+
+// All changes.
+const ALL_FAMILIES: Family = Family {
+    priority: true,
+    mask: true,
+    order: true,
+};
+
+/// How many of the best changes are told, where the command line has no number.
+const USUAL_BEST: u32 = 10;
 
 fn settle_in(options: &ArgMatches) -> bool
     requires { AreTaken (rows_of (found_of options.now)) }
@@ -35,17 +64,41 @@ fn places_in(options: &ArgMatches) -> Places
     }
 }
 
+// What stands behind the option of this id, each time.
+fn texts_in<'a>(
+    alloc: Global,
+    options: &ArgMatches<'a>,
+    id: &str,
+) -> Result<Vec<&'a str>, AllocError>
+    ensures { IfOk result
+        (λ texts. map (λ text. text.now) texts.items
+        ≡ texts_in id.now (rows_of (found_of options.now))) }
+{
+    let mut texts = Vec::new(alloc);
+    let Some(given) = options.get_strs(id) else {
+        return Ok(texts);
+    };
+    texts.extend_from_slice(given)?;
+    Ok(texts)
+}
+
+fn strings_of(alloc: Global, texts: &[&str]) -> Result<Vec<String>, AllocError>
+    ensures { IfOk result
+        (λ strings. map string_bytes strings.items ≡ map (λ text. text.now) texts.now) }
+{
+    let mut strings = Vec::new(alloc);
+    for text in texts {
+        strings.push(String::from_str(alloc, text)?)?;
+    }
+    Ok(strings)
+}
+
 fn tasks_in(alloc: Global, options: &ArgMatches) -> Result<Vec<String>, AllocError>
     ensures { IfOk result
         (λ tasks. map string_bytes tasks.items ≡ tasks_in (rows_of (found_of options.now))) }
 {
-    let mut tasks = Vec::new(alloc);
-    let Some(names) = options.get_strs("task") else {
-        return Ok(tasks);
-    };
-    for name in names {
-        tasks.push(String::from_str(alloc, name)?)?;
-    }
+    let texts = texts_in(alloc, options, "task")?;
+    let tasks = strings_of(alloc, texts.as_slice())?;
     Ok(tasks)
 }
 
@@ -137,10 +190,106 @@ fn report_of(options: &ArgMatches) -> Command
     })
 }
 
-fn command_of(alloc: Global, name: &str, options: &ArgMatches) -> Result<Command, AllocError>
+// A check, if there are limits and all are written as such.
+fn check_of(alloc: Global, options: &ArgMatches) -> Result<Option<Command>, AllocError>
+    requires { AreTaken (rows_of (found_of options.now)) }
+    ensures { IfOk result (λ command. command ≡ check_of (rows_of (found_of options.now))) }
+{
+    let most = texts_in(alloc, options, "at-most")?;
+    let least = texts_in(alloc, options, "at-least")?;
+    let (most, least) = (most.as_slice(), least.as_slice());
+    if !are_limits(most, least) {
+        return Ok(None);
+    }
+    Ok(Some(Command::Check(CheckView {
+        settled: settle_in(options),
+        limits: limits_in(alloc, most, least)?,
+    })))
+}
+
+fn family_in(alloc: Global, options: &ArgMatches) -> Result<Option<Family>, AllocError>
+    ensures { IfOk result (λ family. family ≡ family_in (rows_of (found_of options.now))) }
+{
+    match options.get_str("over") {
+        Some(words) => family_of(alloc, words),
+        None => Ok(Some(ALL_FAMILIES)),
+    }
+}
+
+fn best_in(options: &ArgMatches) -> u32
+    requires { AreTaken (rows_of (found_of options.now)) }
+    ensures { result ≡ number_in (codes "best") (rows_of (found_of options.now)) usual_best }
+{
+    options.get_one::<u32>("best").unwrap_or(USUAL_BEST)
+}
+
+// The number of a task's.
+fn number_name(alloc: Global, task: &str, rest: &str) -> Result<String, AllocError>
+    ensures { IfOk result (λ name. string_bytes name ≡ number_name task.now rest.now) }
+{
+    let mut name = String::from_str(alloc, task)?;
+    name.push_str(".")?;
+    name.push_str(rest)?;
+    Ok(name)
+}
+
+// Advice, if there is a task, a number of it and changes to try.
+fn advice_with(
+    alloc: Global,
+    options: &ArgMatches,
+    task: Option<&str>,
+    rest: Option<&str>,
+    family: Option<Family>,
+) -> Result<Option<Command>, AllocError>
+    requires { AreTaken (rows_of (found_of options.now)) }
+    ensures { IfOk result
+        (λ command. command
+        ≡ advice_with (option_map (λ text. text.now) task.entry)
+        (option_map (λ text. text.now) rest.entry) family (rows_of (found_of options.now))) }
+{
+    let (Some(task), Some(rest), Some(family)) = (task, rest, family) else {
+        return Ok(None);
+    };
+    Ok(Some(Command::Advise(Question {
+        name: number_name(alloc, task, rest)?,
+        settled: settle_in(options),
+        family,
+        best: best_in(options),
+    })))
+}
+
+fn advice_of(alloc: Global, options: &ArgMatches) -> Result<Option<Command>, AllocError>
+    requires { AreTaken (rows_of (found_of options.now)) }
+    ensures { IfOk result (λ command. command ≡ advice_of (rows_of (found_of options.now))) }
+{
+    let family = family_in(alloc, options)?;
+    let (task, rest) = (options.get_str("judged"), options.get_str("less"));
+    advice_with(alloc, options, task, rest, family)
+}
+
+fn command_of(
+    alloc: Global,
+    name: &str,
+    options: &ArgMatches,
+) -> Result<Option<Command>, AllocError>
     requires { AreTaken (rows_of (found_of options.now)) }
     ensures { IfOk result
         (λ command. command ≡ command_of name.now (rows_of (found_of options.now))) }
+{
+    if name == "check" {
+        return check_of(alloc, options);
+    }
+    if name == "advise" {
+        return advice_of(alloc, options);
+    }
+    Ok(Some(view_of(alloc, name, options)?))
+}
+
+// Of a command that lacks nothing.
+fn view_of(alloc: Global, name: &str, options: &ArgMatches) -> Result<Command, AllocError>
+    requires { AreTaken (rows_of (found_of options.now)) }
+    ensures { IfOk result
+        (λ command. command ≡ view_of name.now (rows_of (found_of options.now))) }
 {
     if name == "trace" {
         return trace_of(alloc, options);
@@ -160,6 +309,15 @@ fn command_of(alloc: Global, name: &str, options: &ArgMatches) -> Result<Command
     Ok(picture_of(options))
 }
 
+// What is told of a command that lacks what clap does not ask for.
+fn lacking(name: &str) -> &'static str {
+    if name == "check" {
+        NO_LIMITS
+    } else {
+        NO_FAMILIES
+    }
+}
+
 /// What the command that was met asks for.
 pub(crate) fn asked_for(alloc: Global, matches: &ArgMatches) -> Result<Request, AllocError>
     requires { IsSomeAnd (subcommand_rows_of matches.now) (λ met. AreTaken met.1) }
@@ -168,7 +326,9 @@ pub(crate) fn asked_for(alloc: Global, matches: &ArgMatches) -> Result<Request, 
         (λ met. asked_in request ≡ asked_for met.0 met.1)) }
 {
     let (name, options) = matches.subcommand().unwrap();
-    let command = command_of(alloc, name, options)?;
+    let Some(command) = command_of(alloc, name, options)? else {
+        return Ok(Request::Bad(String::from_str(alloc, lacking(name))?));
+    };
     let file = file_in(alloc, options)?;
     Ok(Request::Show(command, file))
 }

@@ -1,6 +1,7 @@
 //! What the program may be asked for.
 use run_views::Places;
-use session_reports::Form;
+use session_advice::Question;
+use session_reports::{Form, Wanted};
 use std::marker::Model;
 
 /// Which part of a trace is asked for.
@@ -61,6 +62,22 @@ pub struct ReportView {
     pub form: Form,
 }
 
+/// Which limits the run of the session after the edits is to keep.
+#[derive(Drop)]
+pub struct CheckView {
+    /// Whether the run is settled.
+    pub settled: bool,
+    pub limits: Vec<Wanted>,
+}
+
+impl Model for CheckView {
+    ghost use Rattle.view_commands.specs.Selected.{Limited};
+
+    ghost Value = { Limited };
+
+    ghost view = { λ it. record { settled = it.settled; limits = it.limits.items } };
+}
+
 /// What is to be shown of a document.
 #[derive(Drop)]
 pub enum Command {
@@ -70,6 +87,10 @@ pub enum Command {
     Settled(SettledView),
     /// The numbers of its runs.
     Report(ReportView),
+    /// Whether its run keeps limits.
+    Check(CheckView),
+    /// Which changes make a number of its run lower.
+    Advise(Question),
 }
 
 /// The name of a file.

@@ -4,14 +4,15 @@ ghost use Rattle.bench_types.specs.Limits.{max_steps};
 ghost use Rattle.bench_types.specs.Session.{IsSession};
 ghost use Rattle.bench_model.specs.Edits.{after_edits};
 ghost use Rattle.settling.specs.declared.run.SettleFault.TheVariants.{TooManySteps};
-ghost use Rattle.view_commands.specs.SettledViews.{IsSettledPicture, IsSettledView, IsToldOfBoth, IsToldOfSettled, note_of, noted, too_long};
+ghost use Rattle.view_commands.specs.SettledViews.{IsSettledPicture, IsSettledView, IsToldOfBoth, IsToldOfSettled, note_of, too_long};
+ghost use Rattle.view_commands.specs.Told.{noted};
 ghost use Rattle.view_commands.specs.Views.{document_of, fine, picture_of_run, trace_output};
 
-use crate::answer::{Response, Shown, plain, refused_by};
+use crate::answer::{Response, Shown, noted, plain, refused_with};
 use crate::edited::{answer_output, document_output, fine, make_edits, second, trace_output};
 use crate::settled_pictures::pictures_told;
 use crate::{Selection, SettledView};
-use bench_types::{Edit, EditFault, Header, Step};
+use bench_types::{Edit, EditFault, Header, MAX_STEPS, Step};
 use run_comparisons::{compare_settled, steps_of};
 use run_pictures::timeline;
 use run_views::Places;
@@ -22,21 +23,21 @@ use smp_kernel::Meter;
 use std::alloc::{AllocError, Global};
 
 // That these calls were not made; nothing where there are none.
-fn note_of(alloc: Global, header: &Header, left: &[WaitingCall]) -> Result<String, AllocError>
-    ensures { IfOk result (λ note. string_bytes note ≡ note_of header.now left.now) }
+fn note_of(alloc: Global, header: &Header, left: &[WaitingCall]) -> Result<Vec<u8>, AllocError>
+    ensures { IfOk result (λ note. note.items ≡ note_of header.now left.now) }
 {
     let mut note = String::new(alloc);
     if left.len() == 0 {
-        return Ok(note);
+        return Ok(note.into_bytes());
     }
     note.push_str("not made: ")?;
     push_left(&mut note, header, left)?;
     note.push_str("\n")?;
-    Ok(note)
+    Ok(note.into_bytes())
 }
 
 // What is shown, and the calls that were not made, unless it is a refusal.
-fn noted(
+fn with_left(
     alloc: Global,
     header: &Header,
     left: &[WaitingCall],
@@ -44,11 +45,17 @@ fn noted(
 ) -> Result<Response, AllocError>
     ensures { IfOk result (λ told. told ≡ noted shown (note_of header.now left.now)) }
 {
-    if shown.is_refused {
-        return Ok(plain(alloc, shown));
-    }
     let note = note_of(alloc, header, left)?;
-    Ok(Response { shown, note })
+    Ok(noted(alloc, shown, note))
+}
+
+// The answer where a settled run has too many steps.
+fn too_long(alloc: Global) -> Result<Response, AllocError>
+    ensures { IfOk result (λ told. told ≡ too_long) }
+{
+    let mut hint = String::new(alloc);
+    write!(hint, "the settled run has more than {MAX_STEPS} steps\n")?;
+    refused_with(alloc, EditFault::TooLong.code(), hint.as_str())
 }
 
 /// The answer where a session was not settled, which is one only for J2.
@@ -57,7 +64,7 @@ pub(crate) fn not_settled(alloc: Global, fault: SettleFault) -> Result<Response,
     ensures line { IfOk result (λ told. told ≡ too_long) }
 {
     match fault {
-        SettleFault::TooManySteps => refused_by(alloc, EditFault::TooLong.code()),
+        SettleFault::TooManySteps => too_long(alloc),
         SettleFault::NoMemory => Err(AllocError),
     }
 }
@@ -83,7 +90,7 @@ fn trace_of_run(
 {
     let run = settled.run.as_slice();
     let shown = trace_output(alloc, meter, header, run, selection)?;
-    noted(alloc, header, settled.left.as_slice(), shown)
+    with_left(alloc, header, settled.left.as_slice(), shown)
 }
 
 fn document_of_run(
@@ -99,7 +106,7 @@ fn document_of_run(
         (note_of header.now settled.now.left.items)) }
 {
     let shown = document_output(alloc, header, settled.run.as_slice())?;
-    noted(alloc, header, settled.left.as_slice(), shown)
+    with_left(alloc, header, settled.left.as_slice(), shown)
 }
 
 fn settled_trace(
@@ -197,7 +204,7 @@ fn picture_of_run(
 {
     let answer = timeline(alloc, meter, places, header, settled.run.as_slice())?;
     let shown = answer_output(alloc, answer)?;
-    noted(alloc, header, settled.left.as_slice(), shown)
+    with_left(alloc, header, settled.left.as_slice(), shown)
 }
 
 fn settled_picture(

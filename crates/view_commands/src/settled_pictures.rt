@@ -1,8 +1,9 @@
 //! The picture of the settled run of a session and of that of the session after edits of it.
 ghost use Rattle.std.specs.Prelude.{◌≡◌, IfOk, string_bytes};
-ghost use Rattle.view_commands.specs.SettledViews.{noted, pair_note, picture_of_pair, IsDrawnPair, IsToldOfPictures};
+ghost use Rattle.view_commands.specs.SettledViews.{pair_note, picture_of_pair, IsDrawnPair, IsToldOfPictures};
+ghost use Rattle.view_commands.specs.Told.{noted};
 
-use crate::answer::{Response, Shown, plain};
+use crate::answer::{Response, Shown, noted};
 use crate::edited::{answer_output, second};
 use crate::settled::not_settled;
 use bench_types::{Edit, Header};
@@ -24,13 +25,10 @@ fn noted_pair(
     ensures { IfOk result
         (λ told. told ≡ noted shown (pair_note header.now edited.now pair.now)) }
 {
-    if shown.is_refused {
-        return Ok(plain(alloc, shown));
-    }
     let mut note = String::new(alloc);
     let left = pair.before.left.as_slice();
     push_left_lines(&mut note, header, edited, left, pair.after.left.as_slice())?;
-    Ok(Response { shown, note })
+    Ok(noted(alloc, shown, note.into_bytes()))
 }
 
 // The runs of the pair as a picture, a row in each column.

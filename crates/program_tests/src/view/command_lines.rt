@@ -1,12 +1,14 @@
 //! What a command line asks for.
 
 use run_pictures::MAX_PLACES;
+use run_reports::Bound;
+use session_advice::Question;
 use session_reports::Form;
 use std::alloc::{AllocError, Global};
 use std::process::Abort;
 use std::test::Fail;
 use view_commands::{
-    Command, FileName, ReportView, Request, Selection, SettledView, View, request_of,
+    CheckView, Command, FileName, ReportView, Request, Selection, SettledView, View, request_of,
 };
 
 /// Command lines, and what each asks for: a trace with its first place, its last, its tasks and its
@@ -36,6 +38,14 @@ smp_view report => report table
 smp_view report --json => report object
 smp_view report --settle => report settled table
 smp_view report run.json --json --settle => report settled object file run.json
+smp_view check --at-most A.run=3 => check A.run most 3
+smp_view check --at-least a=b.run=+3 --settle f => check settled a=b.run least 3 file f
+smp_view check --at-least A.run=1 --at-most=-x.run=2 => check -x.run most 2 A.run least 1
+smp_view advise --task A --less run => advise A.run priority mask order best 10
+smp_view advise --settle --less=run --task=-x --over mask => advise settled -x.run mask best 10
+smp_view advise --task A --less run --best 3 => advise A.run priority mask order best 3
+smp_view advise --task A --less run --over mask => advise A.run mask best 10
+smp_view advise --task A --less run --over order,priority => advise A.run priority order best 10
 smp_view trace run.json => 0 4294967295 file run.json
 smp_view trace 3 => 0 4294967295 file 3
 smp_view trace session => 0 4294967295 file session
@@ -98,6 +108,27 @@ smp_view compare -x => bad
 smp_view compare --json => bad
 smp_view report --json --json => bad
 smp_view report --from 3 => bad
+smp_view check => bad
+smp_view check run.json --settle => bad
+smp_view check --at-most => bad
+smp_view check --at-most 3 => bad
+smp_view check --at-most A.run => bad
+smp_view check --at-most A.run= => bad
+smp_view check --at-most A.run=-1 => bad
+smp_view check --at-most A.run=4294967296 => bad
+smp_view check --at-most A.run=3 --at-least B.run=x => bad
+smp_view check --at-most A.run=3 --json => bad
+smp_view advise => bad
+smp_view advise --task A => bad
+smp_view advise --less run => bad
+smp_view advise --task A --less run --over => bad
+smp_view advise --task A --less run --over= => bad
+smp_view advise --task A --less run --over Priority => bad
+smp_view advise --task A --less run --over priority,,mask => bad
+smp_view advise --task A --less run --over priority,masks => bad
+smp_view advise --task A --less run --best x => bad
+smp_view advise --task A --task B --less run => bad
+smp_view advise --task A --less run --from 3 => bad
 smp_view timeline -3 => bad
 smp_view timeline --task A => bad
 smp_view timeline --settle --core 0 => bad";
@@ -124,7 +155,7 @@ fn most_places_in_help(rt: HostRuntime) -> Result<(), Fail> {
     let words = ["smp_view", "timeline", "--help"];
     let request = request_of(rt.alloc(), Some(words.as_slice()))?;
     let most = format!(in rt.alloc(); " {MAX_PLACES} places")?;
-    check_told(&rt, text_of(&request), most.as_str());
+    expect_part(&rt, text_of(&request), most.as_str());
     Ok(())
 }
 
@@ -132,7 +163,7 @@ fn check_mistake(rt: &impl Abort, text: &str) {
     assert_eq!(rt; mistake_told(text), "bad");
 }
 
-fn check_told(rt: &impl Abort, text: &str, part: &str) {
+fn expect_part(rt: &impl Abort, text: &str, part: &str) {
     assert!(rt; text.contains(part), "{text}");
 }
 
@@ -192,7 +223,38 @@ fn command_told(alloc: Global, command: &Command) -> Result<String, AllocError> 
         Command::Plain(view) => plain_told(alloc, view),
         Command::Settled(view) => settled_told(alloc, view),
         Command::Report(view) => report_told(alloc, *view),
+        Command::Check(view) => check_told(alloc, view),
+        Command::Advise(question) => advice_told(alloc, question),
     }
+}
+
+fn advice_told(alloc: Global, question: &Question) -> Result<String, AllocError> {
+    let settled = if question.settled { " settled" } else { "" };
+    let mut text = format!(in alloc; "advise{settled} {}", question.name)?;
+    let family = question.family;
+    for (word, is_tried) in [
+        ("priority", family.priority),
+        ("mask", family.mask),
+        ("order", family.order),
+    ] {
+        if is_tried {
+            write!(text, " {word}")?;
+        }
+    }
+    write!(text, " best {}", question.best)?;
+    Ok(text)
+}
+
+fn check_told(alloc: Global, view: &CheckView) -> Result<String, AllocError> {
+    let settled = if view.settled { " settled" } else { "" };
+    let mut text = format!(in alloc; "check{settled}")?;
+    for limit in &view.limits {
+        match limit.bound {
+            Bound::AtMost(most) => write!(text, " {} most {most}", limit.name)?,
+            Bound::AtLeast(least) => write!(text, " {} least {least}", limit.name)?,
+        }
+    }
+    Ok(text)
 }
 
 fn report_told(alloc: Global, view: ReportView) -> Result<String, AllocError> {

@@ -4,11 +4,13 @@ ghost use Rattle.std.specs.Prelude.{Some};
 use crate::view::samples::SHARED_MUTEX;
 use crate::view::views::KEPT;
 use bench_commands::Counted;
+use run_advice::Silent;
 use std::alloc::AllocError;
 use std::io;
 use std::io::ErrorKind;
 use std::process::Abort;
 use std::test::Fail;
+use std::thread::Threads;
 use view_commands::{Command, DocumentSource, FileName, Folder, Request, View, carry_out};
 
 /// A folder with one file.
@@ -35,14 +37,21 @@ impl<'a> Folder for Shelf<'a> {
 fn a_file_that_is_named(rt: HostRuntime) -> Result<(), Fail> {
     expect(&rt, &rt, None, 0, "", KEPT)?;
     expect(&rt, &rt, Some("run.json"), 0, "", KEPT)?;
-    expect(&rt, &rt, Some("other.json"), 3, "fault open\n", "")?;
+    expect(
+        &rt,
+        &rt,
+        Some("other.json"),
+        3,
+        "fault open other.json\n",
+        "",
+    )?;
     Ok(())
 }
 
 // What comes of the session of a document, which stands in the file `run.json` where one is named,
 // and else on standard input.
-fn expect(
-    rt: &impl Abort,
+fn expect<R: Threads + Abort + Sync>(
+    rt: &R,
     host: &HostRuntime,
     name: Option<&str>,
     code: u8,
@@ -63,9 +72,11 @@ fn expect(
     let mut shown = Vec::new(host.alloc());
     let mut writer = Counted::new(&mut shown);
     let request = Request::Show(Command::Plain(View::Session), file_named(host, name)?);
-    let ending = carry_out(host, host.alloc(), request, &mut reader, &mut writer);
+    let progress = &mut Silent;
+    let alloc = host.alloc();
+    let ending = carry_out(rt, host, progress, alloc, request, &mut reader, &mut writer);
     assert_eq!(rt; ending.code(), code);
-    assert_eq!(rt; ending.message(), message);
+    assert!(rt; ending.message() == message.as_bytes());
     assert!(rt; shown.as_slice() == wanted.as_bytes());
     Ok(())
 }

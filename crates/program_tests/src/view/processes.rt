@@ -6,10 +6,12 @@ use crate::view::files::Shelf;
 use crate::view::samples::FIRST_RUN;
 use crate::view::traces::WHOLE;
 use bench_commands::Counted;
+use run_advice::Silent;
 use std::env::Args;
 use std::io;
 use std::process::{Abort, ExitCode};
 use std::test::Fail;
+use std::thread::Threads;
 use view_commands::{DocumentSource, run_program};
 
 /// A trace of the first run, which standard input or a file has.
@@ -40,8 +42,8 @@ pub(crate) struct Wanted<'a> {
 }
 
 /// What the program does with the words, with a document on standard input or in a file.
-pub(crate) fn check_program(
-    rt: &impl Abort,
+pub(crate) fn check_program<R: Threads + Abort + Sync>(
+    rt: &R,
     host: &HostRuntime,
     words: io::Result<Args>,
     standard: &str,
@@ -55,14 +57,15 @@ pub(crate) fn check_program(
         text: file.as_bytes(),
     };
     let mut reader = DocumentSource::new(standard.as_bytes(), &shelf);
-    let status = status_of(host, words, &mut reader, &mut output, &mut errors);
+    let status = status_of(rt, host, words, &mut reader, &mut output, &mut errors);
     expect_same(rt, file, status, ExitCode::from(wanted.code));
     output.expect(rt, wanted.output);
     errors.expect(rt, wanted.errors);
 }
 
 /// The exit status of the program with these words.
-fn status_of(
+fn status_of<T: Threads + Sync>(
+    rt: &T,
     host: &HostRuntime,
     words: io::Result<Args>,
     reader: &mut DocumentSource<'_, &[u8], Shelf<'_>>,
@@ -70,7 +73,9 @@ fn status_of(
     errors: &mut Sink,
 ) -> ExitCode {
     run_program(
+        rt,
         host,
+        &mut Silent,
         words,
         reader,
         &mut Counted::new(output),

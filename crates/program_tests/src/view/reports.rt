@@ -5,6 +5,7 @@ use crate::view::samples::{FIRST_RUN, SHARED_MUTEX};
 use std::alloc::AllocError;
 use std::process::Abort;
 use std::test::Fail;
+use std::thread::Threads;
 
 /// The numbers of `FIRST_RUN`.
 const ONE_RUN: &str = "     value number
@@ -93,8 +94,8 @@ fn reports(rt: HostRuntime) -> Result<(), Fail> {
 }
 
 /// What the program shows by the words of the line of the document on standard input.
-fn check(
-    rt: &impl Abort,
+fn check<R: Threads + Abort + Sync>(
+    rt: &R,
     host: &HostRuntime,
     line: &str,
     document: &str,

@@ -7,6 +7,7 @@ use crate::view::traces::WHOLE;
 use std::alloc::AllocError;
 use std::process::Abort;
 use std::test::Fail;
+use std::thread::Threads;
 
 /// The settled run of `LEFT_CALLS`.
 const SETTLED: &str = "\
@@ -89,8 +90,8 @@ fn traces_of_settled_runs(rt: HostRuntime) -> Result<(), Fail> {
             "smp_view trace --settle --task nobody",
             LEFT_CALLS,
             1,
-            "refused task nobody\n",
             "",
+            "refused task nobody\n",
         ),
     ] {
         check(&rt, &rt, line, document, code, output, errors)?;
@@ -99,8 +100,8 @@ fn traces_of_settled_runs(rt: HostRuntime) -> Result<(), Fail> {
 }
 
 /// What the program does with the words of the line and the document on standard input.
-fn check(
-    rt: &impl Abort,
+fn check<R: Threads + Abort + Sync>(
+    rt: &R,
     host: &HostRuntime,
     line: &str,
     document: &str,

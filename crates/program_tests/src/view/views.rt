@@ -2,10 +2,12 @@
 
 use crate::view::samples::{FIRST_RUN, SHARED_MUTEX, TWO_NOTES};
 use bench_commands::Counted;
+use run_advice::Silent;
 use run_views::Places;
 use std::alloc::{AllocError, Global};
 use std::process::Abort;
 use std::test::Fail;
+use std::thread::Threads;
 use view_commands::{Command, Selection, View, run};
 
 const COMPARED: &str =
@@ -77,14 +79,30 @@ fn views_of_two_notifications(rt: HostRuntime) -> Result<(), Fail> {
     Ok(())
 }
 
-fn expect(rt: &impl Abort, host: &HostRuntime, view: View, document: &str, wanted: &str) {
+fn expect<R: Threads + Abort + Sync>(
+    rt: &R,
+    host: &HostRuntime,
+    view: View,
+    document: &str,
+    wanted: &str,
+) {
     let command = Command::Plain(view);
     let mut shown = Vec::new(host.alloc());
     let mut reader = Counted::new(document.as_bytes());
     let mut writer = Counted::new(&mut shown);
-    let ending = run(host, host.alloc(), &mut reader, &mut writer, &command);
+    let progress = &mut Silent;
+    let alloc = host.alloc();
+    let ending = run(
+        rt,
+        host,
+        progress,
+        alloc,
+        &mut reader,
+        &mut writer,
+        &command,
+    );
     assert_eq!(rt; ending.code(), 0);
-    assert_eq!(rt; ending.message(), "");
+    assert!(rt; ending.message().is_empty());
     assert!(rt; shown.as_slice() == wanted.as_bytes());
 }
 
@@ -101,7 +119,7 @@ step 3: yield core 0 by C
 place 5, tick 1; core 0 C; core 1 B
 ";
 
-fn expect_traces(rt: &impl Abort, host: &HostRuntime) -> Result<(), AllocError> {
+fn expect_traces<R: Threads + Abort + Sync>(rt: &R, host: &HostRuntime) -> Result<(), AllocError> {
     let alloc = host.alloc();
     expect(rt, host, trace_of(alloc, "C", None)?, FIRST_RUN, OF_C);
     let last = "place 5, tick 1; core 0 C; core 1 B\n";

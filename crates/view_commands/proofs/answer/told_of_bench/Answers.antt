@@ -9,13 +9,13 @@ use Rattle.view_commands.proofs.Outputs.{not_opened_told, opened_told, too_long_
 use Rattle.view_commands.proofs.answer.told_of_bench.Goals as goal
 
 pub returns : goal.returns
-returns c =
+returns g c =
     not_opened_told c.args.command.now c.args.bench c.in-Err.fault.why c.not_opened.result c.not_opened.ensures.why c.not_opened.ensures.line
     (too_long_bench c.args.bench max_span c.in-Err.fault.why c.requires refl
     (λ passes. ap (λ fault. fault.why) (c.in-Err.ensures.no_memory (subst (λ steps. open_check c.args.bench.header steps max_span ≡ Ok tt) (sym c.into_vec.ensures) passes))))
 
 pub returns-in-Ok : goal.returns-in-Ok
-returns-in-Ok c =
+returns-in-Ok g c =
     let bench = c.args.bench in
     let accepted = subst (λ steps. open_check bench.header steps max_span ≡ Ok tt) c.into_vec.ensures c.in-Ok.ensures.accepted in
     let same = c.in-Ok.ensures.opened ∙ ap (λ (steps : List Step). first_kept max_span (record { header = bench.header; steps = steps })) c.into_vec.ensures in

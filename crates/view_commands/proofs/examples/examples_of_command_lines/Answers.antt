@@ -1,4 +1,4 @@
-use Rattle.view_commands.proofs.CommandLines.{helps, mistakes, traces, views}
+use Rattle.view_commands.proofs.CommandLines.{advice, checks, helps, mistakes, traces, views}
 use Rattle.view_commands.proofs.examples.examples_of_command_lines.Goals as goal
 
 pub returns-clause-traces : goal.returns-clause-traces
@@ -6,6 +6,12 @@ returns-clause-traces c = traces
 
 pub returns-clause-views : goal.returns-clause-views
 returns-clause-views c = views
+
+pub returns-clause-checks : goal.returns-clause-checks
+returns-clause-checks c = checks
+
+pub returns-clause-advice : goal.returns-clause-advice
+returns-clause-advice c = advice
 
 pub returns-clause-helps : goal.returns-clause-helps
 returns-clause-helps c = helps

@@ -1,9 +1,9 @@
-use Rattle.std.proofs.Common.{◌≡◌, ◌⊎◌, rules, Err, ap, inl}
+use Rattle.std.proofs.Common.{◌≡◌, rules, Err, ap, inl}
 use Rattle.std.specs.Prelude.{string_bytes}
 use Rattle.bench_types.specs.Session.{Session}
 use Rattle.settling.specs.declared.run.SettleFault.{SettleFault}
 use Rattle.session_reports.specs.Figures.{IsTooLong}
-use Rattle.session_reports.specs.Reports.{IsReportOfRun, IsReportOfRuns}
+use Rattle.session_reports.specs.Reports.{IsReportOfRun}
 use Rattle.view_commands.specs.Told.{plain}
 use Rattle.view_commands.specs.Views.{fine}
 use Rattle.view_commands.proofs.ReportsTold.{long_report}

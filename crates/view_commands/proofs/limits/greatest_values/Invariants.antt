@@ -1,0 +1,8 @@
+use Rattle.std.proofs.Common.{◌≡◌, flat_map, take}
+use Rattle.run_reports.specs.declared.limits.Bound.TheVariants.{AtMost}
+use Rattle.view_commands.specs.Options.{limits_from}
+use Rattle.view_commands.proofs.limits.greatest_values.Given as goal
+
+-- the limits so far
+abbrev pub invariant-loop-text : goal.invariant-loop-text
+invariant-loop-text l = l.limits.items ≡ flat_map (λ text. limits_from AtMost text.now) (take l.text-index l.texts)

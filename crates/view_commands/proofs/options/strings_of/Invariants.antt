@@ -1,0 +1,6 @@
+use Rattle.std.proofs.Common.{◌≡◌, map, take, string_bytes}
+use Rattle.view_commands.proofs.options.strings_of.Given as goal
+
+-- the texts so far
+abbrev pub invariant-loop-text : goal.invariant-loop-text
+invariant-loop-text l = map string_bytes l.strings.items ≡ map (λ text. text.now) (take l.text-index l.texts)

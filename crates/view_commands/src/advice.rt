@@ -1,0 +1,80 @@
+//! What is told of the changes of a session that make a number lower.
+ghost use Rattle.std.specs.Prelude.{◌≡◌, ◌≤◌, IfOk, length, string_bytes};
+ghost use Rattle.bench_types.specs.Limits.{max_steps};
+ghost use Rattle.bench_types.specs.Session.{IsSession};
+ghost use Rattle.view_commands.specs.AdviceViews.{IsAdviceOf, IsAdviceView, told_of_advice};
+
+use crate::answer::Response;
+use crate::edited::make_edits;
+use crate::ending::ViewStatus;
+use crate::settled::not_settled;
+use bench_types::{Edit, Header, Step};
+use run_advice::Progress;
+use run_comparisons::steps_of;
+use session_advice::{AdviceStatus, Advised, Question, advise_session};
+use session_store::Store;
+use smp_kernel::Meter;
+use std::alloc::{AllocError, Global};
+use std::thread::Threads;
+
+// Advice goes to standard output, and the names that there are to standard error.
+fn told_of_advice(alloc: Global, status: AdviceStatus, text: String) -> Response
+    ensures { result ≡ told_of_advice status (string_bytes text) }
+{
+    let (none, text) = (Vec::new(alloc), text.into_bytes());
+    match status {
+        AdviceStatus::Given => Response {
+            status: ViewStatus::Fine,
+            text,
+            note: none,
+        },
+        AdviceStatus::Unknown => Response {
+            status: ViewStatus::Unknown,
+            text: none,
+            note: text,
+        },
+    }
+}
+
+fn advice_of<T: Threads + Sync, P: Progress>(
+    rt: &T,
+    host: &HostRuntime,
+    alloc: Global,
+    meter: &mut Meter,
+    progress: &mut P,
+    header: &Header,
+    steps: &[Step],
+    question: &Question,
+) -> Result<Response, AllocError>
+    requires session { IsSession (record { header = header.now; steps = steps.now }) }
+    requires few { length steps.now ≤ max_steps }
+    ensures { IfOk result
+        (λ told. IsAdviceOf question.now (record {
+          header = header.now;
+          steps = steps.now;
+        }) told) }
+{
+    match advise_session(rt, host, alloc, meter, progress, header, steps, question) {
+        Ok(Advised { status, text }) => Ok(told_of_advice(alloc, status, text)),
+        Err(fault) => not_settled(alloc, fault),
+    }
+}
+
+/// What is advised of the session with its edits made.
+pub(crate) fn told_advice<T: Threads + Sync, P: Progress>(
+    rt: &T,
+    host: &HostRuntime,
+    alloc: Global,
+    meter: &mut Meter,
+    progress: &mut P,
+    store: &mut Store,
+    edits: &[Edit],
+    question: &Question,
+) -> Result<Response, AllocError>
+    ensures { IfOk result (λ told. IsAdviceView question.now store.old.session edits.now told) }
+{
+    make_edits(alloc, meter, store, edits)?;
+    let steps = steps_of(alloc, store)?;
+    let (header, steps) = (store.header(), steps.as_slice());
+    advice_of(rt, host, alloc, meter, progress, header, steps, question)
+}

@@ -1,0 +1,82 @@
+//! What is told of the limits of a run.
+ghost use Rattle.std.specs.Prelude.{◌≡◌, ◌≤◌, IfOk, length, string_bytes};
+ghost use Rattle.bench_types.specs.Limits.{max_steps};
+ghost use Rattle.bench_types.specs.Session.{IsSession};
+ghost use Rattle.view_commands.specs.CheckViews.{IsCheckOf, IsCheckView, told_of_check};
+
+use crate::answer::Response;
+use crate::edited::make_edits;
+use crate::ending::ViewStatus;
+use crate::request::CheckView;
+use crate::settled::not_settled;
+use bench_types::{Edit, Header, Step};
+use run_comparisons::steps_of;
+use session_reports::{CheckStatus, Checked, check};
+use session_store::Store;
+use smp_kernel::Meter;
+use std::alloc::{AllocError, Global};
+
+// The limits that are not kept go to standard output, and the names that there are to standard
+// error.
+fn told_of_check(alloc: Global, status: CheckStatus, text: String) -> Response
+    ensures { result ≡ told_of_check status (string_bytes text) }
+{
+    let (none, text) = (Vec::new(alloc), text.into_bytes());
+    match status {
+        CheckStatus::Kept => Response {
+            status: ViewStatus::Fine,
+            text,
+            note: none,
+        },
+        CheckStatus::NotKept => Response {
+            status: ViewStatus::Failed,
+            text,
+            note: none,
+        },
+        CheckStatus::Unknown => Response {
+            status: ViewStatus::Unknown,
+            text: none,
+            note: text,
+        },
+    }
+}
+
+fn check_of(
+    alloc: Global,
+    meter: &mut Meter,
+    header: &Header,
+    steps: &[Step],
+    view: &CheckView,
+) -> Result<Response, AllocError>
+    requires session { IsSession (record { header = header.now; steps = steps.now }) }
+    requires few { length steps.now ≤ max_steps }
+    ensures { IfOk result
+        (λ told. IsCheckOf view.now (record { header = header.now; steps = steps.now }) told) }
+{
+    match check(
+        alloc,
+        meter,
+        header,
+        steps,
+        view.settled,
+        view.limits.as_slice(),
+    ) {
+        Ok(Checked { status, text }) => Ok(told_of_check(alloc, status, text)),
+        Err(fault) => not_settled(alloc, fault),
+    }
+}
+
+/// Whether the run of the session with its edits made keeps the limits.
+pub(crate) fn told_check(
+    alloc: Global,
+    meter: &mut Meter,
+    store: &mut Store,
+    edits: &[Edit],
+    view: &CheckView,
+) -> Result<Response, AllocError>
+    ensures { IfOk result (λ told. IsCheckView view.now store.old.session edits.now told) }
+{
+    make_edits(alloc, meter, store, edits)?;
+    let steps = steps_of(alloc, store)?;
+    check_of(alloc, meter, store.header(), steps.as_slice(), view)
+}

@@ -204,10 +204,20 @@ printf '{' >"$folder/in"
 run 'a text that is not JSON' 1 $'refused H1\n' 'not JSON: line 1, column 1' replay
 printf '"\377"' >"$folder/in"
 run 'a text that is not UTF-8' 1 $'refused H1\n' 'not JSON: not UTF-8' replay
+printf '\357\273\277{}' >"$folder/in"
+run 'a byte order mark' 1 $'refused H1\n' 'not JSON: the text begins with a byte order mark' replay
 printf '{}' >"$folder/in"
-run 'a missing member' 1 $'refused H2 format\n' 'format: a member is missing, ill-typed or unknown' replay
+run 'a missing member' 1 $'refused H2 format\n' 'format: this member is missing' replay
 session '"core": 0' '"core": "0"'
-run 'an ill-typed member' 1 $'refused H2 steps[0].core\n' 'steps[0].core: a member is missing, ill-typed or unknown' replay
+run 'an ill-typed member' 1 $'refused H2 steps[0].core\n' 'steps[0].core: expected a whole number from 0 to 4294967295, found a text' replay
+session '"core": 0' '"core": 4294967296'
+run 'a number that is too great' 1 $'refused H2 steps[0].core\n' 'steps[0].core: expected a whole number from 0 to 4294967295, found a greater one' replay
+session '"steps": [' '"notes": 1, "steps": ['
+run 'an unknown member' 1 $'refused H2 top\n' 'top: there is another member than these: format, cores, priorities' replay
+session '"format": 1' '"format": 3'
+run 'another format' 1 $'refused H2 format\n' 'format: expected 1 or 2' replay
+sed 's/"edit": "replace"/"edit": "add"/' examples/another-call.json >"$folder/in"
+run 'an unknown word' 1 $'refused H2 edits[0].edit\n' 'edits[0].edit: no word that stands here; these are: insert, remove, replace, change' replay
 head -c 268435456 /dev/zero | tr '\0' ' ' >"$folder/in"
 run 'the longest input' 1 $'refused H1\n' 'not JSON' replay
 printf ' ' >>"$folder/in"
@@ -221,7 +231,7 @@ run 'no such task' 1 $'refused F3 steps[3]\n' 'steps[3]: no user task has such a
 sed 's/"by": "A"}}/"by": "D"}}/' examples/another-call.json >"$folder/in"
 run 'no such task in an edit' 1 $'refused F3 edits[0]\n' 'edits[0]: no user task has such a name' replay
 sed 's/"at": 6, //' examples/another-call.json >"$folder/in"
-run 'an edit at no place' 1 $'refused H2 edits[1].at\n' 'edits[1].at: a member is missing' replay
+run 'an edit at no place' 1 $'refused H2 edits[1].at\n' 'edits[1].at: this member is missing' replay
 ticks="$(printf '%01000001d' 0 | sed 's/0/{"do":"tick"},/g')"
 session '"steps": [' "\"steps\": [$ticks"
 run 'more steps than a session may have' 1 $'refused J2\n' 'the session has more than 1000000 steps' replay
@@ -230,13 +240,13 @@ run 'more steps than a session may have' 1 $'refused J2\n' 'the session has more
 run 'no document' 1 $'refused H1\n' 'not JSON: line 1, column 0' whatif
 run 'no rig' 1 $'refused H1\n' 'not JSON: line 1, column 0' record
 session '' ''
-run 'a session in place of a rig' 1 $'refused H2 session\n' 'session: a member is missing' record
+run 'a session in place of a rig' 1 $'refused H2 session\n' 'session: this member is missing' record
 with '"steps": []' '"steps": [{"do": "tick"}]'
-run 'a rig whose session has steps' 1 $'refused H2 session.steps\n' 'session.steps: a member is missing' record
+run 'a rig whose session has steps' 1 $'refused H2 session.steps\n' 'session.steps: the session of a rig has no steps' record
 with ', []]}' ']}'
-run 'a core without a script' 1 $'refused H2 scripts\n' 'scripts: a member is missing' record
+run 'a core without a script' 1 $'refused H2 scripts\n' 'scripts: expected an array for each core, 2 of them' record
 with '"cores": 2' '"cores": 1'
-run 'more scripts than cores' 1 $'refused H2 scripts\n' 'scripts: a member is missing' record
+run 'more scripts than cores' 1 $'refused H2 scripts\n' 'scripts: expected an array for each core, 1 of them' record
 with '"priorities": 5' '"priorities": 2'
 run 'a rig with a header outside its limits' 1 $'refused F1\n' 'header: tasks[0].priority has to be below 2' record
 with '"limit": 9' '"limit": 1000001'
@@ -246,7 +256,7 @@ run 'a tick on another core than 0' 1 $'refused F2 scripts[1][0]\n' 'scripts[1][
 head -c 268435457 /dev/zero | tr '\0' ' ' >"$folder/in"
 run 'a rig one byte longer than the longest input' 1 $'refused H3\n' 'the input has more than 268435456 bytes' record
 with '' ''
-run 'a rig in place of a session' 1 $'refused H2 edits\n' 'edits: a member is missing' replay
+run 'a rig in place of a session' 1 $'refused H2 edits\n' 'edits: this member is missing' replay
 
 # ---- help
 
@@ -543,7 +553,7 @@ little 'record with little memory' record
     head -c 40000000 /dev/zero | tr '\0' ' '
     printf ']'
 } >"$folder/in"
-run 'a long input, with memory' 1 $'refused H2 top\n' 'top: a member is missing' replay
+run 'a long input, with memory' 1 $'refused H2 top\n' 'top: expected an object, found an array' replay
 (
     ulimit -v 40000
     exec "$program" replay <"$folder/in" >"$folder/out" 2>"$folder/err"
@@ -677,11 +687,40 @@ run 'a report of a file' 0 '     value number
          1 core.1.user
          1 core.1.user.longest from place 2
 ' '' report "$first"
-run 'a file whose document is refused' 1 $'refused H2 edits\n' '' trace examples/rigs/interrupt-driven-driver.json
-run 'a file that is not there' 3 '' $'fault open\n' trace "$folder/none"
-run 'a file without a name' 3 '' $'fault open\n' session ''
-run 'a file in a folder that is none' 3 '' $'fault open\n' compare "$first/run.json"
-run 'a file with a long name' 3 '' $'fault open\n' timeline "$(head -c 5000 /dev/zero | tr '\0' a)"
+run 'limits that are kept' 0 '' '' check --at-most A.run=0 --at-least=C.run=1 "$first"
+run 'limits that are not kept' 1 'A.blocked.delay is 1, at most 0; the longest stretch begins at place 2
+core.0.due is 0, at least 1
+C.run.longest is 1, at least 2; the longest stretch begins at place 2
+' '' check --at-least core.0.due=1 --at-most A.blocked.delay=0 --at-most C.switches=1 --at-least C.run.longest=2 "$first"
+run 'limits of a settled run after edits' 1 'control.timeouts is 1, at most 0
+control.run is 1, at least 2; the longest stretch begins at place 26
+' '' check --settle --at-least control.run=2 --at-most control.timeouts=0 --at-most control.blocked.mutex=1 examples/settled/shorter-timeout.json
+jq .session examples/what-if/ends-an-inversion.json >"$folder/in"
+run 'advice' 0 'control.ready is 3; 20 changes tried
+1. priority of logger 4, was 1: 0 (-3)
+   network.run 0 (-3)
+   network.ready 3 (+3)
+   network.not_made 1 (+1)
+2. mask of logger 1, was 3: 0 (-3)
+   logger.run 0 (-3)
+   logger.ready 3 (+3)
+   logger.not_made 2 (+2)
+' '' advise --settle --task control --less ready --best 2
+run 'advice on masks alone' 0 'control.ready.inverted is 3; 6 changes tried
+1. mask of logger 1, was 3: 0 (-3)
+   logger.run 0 (-3)
+   logger.ready 3 (+3)
+   logger.not_made 2 (+2)
+' '' advise --settle --task=control --less=ready.inverted --over=mask --best=1
+run 'advice on a task that the session has not' 2 '' $'no number is called nobody.run; these are:\ncontrol.run\n' advise --task nobody --less run
+run 'a number that has no such name' 2 '' $'no number is called D.run; these are:\nA.run\n' check --at-most D.run=0 --at-most A.run=0 "$first"
+run 'a file whose document is refused' 1 '' $'refused H2 edits\nedits: ' trace examples/rigs/interrupt-driven-driver.json
+run 'a file that is not there' 3 '' "fault open $folder/none
+" trace "$folder/none"
+run 'a file without a name' 3 '' $'fault open \n' session ''
+run 'a file in a folder that is none' 3 '' "fault open $first/run.json
+" compare "$first/run.json"
+run 'a file with a long name' 3 '' 'fault open aaa' timeline "$(head -c 5000 /dev/zero | tr '\0' a)"
 run 'a folder in place of a file' 3 '' $'fault read\n' trace examples
 cp "$first" "$folder/-run.json"
 (
@@ -705,7 +744,8 @@ run_to 'a settled trace, --settle behind a file' "$folder/settled-trace" trace -
 if [ "$(id -u)" != 0 ]; then
     cp "$first" "$folder/closed.json"
     chmod 0 "$folder/closed.json"
-    run 'a file that may not be read' 3 '' $'fault open\n' trace "$folder/closed.json"
+    run 'a file that may not be read' 3 '' "fault open $folder/closed.json
+" trace "$folder/closed.json"
 fi
 { "$program" trace "$first" >/dev/null 2>&1; cat >"$folder/out"; } <examples/another-call.json
 status=$?
@@ -727,33 +767,33 @@ compare 'a file that is not there, with a full device for standard error' 3 '' '
 # ---- refused input
 
 : >"$folder/in"
-run 'no document' 1 $'refused H1\n' '' trace
+run 'no document' 1 '' $'refused H1\nnot JSON: line ' trace
 printf '{' >"$folder/in"
-run 'a text that is not JSON' 1 $'refused H1\n' '' session
+run 'a text that is not JSON' 1 '' $'refused H1\nnot JSON: line 1, column ' session
 printf '{}' >"$folder/in"
-run 'a missing member' 1 $'refused H2 format\n' '' compare
+run 'a missing member' 1 '' $'refused H2 format\nformat: ' compare
 head -c 268435457 /dev/zero | tr '\0' ' ' >"$folder/in"
-run 'an input one byte longer than the longest' 1 $'refused H3\n' '' timeline
+run 'an input one byte longer than the longest' 1 '' $'refused H3\nthe input has more than 268435456 bytes\n' timeline
 session '"cores": 2' '"cores": 1'
-run 'a header that is outside its limits' 1 $'refused F1\n' '' trace
+run 'a header that is outside its limits' 1 '' $'refused F1\nheader: cores is 1, and may be 2 to 32\n' trace
 session '"core": 0' '"core": 2'
-run 'no such core' 1 $'refused F2 steps[0]\n' '' session
+run 'no such core' 1 '' $'refused F2 steps[0]\nsteps[0]: ' session
 sed 's/"by": "A"}}/"by": "D"}}/' examples/another-call.json >"$folder/in"
-run 'no such task in an edit' 1 $'refused F3 edits[0]\n' '' compare
+run 'no such task in an edit' 1 '' $'refused F3 edits[0]\nedits[0]: ' compare
 ticks="$(printf '%01000001d' 0 | sed 's/0/{"do":"tick"},/g')"
 session '"steps": [' "\"steps\": [$ticks"
-run 'more steps than a session may have' 1 $'refused J2\n' '' timeline
+run 'more steps than a session may have' 1 '' $'refused J2\nthe session has more than 1000000 steps\n' timeline
 session '' ''
-run 'a task that the session has not' 1 $'refused task D\n' '' trace --task A --task D --task E
-run 'an idle task' 1 $'refused task IDLE0\n' '' trace --task IDLE0
-run 'a task without a name' 1 $'refused task \n' '' trace --task ''
-run 'a core that the session has not' 1 $'refused core 2\n' '' trace --core 1 --core 2 --core 3
-run 'a task before a core' 1 $'refused task D\n' '' trace --core 2 --task D
+run 'a task that the session has not' 1 '' $'refused task D\n' trace --task A --task D --task E
+run 'an idle task' 1 '' $'refused task IDLE0\n' trace --task IDLE0
+run 'a task without a name' 1 '' $'refused task \n' trace --task ''
+run 'a core that the session has not' 1 '' $'refused core 2\n' trace --core 1 --core 2 --core 3
+run 'a task before a core' 1 '' $'refused task D\n' trace --core 2 --task D
 ticks="$(printf '%03995d' 0 | sed 's/0/{"do":"tick"},/g')"
 session '"steps": [' "\"steps\": [$ticks"
 range=': name fewer by --from and --to'
-run 'a picture of a place too many' 1 "refused range of 4001 places, and a picture shows at most 4000$range
-" '' timeline
+run 'a picture of a place too many' 1 '' "refused range of 4001 places, and a picture shows at most 4000$range
+" timeline
 for words in '--from 1' '--to 3999'; do
     # shellcheck disable=SC2086
     "$program" timeline $words <"$folder/in" >"$folder/picture" 2>"$folder/err"
@@ -777,6 +817,8 @@ Commands:
   compare   Shows the runs before and after the edits, and what each task gained and lost
   timeline  Draws the runs before and after the edits, as an SVG picture
   report    Prints the numbers of the run, or of the runs before and after the edits
+  check     Says whether numbers of the run after the edits keep limits
+  advise    Tries changes of the session, and prints those that make a number lowest
 
 Options:
   -h, --help  Print help
@@ -789,9 +831,11 @@ Documents, each a JSON text, in FILE or on standard input:
 Exit status:
   0  it was shown
   1  the document or its settled run is refused, or has no such task or core, or its picture has
-     more than 4000 places: standard output says which
-  2  a bad command line
+     more than 4000 places, or a limit is not kept
+  2  a bad command line, or a number that has no such name
   3  memory was refused, a read or a write failed, or the file can'\''t be opened
+
+Standard error says why nothing is shown.
 
 Example: smp_view trace --from 2 --to 3 examples/first-run.json
 '
@@ -894,6 +938,46 @@ each task, core and mutex. The table leaves out what is 0; the JSON object has e
 
 Example: smp_view report --settle examples/settled/shorter-timeout.json
 '
+check_help='Says whether numbers of the run after the edits keep limits
+
+Usage: smp_view check [OPTIONS] [FILE]
+
+Arguments:
+  [FILE]  The file of the document; standard input if it is - or left out
+
+Options:
+      --settle             Shows settled runs: what a target makes of the calls, ticks and interrupts
+      --at-most <NAME=N>   The number of this name is to be N or less; may stand several times
+      --at-least <NAME=N>  The number of this name is to be N or more; may stand several times
+  -h, --help               Print help
+
+The names are those that `report` prints. Each limit that is not kept is printed, a line each. The
+exit status is 0 where all are kept, 1 where not, and 2 where a name is none.
+
+Example: smp_view check --settle --at-most control.blocked.mutex=3 examples/settled/shorter-timeout.json
+'
+advise_help='Tries changes of the session, and prints those that make a number lowest
+
+Usage: smp_view advise [OPTIONS] --task <NAME> --less <NUMBER> [FILE]
+
+Arguments:
+  [FILE]  The file of the document; standard input if it is - or left out
+
+Options:
+      --settle          Shows settled runs: what a target makes of the calls, ticks and interrupts
+      --task <NAME>     The task that is to have less of a number
+      --less <NUMBER>   The number of the task, as `report` names it: blocked.mutex, ready.longest, ..
+      --over <CHANGES>  Which changes are tried, with commas between them, or priority,mask,order if left out
+      --best <COUNT>    How many of the best are printed, or 10 if left out
+  -h, --help            Print help
+
+It tries each change of one task'\''s priority (priority) and mask (mask: of at most 4 cores all masks, of
+more each core alone and all cores), and each exchange of two neighbouring calls of different tasks
+(order), each alone, and prints the best: the least number first, of equals the smaller change, with
+what it costs the other tasks.
+
+Example: smp_view advise --settle --task control --less blocked.mutex --over priority examples/settled/mutex-events.json
+'
 run '--help' 0 "$view_help" '' --help
 run '-h' 0 "$view_help" '' -h
 run '--help, then more words' 0 "$view_help" '' --help trace
@@ -906,6 +990,8 @@ run 'settle -h' 0 "$settle_help" '' settle -h
 run 'compare --help' 0 "$compare_help" '' compare --help
 run 'timeline --help' 0 "$timeline_help" '' timeline --help
 run 'report --help' 0 "$report_help" '' report --help
+run 'check --help' 0 "$check_help" '' check --help
+run 'advise --help' 0 "$advise_help" '' advise --help
 
 # ---- bad command lines
 
@@ -955,6 +1041,17 @@ bad_line 'a comparison with an unknown option' "unexpected argument '-x' found" 
 bad_line 'a picture of a task' "unexpected argument '--task' found" timeline --task A
 bad_line 'a picture of a core' "unexpected argument '--core' found" timeline --from 3 --core 0
 bad_line 'a report of a task' "unexpected argument '--task' found" report --task A
+bad_line 'a check without limits' 'check takes limits, each a name and a whole number' check "$first"
+bad_line 'a limit without a number' 'check takes limits, each a name and a whole number' check --at-most A.run
+bad_line 'a limit that is no number' 'check takes limits, each a name and a whole number' check --at-least A.run=1 --at-most A.run=x
+bad_line 'an option in place of a limit' "a value is required for '--at-most <NAME=N>' but none was supplied" check --at-most --settle
+bad_line 'advice without a task and a number' 'the following required arguments were not provided:
+  --task <NAME>
+  --less <NUMBER>
+' advise "$first"
+bad_line 'advice on changes of no such name' '--over takes priority, mask and order, with commas between them' advise --task A --less run --over priority,masks
+bad_line 'advice on no changes' '--over takes priority, mask and order, with commas between them' advise --task A --less run --over=
+bad_line 'advice with a count that is no number' "invalid value 'x' for '--best <COUNT>'" advise --task A --less run --best x
 bad_line '--json twice' "the argument '--json' cannot be used multiple times" report --json --json
 bad_line 'a settled picture of a task' "unexpected argument '--task' found" timeline --settle --task A
 bad_line 'a word that is not UTF-8' 'invalid UTF-8 was detected in one or more arguments' $'\377'
@@ -970,19 +1067,20 @@ done
 
 # ---- devices that fail
 
-for command in trace session settle compare timeline report; do
+for command in trace session settle compare timeline report 'check --at-least A.run=1' 'advise --task A --less run'; do
+    read -ra words <<<"$command"
     : >"$folder/out"
-    "$program" "$command" </ >"$folder/out" 2>"$folder/err"
+    "$program" "${words[@]}" </ >"$folder/out" 2>"$folder/err"
     status=$?
     compare "$command of a folder" 3 '' $'fault read\n'
-    "$program" "$command" <&- >"$folder/out" 2>"$folder/err"
+    "$program" "${words[@]}" <&- >"$folder/out" 2>"$folder/err"
     status=$?
     compare "$command with closed input" 3 '' $'fault read\n'
     : >"$folder/out"
-    "$program" "$command" <"$first" >/dev/full 2>"$folder/err"
+    "$program" "${words[@]}" <"$first" >/dev/full 2>"$folder/err"
     status=$?
     compare "$command to a full device" 3 '' $'fault write\n'
-    "$program" "$command" <"$first" >&- 2>"$folder/err"
+    "$program" "${words[@]}" <"$first" >&- 2>"$folder/err"
     status=$?
     compare "$command with closed output" 3 '' $'fault write\n'
 done
@@ -991,7 +1089,7 @@ status=$?
 compare '--help to a full device' 3 '' $'fault write\n'
 "$program" trace --task D <"$first" >/dev/full 2>"$folder/err"
 status=$?
-compare 'a refusal to a full device' 3 '' $'fault write\n'
+compare 'a refusal, with a full device for standard output' 1 '' $'refused task D\n'
 exec 3<>"$folder/pipe" 4>"$folder/pipe" 3<&-
 "$program" trace <"$first" >&4 2>"$folder/err"
 status=$?

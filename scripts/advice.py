@@ -1,0 +1,177 @@
+#!/usr/bin/env python3
+"""Hold a run to limits, and try changes of it: a second opinion, which shares no code with the bench.
+
+The numbers are those of report.py, and settled runs those of settle.py. Each change is made in a
+copy of the session, whose whole run is measured.
+
+Standard input is a session, or an object of a `session` and its `edits`. It is taken to be well
+formed. With the words `advise TASK NUMBER FAMILIES COUNT` and maybe `--settle` it prints what
+`smp_view advise` does, and with `check` and limits, as `most NAME=N`, what `smp_view check` does.
+"""
+
+import copy
+import json
+import sys
+
+import report
+import settle
+
+COSTS = ("run", "ready", "ready.inverted", "blocked.mutex", "timeouts", "not_made")
+NO_CALLS = (*settle.NOT_CALLS, *settle.BY_THEMSELVES)
+
+
+# Changes of a session: each with its size, its words, and how it is made.
+
+
+def allowed(mask, cores):
+    """The cores of a mask that there are."""
+    return mask % (1 << cores)
+
+
+def priorities(session):
+    """Each task with each other priority."""
+    for number, task in enumerate(session["tasks"]):
+        own = task["priority"]
+        for priority in range(session["priorities"]):
+            if priority != own:
+                words = f"priority of {task['name']} {priority}, was {own}"
+                yield (0, abs(priority - own)), words, ("priority", number, priority)
+
+
+def masks(session):
+    """Each task with each other mask that is tried."""
+    cores = session["cores"]
+    every = (1 << cores) - 1
+    tried = range(1, every + 1) if cores <= 4 else [*(1 << core for core in range(cores)), every]
+    for number, task in enumerate(session["tasks"]):
+        own = task["mask"]
+        for mask in tried:
+            apart = bin(mask ^ allowed(own, cores)).count("1")
+            if apart:
+                words = f"mask of {task['name']} {mask}, was {own}"
+                yield (1, apart), words, ("mask", number, mask)
+
+
+def orders(session):
+    """Each exchange of two neighbouring calls of different tasks."""
+    steps = session["steps"]
+    events = [at for at, step in enumerate(steps) if step["do"] not in settle.BY_THEMSELVES]
+    for at, later in zip(events, events[1:]):
+        one, other = steps[at], steps[later]
+        if one["do"] in NO_CALLS or other["do"] in NO_CALLS or one["by"] == other["by"]:
+            continue
+        yield (2, 0), f"calls at places {at} and {later} exchanged", ("order", at, later)
+
+
+def changed(session, made):
+    """The session with the change made."""
+    session = copy.deepcopy(session)
+    kind, one, other = made
+    if kind == "order":
+        steps = session["steps"]
+        steps[one], steps[other] = steps[other], steps[one]
+    else:
+        session["tasks"][one][kind] = other
+    return session
+
+
+# What is told.
+
+
+def difference(before, after):
+    """How much more or less it is."""
+    return f"{after} ({after - before:+d})" if after != before else f"{after} (0)"
+
+
+def names_of(session):
+    """The names of all numbers, in the order of the bench."""
+    for task in session["tasks"]:
+        name, cores = task["name"], range(session["cores"])
+        found = ["run", *(f"run.{core}" for core in cores), "ready", "ready.inverted"]
+        found += ["blocked.delay", "blocked.notification", "blocked.mutex", "blocked.mutex.held_up"]
+        found += [f"blocked.mutex.{mutex}" for mutex in range(session["mutexes"])]
+        for one in found:
+            yield from (f"{name}.{one}", f"{name}.{one}.longest")
+        counts = ["switches", "inheritances", "top_priority", "timeouts"]
+        counts += [f"refused.{code}" for code in report.CODES]
+        yield from (f"{name}.{one}" for one in (*counts, "not_made"))
+    for core in range(session["cores"]):
+        for one in ("user", "idle", "due"):
+            yield from (f"core.{core}.{one}", f"core.{core}.{one}.longest")
+    for mutex in range(session["mutexes"]):
+        yield from (f"mutex.{mutex}.held", f"mutex.{mutex}.held.longest", f"mutex.{mutex}.waits")
+
+
+def unknown(session, name):
+    """That no number has the name, and the names that there are: status, output and error."""
+    lines = "".join(f"{one}\n" for one in names_of(session))
+    return 2, "", f"no number is called {name}; these are:\n{lines}"
+
+
+def check(document, settled, limits):
+    """Whether the run after the edits keeps the limits: status, output and error."""
+    session = settle.edited_session(document)
+    found = report.measure(session, settled)
+    values, places, lines = found["values"], found["places"], []
+    for _, name, _ in limits:
+        if name not in values:
+            return unknown(session, name)
+    for kind, name, bound in limits:
+        value = values[name]
+        if value <= bound if kind == "most" else value >= bound:
+            continue
+        longest = name if name.endswith(".longest") else f"{name}.longest"
+        begins = f"; the longest stretch begins at place {places[longest]}" if longest in places else ""
+        lines.append(f"{name} is {value}, at {kind} {bound}{begins}\n")
+    return (1 if lines else 0), "".join(lines), ""
+
+
+def costs(session, task, before, after):
+    """What the numbers of other tasks have become, where they differ."""
+    for other in session["tasks"]:
+        if other["name"] == task:
+            continue
+        for one in COSTS:
+            name = f"{other['name']}.{one}"
+            if before[name] != after[name]:
+                yield f"   {name} {difference(before[name], after[name])}\n"
+
+
+def advise(document, settled, task, number, families, count):
+    """The best changes: status, output and error."""
+    session, name = settle.edited_session(document), f"{task}.{number}"
+    before = report.measure(session, settled)["values"]
+    if name not in before:
+        return unknown(session, name)
+    tried = []
+    for word, family in (("priority", priorities), ("mask", masks), ("order", orders)):
+        tried += list(family(session)) if word in families else []
+    judged = []
+    for index, (size, words, made) in enumerate(tried):
+        after = report.measure(changed(session, made), settled)["values"]
+        judged.append(((after[name], size, index), words, after))
+    lines = [f"{name} is {before[name]}; {len(tried)} changes tried\n"]
+    for rank, (key, words, after) in enumerate(sorted(judged, key=lambda one: one[0])[:count], 1):
+        lines.append(f"{rank}. {words}: {difference(before[name], key[0])}\n")
+        lines += costs(session, task, before, after)
+    return 0, "".join(lines), ""
+
+
+def main():
+    """Answer for the document on standard input."""
+    document, words = json.loads(sys.stdin.buffer.read()), sys.argv[1:]
+    settled = "--settle" in words
+    words = [word for word in words if word != "--settle"]
+    if words[0] == "advise":
+        task, number, families, count = words[1:5]
+        told = advise(document, settled, task, number, families.split(","), int(count))
+    else:
+        limits = [(kind, *limit.rsplit("=", 1)) for kind, limit in zip(words[1::2], words[2::2])]
+        told = check(document, settled, [(kind, name, int(n)) for kind, name, n in limits])
+    sys.stdout.write(told[1])
+    sys.stderr.write(told[2])
+    sys.exit(told[0])
+
+
+if __name__ == "__main__":
+    main()

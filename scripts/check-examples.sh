@@ -41,14 +41,15 @@ wrong() { # TEXT
 }
 
 # Input that is refused has an output that begins with `refused`, a line on standard error, and status 1; all other outputs go with
-# status 0 and with nothing there.
+# status 0, and with a line there for each edit that is refused.
 hold() { # DOCUMENT FILE WORD..
-    local document="$1" file="$2" want=0
+    local document="$1" file="$2" want=0 lines
     shift 2
     "$program" "$@" <"$document" >"$folder/out" 2>"$folder/err"
     status=$?
     ! grep -q '^refused ' "$folder/out" || want=1
-    if [ "$status" != "$want" ] || [ "$(wc -l <"$folder/err")" != "$want" ]; then
+    lines="$((want + $(grep -c '^edit [0-9]* refused ' "$folder/out")))"
+    if [ "$status" != "$want" ] || [ "$(wc -l <"$folder/err")" != "$lines" ]; then
         wrong "$document: status $status, $(head -c 200 "$folder/err")"
     elif [ "$write" = yes ]; then
         cmp -s "$folder/out" "$file" || printf 'wrote %s\n' "$file"

@@ -97,14 +97,15 @@ start A B
 3 refused E2 A B
 4 refused E10 A B
 '
-run 'replay of an edited session' 0 "$edited" '' replay
-run 'replay of an edited session, with a span' 0 "$edited" '' replay --span 2
+no_place=$'edit 1 refused J1: the session has 5 steps\n'
+run 'replay of an edited session' 0 "$edited" "$no_place" replay
+run 'replay of an edited session, with a span' 0 "$edited" "$no_place" replay --span 2
 run 'replay of an edited session, with tallies' 0 "${edited}task IDLE0 run 0 0 wait 1 inverted 0 in 0 displaced 0 timeouts 0 top 0
 task IDLE1 run 0 0 wait 1 inverted 0 in 0 displaced 0 timeouts 0 top 0
 task A run 1 0 wait 0 inverted 0 in 0 displaced 0 timeouts 0 top 2
 task B run 0 1 wait 0 inverted 0 in 0 displaced 0 timeouts 0 top 1
 task C run 0 0 wait 1 inverted 0 in 0 displaced 1 timeouts 0 top 1
-" '' replay --tally
+" "$no_place" replay --tally
 
 # ---- trials of edits
 
@@ -116,12 +117,12 @@ task B run 0 1 wait 0 inverted 0 in 0 displaced 0 timeouts 0 top 1
 task C run 0 0 wait 1 inverted 0 in 0 displaced 1 timeouts 0 top 1
 edit 1 refused J1
 '
-run 'whatif' 0 "$tried" '' whatif
-run 'whatif, with the end of the options marked' 0 "$tried" '' whatif --
-run 'whatif, with a span' 0 "$tried" '' whatif --span 2
-run 'whatif, with a span behind an equals sign' 0 "$tried" '' whatif --span=+007 --
+run 'whatif' 0 "$tried" "$no_place" whatif
+run 'whatif, with the end of the options marked' 0 "$tried" "$no_place" whatif --
+run 'whatif, with a span' 0 "$tried" "$no_place" whatif --span 2
+run 'whatif, with a span behind an equals sign' 0 "$tried" "$no_place" whatif --span=+007 --
 session '' ''
-run 'whatif of a session, which has no edits' 0 '' '' whatif
+run 'whatif of a session, which has no edits' 0 '' $'no edits: nothing was tried\n' whatif
 
 # What one run prints, whatever the number of parts: of documents with edits, refused ones, and one with none.
 in_parts() { # NAME WORD..: the document is the file `in`
@@ -213,11 +214,11 @@ run 'an ill-typed member' 1 $'refused H2 steps[0].core\n' 'steps[0].core: expect
 session '"core": 0' '"core": 4294967296'
 run 'a number that is too great' 1 $'refused H2 steps[0].core\n' 'steps[0].core: expected a whole number from 0 to 4294967295, found a greater one' replay
 session '"steps": [' '"notes": 1, "steps": ['
-run 'an unknown member' 1 $'refused H2 top\n' 'top: there is another member than these: format, cores, priorities' replay
+run 'an unknown member' 1 $'refused H2 top\n' 'top: there is no member "notes"; the nearest is "cores"; these may stand here: format, cores, priorities' replay
 session '"format": 1' '"format": 3'
 run 'another format' 1 $'refused H2 format\n' 'format: expected 1 or 2' replay
 sed 's/"edit": "replace"/"edit": "add"/' examples/another-call.json >"$folder/in"
-run 'an unknown word' 1 $'refused H2 edits[0].edit\n' 'edits[0].edit: no word that stands here; these are: insert, remove, replace, change' replay
+run 'an unknown word' 1 $'refused H2 edits[0].edit\n' 'edits[0].edit: "add" is no word that stands here; the nearest is "change"; these are: insert, remove, replace, change' replay
 head -c 268435456 /dev/zero | tr '\0' ' ' >"$folder/in"
 run 'the longest input' 1 $'refused H1\n' 'not JSON' replay
 printf ' ' >>"$folder/in"
@@ -225,7 +226,7 @@ run 'an input one byte longer' 1 $'refused H3\n' 'the input has more than 268435
 session '"cores": 2' '"cores": 1'
 run 'a header that is outside its limits' 1 $'refused F1\n' 'header: cores is 1, and may be 2 to 32' replay
 session '"core": 0' '"core": 2'
-run 'no such core' 1 $'refused F2 steps[0]\n' 'steps[0]: there is no such core' replay
+run 'no such core' 1 $'refused F2 steps[0]\n' 'steps[0]: core 2 is none of the cores 0 to 1' replay
 session '"by": "C"' '"by": "D"'
 run 'no such task' 1 $'refused F3 steps[3]\n' 'steps[3]: no user task has such a name' replay
 sed 's/"by": "A"}}/"by": "D"}}/' examples/another-call.json >"$folder/in"
@@ -250,9 +251,9 @@ run 'more scripts than cores' 1 $'refused H2 scripts\n' 'scripts: expected an ar
 with '"priorities": 5' '"priorities": 2'
 run 'a rig with a header outside its limits' 1 $'refused F1\n' 'header: tasks[0].priority has to be below 2' record
 with '"limit": 9' '"limit": 1000001'
-run 'a limit above the greatest' 1 $'refused F5 limit\n' 'limit: an argument is outside its limits' record
+run 'a limit above the greatest' 1 $'refused F5 limit\n' 'limit: limit is 1000001, and may be 0 to 1000000' record
 with ', []]}' ', [{"do": "tick"}]]}'
-run 'a tick on another core than 0' 1 $'refused F2 scripts[1][0]\n' 'scripts[1][0]: there is no such core, or it is a tick on another core than 0' record
+run 'a tick on another core than 0' 1 $'refused F2 scripts[1][0]\n' 'scripts[1][0]: only core 0 has ticks' record
 head -c 268435457 /dev/zero | tr '\0' ' ' >"$folder/in"
 run 'a rig one byte longer than the longest input' 1 $'refused H3\n' 'the input has more than 268435456 bytes' record
 with '' ''
@@ -656,6 +657,32 @@ cp "$folder/settled" "$folder/in"
 run_to 'a settled run, which is settled' "$folder/settled" settle
 run_to 'the trace of a settled run' "$folder/settled-trace" trace --settle
 
+# ---- refused edits and steps
+
+cp examples/another-call.json "$folder/in"
+run 'an edit that is refused' 0 'place 5, tick 1; core 0 A; core 1 B
+' "$no_place" trace --from 5
+run 'an edit that is refused, which counts' 1 'place 5, tick 1; core 0 A; core 1 B
+' "$no_place" trace --from 5 --strict
+jq -c '.edits |= .[1:]' examples/another-call.json >"$folder/in"
+run 'a comparison after an edit that is refused' 0 '  0 0 delay core 0 by A ticks 2: blocked; A B
+  1 1 switch core 0: done; C B
+  2 2 tick: done; C B
+  3 3 yield core 0 by C: done; C B
+  4 4 switch core 0: done; C B
+no step differs; refused and not made: edit 0
+' $'edit 0 refused J1: the session has 5 steps\n' compare
+jq -c '.edits |= .[:1]' examples/another-call.json >"$folder/in"
+run 'steps that are refused' 0 'place 5, tick 1; core 0 A; core 1 B
+' '' trace --from 5
+run 'steps that are refused, which count' 1 'place 5, tick 1; core 0 A; core 1 B
+' '' trace --from 5 --strict
+run 'a settled run in which none is refused' 0 '' '' check --strict --settle --at-least A.run=0
+session '' ''
+run 'nothing that is refused' 0 '' '' check --strict --at-least A.run=0
+session '"steps": [' '"steps": [{"do": "hold_close", "core": 0, "by": "A"},'
+run 'a settled run in which a step is refused' 1 '' '' check --strict --settle --at-least A.run=0
+
 # ---- files
 
 : >"$folder/in"
@@ -821,7 +848,8 @@ Commands:
   advise    Tries changes of the session, and prints those that make a number lowest
 
 Options:
-  -h, --help  Print help
+  -h, --help     Print help
+  -V, --version  Print version
 
 Documents, each a JSON text, in FILE or on standard input:
   session         the cores, priorities and tasks, and the steps of a run
@@ -831,11 +859,12 @@ Documents, each a JSON text, in FILE or on standard input:
 Exit status:
   0  it was shown
   1  the document or its settled run is refused, or has no such task or core, or its picture has
-     more than 4000 places, or a limit is not kept
+     more than 4000 places, or a limit is not kept; with --strict also where an edit is refused,
+     or a step of the run after the edits
   2  a bad command line, or a number that has no such name
   3  memory was refused, a read or a write failed, or the file can'\''t be opened
 
-Standard error says why nothing is shown.
+Standard error says why nothing is shown, and which edits are refused.
 
 Example: smp_view trace --from 2 --to 3 examples/first-run.json
 '
@@ -852,6 +881,7 @@ Options:
       --to <PLACE>    The last place that is shown, or the last of the run if left out
       --task <NAME>   Shows the steps that concern this task; may stand several times
       --core <CORE>   Shows the steps that concern this core; may stand several times
+      --strict        Ends with status 1 where an edit or a step of the run is refused
   -h, --help          Print help
 
 Without a task or a core that is named, each step is shown.
@@ -861,13 +891,14 @@ Example: smp_view trace --from 2 --to 3 examples/first-run.json
 '
 session_help='Prints the session with its edits made, as a document
 
-Usage: smp_view session [FILE]
+Usage: smp_view session [OPTIONS] [FILE]
 
 Arguments:
   [FILE]  The file of the document; standard input if it is - or left out
 
 Options:
-  -h, --help  Print help
+      --strict  Ends with status 1 where an edit or a step of the run is refused
+  -h, --help    Print help
 
 The edits are made one after another, and those that are refused are passed over.
 
@@ -875,13 +906,14 @@ Example: smp_view session examples/another-call.json
 '
 settle_help='Prints the settled run of the session with its edits made, as a document
 
-Usage: smp_view settle [FILE]
+Usage: smp_view settle [OPTIONS] [FILE]
 
 Arguments:
   [FILE]  The file of the document; standard input if it is - or left out
 
 Options:
-  -h, --help  Print help
+      --strict  Ends with status 1 where an edit or a step of the run is refused
+  -h, --help    Print help
 
 A settled run is what a target makes of the calls, ticks and interrupts of a session: each switch
 and each return from a call is made by itself. Standard error says how many calls of which tasks
@@ -898,6 +930,7 @@ Arguments:
 
 Options:
       --settle  Shows settled runs: what a target makes of the calls, ticks and interrupts
+      --strict  Ends with status 1 where an edit or a step of the run is refused
   -h, --help    Print help
 
 With --settle it also says which calls were not made.
@@ -915,6 +948,7 @@ Options:
       --settle        Shows settled runs: what a target makes of the calls, ticks and interrupts
       --from <PLACE>  The first place that is shown, or 0 if left out
       --to <PLACE>    The last place that is shown, or the last of the run if left out
+      --strict        Ends with status 1 where an edit or a step of the run is refused
   -h, --help          Print help
 
 A picture shows at most 4000 places.
@@ -931,6 +965,7 @@ Arguments:
 Options:
       --settle  Shows settled runs: what a target makes of the calls, ticks and interrupts
       --json    Prints one JSON object
+      --strict  Ends with status 1 where an edit or a step of the run is refused
   -h, --help    Print help
 
 Ticks in each condition with the longest stretch of them, switches, refusals and the like, of
@@ -949,6 +984,7 @@ Options:
       --settle             Shows settled runs: what a target makes of the calls, ticks and interrupts
       --at-most <NAME=N>   The number of this name is to be N or less; may stand several times
       --at-least <NAME=N>  The number of this name is to be N or more; may stand several times
+      --strict             Ends with status 1 where an edit or a step of the run is refused
   -h, --help               Print help
 
 The names are those that `report` prints. Each limit that is not kept is printed, a line each. The
@@ -969,6 +1005,7 @@ Options:
       --less <NUMBER>   The number of the task, as `report` names it: blocked.mutex, ready.longest, ..
       --over <CHANGES>  Which changes are tried, with commas between them, or priority,mask,order if left out
       --best <COUNT>    How many of the best are printed, or 10 if left out
+      --strict          Ends with status 1 where an edit or a step of the run is refused
   -h, --help            Print help
 
 It tries each change of one task'\''s priority (priority) and mask (mask: of at most 4 cores all masks, of
@@ -982,6 +1019,8 @@ run '--help' 0 "$view_help" '' --help
 run '-h' 0 "$view_help" '' -h
 run '--help, then more words' 0 "$view_help" '' --help trace
 run 'trace --help' 0 "$trace_help" '' trace --help
+run '--version' 0 $'smp_view 0.1.0\n' '' --version
+run '-V, then a command' 0 $'smp_view 0.1.0\n' '' -V trace
 run 'trace -h, then more words' 0 "$trace_help" '' trace -h again
 run 'a file, then --help' 0 "$trace_help" '' trace "$folder/none" --help
 run 'options, then --help' 0 "$trace_help" '' trace --settle --task A --from=3 --help
@@ -1012,7 +1051,7 @@ bad_line 'an empty word' "unrecognized subcommand ''" ''
 bad_line 'a file before the command' "unrecognized subcommand '$first'" "$first" trace
 bad_line 'an option before the command' "unexpected argument '--from' found" --from 3 trace
 bad_line '--help behind what is no command' "unexpected argument '--to' found" --to 3 --help
-bad_line '--version' "unexpected argument '--version' found" --version
+bad_line '--version of a command' "unexpected argument '--version' found" trace --version
 bad_line 'an unknown option' "unexpected argument '--until' found" trace --until 3
 bad_line 'a misspelt option' "unexpected argument '--setle' found
 
@@ -1030,6 +1069,7 @@ bad_line 'two first places' "the argument '--from <PLACE>' cannot be used multip
 bad_line 'two files' "unexpected argument '$first' found" trace "$first" "$first"
 bad_line 'a file behind a hyphen' "unexpected argument '$first' found" trace - "$first"
 bad_line 'a file whose name begins with a hyphen' "unexpected argument '-r' found" trace -run.json
+bad_line '--strict twice' "the argument '--strict' cannot be used multiple times" session --strict --strict
 bad_line '--settle twice' "the argument '--settle' cannot be used multiple times" trace --settle --settle
 bad_line '--settle with a value' "unexpected value 'x' for '--settle' found" trace --settle=x
 bad_line 'a session from a place' "unexpected argument '--from' found" session --from 3
@@ -1094,7 +1134,7 @@ exec 3<>"$folder/pipe" 4>"$folder/pipe" 3<&-
 "$program" trace <"$first" >&4 2>"$folder/err"
 status=$?
 exec 4>&-
-compare 'a closed pipe as output' 3 '' $'fault write\n'
+compare 'a closed pipe as output' 141 '' ''
 "$program" trace -x 2>/dev/full >"$folder/out"
 status=$?
 : >"$folder/err"
@@ -1112,7 +1152,9 @@ session '"steps": [' "\"steps\": [$ticks"
 for bytes in 0 1 4096 65536; do
     { "$program" trace <"$folder/in" 2>"$folder/err"; echo $? >"$folder/status"; } | head -c "$bytes" >"$folder/out"
     status="$(cat "$folder/status")"
-    cut_off "a trace to a pipe that is closed after $bytes bytes" 3
+    cut_off "a trace to a pipe that is closed after $bytes bytes" 141
+    : >"$folder/out"
+    compare 'and nothing is told of that' 141 '' ''
 done
 little 'a trace with little memory' trace
 "$program" timeline <"$folder/in" >"$folder/whole" 2>"$folder/err"

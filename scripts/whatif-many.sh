@@ -74,4 +74,7 @@ if ! awk -v count="$count" '/^edit / { $2 = edits++ } { print } END { exit edits
     echo "whatif-many.sh: the runs told of fewer edits than $count" >&2
     exit 4
 fi
+# So standard error did: it has a line for each edit that is refused, in their order.
+awk 'FNR == NR { if (/^edit [0-9]+ refused /) places[refused++] = $2; next } /^edit [0-9]+ refused / { $2 = places[told++] } { print }' \
+    "$folder/out" "$folder/messages" >&2
 cat -- "$folder/out" || exit 3

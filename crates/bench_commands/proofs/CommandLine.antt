@@ -18,9 +18,10 @@ use Rattle.bench_types.specs.Limits.{max_span}
 use Rattle.bench_commands.specs.declared.command.Request.{Request}
 use Rattle.bench_commands.specs.declared.command.Request.TheVariants.{Bad, Help, Record, Run}
 use Rattle.bench_commands.specs.declared.execution.Mode.TheVariants.{Replay, WhatIf}
-use Rattle.bench_commands.specs.Command.{AreTaken, Asked, a_mistake, a_recording, a_run, asked_by, asked_for, asked_in, asked_in_words, asked_of, bench_app, can_run, default_span, help, is_flag, is_span, number_of, span_in, tally_in}
+use Rattle.bench_commands.specs.Command.{AreTaken, Asked, a_mistake, a_recording, a_run, asked_by, asked_class, asked_for, asked_in, asked_in_words, asked_of, bench_app, can_run, default_span, help, is_span, span_in, tally_in}
+use Rattle.command_words.specs.Asking.{is_flag, number_of}
 use Rattle.bench_commands.specs.Run.{has_span}
-use Rattle.bench_commands.proofs.ClapAnswers.{AskOne, Every, Reads, RowsFit, RuleFits, ShapeFits, Yields, app_yields, one_fits}
+use Rattle.command_words.proofs.ClapAnswers.{AskOne, Every, Reads, RowsFit, RuleFits, ShapeFits, Yields, app_yields, asks_first, one_fits}
 use Rattle.bench_commands.proofs.SpanTexts.{span_is_within, span_taken}
 
 -- ---- the values of the options
@@ -137,15 +138,9 @@ met_asked words found request matched is = go found matched.are_taken is (ap₂ 
     go None none is asks = absurd none
     go (Some met) taken is asks = (can_open request ∙ ap may_open is ∙ opens met.0 met.1 taken, is ∙ asks)
 
-kind_among : (first k : ErrorKind) (kinds : Kinds) → Every (λ l. asked_by l ≡ asked_by first) kinds → IsAmong k kinds → asked_by k ≡ asked_by first
-kind_among first k [] all among = absurd among
-kind_among first k (x ∷ xs) all (inl is) = ap asked_by is ∙ all.0
-kind_among first k (x ∷ xs) all (inr among) = kind_among first k xs all.1 among
-
 kind_asked : (kinds : Kinds) (met : Option (Text × List Row)) (k : ErrorKind) → AskOne kinds → IsAmong k kinds → asked_by k ≡ asked_of kinds met
 kind_asked [] met k one among = absurd among
-kind_asked (x ∷ xs) met k one (inl is) = ap asked_by is
-kind_asked (x ∷ xs) met k one (inr among) = kind_among x k xs one among
+kind_asked (x ∷ xs) met k one among = ap asked_class (asks_first k x xs one among)
 
 -- where clap gives an error, its kind says what was asked for
 pub error_asked : {E : Type 0} (words : List Text) (error : Error) (result : Result Request E) → HasKind (fault_of bench_app words) error

@@ -5,7 +5,8 @@ use Rattle.std.proofs.lemmas.List.{length-map, map-append}
 use Rattle.std.proofs.lemmas.Option.{same_Some}
 use Rattle.bench_types.specs.declared.header.Header.{Header}
 use Rattle.bench_types.specs.Header.{name_of}
-use Rattle.bench_commands.specs.Lines.{spaced, AreLabels}
+use Rattle.bench_commands.specs.Lines.{AreLabels}
+use Rattle.program_io.specs.Refusal.{spaced}
 
 got_more : {X : Type 0} (xs : List X) (x y : X) (k : ℕ) → slice_get (xs ++ x ∷ []) k ≡ Some y → (slice_get xs k ≡ Some y) ⊎ ((k ≡ length xs) × (y ≡ x))
 got_more [] x y zero found = inr (refl, sym (same_Some x y found))

@@ -1,16 +1,12 @@
-pub mod KnownInput
-pub mod ClapAnswers
 mod CommandLine
-mod KnownOutput
-pub mod OptionsRead
-mod Labelled
-mod Replays
-mod Prompted
-pub mod RefusedTexts
-pub mod Opened
-mod SpanTexts
 mod CommandLines
+mod EditLines
+mod Labelled
 mod Recordings
-mod Told
+pub mod RefusedTexts
+mod Replays
+mod SpanRead
+mod SpanTexts
 mod TrialLines
-pub mod EditsMade
+mod Requests
+mod Statuses

@@ -1,5 +1,6 @@
 -- What is written of a rig document.
-use Rattle.std.proofs.Common.{◌≡◌, ℕ, ◌≤◌, List, ◌++◌, length, false, None, codes, refl, ap, subst, ◌∙◌}
+use Rattle.std.proofs.Common.{◌≡◌, ℕ, ◌≤◌, ◌⊎◌, List, [], ◌++◌, length, true, false, None, Result, Ok, Err, IfOk, nat_lt, codes, refl, sym, ap, subst, inl, inr, ◌∙◌}
+use Rattle.std.specs.Prelude.{IsErr}
 use Rattle.bench_types.specs.declared.entry.Entry.{Entry}
 use Rattle.bench_types.specs.declared.header.Header.{Header}
 use Rattle.bench_types.specs.declared.step.Step.{Step}
@@ -8,7 +9,16 @@ use Rattle.port_locks.specs.Holds.{hold_after}
 use Rattle.core_scripts.specs.Played.{ArePlayed}
 use Rattle.session_text.specs.declared.rig.RigScript.{RigScript}
 use Rattle.session_write.specs.Written.{written}
-use Rattle.bench_commands.specs.Record.{IsRecorded}
+use Rattle.session_text.specs.declared.detail.Detail.TheVariants as detail
+use Rattle.session_text.specs.declared.fault.TextFault.{TextFault}
+use Rattle.session_text.specs.declared.fault.Why.TheVariants.{NoMemory}
+use Rattle.session_text.specs.Rig.{rig_text}
+use Rattle.bench_types.specs.Limits.{max_input}
+use Rattle.program_io.specs.Hint.{IsRigHintWhere, too_long_line}
+use Rattle.program_io.specs.Outputs.{Told, fine, refused_with}
+use Rattle.program_io.specs.Refusal.{IsToldFault, refusal_line, why_text}
+use Rattle.bench_commands.specs.Answer.{refused}
+use Rattle.bench_commands.specs.Record.{IsAnswerWhere, IsRecorded, IsRecording, IsRecordingOf}
 
 pub is_recorded : (rig : RigScript) (header : Header) (entries : List Entry) (steps : List Step) (bytes text : List ℕ) → header ≡ rig.header → IsLegal header entries → AreByCurrent header entries → length entries ≤ rig.limit → hold_after header entries ≡ None
     → ArePlayed header rig.limit entries rig.scripts → steps ≡ steps_of entries → bytes ≡ written header steps → text ≡ bytes ++ codes "\n" → IsRecorded rig (record { is_refused = false; text = text })
@@ -22,4 +32,36 @@ is_recorded rig header entries steps bytes text is legal current few unheld play
   fine = refl;
   text =
       longer ∙ ap (λ front. front ++ codes "\n") (is_written ∙ ap (written header) steps_are ∙ ap (λ header. written header (steps_of entries)) is);
+}
+
+-- what is told of a text that was not read
+pub refused_recording : {E : Type 0} (input : List ℕ) (fault : TextFault) (result : Result Told E) → (rig_text input ≡ Err fault) ⊎ (fault ≡ record { why = NoMemory; path = []; detail = detail.None })
+    → IfOk result (λ told. IsToldFault refused_with input fault told) → (fault.why ≡ NoMemory → IsErr result) → IfOk result (λ told. IsRecordingOf input (rig_text input) told)
+refused_recording input fault (Err e) reading told memory = tt
+refused_recording input fault (Ok told) (inl read) line memory =
+    subst (λ (r : Result RigScript TextFault). IsRecordingOf input r told) (sym read)
+    (record { output = refused (why_text fault.why) fault.path; answer = refl; tells = record { hint = line.hint; is_hint = λ refused. line.is_hint; is_told = line.is_told } })
+refused_recording input fault (Ok told) (inr none) line memory = absurd (cc (memory (ap (λ (f : TextFault). f.why) none)))
+
+-- what is told of a text that was read
+pub recording_told : (input text : List ℕ) (rig : RigScript) (told : Told) → rig_text input ≡ Ok rig → IsRecorded rig (record { is_refused = false; text = text }) → told ≡ fine text → IsRecordingOf input (rig_text input) told
+recording_told input text rig told read recorded is =
+    subst (λ (r : Result RigScript TextFault). IsRecordingOf input r told) (sym read)
+    (record { output = record { is_refused = false; text = text }; answer = recorded; tells = record { hint = []; is_hint = λ refused. absurd (cc refused); is_told = is } })
+
+-- what is told of an input that is not too long
+pub short_recording : {E : Type 0} (input : List ℕ) (result : Result Told E) → nat_lt max_input (length input) ≡ false → IfOk result (λ told. IsRecordingOf input (rig_text input) told) → IfOk result (λ told. IsRecording input told)
+short_recording input (Err e) short told = tt
+short_recording input (Ok given) short told = record {
+  output = told.output;
+  answer = subst (λ long. IsAnswerWhere long input told.output) (sym short) told.answer;
+  tells = record { hint = told.tells.hint; is_hint = λ refused. subst (λ long. IsRigHintWhere long input told.tells.hint) (sym short) (told.tells.is_hint refused); is_told = told.tells.is_told };
+}
+
+-- what is told of one that is
+pub long_recording : (input hint : List ℕ) (told : Told) → nat_lt max_input (length input) ≡ true → hint ≡ too_long_line → told ≡ refused_with (refusal_line (codes "H3") []) hint → IsRecording input told
+long_recording input hint told long is_hint is = record {
+  output = refused (codes "H3") [];
+  answer = subst (λ long. IsAnswerWhere long input (refused (codes "H3") [])) (sym long) refl;
+  tells = record { hint = hint; is_hint = λ refused. subst (λ long. IsRigHintWhere long input hint) (sym long) is_hint; is_told = is };
 }

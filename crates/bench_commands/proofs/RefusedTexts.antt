@@ -1,7 +1,6 @@
--- What is written for a text that was not read.
-use Rattle.std.proofs.Common.{◌≡◌, ◌⊎◌, ℕ, List, [], length, Bool, true, false, Result, Ok, Err, IfOk, nat_lt, nat_le, codes, refl, sym, ap, ◌∙◌, arith, inl, inr}
-use Rattle.std.specs.Prelude.{IsErr, OnOk, String, if◌then◌else◌}
-use Rattle.std.specs.declared.alloc.Global.{Global}
+-- What is told of a document, whether it was read and opened or not.
+use Rattle.std.proofs.Common.{◌≡◌, ◌⊎◌, ℕ, List, [], length, flat_map, Bool, true, false, Result, Ok, Err, IfOk, nat_lt, nat_le, codes, refl, sym, ap, subst, ◌∙◌, arith, inl, inr}
+use Rattle.std.specs.Prelude.{All, IsErr, OnOk, if◌then◌else◌}
 use Rattle.std.proofs.lemmas.Bool.Decides.{nat_tests}
 use Rattle.bench_types.specs.Name.{is_within}
 use Rattle.bench_types.specs.Limits.{max_span, max_steps}
@@ -9,21 +8,40 @@ use Rattle.session_store.specs.declared.fault.OpenRefusal.{OpenRefusal}
 use Rattle.session_store.specs.declared.fault.OpenRefusal.TheVariants as refusal
 use Rattle.session_store.specs.declared.fault.OpenRefusal.TheVariants.{TooLong}
 use Rattle.session_store.specs.Opening.{open_check}
+use Rattle.bench_types.specs.declared.edit.Edit.{Edit}
+use Rattle.bench_types.specs.Edit.{IsCheckedEdit}
+use Rattle.bench_types.specs.Session.{Session}
+use Rattle.edit_notes.specs.Notes.{edit_notes, refused_line}
+use Rattle.edit_notes.specs.Refused.{refused_edits, IsCounted}
 use Rattle.session_text.specs.declared.bench.Bench.{Bench}
 use Rattle.session_text.specs.declared.detail.Detail.TheVariants.{None}
 use Rattle.session_text.specs.declared.fault.TextFault.{TextFault}
 use Rattle.session_text.specs.declared.fault.Why.TheVariants.{NoMemory}
 use Rattle.session_text.specs.Bench.{bench_text, IsCheckedBench}
 use Rattle.bench_model.specs.Meeting.{CheckpointedSession, first_kept}
+use Rattle.program_io.specs.Hint.{IsBenchTextHint, too_many_steps_line}
+use Rattle.program_io.specs.Outputs.{Told, fine, noted, refused_with}
+use Rattle.program_io.specs.Refusal.{IsToldFault, refusal_line}
 use Rattle.bench_commands.specs.declared.execution.Mode.{Mode}
-use Rattle.bench_commands.specs.Answer.{why_text, refused, bench_output, output_of, output_of_bench, span_of, store_text, Output}
-use Rattle.bench_commands.proofs.Opened.{few_steps, opens}
+use Rattle.bench_commands.specs.Answer.{IsToldAnswer, Output, bench_notes, bench_output, notes_of, output_of, output_of_bench, refused, span_of, store_text, told_with}
+use Rattle.document_stores.proofs.Opened.{few_steps, opens}
 
-pub refused_output : {E : Type 0} (text : Bench → List ℕ) (input : List ℕ) (fault : TextFault) (result : Result (Output × String Global) E) → (bench_text input ≡ Err fault) ⊎ (fault ≡ record { why = NoMemory; path = []; detail = None })
-    → IfOk result (λ told. told.0 ≡ refused (why_text fault.why) fault.path) → (fault.why ≡ NoMemory → IsErr result) → IfOk result (λ told. told.0 ≡ output_of text (bench_text input))
-refused_output text input fault (Err e) reading line memory = tt
-refused_output text input fault (Ok told) (inl read) line memory = line ∙ sym (ap (output_of text) read)
-refused_output text input fault (Ok told) (inr none) line memory = absurd (cc (memory (ap (λ (f : TextFault). f.why) none)))
+-- what is told of a text that was not read
+pub refused_told : {E : Type 0} (mode : Mode) (text : Bench → List ℕ) (input : List ℕ) (fault : TextFault) (result : Result Told E) → (bench_text input ≡ Err fault) ⊎ (fault ≡ record { why = NoMemory; path = []; detail = None })
+    → IfOk result (λ told. IsToldFault refused_with input fault told) → (fault.why ≡ NoMemory → IsErr result) → IfOk result (λ told. IsToldAnswer (output_of text (bench_text input)) (notes_of mode (bench_text input)) (IsBenchTextHint input (bench_text input)) told)
+refused_told mode text input fault (Err e) reading told memory = tt
+refused_told mode text input fault (Ok told) (inl read) line memory =
+    subst (λ (r : Result Bench TextFault). IsToldAnswer (output_of text r) (notes_of mode r) (IsBenchTextHint input r) told) (sym read)
+    (record { hint = line.hint; is_hint = λ refused. line.is_hint; is_told = line.is_told })
+refused_told mode text input fault (Ok told) (inr none) line memory = absurd (cc (memory (ap (λ (f : TextFault). f.why) none)))
+
+-- what is told of a text that was read
+pub read_told : {E : Type 0} (mode : Mode) (text : Bench → List ℕ) (input : List ℕ) (bench : Bench) (result : Result Told E) → bench_text input ≡ Ok bench → IfOk result (λ told. told ≡ told_with (output_of_bench text bench) (bench_notes mode bench) too_many_steps_line)
+    → IfOk result (λ told. IsToldAnswer (output_of text (bench_text input)) (notes_of mode (bench_text input)) (IsBenchTextHint input (bench_text input)) told)
+read_told mode text input bench (Err e) read told = tt
+read_told mode text input bench (Ok given) read told =
+    subst (λ (r : Result Bench TextFault). IsToldAnswer (output_of text r) (notes_of mode r) (IsBenchTextHint input r) given) (sym read)
+    (record { hint = too_many_steps_line; is_hint = λ refused. refl; is_told = told })
 
 -- a session that was checked is not opened only where it has too many steps
 pub too_long_output : (text : Bench → List ℕ) (bench : Bench) (span : ℕ) (why : OpenRefusal) → IsCheckedBench bench → is_within 1 max_span span ≡ true → (open_check bench.header bench.steps span ≡ Ok tt → why ≡ refusal.NoMemory) → why ≡ TooLong
@@ -37,17 +55,32 @@ too_long_output text bench span why checked within memory long = go (nat_lt max_
         absurd (cc (memory (opens bench.header bench.steps span checked.is_session within fits), long))
 
 -- what is told of a session that was not opened
-pub not_opened_output : {E : Type 0} (text : Bench → List ℕ) (bench : Bench) (why : OpenRefusal) (result : Result Output E) → OnOk result (why ≡ TooLong) → IfOk result (λ answer. answer ≡ refused (codes "J2") [])
-    → (why ≡ TooLong → refused (codes "J2") [] ≡ output_of_bench text bench) → IfOk result (λ answer. answer ≡ output_of_bench text bench)
-not_opened_output text bench why (Err e) long line told = tt
-not_opened_output text bench why (Ok answer) long line told = line ∙ told long
+pub not_opened_told : {E : Type 0} (text : Bench → List ℕ) (notes : List ℕ) (bench : Bench) (why : OpenRefusal) (result : Result Told E) → OnOk result (why ≡ TooLong) → IfOk result (λ told. told ≡ refused_with (refusal_line (codes "J2") []) too_many_steps_line)
+    → (why ≡ TooLong → refused (codes "J2") [] ≡ output_of_bench text bench) → IfOk result (λ told. told ≡ told_with (output_of_bench text bench) notes too_many_steps_line)
+not_opened_told text notes bench why (Err e) long line told = tt
+not_opened_told text notes bench why (Ok answer) long line told = line ∙ ap (λ (answer : Output). told_with answer notes too_many_steps_line) (told long)
 
 -- what is told of a session that was opened
-pub opened_output : {E : Type 0} (mode : Mode) (bench : Bench) (span : ℕ) (kept : CheckpointedSession) (result : Result Output E) → span ≡ span_of mode → open_check bench.header bench.steps span ≡ Ok tt
+pub opened_told : (mode : Mode) (notes : List ℕ) (bench : Bench) (span : ℕ) (kept : CheckpointedSession) (told : Told) → span ≡ span_of mode → open_check bench.header bench.steps span ≡ Ok tt
     → kept ≡ first_kept span (record { header = bench.header; steps = bench.steps })
-    → IfOk result (λ answer. answer ≡ record { is_refused = false; text = store_text mode kept bench.edits }) → IfOk result (λ answer. answer ≡ output_of_bench (bench_output mode) bench)
-opened_output mode bench span kept (Err e) is accepted same told = tt
-opened_output mode bench span kept (Ok answer) is accepted same told =
+    → told ≡ noted (fine (store_text mode kept bench.edits)) notes → told ≡ told_with (output_of_bench (bench_output mode) bench) notes too_many_steps_line
+opened_told mode notes bench span kept told is accepted same given =
     let few = few_steps bench.header bench.steps span accepted in
     let begin = same ∙ ap (λ n. first_kept n (record { header = bench.header; steps = bench.steps })) is in
-    told ∙ ap (λ (k : CheckpointedSession). record { is_refused = false; text = store_text mode k bench.edits }) begin ∙ sym (ap (λ (many : Bool). if many then refused (codes "J2") [] else record { is_refused = false; text = bench_output mode bench }) few)
+    given ∙ ap (λ (k : CheckpointedSession). noted (fine (store_text mode k bench.edits)) notes) begin
+    ∙ sym (ap (λ (many : Bool). told_with (if many then refused (codes "J2") [] else record { is_refused = false; text = bench_output mode bench }) notes too_many_steps_line) few)
+
+-- a text that is told with notes
+pub noted_told : (told given : Told) (bytes text note notes : List ℕ) → given ≡ fine bytes → told ≡ noted given note → bytes ≡ text → note ≡ notes → told ≡ noted (fine text) notes
+noted_told told given bytes text note notes is_given is_told is_text are_notes =
+    is_told ∙ ap (λ (one : Told). noted one note) is_given ∙ ap (λ (some : List ℕ). noted (fine some) note) is_text ∙ ap (noted (fine text)) are_notes
+
+-- nothing is told of no edits of a replay
+pub no_notes : (session : Session) (edits : List Edit) → edits ≡ [] → [] ≡ edit_notes session edits
+unfolding edit_notes
+no_notes session edits none = sym (ap (λ (list : List Edit). flat_map refused_line (refused_edits session list)) none)
+
+-- the lines of the edits of a document, by the number of its steps in the store
+pub counted : (bench : Bench) (kept : CheckpointedSession) (span count : ℕ) → kept ≡ first_kept span (record { header = bench.header; steps = bench.steps }) → count ≡ length kept.session.steps → All (IsCheckedEdit bench.header) bench.edits
+    → IsCounted count bench.edits (record { header = bench.header; steps = bench.steps })
+counted bench kept span count same is checked = record { many = sym (is ∙ ap (λ (k : CheckpointedSession). length k.session.steps) same); checked = checked }

@@ -11,7 +11,8 @@ use Rattle.clap.specs.declared.builder.value_parser.ValueParser.TheVariants.{Sig
 use Rattle.clap.proofs.WalkLemmas.{both}
 use Rattle.bench_types.specs.Name.{is_within}
 use Rattle.bench_types.specs.Limits.{max_span}
-use Rattle.bench_commands.specs.Command.{is_span, number_of}
+use Rattle.bench_commands.specs.Command.{is_span}
+use Rattle.command_words.specs.Asking.{number_of}
 
 -- ---- texts that clap takes
 

@@ -15,9 +15,10 @@ use Rattle.session_store.specs.declared.outcome.Outcome.{Outcome}
 use Rattle.session_store.specs.Outcomes.{answer}
 use Rattle.session_store.specs.Trials.{IsTried, tallies_after}
 use Rattle.bench_commands.specs.Answer.{tallies_text, trial_text, trials_text}
-use Rattle.bench_commands.specs.Lines.{answer_text, edit_line, spaced}
+use Rattle.bench_commands.specs.Lines.{answer_text, edit_line}
+use Rattle.program_io.specs.Refusal.{spaced}
 use Rattle.bench_commands.specs.TrialLaws.{PartsAreWhole, IndexIsTold}
-use Rattle.bench_commands.proofs.EditsMade.{accepted_answer, accepted_told, refused_answer}
+use Rattle.document_stores.proofs.EditsMade.{accepted_answer, accepted_told, refused_answer}
 
 abbrev Tried : Type 0
 Tried = Result (Outcome × List TaskTally) StoreFault

@@ -1,7 +1,6 @@
 -- What a run writes for the bytes that it read.
-use Rattle.std.specs.Prelude.{ℕ, suc, List, [], ◌∷◌, ◌++◌, length, flat_map, codes, Bool, true, false, is_ok, nat_lt, if◌then◌else◌, Result, Ok, Err}
+use Rattle.std.specs.Prelude.{◌≡◌, ℕ, suc, List, [], ◌∷◌, ◌++◌, length, flat_map, codes, Bool, true, false, is_ok, nat_lt, if◌then◌else◌, Result, Ok, Err}
 use Rattle.std.specs.Option.{option_map_or}
-use Rattle.bench_types.specs.Codes.{fault_code}
 use Rattle.bench_types.specs.declared.edit.Edit.{Edit}
 use Rattle.bench_types.specs.declared.header.Header.{Header}
 use Rattle.bench_types.specs.declared.step.Step.{Step}
@@ -17,15 +16,17 @@ use Rattle.bench_model.specs.Tally.{tallies}
 use Rattle.bench_reports.specs.Lines.{tally_lines}
 use Rattle.session_store.specs.Outcomes.{answer, answers}
 use Rattle.session_store.specs.Trials.{tallies_after}
+use Rattle.edit_notes.specs.Notes.{edit_notes, trial_notes}
 use Rattle.session_text.specs.declared.bench.Bench.{Bench}
-use Rattle.session_text.specs.declared.fault.Why.{Why}
-use Rattle.session_text.specs.declared.fault.Why.TheVariants.{NotJson, BadShape, NoMemory}
-use Rattle.session_text.specs.declared.fault.Why.TheVariants as why
 use Rattle.session_text.specs.declared.fault.TextFault.{TextFault}
 use Rattle.session_text.specs.Bench.{bench_text}
+use Rattle.program_io.specs.declared.output.OutputStatus.TheVariants.{Failed, Fine}
+use Rattle.program_io.specs.Hint.{IsBenchHint}
+use Rattle.program_io.specs.Outputs.{Told}
+use Rattle.program_io.specs.Refusal.{refusal_line, why_text}
 use Rattle.bench_commands.specs.declared.execution.Mode.{Mode}
 use Rattle.bench_commands.specs.declared.execution.Mode.TheVariants.{Replay, WhatIf}
-use Rattle.bench_commands.specs.Lines.{spaced, edit_line, edit_lines, start_line, step_line}
+use Rattle.bench_commands.specs.Lines.{edit_line, edit_lines, start_line, step_line}
 
 -- the line of the step at a place
 abbrev pub line_at : Header → List Step → ℕ → List ℕ
@@ -41,21 +42,6 @@ first_line header = start_line header (running (start header).control)
 unfoldable pub replay_text : Header → List Step → List ℕ
 replay_text header steps =
     first_line header ++ flat_map (line_at header steps) (numbers (length steps))
-
--- the code of a refusal; want of memory is none, and has no line
-abbrev pub why_text : Why → List ℕ
-why_text NotJson = codes "H1"
-why_text BadShape = codes "H2"
-why_text (why.Bench fault) = fault_code fault
-why_text NoMemory = []
-
--- a path is left out where it is empty
-abbrev pub path_text : List ℕ → List ℕ
-path_text [] = []
-path_text (byte ∷ rest) = spaced (byte ∷ rest)
-
-abbrev pub refusal_line : List ℕ → List ℕ → List ℕ
-refusal_line code path = codes "refused" ++ spaced code ++ path_text path ++ codes "\n"
 
 -- whether the input is refused, and what is written
 pub record Output : Type 0 where
@@ -124,3 +110,35 @@ unfoldable pub output : Mode → List ℕ → Output
 output mode input =
     if nat_lt max_input (length input) then refused (codes "H3") []
     else output_of (bench_output mode) (bench_text input)
+
+-- by the mode, a line for each edit that is refused
+abbrev pub bench_notes : Mode → Bench → List ℕ
+bench_notes (Replay span tally) bench =
+    edit_notes (record { header = bench.header; steps = bench.steps }) bench.edits
+bench_notes (WhatIf span) bench =
+    trial_notes (record { header = bench.header; steps = bench.steps }) bench.edits
+
+-- none where no document was read
+abbrev pub notes_of : Mode → Result Bench TextFault → List ℕ
+notes_of mode (Ok bench) = bench_notes mode bench
+notes_of mode (Err fault) = []
+
+-- an answer, with what people are told beside it, and in the place of that of a refused one
+abbrev pub told_with : Output → List ℕ → List ℕ → Told
+told_with answer notes hint = record {
+  status = if answer.is_refused then Failed else Fine;
+  text = answer.text;
+  note = if answer.is_refused then hint else notes;
+}
+
+-- an answer is told with these notes, or where it is a refusal with such a hint
+pub record IsToldAnswer (answer : Output) (notes : List ℕ) (IsHint : List ℕ → Type 0)
+    (told : Told) : Type 0 where
+  pub hint : List ℕ
+  pub is_hint : answer.is_refused ≡ true → IsHint hint
+  pub is_told : told ≡ told_with answer notes hint
+
+-- by the mode, what a run tells of an input
+abbrev pub IsRun : Mode → List ℕ → Told → Type 0
+IsRun mode input told =
+    IsToldAnswer (output mode input) (notes_of mode (bench_text input)) (IsBenchHint input) told

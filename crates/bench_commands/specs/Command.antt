@@ -2,14 +2,13 @@
 use Rattle.std.specs.Prelude.{◌≡◌, ◌&&◌, ℕ, List, [], ◌∷◌, Bool, true, false, codes, Option, Some, None, IfSome, if◌then◌else◌, pos}
 use Rattle.std.specs.Option.{option_map_or}
 use Rattle.std.specs.Str.{bytes_eq}
-use Rattle.std.specs.Str.Parse.{digits_value, without_leading_plus}
-use Rattle.clap.specs.ValueTests.{accepts, is_numeral}
+use Rattle.std.specs.Str.Parse.{without_leading_plus}
+use Rattle.clap.specs.ValueTests.{is_numeral}
 use Rattle.clap.specs.Words.{App, Kinds, Row, Rule, Text, fault_of, new_app, new_rule, one_of, subcommand_of, with_rule, with_subcommand}
 use Rattle.clap.specs.declared.builder.action.ArgAction.TheVariants.{SetTrue}
-use Rattle.clap.specs.declared.builder.value_parser.ValueParser.TheVariants as parser
 use Rattle.clap.specs.declared.builder.value_parser.ValueParser.TheVariants.{Signed}
 use Rattle.clap.specs.declared.error.kind.ErrorKind.{ErrorKind}
-use Rattle.clap.specs.declared.error.kind.ErrorKind.TheVariants as kind
+use Rattle.command_words.specs.Asking.{Class, class_of, helps, is_flag, mistakes, number_of, versions}
 use Rattle.bench_types.specs.Name.{is_within}
 use Rattle.bench_types.specs.Limits.{max_span}
 use Rattle.bench_commands.specs.declared.execution.Mode.{Mode}
@@ -71,10 +70,6 @@ bench_app =
 abbrev pub default_span : ℕ
 default_span = 64
 
--- the number that decimal digits write, with or without a plus sign before them
-abbrev pub number_of : Text → ℕ
-number_of text = digits_value 10 (without_leading_plus text)
-
 -- the span that the options give
 abbrev pub span_in : List Row → ℕ
 span_in options = option_map_or number_of (one_of (codes "span") options) default_span
@@ -94,10 +89,15 @@ abbrev pub asked_for : Text → List Row → Asked
 asked_for name options =
     if bytes_eq name (codes "record") then a_recording else a_run (mode_of name options)
 
+-- by what clap's error says; there is no version that the program tells
+abbrev pub asked_class : Class → Asked
+asked_class helps = help
+asked_class versions = a_mistake
+asked_class mistakes = a_mistake
+
 -- by the kind of an error, of which `--help` and `-h` make one too
 abbrev pub asked_by : ErrorKind → Asked
-asked_by kind.DisplayHelp = help
-asked_by _ = a_mistake
+asked_by kind = asked_class (class_of kind)
 
 -- by the kinds that clap's error may have, which all ask for the same, or else by what it met
 abbrev pub asked_of : Kinds → Option (Text × List Row) → Asked
@@ -134,10 +134,6 @@ can_run (Bad text) = true
 -- digits that write a span, with or without a plus sign before them
 abbrev pub is_span : Text → Bool
 is_span text = is_numeral (without_leading_plus text) && is_within 1 max_span (number_of text)
-
--- the value of a flag: `true` or `false`
-abbrev pub is_flag : Text → Bool
-is_flag text = accepts false parser.Bool text
 
 -- options whose values clap took
 pub record AreTaken (options : List Row) : Type 0 where

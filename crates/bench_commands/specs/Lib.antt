@@ -1,11 +1,8 @@
 pub mod Answer
 pub mod Command
 pub mod CommandLines
-pub mod Device
-pub mod Hint
 pub mod Lines
 pub mod Program
-pub mod Prompt
 pub mod Record
 pub mod Run
 pub mod TrialLaws

@@ -5,14 +5,11 @@ use Rattle.bench_types.specs.declared.header.Header.{Header}
 use Rattle.bench_types.specs.Codes.{refusal_code, edit_fault_code}
 use Rattle.bench_types.specs.Header.{name_of}
 use Rattle.bench_types.specs.Session.{Session}
+use Rattle.program_io.specs.Refusal.{spaced}
 use Rattle.bench_model.specs.Session.{running_at}
 use Rattle.bench_types.specs.declared.reply.Reply.{Reply}
 use Rattle.bench_types.specs.declared.reply.Reply.TheVariants.{Done, Blocked, Flag, Value, Waited, Until, Isr, Refused}
 use Rattle.session_store.specs.declared.outcome.Outcome.{Outcome}
-
--- a text after a space
-abbrev pub spaced : List ℕ → List ℕ
-spaced text = codes " " ++ text
 
 -- the names of the running tasks, each after a space
 abbrev pub row_text : Header → List ℕ → List ℕ

@@ -13,10 +13,13 @@ use Rattle.session_text.specs.Rig.{rig_text}
 use Rattle.session_write.specs.Written.{written}
 use Rattle.bench_commands.specs.declared.execution.Status.{Status}
 use Rattle.bench_commands.specs.declared.execution.Status.TheVariants.{Fine, Refused, Fault}
-use Rattle.bench_commands.specs.declared.execution.RunFault.TheVariants.{Memory, Read, Write}
-use Rattle.bench_commands.specs.Answer.{Output, refused, why_text}
-use Rattle.bench_commands.specs.Device.{ReadsInput, AppendsPrefix}
-use Rattle.bench_commands.specs.Run.{WroteNothing}
+use Rattle.program_io.specs.declared.ending.RunFault.TheVariants.{Memory, Read, Write}
+use Rattle.program_io.specs.Refusal.{why_text}
+use Rattle.program_io.specs.Device.{ReadsInput, AppendsPrefix}
+use Rattle.program_io.specs.Endings.{WroteNothing}
+use Rattle.program_io.specs.Hint.{IsRigHint, IsRigTextHint}
+use Rattle.program_io.specs.Outputs.{Told}
+use Rattle.bench_commands.specs.Answer.{IsToldAnswer, Output, refused}
 
 -- a session that was recorded, and a line feed
 abbrev pub recorded_text : Header → List Entry → List ℕ
@@ -47,6 +50,19 @@ IsAnswerWhere false input output = IsAnswerTo (rig_text input) output
 
 abbrev pub IsAnswer : List ℕ → Output → Type 0
 IsAnswer input output = IsAnswerWhere (nat_lt max_input (length input)) input output
+
+-- what a recording tells of a text, by what that is read as
+pub record IsRecordingOf (input : List ℕ) (rig : Result RigScript TextFault) (told : Told)
+    : Type 0 where
+  pub output : Output
+  pub answer : IsAnswerTo rig output
+  pub tells : IsToldAnswer output [] (IsRigTextHint input rig) told
+
+-- what a recording tells of an input
+pub record IsRecording (input : List ℕ) (told : Told) : Type 0 where
+  pub output : Output
+  pub answer : IsAnswer input output
+  pub tells : IsToldAnswer output [] (IsRigHint input) told
 
 -- the input was read, and its whole answer written
 pub record WroteAnswer (read_old read_new write_old write_new : Option (List ℕ))

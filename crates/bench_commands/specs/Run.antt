@@ -1,13 +1,18 @@
 -- What a run has read and written when it ends.
-use Rattle.std.specs.Prelude.{◌≡◌, ℕ, ◌+◌, List, Option, Bool, true, false}
+use Rattle.std.specs.Prelude.{◌≡◌, ℕ, List, Option, Bool, true, false}
 use Rattle.std.specs.Io.KnownBytes.{Appends}
 use Rattle.bench_types.specs.Name.{is_within}
-use Rattle.bench_types.specs.Limits.{max_input, max_span}
+use Rattle.bench_types.specs.Limits.{max_span}
 use Rattle.bench_commands.specs.declared.execution.Mode.{Mode}
 use Rattle.bench_commands.specs.declared.execution.Status.{Status}
 use Rattle.bench_commands.specs.declared.execution.Status.TheVariants.{Fine, Refused, Fault}
-use Rattle.bench_commands.specs.declared.execution.RunFault.TheVariants.{Memory, Read, Write}
-use Rattle.bench_commands.specs.Device.{ReadsInput, ReadsSome, AppendsPrefix}
+use Rattle.program_io.specs.declared.ending.Ending.{Ending}
+use Rattle.program_io.specs.declared.ending.Ending.TheVariants.{BadCommandLine, Failed, Gone, NotOpened, Written}
+use Rattle.program_io.specs.declared.output.OutputStatus.{OutputStatus}
+use Rattle.program_io.specs.declared.output.OutputStatus.TheVariants as went
+use Rattle.program_io.specs.declared.ending.RunFault.TheVariants.{Memory, Read, Write}
+use Rattle.program_io.specs.Device.{AppendsPrefix, ReadsInput}
+use Rattle.program_io.specs.Endings.{WroteNothing}
 use Rattle.bench_commands.specs.Answer.{output, span_of}
 
 -- a span of checkpoints that a session may be opened with
@@ -28,11 +33,6 @@ pub record WrotePart (mode : Mode)
   pub input : List ℕ
   pub reads : ReadsInput read_old read_new input
   pub writes : AppendsPrefix write_old write_new (output mode input).text
-
--- no more was read than is ever read, and nothing written
-pub record WroteNothing (read_old read_new write_old write_new : Option (List ℕ)) : Type 0 where
-  pub reads : ReadsSome read_old read_new (max_input + 1)
-  pub writes : write_new ≡ write_old
 
 -- by the mode and the status, what was read and written
 abbrev pub Ran :
@@ -63,3 +63,25 @@ writes_well Refused = true
 writes_well (Fault Memory) = true
 writes_well (Fault Read) = true
 writes_well (Fault Write) = false
+
+-- a run or a recording may end like this
+abbrev pub is_of_run : Ending → Bool
+is_of_run (Written status note) = true
+is_of_run (BadCommandLine text) = false
+is_of_run (NotOpened line) = false
+is_of_run Gone = true
+is_of_run (Failed fault) = true
+
+-- by how an output went that was written
+abbrev pub status_of_output : OutputStatus → Status
+status_of_output went.Fine = Fine
+status_of_output went.Failed = Refused
+status_of_output went.Unknown = Refused
+
+-- by how a run or a recording ends
+abbrev pub status_of : Ending → Status
+status_of (Written status note) = status_of_output status
+status_of (BadCommandLine text) = Refused
+status_of (NotOpened line) = Refused
+status_of Gone = Fault Write
+status_of (Failed fault) = Fault fault

@@ -3,12 +3,13 @@ ghost use Rattle.std.specs.Option.{IsSomeAnd};
 ghost use Rattle.clap.specs.Words.{app_of, found_of, kind_of, rows_of, rule_of, subcommand_rows_of};
 ghost use Rattle.clap.specs.declared.builder.command.Command.TheViews.{out-Command as fields_of};
 ghost use Rattle.clap.specs.declared.error.kind.ErrorKind.TheVariants.{OutOfMemory};
-ghost use Rattle.bench_commands.specs.Command.{AreTaken, a_mistake, asked, asked_by, asked_in, asked_for, asked_in_words, bench_app, can_run, record_app, replay_app, span_in, span_rule, tally_in, tally_rule, what_if_app};
+ghost use Rattle.command_words.specs.Said.{class_in};
+ghost use Rattle.bench_commands.specs.Command.{AreTaken, asked, asked_by, asked_class, asked_in, asked_for, asked_in_words, bench_app, can_run, record_app, replay_app, span_in, span_rule, tally_in, tally_rule, what_if_app};
 
 use crate::execution::Mode;
 use bench_types::MAX_SPAN;
-use clap::error::ErrorKind;
 use clap::{Arg, ArgAction, ArgMatches, Command, Error, value_parser};
+use command_words::{Saying, not_text, said_by};
 use std::alloc::{AllocError, Global};
 use std::convert::AsStr;
 
@@ -144,28 +145,23 @@ fn command<'a>(alloc: Global) -> Result<Command<'a>, AllocError>
         .subcommand(record)
 }
 
+// What clap says asks for this; there is no version that the program tells.
+fn said(said: Saying) -> Request
+    ensures span { can_run result ≡ true }
+    ensures asked { asked_in result ≡ asked_class (class_in said) }
+{
+    match said {
+        Saying::Help(text) => Request::Help(text),
+        Saying::Version(text) | Saying::Mistake(text) => Request::Bad(text),
+    }
+}
+
 fn told(alloc: Global, error: &Error) -> Result<Request, AllocError>
     ensures span { IfOk result (λ request. can_run request ≡ true) }
     ensures asked { IfOk result (λ request. asked_in request ≡ asked_by (kind_of error.now)) }
     ensures memory { kind_of error.now ≡ OutOfMemory → IsErr result }
 {
-    match error.kind() {
-        ErrorKind::OutOfMemory => Err(AllocError),
-        ErrorKind::DisplayHelp => Ok(Request::Help(error.to_string(alloc)?)),
-        _ => Ok(Request::Bad(error.to_string(alloc)?)),
-    }
-}
-
-// The refusal of words that are no text, which clap is never given.
-fn not_text(alloc: Global) -> Result<Request, AllocError>
-    ensures span { IfOk result (λ request. can_run request ≡ true) }
-    ensures asked { IfOk result (λ request. asked_in request ≡ a_mistake) }
-{
-    let error = command(alloc)?.error(
-        ErrorKind::InvalidValue,
-        "invalid UTF-8 was detected in one or more arguments",
-    )?;
-    told(alloc, &error)
+    Ok(said(said_by(alloc, error)?))
 }
 
 fn span_in(options: &ArgMatches) -> u32
@@ -223,6 +219,6 @@ pub fn request_of<S: AsStr>(alloc: Global, words: Option<&[S]>) -> Result<Reques
 {
     match words {
         Some(words) => request_in(alloc, words),
-        None => not_text(alloc),
+        None => Ok(said(not_text(alloc, &mut command(alloc)?)?)),
     }
 }

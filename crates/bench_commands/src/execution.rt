@@ -1,17 +1,16 @@
+//! A run over any reader and writer.
 ghost use Rattle.std.specs.Prelude.{◌≡◌, true};
-ghost use Rattle.bench_commands.specs.Device.{failures_after};
-ghost use Rattle.bench_commands.specs.Program.{EndsRun, all_reads_well, all_writes_well};
-ghost use Rattle.bench_commands.specs.Run.{Ran, has_span, reads_well, writes_well};
-ghost use Rattle.bench_commands.specs.Answer.{span_of};
+ghost use Rattle.program_io.specs.Device.{failures_after};
+ghost use Rattle.program_io.specs.Endings.{EndsTelling, all_reads_well, all_writes_well};
+ghost use Rattle.bench_commands.specs.Answer.{IsRun, span_of};
+ghost use Rattle.bench_commands.specs.Run.{Ran, has_span, is_of_run, reads_well, status_of, writes_well};
 
-use crate::answer::answer_to;
-use crate::device::{CountedRead, CountedWrite};
-use crate::input::{InputFault, read_input};
-use crate::program::Ending;
-use crate::writing::write_text;
+use crate::answer::told_of;
+use program_io::{
+    CountedRead, CountedWrite, Ending, OutputStatus, RunFault, read_input, write_output,
+};
 use std::alloc::Global;
 use std::thread::Threads;
-use thiserror::Error;
 
 /// What the program is asked to do with its input.
 #[derive(Clone, Copy, Debug, PartialEq, Eq)]
@@ -37,20 +36,6 @@ impl Mode {
     }
 }
 
-/// What kept a run from its end.
-#[derive(Clone, Copy, Debug, PartialEq, Eq, Error)]
-pub enum RunFault {
-    /// Memory was refused. Nothing was written.
-    #[error("out of memory")]
-    Memory,
-    /// A read failed. Nothing was written.
-    #[error("the input can't be read")]
-    Read,
-    /// A write failed or took no byte. Some first bytes of the output went out, or none.
-    #[error("the output can't be written")]
-    Write,
-}
-
 /// How a run ended.
 #[derive(Clone, Copy, Debug, PartialEq, Eq)]
 pub enum Status {
@@ -61,7 +46,23 @@ pub enum Status {
     Fault(RunFault),
 }
 
-/// Makes the run, and gives what people are told where its input is refused.
+impl Status {
+    // By how a run or a recording ends.
+    pub(crate) fn of(ending: Ending) -> Status
+        requires { is_of_run ending ≡ true }
+        ensures { result ≡ status_of ending }
+    {
+        match ending {
+            Ending::Written(OutputStatus::Fine, _) => Status::Fine,
+            Ending::Written(OutputStatus::Failed | OutputStatus::Unknown, _) => Status::Refused,
+            Ending::Gone => Status::Fault(RunFault::Write),
+            Ending::Failed(fault) => Status::Fault(fault),
+            Ending::BadCommandLine(_) | Ending::NotOpened(_) => unreachable!(),
+        }
+    }
+}
+
+/// Makes the run, and tells what it promises of the input.
 pub(crate) fn end_of_run<T: Threads + Sync, R: CountedRead, W: CountedWrite>(
     rt: &T,
     host: &HostRuntime,
@@ -71,28 +72,16 @@ pub(crate) fn end_of_run<T: Threads + Sync, R: CountedRead, W: CountedWrite>(
     mode: &Mode,
 ) -> Ending
     requires { has_span mode.now ≡ true }
-    ensures bytes { EndsRun mode.now result (R.Read.remaining reader.old)
+    ensures bytes { EndsTelling (IsRun mode.now) result (R.Read.remaining reader.old)
         (R.Read.remaining reader.new) (W.Write.contents writer.old) (W.Write.contents writer.new) }
     ensures reads { R.CountedRead.failures reader.new
         ≡ failures_after (all_reads_well result) (R.CountedRead.failures reader.old) }
     ensures writes { W.CountedWrite.failures writer.new
         ≡ failures_after (all_writes_well result) (W.CountedWrite.failures writer.old) }
 {
-    let input = match read_input(alloc, reader) {
-        Ok(input) => input,
-        Err(InputFault::Memory) => return Ending::Ran(Status::Fault(RunFault::Memory)),
-        Err(InputFault::Read) => return Ending::Ran(Status::Fault(RunFault::Read)),
-    };
-    let Ok((answer, hint)) = answer_to(rt, host, alloc, &input, *mode) else {
-        return Ending::Ran(Status::Fault(RunFault::Memory));
-    };
-    if write_text(writer, answer.text.as_bytes()).is_err() {
-        return Ending::Ran(Status::Fault(RunFault::Write));
-    }
-    if answer.is_refused {
-        Ending::RefusedInput(hint)
-    } else {
-        Ending::Ran(Status::Fine)
+    match read_input(alloc, reader) {
+        Ok(input) => write_output(writer, told_of(rt, host, alloc, &input, *mode)),
+        Err(fault) => Ending::unread(fault),
     }
 }
 
@@ -114,9 +103,5 @@ pub fn run<T: Threads + Sync, R: CountedRead, W: CountedWrite>(
     ensures writes { W.CountedWrite.failures writer.new
         ≡ failures_after (writes_well result) (W.CountedWrite.failures writer.old) }
 {
-    match end_of_run(rt, host, alloc, reader, writer, mode) {
-        Ending::Ran(status) => status,
-        Ending::RefusedInput(_) => Status::Refused,
-        Ending::BadCommandLine(_) => unreachable!(),
-    }
+    Status::of(end_of_run(rt, host, alloc, reader, writer, mode))
 }

@@ -1,6 +1,7 @@
 ghost use Rattle.std.specs.Prelude.{◌≡◌, ◌++◌, ◌<◌, ◌^◌, IfOk, OnOk, string_bytes};
 ghost use Rattle.bench_types.specs.Header.{name_of};
-ghost use Rattle.bench_commands.specs.Lines.{spaced, AreLabels};
+ghost use Rattle.bench_commands.specs.Lines.{AreLabels};
+ghost use Rattle.program_io.specs.Refusal.{spaced};
 
 use crate::lines::push_task;
 use bench_types::{Header, MAX_CORES, MAX_TASKS};

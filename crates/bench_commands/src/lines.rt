@@ -1,18 +1,13 @@
 ghost use Rattle.std.specs.Prelude.{◌≡◌, ◌++◌, OnOk, codes, decimal, string_bytes};
 ghost use Rattle.bench_types.specs.Header.{name_of};
-ghost use Rattle.bench_commands.specs.Lines.{spaced, reply_text, row_text, answer_text, edit_line, AreLabels};
+ghost use Rattle.bench_commands.specs.Lines.{reply_text, row_text, answer_text, edit_line, AreLabels};
+ghost use Rattle.program_io.specs.Refusal.{spaced};
 
 use crate::labels::Labels;
 use bench_types::{EditFault, Header, Reply};
+use program_io::push_spaced;
 use session_store::Outcome;
 use std::alloc::AllocError;
-
-pub(crate) fn push_spaced(text: &mut String, word: &str) -> Result<(), AllocError>
-    ensures { OnOk result (string_bytes text.new ≡ string_bytes text.old ++ spaced word.now) }
-{
-    text.push_str(" ")?;
-    text.push_str(word)
-}
 
 fn push_reply(text: &mut String, reply: Reply) -> Result<(), AllocError>
     ensures { OnOk result (string_bytes text.new ≡ string_bytes text.old ++ reply_text reply) }

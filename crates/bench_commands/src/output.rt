@@ -1,14 +1,15 @@
 ghost use Rattle.std.specs.Prelude.{◌≡◌, ◌++◌, ◌<◌, suc, [], length, IfOk, OnOk, string_bytes};
 ghost use Rattle.bench_model.specs.Edits.{after_edits};
-ghost use Rattle.session_store.specs.Outcomes.{after_edit, answer, answers};
+ghost use Rattle.session_store.specs.Outcomes.{answers};
 ghost use Rattle.bench_commands.specs.Answer.{edited_text, line_at, replay_text, tally_text};
 ghost use Rattle.bench_commands.specs.Lines.{edit_lines, AreLabels, IsShownAt};
 
 use crate::labels::Labels;
 use crate::lines::{push_edit_line, push_start_line, push_step_line};
 use crate::shown_row::ShownRow;
-use bench_types::{Edit, EditFault};
-use session_store::{Outcome, Store, StoreFault, Untraced};
+use bench_types::Edit;
+use document_stores::answer_to_edit;
+use session_store::{Store, Untraced};
 use smp_kernel::Meter;
 use std::alloc::{AllocError, Global};
 
@@ -68,23 +69,6 @@ fn push_tallies(
     }
     let lines = store.tallies(alloc)?.text(alloc, store.header())?;
     text.push_str(lines.as_str())
-}
-
-// Makes an edit, and tells what it led to.
-fn answer_to_edit(
-    alloc: Global,
-    meter: &mut Meter,
-    store: &mut Store<Untraced>,
-    edit: Edit,
-) -> Result<Result<Outcome, EditFault>, AllocError>
-    ensures answer { IfOk result (λ given. given ≡ answer store.old edit) }
-    ensures kept { OnOk result (store.new ≡ after_edit store.old edit) }
-{
-    match store.apply(alloc, edit, meter) {
-        Ok(outcome) => Ok(Ok(outcome)),
-        Err(StoreFault::Edit(why)) => Ok(Err(why)),
-        Err(StoreFault::NoMemory) => Err(AllocError),
-    }
 }
 
 // Makes the edits, and adds a line for each.

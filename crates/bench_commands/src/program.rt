@@ -1,73 +1,50 @@
-ghost use Rattle.std.specs.Prelude.{◌≡◌, map, option_map};
+//! The program, from the words of its command line to its end.
+ghost use Rattle.std.specs.Prelude.{◌≡◌, map, option_map, string_bytes};
 ghost use Rattle.std.specs.Process.{exit_status};
+ghost use Rattle.program_io.specs.Device.{device, failures_after};
+ghost use Rattle.program_io.specs.Endings.{EndsProcess, EndsWith, all_reads_well, all_writes_well};
 ghost use Rattle.bench_commands.specs.Command.{asked};
-ghost use Rattle.bench_commands.specs.Device.{failures_after};
-ghost use Rattle.bench_commands.specs.Program.{device, Ends, EndsProcess, EndsWith, Shows, all_reads_well, all_writes_well, exit_code, message};
-ghost use Rattle.bench_commands.specs.Run.{writes_well};
+ghost use Rattle.bench_commands.specs.Program.{Ends, EndsAsked};
 
 use crate::command::{Request, request_of};
-use crate::device::{CountedRead, CountedWrite};
-use crate::execution::{RunFault, Status, end_of_run};
+use crate::execution::end_of_run;
 use crate::gate::OpenGate;
 use crate::recording::end_of_recording;
-use crate::writing::write_text;
+use program_io::{
+    CountedRead, CountedWrite, Ending, RunFault, end_process, given_words, show_text,
+};
 use std::alloc::Global;
 use std::convert::AsStr;
 use std::env::Args;
 use std::io;
-use std::io::ErrorKind;
 use std::process::ExitCode;
 use std::sync::Wait;
 use std::thread::Threads;
 
-/// How the program ends.
-#[derive(Debug, Drop)]
-pub enum Ending {
-    /// What was asked for was run.
-    Ran(Status),
-    /// The input was refused, and the text tells people why. Its refusal line was written.
-    RefusedInput(String),
-    /// The command line asks for nothing that the program does, and the text says why.
-    BadCommandLine(String),
-}
-
-impl Ending {
-    /// The exit status of the process.
-    pub fn code(&self) -> u8
-        ensures { result ≡ exit_code self.now }
-    {
-        match self {
-            Ending::Ran(Status::Fine) => 0,
-            Ending::Ran(Status::Refused) | Ending::RefusedInput(_) => 1,
-            Ending::BadCommandLine(_) => 2,
-            Ending::Ran(Status::Fault(_)) => 3,
-        }
-    }
-
-    /// What goes to standard error.
-    pub fn message(&self) -> &str
-        ensures { result.now ≡ message self.now }
-    {
-        match self {
-            Ending::Ran(Status::Fine) | Ending::Ran(Status::Refused) => "",
-            Ending::RefusedInput(text) | Ending::BadCommandLine(text) => text.as_str(),
-            Ending::Ran(Status::Fault(RunFault::Memory)) => "fault memory\n",
-            Ending::Ran(Status::Fault(RunFault::Read)) => "fault read\n",
-            Ending::Ran(Status::Fault(RunFault::Write)) => "fault write\n",
-        }
-    }
-}
-
-fn show_help<W: CountedWrite>(writer: &mut W, text: &str) -> Status
-    ensures bytes { Shows result text.now (W.Write.contents writer.old)
+// The same, where a reader of the output that has gone is no fault.
+fn end_of_words<T: Threads + Wait + Sync, S: AsStr, R: CountedRead, W: CountedWrite>(
+    rt: &T,
+    host: &HostRuntime,
+    alloc: Global,
+    words: Option<&[S]>,
+    reader: &mut R,
+    writer: &mut W,
+) -> Ending
+    ensures bytes { EndsAsked (asked (option_map (λ all. map S.text all.now) words.entry)) result
+        (R.Read.remaining reader.old) (R.Read.remaining reader.new) (W.Write.contents writer.old)
         (W.Write.contents writer.new) }
-    ensures failures { W.CountedWrite.failures writer.new
-        ≡ failures_after (writes_well result) (W.CountedWrite.failures writer.old) }
+    ensures reads { R.CountedRead.failures reader.new
+        ≡ failures_after (all_reads_well result) (R.CountedRead.failures reader.old) }
+    ensures writes { W.CountedWrite.failures writer.new
+        ≡ failures_after (all_writes_well result) (W.CountedWrite.failures writer.old) }
 {
-    if write_text(writer, text.as_bytes()).is_err() {
-        return Status::Fault(RunFault::Write);
+    match request_of(alloc, words) {
+        Ok(Request::Run(mode)) => end_of_run(rt, host, alloc, reader, writer, &mode),
+        Ok(Request::Record) => end_of_recording(rt, host, alloc, reader, writer, &OpenGate),
+        Ok(Request::Help(text)) => show_text(alloc, writer, text.as_str()),
+        Ok(Request::Bad(text)) => Ending::BadCommandLine(text),
+        Err(_) => Ending::Failed(RunFault::Memory),
     }
-    Status::Fine
 }
 
 /// Does what the words of the command line ask for: they are `None` where one of them is no text.
@@ -80,7 +57,7 @@ pub fn carry_out<T: Threads + Wait + Sync, S: AsStr, R: CountedRead, W: CountedW
     reader: &mut R,
     writer: &mut W,
 ) -> Ending
-    ensures bytes { Ends (asked (option_map (λ all. map S.text all.now) words.entry)) result
+    ensures bytes { Ends (option_map (λ all. map S.text all.now) words.entry) result
         (R.Read.remaining reader.old) (R.Read.remaining reader.new) (W.Write.contents writer.old)
         (W.Write.contents writer.new) }
     ensures reads { R.CountedRead.failures reader.new
@@ -88,13 +65,7 @@ pub fn carry_out<T: Threads + Wait + Sync, S: AsStr, R: CountedRead, W: CountedW
     ensures writes { W.CountedWrite.failures writer.new
         ≡ failures_after (all_writes_well result) (W.CountedWrite.failures writer.old) }
 {
-    match request_of(alloc, words) {
-        Ok(Request::Run(mode)) => end_of_run(rt, host, alloc, reader, writer, &mode),
-        Ok(Request::Record) => end_of_recording(rt, host, alloc, reader, writer, &OpenGate),
-        Ok(Request::Help(text)) => Ending::Ran(show_help(writer, text.as_str())),
-        Ok(Request::Bad(text)) => Ending::BadCommandLine(text),
-        Err(_) => Ending::Ran(Status::Fault(RunFault::Memory)),
-    }
+    end_of_words(rt, host, alloc, words, reader, writer).gone_as_fault()
 }
 
 // How the program ends with the words that the system hands over.
@@ -105,29 +76,18 @@ fn ending_of<T: Threads + Wait + Sync, R: CountedRead, W: CountedWrite>(
     reader: &mut R,
     writer: &mut W,
 ) -> Ending
-    ensures bytes { EndsWith words result (R.Read.remaining reader.old)
+    ensures bytes { EndsWith Ends words result (R.Read.remaining reader.old)
         (R.Read.remaining reader.new) (W.Write.contents writer.old) (W.Write.contents writer.new) }
     ensures reads { R.CountedRead.failures reader.new
         ≡ failures_after (all_reads_well result) (R.CountedRead.failures reader.old) }
     ensures writes { W.CountedWrite.failures writer.new
         ≡ failures_after (all_writes_well result) (W.CountedWrite.failures writer.old) }
 {
-    match words {
-        Ok(words) => match words.collect::<Vec<String>>(host.alloc()) {
-            Ok(words) => carry_out(
-                rt,
-                host,
-                host.alloc(),
-                Some(words.as_slice()),
-                reader,
-                writer,
-            ),
-            Err(_) => Ending::Ran(Status::Fault(RunFault::Memory)),
-        },
-        Err(error) if error.kind() == ErrorKind::InvalidData => {
-            carry_out(rt, host, host.alloc(), None::<&[String]>, reader, writer)
-        }
-        Err(_) => Ending::Ran(Status::Fault(RunFault::Memory)),
+    let alloc = host.alloc();
+    match given_words(alloc, words) {
+        Ok(Some(given)) => carry_out(rt, host, alloc, Some(given.as_slice()), reader, writer),
+        Ok(None) => carry_out(rt, host, alloc, None::<&[String]>, reader, writer),
+        Err(_) => Ending::Failed(RunFault::Memory),
     }
 }
 
@@ -145,7 +105,7 @@ pub fn run_program<T: Threads + Wait + Sync, R: CountedRead, W: CountedWrite, E:
     writer: &mut W,
     errors: &mut E,
 ) -> ExitCode
-    ensures { EndsProcess words (exit_status result)
+    ensures { EndsProcess Ends words (exit_status result)
         (device (R.Read.remaining reader.old) (R.CountedRead.failures reader.old))
         (device (R.Read.remaining reader.new) (R.CountedRead.failures reader.new))
         (device (W.Write.contents writer.old) (W.CountedWrite.failures writer.old))
@@ -154,6 +114,5 @@ pub fn run_program<T: Threads + Wait + Sync, R: CountedRead, W: CountedWrite, E:
         (device (E.Write.contents errors.new) (E.CountedWrite.failures errors.new)) }
 {
     let ending = ending_of(rt, host, words, reader, writer);
-    let _ = write_text(errors, ending.message().as_bytes());
-    ExitCode::from(ending.code())
+    end_process(errors, &ending)
 }

@@ -1,52 +1,21 @@
 //! Recordings of the scripts of a rig document.
-ghost use Rattle.std.specs.Prelude.{◌≡◌, IfOk, string_bytes, true};
+ghost use Rattle.std.specs.Prelude.{◌≡◌, IfOk, false};
 ghost use Rattle.session_text.specs.Rig.{IsCheckedRig, rig_text};
-ghost use Rattle.bench_commands.specs.Device.{failures_after};
-ghost use Rattle.bench_commands.specs.Hint.{IsRigHint, IsRigTextHint};
-ghost use Rattle.bench_commands.specs.Program.{EndsRecording, all_reads_well, all_writes_well};
-ghost use Rattle.bench_commands.specs.Record.{EndsRecord, IsAnswer, IsAnswerTo, IsRecorded};
+ghost use Rattle.program_io.specs.Device.{failures_after};
+ghost use Rattle.program_io.specs.Endings.{EndsTelling, all_reads_well, all_writes_well};
+ghost use Rattle.bench_commands.specs.Record.{EndsRecord, IsRecorded, IsRecording, IsRecordingOf};
 ghost use Rattle.bench_commands.specs.Run.{reads_well, writes_well};
 
-use crate::answer::{Answer, explained, too_long};
-use crate::device::{CountedRead, CountedWrite};
-use crate::execution::{RunFault, Status};
-use crate::input::{InputFault, read_input};
-use crate::program::Ending;
-use crate::writing::write_text;
+use crate::answer::refused_text;
+use crate::execution::Status;
 use bench_types::MAX_INPUT;
 use core_scripts::{Gate, play};
+use program_io::{CountedRead, CountedWrite, Ending, Output, read_input, too_long, write_output};
 use session_text::{RigScript, read_rig};
 use session_write::write_session;
 use std::alloc::{AllocError, Global};
-use std::marker::Model;
 use std::sync::Wait;
 use std::thread::Threads;
-
-// What is written, in bytes, and whether the input was refused.
-#[derive(Drop)]
-struct Written {
-    is_refused: bool,
-    text: Vec<u8>,
-}
-
-impl Model for Written {
-    ghost use Rattle.bench_commands.specs.Answer.{Output};
-
-    ghost Value = { Output };
-
-    ghost view = { λ it.
-        record { is_refused = it.is_refused; text = it.text.items } };
-}
-
-fn told(answer: Answer) -> Written
-    ensures { result ≡ answer }
-{
-    let Answer { is_refused, text } = answer;
-    Written {
-        is_refused,
-        text: text.into_bytes(),
-    }
-}
 
 // The text of what was recorded of a rig document.
 fn recorded<R: Threads + Wait + Sync, G: Gate>(
@@ -55,64 +24,55 @@ fn recorded<R: Threads + Wait + Sync, G: Gate>(
     alloc: Global,
     rig: &RigScript,
     gate: &G,
-) -> Result<Written, AllocError>
+) -> Result<Vec<u8>, AllocError>
     requires { IsCheckedRig rig.now }
-    ensures { IfOk result (IsRecorded rig.now) }
+    ensures { IfOk result
+        (λ text. IsRecorded rig.now (record { is_refused = false; text = text.items })) }
 {
     let scripts = rig.scripts.as_slice();
     let recorded = play(rt, host, alloc, &rig.header, rig.limit, scripts, gate)?;
     let steps = recorded.steps(alloc)?;
     let mut text = write_session(alloc, &recorded.header, steps.as_slice())?;
     text.push(b'\n')?;
-    Ok(Written {
-        is_refused: false,
-        text,
-    })
+    Ok(text)
 }
 
-// What is written of a text and, where that is refused, what people are told; but for H3.
-fn recording_of_text<R: Threads + Wait + Sync, G: Gate>(
+// What a recording tells of a text.
+fn told_of_text<R: Threads + Wait + Sync, G: Gate>(
     rt: &R,
     host: &HostRuntime,
     alloc: Global,
     input: &[u8],
     gate: &G,
-) -> Result<(Written, String), AllocError>
-    ensures answer { IfOk result (λ told. IsAnswerTo (rig_text input.now) told.0) }
-    ensures hint { IfOk result
-        (λ told. IsRigTextHint input.now (rig_text input.now) (string_bytes told.1)) }
+) -> Result<Output, AllocError>
+    ensures { IfOk result (λ told. IsRecordingOf input.now (rig_text input.now) told) }
 {
     match read_rig(alloc, input) {
-        Err(fault) => {
-            let (answer, hint) = explained(alloc, input, fault)?;
-            Ok((told(answer), hint))
-        }
+        Err(fault) => refused_text(alloc, input, fault),
         Ok(rig) => {
-            let written = recorded(rt, host, alloc, &rig, gate)?;
-            Ok((written, String::new(alloc)))
+            let text = recorded(rt, host, alloc, &rig, gate)?;
+            Ok(Output::fine(alloc, text))
         }
     }
 }
 
-// The same of the input.
-fn recording_of<R: Threads + Wait + Sync, G: Gate>(
+// What it tells of an input.
+fn told_of<R: Threads + Wait + Sync, G: Gate>(
     rt: &R,
     host: &HostRuntime,
     alloc: Global,
     input: &[u8],
     gate: &G,
-) -> Result<(Written, String), AllocError>
-    ensures answer { IfOk result (λ told. IsAnswer input.now told.0) }
-    ensures hint { IfOk result (λ told. IsRigHint input.now (string_bytes told.1)) }
+) -> Result<Output, AllocError>
+    ensures { IfOk result (λ told. IsRecording input.now told) }
 {
     if input.len() > MAX_INPUT {
-        let (answer, hint) = too_long(alloc)?;
-        return Ok((told(answer), hint));
+        return Ok(too_long(alloc)?.on_output());
     }
-    recording_of_text(rt, host, alloc, input, gate)
+    told_of_text(rt, host, alloc, input, gate)
 }
 
-/// Makes the recording, and gives what people are told where its input is refused.
+/// Makes the recording, and tells what it promises of the input.
 pub(crate) fn end_of_recording<R: Threads + Wait + Sync, I: CountedRead, O: CountedWrite, G: Gate>(
     rt: &R,
     host: &HostRuntime,
@@ -121,28 +81,16 @@ pub(crate) fn end_of_recording<R: Threads + Wait + Sync, I: CountedRead, O: Coun
     writer: &mut O,
     gate: &G,
 ) -> Ending
-    ensures bytes { EndsRecording result (I.Read.remaining reader.old)
+    ensures bytes { EndsTelling IsRecording result (I.Read.remaining reader.old)
         (I.Read.remaining reader.new) (O.Write.contents writer.old) (O.Write.contents writer.new) }
     ensures reads { I.CountedRead.failures reader.new
         ≡ failures_after (all_reads_well result) (I.CountedRead.failures reader.old) }
     ensures writes { O.CountedWrite.failures writer.new
         ≡ failures_after (all_writes_well result) (O.CountedWrite.failures writer.old) }
 {
-    let input = match read_input(alloc, reader) {
-        Ok(input) => input,
-        Err(InputFault::Memory) => return Ending::Ran(Status::Fault(RunFault::Memory)),
-        Err(InputFault::Read) => return Ending::Ran(Status::Fault(RunFault::Read)),
-    };
-    let Ok((recording, hint)) = recording_of(rt, host, alloc, &input, gate) else {
-        return Ending::Ran(Status::Fault(RunFault::Memory));
-    };
-    if write_text(writer, recording.text.as_slice()).is_err() {
-        return Ending::Ran(Status::Fault(RunFault::Write));
-    }
-    if recording.is_refused {
-        Ending::RefusedInput(hint)
-    } else {
-        Ending::Ran(Status::Fine)
+    match read_input(alloc, reader) {
+        Ok(input) => write_output(writer, told_of(rt, host, alloc, &input, gate)),
+        Err(fault) => Ending::unread(fault),
     }
 }
 
@@ -166,9 +114,5 @@ pub fn record<R: Threads + Wait + Sync, I: CountedRead, O: CountedWrite, G: Gate
     ensures writes { O.CountedWrite.failures writer.new
         ≡ failures_after (writes_well result) (O.CountedWrite.failures writer.old) }
 {
-    match end_of_recording(rt, host, alloc, reader, writer, gate) {
-        Ending::Ran(status) => status,
-        Ending::RefusedInput(_) => Status::Refused,
-        Ending::BadCommandLine(_) => unreachable!(),
-    }
+    Status::of(end_of_recording(rt, host, alloc, reader, writer, gate))
 }

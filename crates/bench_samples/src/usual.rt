@@ -27,6 +27,7 @@ pub const LARGEST: Config = Config {
 };
 
 /// Two cores and the tasks A, B and C on both, of the priorities 2, 1 and 1.
+#[tactic(auto, unfolding(bench_types::specs::Flaw::header_flaw))]
 pub fn three_tasks(alloc: Global, slicing: bool) -> Result<Header, SampleFault>
     ensures checked { IfOk result (λ header. header_check header ≡ Ok tt) }
     ensures config { IfOk result (λ header. header.config ≡ record PLAIN { slicing = slicing }) }
@@ -36,6 +37,7 @@ pub fn three_tasks(alloc: Global, slicing: bool) -> Result<Header, SampleFault>
 }
 
 /// Two cores and two mutexes, and the tasks L and H on both cores, of the priorities 1 and 3.
+#[tactic(auto, unfolding(bench_types::specs::Flaw::header_flaw))]
 pub fn low_and_high(alloc: Global) -> Result<Header, SampleFault>
     ensures checked { IfOk result (λ header. header_check header ≡ Ok tt) }
     ensures config { IfOk result (λ header. header.config ≡ record PLAIN { mutexes = 2 }) }

@@ -1,15 +1,28 @@
 -- What checks that passed say.
-use Rattle.std.proofs.Common.{◌≡◌, ℕ, ◌<◌, ◌≤◌, Bool, true, false, not, ◌&&◌, ltb, leb, length, Result, Ok, Err, refl, arith}
+use Rattle.std.proofs.Common.{◌≡◌, ℕ, zero, ◌^◌, sym, ◌<◌, ◌≤◌, ◌==◌, Bool, true, false, not, ◌&&◌, cond, ltb, leb, List, [], ◌∷◌, length, Option, Some, None, Result, Ok, Err, refl, ap, arith}
+use Rattle.std.specs.Prelude.{All, IfNone, is_none, option_map}
 use Rattle.std.specs.List.{list_all}
+use Rattle.std.specs.Option.{option_or}
 use Rattle.std.proofs.lemmas.Bool.{and_parts}
+use Rattle.std.proofs.lemmas.List.Sums.{AllPass-from_list_all}
 use Rattle.std.proofs.lemmas.Bool.Decides.{nat_tests}
+use Rattle.bench_types.specs.declared.fault.Fault.{Fault}
+use Rattle.bench_types.specs.declared.fault.Fault.TheVariants.{BadHeader}
+use Rattle.bench_types.specs.declared.flaw.HeaderFlaw.{HeaderFlaw}
+use Rattle.bench_types.specs.declared.flaw.HeaderFlaw.TheVariants.{Cores, Priorities, Mutexes, Notes, TaskCount, NoName, Priority, Mask, SharedName}
+use Rattle.bench_types.specs.declared.header.Config.{Config}
 use Rattle.bench_types.specs.declared.header.Header.{Header}
+use Rattle.bench_types.specs.declared.header.TaskArgs.{TaskArgs}
 use Rattle.bench_types.specs.declared.kernel_data.Settings.{Settings}
 use Rattle.bench_types.specs.declared.note.Note.{Note}
-use Rattle.bench_types.specs.Header.{header_check, is_header, has_valid_config, has_valid_args, repeats_name}
-use Rattle.bench_types.specs.Limits.{max_cores, max_priorities, max_tasks, max_mutexes, max_notes}
-use Rattle.bench_types.specs.Name.{is_within}
+use Rattle.bench_types.specs.Flaw.{args_flaw, config_flaw, count_of_name, header_flaw, limits_flaw, mask_flaw, name_flaw, numbers_flaw, place_of_mask, place_of_no_name, place_of_priority, place_of_shared_name, priority_flaw, shared_flaw}
+use Rattle.bench_types.specs.Header.{header_check, is_header, has_valid_numbers, IsCheckedHeader}
+use Rattle.bench_types.specs.Limits.{min_cores, max_cores, max_priorities, max_tasks, max_mutexes, max_notes}
+use Rattle.bench_types.specs.Mask.{cores_of_mask}
+use Rattle.bench_types.specs.Name.{is_name, is_within}
 use Rattle.bench_types.specs.Step.{core_check, index_check, note_check, task_check, mutex_check, ◌>>◌}
+use Rattle.bench_types.proofs.Positions.{passes_none, none_found, none_there}
+use Rattle.bench_types.proofs.Repeats.{repeats_name, once_single, single_once}
 
 -- two checks, one after the other
 pub both_pass : {Why : Type 0} (one other : Result (Unit {0}) Why) → (one >> other) ≡ Ok tt → (one ≡ Ok tt) × (other ≡ Ok tt)
@@ -58,39 +71,163 @@ module _ (settings : Settings) (note : Note) (passes : note_check settings note 
   pub noted_index : note.index < settings.notes
   noted_index = checked_index settings note.index both.1
 
+-- what a task may be created with
+abbrev pub has_valid_args : Config → TaskArgs → Bool
+has_valid_args config args = has_valid_numbers config args.priority args.mask
+
+-- the names of all tasks are names
+abbrev pub are_named : List TaskArgs → Bool
+are_named tasks = list_all (λ task. is_name task.name) tasks
+
 -- what a header that passes its check says of its numbers and names
 pub record IsWithinLimits (header : Header) : Type 0 where
   pub some_core : 0 < header.config.cores
+  pub enough_cores : min_cores ≤ header.config.cores
   pub few_cores : header.config.cores ≤ max_cores
   pub some_priority : 0 < header.config.priorities
   pub few_priorities : header.config.priorities ≤ max_priorities
   pub few_mutexes : header.config.mutexes ≤ max_mutexes
   pub some_note : 0 < header.config.notes
   pub few_notes : header.config.notes ≤ max_notes
+  pub some_task : 0 < length header.tasks
   pub few_tasks : length header.tasks ≤ max_tasks
+  pub named : are_named header.tasks ≡ true
   pub args : list_all (has_valid_args header.config) header.tasks ≡ true
   pub once : repeats_name header.tasks ≡ false
 
-pub header_facts : (header : Header) → is_header header ≡ true → IsWithinLimits header
-header_facts header all =
-    let config = has_valid_config header.config in
-    let some = is_within 1 max_tasks (length header.tasks) in
-    let args = list_all (has_valid_args header.config) header.tasks in
-    let three = and_parts (config && some && args) (not (repeats_name header.tasks)) all in
-    let two = and_parts (config && some) args three.0 in
-    let one = and_parts config some two.0 in
+-- neither of two is there
+neither : {A : Type 0} (one other : Option A) → option_or one other ≡ None → (one ≡ None) × (other ≡ None)
+neither None other none = (refl, none)
+neither (Some x) other none = absurd (cc none)
+
+unmapped : {A B : Type 0} (f : A → B) (o : Option A) → option_map f o ≡ None → o ≡ None
+unmapped f None none = refl
+unmapped f (Some x) none = absurd (cc none)
+
+within : (low high n : ℕ) (flaw : HeaderFlaw) → limits_flaw low high n flaw ≡ None → (low ≤ n) × (n ≤ high)
+within low high n flaw none = at (is_within low high n) refl none
+  where
+    at : (b : Bool) → is_within low high n ≡ b → cond b None (Some flaw) ≡ None → (low ≤ n) × (n ≤ high)
+    at true is none = (grind (arith, nat_tests, is), grind (arith, nat_tests, is))
+    at false is none = absurd (cc none)
+
+no_limits_flaw : (low high n : ℕ) (flaw : HeaderFlaw) → low ≤ n → n ≤ high → limits_flaw low high n flaw ≡ None
+no_limits_flaw low high n flaw least most =
+    let is : is_within low high n ≡ true = grind (arith, nat_tests, least, most) in
+    rw is refl
+
+all_named : (tasks : List TaskArgs) → passes_none (λ task. not (is_name task.name)) tasks ≡ true → are_named tasks ≡ true
+all_named [] none = refl
+all_named (task ∷ tasks) none =
+    let both = and_parts (not (not (is_name task.name))) (passes_none (λ task. not (is_name task.name)) tasks) none in
+    let later = all_named tasks both.1 in
+    grind (arith, both.0, later)
+
+named_all : (tasks : List TaskArgs) → are_named tasks ≡ true → passes_none (λ task. not (is_name task.name)) tasks ≡ true
+named_all [] all = refl
+named_all (task ∷ tasks) all =
+    let both = and_parts (is_name task.name) (are_named tasks) all in
+    let later = named_all tasks both.1 in
+    grind (arith, both.0, later)
+
+module _ (config : Config) where
+  abbrev no_priority : TaskArgs → Bool
+  no_priority task = leb config.priorities task.priority
+
+  abbrev no_core : TaskArgs → Bool
+  no_core task = cores_of_mask config.cores task.mask == 0
+
+  all_valid : (tasks : List TaskArgs) → passes_none no_priority tasks ≡ true → passes_none no_core tasks ≡ true → list_all (has_valid_args config) tasks ≡ true
+  all_valid [] priorities masks = refl
+  all_valid (task ∷ tasks) priorities masks =
+      let one = and_parts (not (no_priority task)) (passes_none no_priority tasks) priorities in
+      let other = and_parts (not (no_core task)) (passes_none no_core tasks) masks in
+      let low : ltb task.priority config.priorities ≡ true = grind (arith, nat_tests, one.0) in
+      let some : ltb 0 (cores_of_mask config.cores task.mask) ≡ true = grind (arith, nat_tests, other.0) in
+      rw (low, some, all_valid tasks one.1 other.1) refl
+
+  valid_all : (tasks : List TaskArgs) → list_all (has_valid_args config) tasks ≡ true → (passes_none no_priority tasks ≡ true) × (passes_none no_core tasks ≡ true)
+  valid_all [] all = (refl, refl)
+  valid_all (task ∷ tasks) all =
+      let both = and_parts (has_valid_args config task) (list_all (has_valid_args config) tasks) all in
+      let numbers = and_parts (ltb task.priority config.priorities) (ltb 0 (cores_of_mask config.cores task.mask)) both.0 in
+      let priority : leb config.priorities task.priority ≡ false = grind (arith, nat_tests, numbers.0) in
+      let mask : no_core task ≡ false = grind (arith, nat_tests, numbers.1) in
+      let later = valid_all tasks both.1 in
+      (rw (priority, later.0) refl, rw (mask, later.1) refl)
+
+flawless : (header : Header) → is_header header ≡ true → header_flaw header ≡ None
+flawless header is = from (header_flaw header) is
+  where
+    from : (flaw : Option HeaderFlaw) → is_none flaw ≡ true → flaw ≡ None
+    from None is = refl
+    from (Some flaw) is = absurd (cc is)
+
+no_flaw_facts : (header : Header) → header_flaw header ≡ None → IsWithinLimits header
+unfolding header_flaw
+no_flaw_facts header none =
+    let config = header.config in
+    let tasks = header.tasks in
+    let cores = limits_flaw min_cores max_cores config.cores (Cores config.cores) in
+    let priorities = limits_flaw 1 max_priorities config.priorities (Priorities config.priorities) in
+    let mutexes = limits_flaw 0 max_mutexes config.mutexes (Mutexes config.mutexes) in
+    let notes = limits_flaw 1 max_notes config.notes (Notes config.notes) in
+    let count = limits_flaw 1 max_tasks (length tasks) (TaskCount (length tasks)) in
+    let names = name_flaw tasks in
+    let low = priority_flaw config.priorities tasks in
+    let masks = mask_flaw config.cores tasks in
+    let whole = neither (numbers_flaw config (length tasks)) (args_flaw config tasks) none in
+    let numbers = neither (config_flaw config) count whole.0 in
+    let three = neither (option_or (option_or cores priorities) mutexes) notes numbers.0 in
+    let two = neither (option_or cores priorities) mutexes three.0 in
+    let one = neither cores priorities two.0 in
+    let in_cores = within min_cores max_cores config.cores (Cores config.cores) one.0 in
+    let in_priorities = within 1 max_priorities config.priorities (Priorities config.priorities) one.1 in
+    let in_mutexes = within 0 max_mutexes config.mutexes (Mutexes config.mutexes) two.1 in
+    let in_notes = within 1 max_notes config.notes (Notes config.notes) three.1 in
+    let in_count = within 1 max_tasks (length tasks) (TaskCount (length tasks)) numbers.1 in
+    let last = neither (option_or (option_or names low) masks) (shared_flaw tasks) whole.1 in
+    let third = neither (option_or names low) masks last.0 in
+    let first = neither names low third.0 in
+    let priority = none_there (no_priority config) tasks (unmapped (λ task. Priority task config.priorities) (place_of_priority config.priorities tasks) first.1) in
+    let mask = none_there (no_core config) tasks (unmapped (λ task. Mask task config.cores) (place_of_mask config.cores tasks) third.1) in
     record {
-      some_core = grind (arith, nat_tests, one.0);
-      few_cores = grind (arith, nat_tests, one.0);
-      some_priority = grind (arith, nat_tests, one.0);
-      few_priorities = grind (arith, nat_tests, one.0);
-      few_mutexes = grind (arith, nat_tests, one.0);
-      some_note = grind (arith, nat_tests, one.0);
-      few_notes = grind (arith, nat_tests, one.0);
-      few_tasks = grind (arith, nat_tests, one.1);
-      args = two.1;
-      once = grind (arith, three.1);
+      some_core = omega (arith, in_cores.0);
+      enough_cores = in_cores.0;
+      few_cores = in_cores.1;
+      some_priority = omega (arith, in_priorities.0);
+      few_priorities = in_priorities.1;
+      few_mutexes = in_mutexes.1;
+      some_note = omega (arith, in_notes.0);
+      few_notes = in_notes.1;
+      some_task = omega (arith, in_count.0);
+      few_tasks = in_count.1;
+      named = all_named tasks (none_there (λ task. not (is_name task.name)) tasks (unmapped NoName (place_of_no_name tasks) first.0));
+      args = all_valid config tasks priority mask;
+      once = single_once tasks (none_there (λ task. ltb 1 (count_of_name tasks task.name)) tasks (unmapped SharedName (place_of_shared_name tasks) last.1));
     }
+
+pub header_facts : (header : Header) → is_header header ≡ true → IsWithinLimits header
+header_facts header is = no_flaw_facts header (flawless header is)
+
+-- a header within its limits has no flaw
+pub header_from : (header : Header) → IsWithinLimits header → header_flaw header ≡ None
+unfolding header_flaw
+header_from header limits =
+    let config = header.config in
+    let tasks = header.tasks in
+    let args = valid_all config tasks limits.args in
+    rw (
+      no_limits_flaw min_cores max_cores config.cores (Cores config.cores) limits.enough_cores limits.few_cores,
+      no_limits_flaw 1 max_priorities config.priorities (Priorities config.priorities) (omega (arith, limits.some_priority)) limits.few_priorities,
+      no_limits_flaw 0 max_mutexes config.mutexes (Mutexes config.mutexes) (omega arith) limits.few_mutexes,
+      no_limits_flaw 1 max_notes config.notes (Notes config.notes) (omega (arith, limits.some_note)) limits.few_notes,
+      no_limits_flaw 1 max_tasks (length tasks) (TaskCount (length tasks)) (omega (arith, limits.some_task)) limits.few_tasks,
+      none_found (λ task. not (is_name task.name)) tasks (named_all tasks limits.named),
+      none_found (no_priority config) tasks args.0,
+      none_found (no_core config) tasks args.1,
+      none_found (λ task. ltb 1 (count_of_name tasks task.name)) tasks (once_single tasks limits.once),
+    ) refl
 
 pub passes_whole : (header : Header) → header_check header ≡ Ok tt → is_header header ≡ true
 passes_whole header passes = from (is_header header) refl
@@ -99,5 +236,38 @@ passes_whole header passes = from (is_header header) refl
     from false fails = absurd (cc (passes, fails))
     from true all = all
 
+-- a header that passes its check has no flaw, and the other way round
+pub checked_flaw : (header : Header) → header_check header ≡ Ok tt → header_flaw header ≡ None
+checked_flaw header passes = flawless header (passes_whole header passes)
+
+pub flaw_checked : (header : Header) → header_flaw header ≡ None → header_check header ≡ Ok tt
+flaw_checked header none = ap (λ (flaw : Option HeaderFlaw). cond (is_none flaw) (Ok tt) (Err BadHeader)) none
+
 pub checked_header : (header : Header) → header_check header ≡ Ok tt → IsWithinLimits header
 checked_header header passes = header_facts header (passes_whole header passes)
+
+-- the first flaw of a header is that of its numbers, or else that of its tasks, or of their names
+-- before the rest
+pub numbers_decide : (header : Header) (flaw : HeaderFlaw) → numbers_flaw header.config (length header.tasks) ≡ Some flaw → header_flaw header ≡ Some flaw
+unfolding header_flaw
+numbers_decide header flaw some = rw some refl
+
+pub names_decide : (header : Header) (place : ℕ) → numbers_flaw header.config (length header.tasks) ≡ None → place_of_no_name header.tasks ≡ Some place → header_flaw header ≡ Some (NoName place)
+unfolding header_flaw
+names_decide header place none some = rw (none, some) refl
+
+pub tasks_decide : (header : Header) → numbers_flaw header.config (length header.tasks) ≡ None → header_flaw header ≡ args_flaw header.config header.tasks
+unfolding header_flaw
+tasks_decide header none = rw none refl
+
+-- what is known of a header besides that it has no flaw
+pub checked_where : (header : Header) (flaw : Option HeaderFlaw) → flaw ≡ header_flaw header → header.config.tick < 2 ^ 32 → IfNone flaw (All (λ task. task.mask < 2 ^ 32) header.tasks) → IfNone flaw (IsCheckedHeader header)
+checked_where header (Some flaw) is tick masks = tt
+checked_where header None is tick masks =
+    let named = AllPass-from_list_all (λ (task : TaskArgs). is_name task.name) header.tasks (no_flaw_facts header (sym is)).named in
+    record {
+      passes = flaw_checked header (sym is);
+      tick = tick;
+      names = named;
+      masks = masks;
+    }

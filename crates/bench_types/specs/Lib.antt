@@ -1,9 +1,12 @@
 pub mod Act
 pub mod Codes
 pub mod Edit
+pub mod Flaw
 pub mod Header
 pub mod Limits
+pub mod Mask
 pub mod Name
 pub mod Reply
 pub mod Session
 pub mod Step
+pub mod StepFlaw

@@ -1,9 +1,12 @@
+//! What a core does next, and for what it is not accepted.
 ghost use Rattle.std.specs.Prelude.{◌≡◌, OnOk};
-ghost use Rattle.bench_types.specs.Act.{act_check, IsCheckedAct};
+ghost use Rattle.bench_types.specs.Act.{act_check, IsActOfWords, IsCheckedAct};
 ghost use Rattle.bench_types.specs.Step.{settings_of};
+ghost use Rattle.bench_types.specs.StepFlaw.{act_flaw, judged};
 
-use crate::step::check_note;
-use crate::{Call, Fault, Header, Note};
+use crate::step::note_flaw;
+use crate::step_flaw::judged;
+use crate::{Call, Fault, Header, Note, StepFlaw};
 
 /// What a core does next, whichever task is its current one.
 #[derive(Clone, Copy, Debug, PartialEq, Eq, Hash)]
@@ -19,6 +22,22 @@ pub enum Act {
 }
 
 impl Act {
+    /// The first thing for which the act is not accepted of the core.
+    #[tactic(auto, using(crate::proofs::StepFlaws::act_judged))]
+    pub fn flaw(&self, core: u32, header: &Header) -> Option<StepFlaw>
+        ensures value { result ≡ act_flaw (settings_of header.now) core self.now }
+        // There is one exactly where the check is a fault, and it is that fault.
+        ensures law { act_check (settings_of header.now) core self.now ≡ judged result }
+        ensures words { IsActOfWords self.now }
+    {
+        match *self {
+            Act::Call(call) => call.flaw(header),
+            Act::Interrupt(note) => note_flaw(note, header),
+            Act::Tick if core != 0 => Some(StepFlaw::TickCore(core)),
+            Act::Tick | Act::Switch => None,
+        }
+    }
+
     /// F2 where a core other than 0 makes a tick, else the fault of the call, or for an interrupt
     /// F3 where the task that it notifies is no user task, and then F5 where it has no such
     /// notification.
@@ -26,11 +45,6 @@ impl Act {
         ensures value { result ≡ act_check (settings_of header.now) core self.now }
         ensures checked { OnOk result (IsCheckedAct (settings_of header.now) core self.now) }
     {
-        match *self {
-            Act::Call(call) => call.check(header),
-            Act::Interrupt(note) => check_note(note, header),
-            Act::Tick if core != 0 => Err(Fault::BadCore),
-            Act::Tick | Act::Switch => Ok(()),
-        }
+        judged(self.flaw(core, header))
     }
 }

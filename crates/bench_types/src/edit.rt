@@ -1,9 +1,12 @@
+//! Edits of a session, and for what they are not accepted.
 ghost use Rattle.std.specs.Prelude.{◌≡◌, OnOk};
-ghost use Rattle.bench_types.specs.Edit.{edit_check, IsCheckedEdit};
+ghost use Rattle.bench_types.specs.Edit.{edit_check, IsCheckedEdit, IsEditOfWords};
+ghost use Rattle.bench_types.specs.StepFlaw.{edit_flaw, judged, numbers_flaw};
 
-use crate::header::allows_numbers;
-use crate::step::check_task;
-use crate::{Fault, Header, Step};
+use crate::header::allows_core;
+use crate::step::task_flaw;
+use crate::step_flaw::judged;
+use crate::{Config, Fault, Header, Step, StepFlaw};
 use thiserror::Error;
 
 /// Why an edit of a session is not accepted, with the code that the texts give it.
@@ -47,6 +50,26 @@ pub enum Edit {
 }
 
 impl Edit {
+    /// The first thing for which the edit is not accepted: that of its step; of a changed task the
+    /// task, then the priority, then the mask.
+    #[tactic(auto, using(crate::proofs::StepFlaws::edit_judged))]
+    pub fn flaw(&self, header: &Header) -> Option<StepFlaw>
+        ensures value { result ≡ edit_flaw header.now self.now }
+        // There is one exactly where the check is a fault, and it is that fault.
+        ensures law { edit_check header.now self.now ≡ judged result }
+        ensures words { IsEditOfWords self.now }
+    {
+        match *self {
+            Edit::Insert { at: _at, step } | Edit::Replace { at: _at, step } => step.flaw(header),
+            Edit::Remove { at: _at } => None,
+            Edit::ChangeTask {
+                task,
+                priority,
+                mask,
+            } => task_flaw(task, header).or(numbers_flaw(&header.config, priority, mask)),
+        }
+    }
+
     /// The fault of the edit's step. Of a changed task F3 where it is no user task, else F1 where
     /// the priority is not below the number of priorities or the mask allows no core.
     ///
@@ -55,21 +78,27 @@ impl Edit {
         ensures value { result ≡ edit_check header.now self.now }
         ensures checked { OnOk result (IsCheckedEdit header.now self.now) }
     {
-        match *self {
-            Edit::Insert { at: _at, step } | Edit::Replace { at: _at, step } => step.check(header),
-            Edit::Remove { at: _at } => Ok(()),
-            Edit::ChangeTask {
-                task,
-                priority,
-                mask,
-            } => {
-                check_task(task, header)?;
-                if allows_numbers(&header.config, priority, mask) {
-                    Ok(())
-                } else {
-                    Err(Fault::BadHeader)
-                }
-            }
-        }
+        judged(self.flaw(header))
+    }
+}
+
+// The first flaw of a task's new numbers.
+fn numbers_flaw(config: &Config, priority: u32, mask: u32) -> Option<StepFlaw>
+    ensures { result ≡ numbers_flaw config.now priority mask }
+{
+    let Config {
+        cores,
+        priorities,
+        ..
+    } = *config;
+    if priorities <= priority {
+        Some(StepFlaw::NewPriority {
+            priority,
+            priorities,
+        })
+    } else if allows_core(cores, mask) {
+        None
+    } else {
+        Some(StepFlaw::NewMask { mask, cores })
     }
 }

@@ -1,29 +1,29 @@
-ghost use Rattle.std.specs.Prelude.{◌≡◌, nat_lt, ◌<◌, ◌≤◌, ◌^◌, ◌+◌, ◌++◌, All, IsTrue, true, false, IfOk, OnOk, length, string_bytes};
-ghost use Rattle.std.specs.List.{list_all};
-ghost use Rattle.bench_types.specs.Header.{header_check, has_valid_config, has_valid_args, has_valid_numbers, cores_of_mask as cores_in, is_taken, repeats_name, name_of, IsCheckedHeader};
-ghost use Rattle.bench_types.specs.Name.{is_name};
+//! What a session starts from: its settings and its user tasks.
+ghost use Rattle.std.specs.Prelude.{◌≡◌, nat_lt, ◌++◌, IfNone, IfOk, OnOk, string_bytes};
+ghost use Rattle.bench_types.specs.Flaw.{header_flaw};
+ghost use Rattle.bench_types.specs.Header.{header_check, cores_of_mask as cores_in, name_of, IsCheckedHeader};
 
+use crate::flaw::args_flaw;
 use crate::mask::cores_of_mask;
-use crate::{
-    Fault, Items, MAX_CORES, MAX_MUTEXES, MAX_NOTES, MAX_PRIORITIES, MAX_TASKS, MIN_CORES, Name,
-};
+use crate::{Fault, HeaderFlaw, Items, Name};
 use std::alloc::{AllocError, Global};
 
 /// The settings of a session.
 #[derive(Clone, Copy, Debug, PartialEq, Eq, Hash)]
 pub struct Config {
-    /// How many cores there are, [`MIN_CORES`] to [`MAX_CORES`] (`configNUMBER_OF_CORES`).
+    /// How many cores there are, [`MIN_CORES`](crate::MIN_CORES) to
+    /// [`MAX_CORES`](crate::MAX_CORES) (`configNUMBER_OF_CORES`).
     pub cores: u32,
-    /// How many priorities there are, 1 to [`MAX_PRIORITIES`] (`configMAX_PRIORITIES`). A larger
-    /// number is a higher priority.
+    /// How many priorities there are, 1 to [`MAX_PRIORITIES`](crate::MAX_PRIORITIES)
+    /// (`configMAX_PRIORITIES`). A larger number is a higher priority.
     pub priorities: u32,
     /// Whether tasks of one priority share the cores by turns (`configUSE_TIME_SLICING`).
     pub slicing: bool,
     /// The tick count at the start, in ticks.
     pub tick: u32,
-    /// How many mutexes there are, 0 to [`MAX_MUTEXES`].
+    /// How many mutexes there are, 0 to [`MAX_MUTEXES`](crate::MAX_MUTEXES).
     pub mutexes: u32,
-    /// How many notifications each task has, 1 to [`MAX_NOTES`]
+    /// How many notifications each task has, 1 to [`MAX_NOTES`](crate::MAX_NOTES)
     /// (`configTASK_NOTIFICATION_ARRAY_ENTRIES`).
     pub notes: u32,
 }
@@ -46,7 +46,7 @@ pub struct TaskArgs {
 #[derive(Debug, Drop)]
 pub struct Header {
     pub config: Config,
-    /// The user tasks, 1 to [`MAX_TASKS`] of them, with distinct names.
+    /// The user tasks, 1 to [`MAX_TASKS`](crate::MAX_TASKS) of them, with distinct names.
     pub tasks: Items<TaskArgs>,
 }
 
@@ -64,23 +64,31 @@ impl TaskArgs {
 }
 
 impl Header {
-    /// F1 where a number is outside its limits, a priority or a mask fits none of the cores and
-    /// priorities, or a name is repeated.
+    /// The first thing for which the header is not accepted, in the order of [`HeaderFlaw`]; none
+    /// where it is accepted.
+    #[tactic(auto, unfolding(crate::specs::Flaw::header_flaw))]
+    pub fn flaw(&self) -> Option<HeaderFlaw>
+        ensures value { result ≡ header_flaw self.now }
+        // So names are names, and numbers are of 32 bits.
+        ensures checked { IfNone result (IsCheckedHeader self.now) }
+    {
+        // The tick count may be any. It is read, so it is known to be one of 32 bits.
+        let _tick = self.config.tick;
+        let tasks = self.tasks.as_slice();
+        match self.config.flaw(tasks.len()) {
+            Some(flaw) => Some(flaw),
+            None => args_flaw(self.config, tasks),
+        }
+    }
+
+    /// F1 where the header has a flaw.
     pub fn check(&self) -> Result<(), Fault>
         ensures value { result ≡ header_check self.now }
-        // So names are names, and numbers are of 32 bits.
         ensures checked { OnOk result (IsCheckedHeader self.now) }
     {
-        let tasks = self.tasks.as_slice();
-        if is_valid_config(self.config)
-            && 1 <= tasks.len()
-            && tasks.len() <= MAX_TASKS as usize
-            && are_valid_args(&self.config, tasks)
-            && !has_repeated_name(tasks)
-        {
-            Ok(())
-        } else {
-            Err(Fault::BadHeader)
+        match self.flaw() {
+            None => Ok(()),
+            Some(_) => Err(Fault::BadHeader),
         }
     }
 
@@ -115,66 +123,9 @@ impl Header {
     }
 }
 
-fn is_valid_config(config: Config) -> bool
-    ensures value { result ≡ has_valid_config config }
-    ensures tick { config.tick < 2 ^ 32 }
-{
-    MIN_CORES <= config.cores
-        && config.cores <= MAX_CORES
-        && 1 <= config.priorities
-        && config.priorities <= MAX_PRIORITIES
-        && config.mutexes <= MAX_MUTEXES
-        && 1 <= config.notes
-        && config.notes <= MAX_NOTES
-}
-
-fn are_valid_args(config: &Config, tasks: &[TaskArgs]) -> bool
-    ensures value { result ≡ list_all (has_valid_args config.now) tasks.now }
-    ensures masks { result ≡ true → All (λ task. task.mask < 2 ^ 32) tasks.now }
-{
-    for task in tasks {
-        if !is_valid_args(config, task) {
-            return false;
-        }
-    }
-    true
-}
-
-fn is_valid_args(config: &Config, task: &TaskArgs) -> bool
-    ensures value { result ≡ has_valid_args config.now task.now }
-    ensures mask { task.now.mask < 2 ^ 32 }
-{
-    allows_numbers(config, task.priority, task.mask)
-}
-
-/// Whether a task may be created with this priority and core affinity mask.
-pub(crate) fn allows_numbers(config: &Config, priority: u32, mask: u32) -> bool
-    ensures { result ≡ has_valid_numbers config.now priority mask }
-{
-    priority < config.priorities && allows_core(config.cores, mask)
-}
-
 /// Whether a bit of the mask means one of so many cores.
 pub(crate) fn allows_core(cores: u32, mask: u32) -> bool
     ensures { result ≡ nat_lt 0 (cores_in cores mask) }
 {
     cores_of_mask(cores, mask) != 0
-}
-
-fn has_repeated_name(tasks: &[TaskArgs]) -> bool
-    ensures value { result ≡ repeats_name tasks.now }
-    ensures names { result ≡ false → All (λ task. IsTrue (is_name task.name)) tasks.now }
-{
-    for (place, task) in tasks.iter().enumerate() {
-        if is_taken_by(&tasks[place + 1..], task.name.as_str()) {
-            return true;
-        }
-    }
-    false
-}
-
-fn is_taken_by(tasks: &[TaskArgs], name: &str) -> bool
-    ensures { result ≡ is_taken name.now tasks.now }
-{
-    tasks.iter().any(|task| name == task.name.as_str())
 }

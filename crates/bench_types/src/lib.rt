@@ -7,6 +7,7 @@ mod code;
 mod edit;
 mod entry;
 mod fault;
+mod flaw;
 mod header;
 mod items;
 mod kernel_data;
@@ -16,12 +17,14 @@ mod name;
 mod note;
 mod reply;
 mod step;
+mod step_flaw;
 mod tally;
 
 pub use act::Act;
 pub use edit::{Edit, EditFault};
 pub use entry::Entry;
 pub use fault::Fault;
+pub use flaw::HeaderFlaw;
 pub use header::{Config, Header, TaskArgs};
 pub use items::Items;
 pub use kernel_data::{
@@ -36,4 +39,5 @@ pub use name::Name;
 pub use note::{Action, Note, NoteState, Notification};
 pub use reply::{Refusal, Reply, Row};
 pub use step::{Call, Step, Unfinished};
+pub use step_flaw::StepFlaw;
 pub use tally::Tally;

@@ -77,7 +77,7 @@ impl Eq for Name {
     ghost laws = { nat_list_eq_equiv };
 }
 
-fn spells_name(bytes: &[u8]) -> bool
+pub(crate) fn spells_name(bytes: &[u8]) -> bool
     ensures { result ≡ is_name bytes.now }
 {
     has_name_length(bytes) && is_printable(bytes) && !bytes.starts_with(b"IDLE")

@@ -1,8 +1,11 @@
+//! The steps of a session, and for what they are not accepted.
 ghost use Rattle.std.specs.Prelude.{◌≡◌, OnOk};
-ghost use Rattle.bench_types.specs.Step.{core_of, settings_of, call_check, core_check, increment_check, index_check, mask_check, mutex_check, note_check, step_check, task_check, IsActionOfWord, IsCheckedCall, IsCheckedStep};
+ghost use Rattle.bench_types.specs.Step.{core_of, settings_of, call_check, step_check, IsActionOfWord, IsCheckedCall, IsCheckedStep, IsOfWords, IsStepOfWords};
+ghost use Rattle.bench_types.specs.StepFlaw.{call_flaw, core_flaw, increment_flaw, index_flaw, judged, mask_flaw, mutex_flaw, note_flaw, step_flaw, task_flaw};
 
 use crate::header::allows_core;
-use crate::{Action, Fault, Header, Note};
+use crate::step_flaw::judged;
+use crate::{Action, Fault, Header, Note, StepFlaw};
 
 /// One event of a session.
 #[derive(Clone, Copy, Debug, PartialEq, Eq, Hash)]
@@ -111,29 +114,85 @@ impl Step {
         }
     }
 
+    /// The first thing for which the step is not accepted, in the order in which they are tried:
+    /// its core, its caller, then the arguments of its call.
+    #[tactic(auto, using(crate::proofs::StepFlaws::step_judged))]
+    pub fn flaw(&self, header: &Header) -> Option<StepFlaw>
+        ensures value { result ≡ step_flaw (settings_of header.now) self.now }
+        // There is one exactly where the check is a fault, and it is that fault.
+        ensures law { step_check (settings_of header.now) self.now ≡ judged result }
+        ensures words { IsStepOfWords self.now }
+    {
+        match *self {
+            Step::Tick => None,
+            Step::Switch { core } => core_flaw(core, header),
+            Step::Call { core, task, call } => core_flaw(core, header)
+                .or(task_flaw(task, header))
+                .or(call.flaw(header)),
+            Step::Interrupt { core, note } => core_flaw(core, header).or(note_flaw(note, header)),
+        }
+    }
+
     /// F2 where the core is none, else F3 where the caller is no user task, else the fault of the
     /// call. For an interrupt F3 where the notified task is no user task.
     pub fn check(&self, header: &Header) -> Result<(), Fault>
         ensures value { result ≡ step_check (settings_of header.now) self.now }
         ensures checked { OnOk result (IsCheckedStep (settings_of header.now) self.now) }
     {
-        match *self {
-            Step::Tick => Ok(()),
-            Step::Switch { core } => check_core(core, header),
-            Step::Call { core, task, call } => {
-                check_core(core, header)?;
-                check_task(task, header)?;
-                call.check(header)
-            }
-            Step::Interrupt { core, note } => {
-                check_core(core, header)?;
-                check_note(note, header)
-            }
-        }
+        judged(self.flaw(header))
     }
 }
 
 impl Call {
+    /// The first thing for which the call's arguments are not accepted: the task that it is for,
+    /// then the mask, the ticks between wakes, the index or the mutex.
+    #[tactic(auto, using(crate::proofs::StepFlaws::call_judged))]
+    pub fn flaw(&self, header: &Header) -> Option<StepFlaw>
+        ensures value { result ≡ call_flaw (settings_of header.now) self.now }
+        ensures law { call_check (settings_of header.now) self.now ≡ judged result }
+        ensures words { IsOfWords self.now }
+    {
+        // A number that may be any is bound too: so it is known to be one of 32 bits.
+        match *self {
+            Call::Yield | Call::Finish | Call::HoldOpen | Call::HoldClose => None,
+            Call::Delay(_ticks) => None,
+            Call::NotifyTake {
+                clear: _,
+                ticks: _ticks,
+                index,
+            } => index_flaw(index, header),
+            Call::NotifyWait {
+                entry: _entry,
+                exit: _exit,
+                ticks: _ticks,
+                index,
+            } => index_flaw(index, header),
+            Call::DelayUntil { prev: _prev, inc } => increment_flaw(inc),
+            Call::AffinitySet { task, mask } => {
+                task_flaw(task, header).or(mask_flaw(mask, header))
+            }
+            Call::PrioritySet {
+                task,
+                priority: _any,
+            } => task_flaw(task, header),
+            Call::ValueClear {
+                task,
+                bits: _any,
+                index,
+            } => task_flaw(task, header).or(index_flaw(index, header)),
+            Call::StateClear { task, index } => {
+                task_flaw(task, header).or(index_flaw(index, header))
+            }
+            Call::PreemptOff(task) | Call::PreemptOn(task) => task_flaw(task, header),
+            Call::Notify(note) => note_flaw(note, header),
+            Call::MutexTake {
+                mutex,
+                ticks: _ticks,
+            } => mutex_flaw(mutex, header),
+            Call::MutexGive(mutex) => mutex_flaw(mutex, header),
+        }
+    }
+
     /// The fault of the call's arguments: F3 where the task that it is for is no user task, F4
     /// where the mutex that it is for is none, F5 where a mask allows no core or a wake is 0 ticks
     /// after the last one.
@@ -141,129 +200,93 @@ impl Call {
         ensures value { result ≡ call_check (settings_of header.now) self.now }
         ensures checked { OnOk result (IsCheckedCall (settings_of header.now) self.now) }
     {
-        // A number that may be any is bound too: so it is known to be one of 32 bits.
-        match *self {
-            Call::Yield | Call::Finish | Call::HoldOpen | Call::HoldClose => Ok(()),
-            Call::Delay(_ticks) => Ok(()),
-            Call::NotifyTake {
-                clear: _,
-                ticks: _ticks,
-                index,
-            } => check_index(index, header),
-            Call::NotifyWait {
-                entry: _entry,
-                exit: _exit,
-                ticks: _ticks,
-                index,
-            } => check_index(index, header),
-            Call::DelayUntil { prev: _prev, inc } => check_increment(inc),
-            Call::AffinitySet { task, mask } => {
-                check_task(task, header)?;
-                check_mask(mask, header)
-            }
-            Call::PrioritySet {
-                task,
-                priority: _any,
-            } => check_task(task, header),
-            Call::ValueClear {
-                task,
-                bits: _any,
-                index,
-            } => {
-                check_task(task, header)?;
-                check_index(index, header)
-            }
-            Call::StateClear { task, index } => {
-                check_task(task, header)?;
-                check_index(index, header)
-            }
-            Call::PreemptOff(task) | Call::PreemptOn(task) => check_task(task, header),
-            Call::Notify(note) => check_note(note, header),
-            Call::MutexTake {
-                mutex,
-                ticks: _ticks,
-            } => check_mutex(mutex, header),
-            Call::MutexGive(mutex) => check_mutex(mutex, header),
-        }
+        judged(self.flaw(header))
     }
 }
 
-fn check_core(core: u32, header: &Header) -> Result<(), Fault>
-    ensures { result ≡ core_check (settings_of header.now) core }
+fn core_flaw(core: u32, header: &Header) -> Option<StepFlaw>
+    ensures { result ≡ core_flaw (settings_of header.now) core }
 {
-    if core < header.config.cores {
-        Ok(())
+    let cores = header.config.cores;
+    if core < cores {
+        None
     } else {
-        Err(Fault::BadCore)
+        Some(StepFlaw::Core { core, cores })
     }
 }
 
-pub(crate) fn check_task(task: u32, header: &Header) -> Result<(), Fault>
-    ensures { result ≡ task_check (settings_of header.now) task }
+pub(crate) fn task_flaw(task: u32, header: &Header) -> Option<StepFlaw>
+    ensures { result ≡ task_flaw (settings_of header.now) task }
 {
     let tasks = header.tasks.as_slice();
     let is_user = header.config.cores <= task
         && ((task - header.config.cores) as usize) < tasks.len();
-    if is_user { Ok(()) } else { Err(Fault::BadTask) }
+    if is_user {
+        None
+    } else {
+        Some(StepFlaw::Task(task))
+    }
 }
 
 // Any action will do, whatever its number.
-pub(crate) fn check_note(note: Note, header: &Header) -> Result<(), Fault>
-    ensures value { result ≡ note_check (settings_of header.now) note }
+pub(crate) fn note_flaw(note: Note, header: &Header) -> Option<StepFlaw>
+    ensures value { result ≡ note_flaw (settings_of header.now) note }
     ensures words { IsActionOfWord note.action }
 {
     match note.action {
-        Action::Nothing | Action::Increment => check_address(note, header),
+        Action::Nothing | Action::Increment => address_flaw(note, header),
         Action::SetBits(_any) | Action::Set(_any) | Action::SetNew(_any) => {
-            check_address(note, header)
+            address_flaw(note, header)
         }
     }
 }
 
 // The task and the index.
-fn check_address(note: Note, header: &Header) -> Result<(), Fault>
-    ensures { result ≡ note_check (settings_of header.now) note }
+fn address_flaw(note: Note, header: &Header) -> Option<StepFlaw>
+    ensures { result ≡ note_flaw (settings_of header.now) note }
 {
-    check_task(note.task, header)?;
-    check_index(note.index, header)
+    task_flaw(note.task, header).or(index_flaw(note.index, header))
 }
 
-fn check_index(index: u32, header: &Header) -> Result<(), Fault>
-    ensures { result ≡ index_check (settings_of header.now) index }
+fn index_flaw(index: u32, header: &Header) -> Option<StepFlaw>
+    ensures { result ≡ index_flaw (settings_of header.now) index }
 {
-    if index < header.config.notes {
-        Ok(())
+    let notes = header.config.notes;
+    if index < notes {
+        None
     } else {
-        Err(Fault::BadArgument)
+        Some(StepFlaw::Index { index, notes })
     }
 }
 
-fn check_mutex(mutex: u32, header: &Header) -> Result<(), Fault>
-    ensures { result ≡ mutex_check (settings_of header.now) mutex }
+fn mutex_flaw(mutex: u32, header: &Header) -> Option<StepFlaw>
+    ensures { result ≡ mutex_flaw (settings_of header.now) mutex }
 {
-    if mutex < header.config.mutexes {
-        Ok(())
+    let mutexes = header.config.mutexes;
+    if mutex < mutexes {
+        None
     } else {
-        Err(Fault::BadMutex)
+        Some(StepFlaw::Mutex { mutex, mutexes })
     }
 }
 
-fn check_mask(mask: u32, header: &Header) -> Result<(), Fault>
-    ensures { result ≡ mask_check (settings_of header.now) mask }
+fn mask_flaw(mask: u32, header: &Header) -> Option<StepFlaw>
+    ensures { result ≡ mask_flaw (settings_of header.now) mask }
 {
-    if allows_core(header.config.cores, mask) {
-        Ok(())
+    let cores = header.config.cores;
+    if allows_core(cores, mask) {
+        None
     } else {
-        Err(Fault::BadArgument)
+        Some(StepFlaw::Mask { mask, cores })
     }
 }
 
-fn check_increment(inc: u32) -> Result<(), Fault>
-    ensures { result ≡ increment_check inc }
+fn increment_flaw(inc: u32) -> Option<StepFlaw>
+    ensures { result ≡ increment_flaw inc }
 {
     if inc == 0 {
-        Err(Fault::BadArgument)
+        Some(StepFlaw::Increment)
     } else {
-        Ok(())
+        None
     }
 }

@@ -61,6 +61,7 @@ impl Rig {
     ///
     /// F1 where the header is at fault, else F5 where the limit is over 1,000,000, and else only
     /// memory can be wanting.
+    #[tactic(auto, using(bench_types::proofs::Passes::checked_header))]
     pub fn new(
         rt: &HostRuntime,
         alloc: Global,
@@ -133,6 +134,7 @@ impl Rig {
     }
 
     // The end of a rig whose seats are all there, while no core holds the kernel.
+    #[tactic(auto, using(bench_types::proofs::Passes::checked_header))]
     fn end(self, seats: Vec<CoreSeat>) -> Recorded
         requires own { All (IsSeatOf self) seats.items }
         requires all { close_check self.cores seats.items ≡ Ok tt }

@@ -1,6 +1,7 @@
 pub mod Arrays
 pub mod Documents
-pub mod Members
+pub mod Least
+mod Members
 pub mod Objects
 pub mod Places
 pub mod Ranges

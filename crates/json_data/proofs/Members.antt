@@ -1,7 +1,8 @@
 -- The members of an object: what serde_json has at a name is what `json` finds there last, and both
 -- have the same names.
-use Rattle.std.proofs.Common.{◌≡◌, ℕ, ◌≤◌, max, List, Bool, true, false, cond, ◌&&◌, Option, Some, None, is_some, option_map, option_and_then, refl, sym, ap, ◌∙◌, subst, arith, bytes_eq, Ordering, Less, Equal, Greater}
+use Rattle.std.proofs.Common.{◌≡◌, ℕ, ◌≤◌, max, List, Bool, true, false, cond, not, ◌&&◌, Bor, Option, Some, None, is_none, is_some, option_map, option_and_then, refl, sym, ap, ◌∙◌, subst, arith, bytes_eq, Ordering, Less, Equal, Greater}
 use Rattle.std.specs.List.{list_any}
+use Rattle.std.specs.Option.{option_map_or}
 use Rattle.std.specs.Ordering.{is_eq, nat_cmp, match_ordering}
 use Rattle.std.specs.Cmp.Lexicographic.{slice_cmp}
 use Rattle.std.proofs.lemmas.Map.Text.{is_eq-slice_cmp}
@@ -14,7 +15,8 @@ use Rattle.serde_json.specs.Data.{Data, Members, no_members, member, put}
 use Rattle.serde_json.specs.Find.{get_member}
 use Rattle.serde_json.specs.Read.{of_json, of_members}
 use Rattle.serde_json.proofs.Views.{get_member-put, get_member-put_other}
-use Rattle.json_data.specs.Reading.{are_known, keys_known}
+use Rattle.json_data.specs.Reading.{are_known, least_unknown, least_unknown_key, lesser, lesser_unknown}
+use Rattle.json_data.proofs.Least.{swap, twice}
 
 pub then_some : {A B : Type 0} (f : A → Option B) (o : Option A) (y : B) → option_and_then f o ≡ Some y → (x : A) × (o ≡ Some x) × (f x ≡ Some y)
 then_some f (Some x) y is = (x, refl, is)
@@ -65,34 +67,52 @@ part_read name (json.member k j ms) found all i is there =
 
 -- ---- the names
 
-put_known : (names : List (List ℕ)) (k : List ℕ) (d : Data) (ms : Members) → are_known names (put k d ms) ≡ (list_any (bytes_eq k) names && are_known names ms)
-put_known names k d no_members = refl
-put_known names k d (member l e ms) = by (slice_cmp nat_cmp k l) refl (put_known names k d ms)
+put_unknown : (names : List (List ℕ)) (k : List ℕ) (d : Data) (ms : Members) → least_unknown names (put k d ms) ≡ lesser_unknown names k (least_unknown names ms)
+put_unknown names k d no_members = refl
+put_unknown names k d (member l e ms) = by (slice_cmp nat_cmp k l) refl (put_unknown names k d ms)
   where
-    by : (o : Ordering) → slice_cmp nat_cmp k l ≡ o → are_known names (put k d ms) ≡ (list_any (bytes_eq k) names && are_known names ms)
-        → are_known names (match_ordering o (member k d (member l e ms)) (member l d ms) (member l e (put k d ms))) ≡ (list_any (bytes_eq k) names && (list_any (bytes_eq l) names && are_known names ms))
+    by : (o : Ordering) → slice_cmp nat_cmp k l ≡ o → least_unknown names (put k d ms) ≡ lesser_unknown names k (least_unknown names ms)
+        → least_unknown names (match_ordering o (member k d (member l e ms)) (member l d ms) (member l e (put k d ms))) ≡ lesser_unknown names k (lesser_unknown names l (least_unknown names ms))
     by Less is more = refl
     by Equal is more =
         let same : k ≡ l = (bytes_eq-Decides k l).0 (sym (is_eq-slice_cmp k l) ∙ ap is_eq is) in
-        ap (λ b. b && are_known names ms) (twice (list_any (bytes_eq l) names)) ∙ reassoc (list_any (bytes_eq l) names) (list_any (bytes_eq l) names) (are_known names ms)
-        ∙ ap (λ (n : List ℕ). list_any (bytes_eq n) names && (list_any (bytes_eq l) names && are_known names ms)) (sym same)
-      where
-        twice : (b : Bool) → b ≡ (b && b)
-        twice b = grind arith
+        sym (ap (λ (n : List ℕ). lesser_unknown names n (lesser_unknown names l (least_unknown names ms))) same ∙ twice names l (least_unknown names ms))
+    by Greater is more = ap (lesser_unknown names l) more ∙ swap names l k (least_unknown names ms)
 
-        reassoc : (a b c : Bool) → ((a && b) && c) ≡ (a && (b && c))
-        reassoc a b c = grind arith
-    by Greater is more = ap (λ b. list_any (bytes_eq l) names && b) more ∙ swap (list_any (bytes_eq l) names) (list_any (bytes_eq k) names) (are_known names ms)
-      where
-        swap : (a b c : Bool) → (a && (b && c)) ≡ (b && (a && c))
-        swap a b c = grind arith
+-- names one after another, as a loop takes them
+abbrev pub taken : List (List ℕ) → json.Members → Option (List ℕ) → Option (List ℕ)
+taken names json.no_members least = least
+taken names (json.member k j ms) least = taken names ms (lesser_unknown names k least)
 
-pub names_read : (names : List (List ℕ)) (ms : json.Members) (found all : Members) → of_members ms found ≡ Some all → are_known names all ≡ (keys_known names ms && are_known names found)
-names_read names json.no_members found all is = ap (are_known names) (sym (Some_inj found all is))
-names_read names (json.member k j ms) found all is =
+taken_later : (names : List (List ℕ)) (k : List ℕ) (ms : json.Members) (least : Option (List ℕ)) → taken names ms (lesser_unknown names k least) ≡ lesser_unknown names k (taken names ms least)
+taken_later names k json.no_members least = refl
+taken_later names k (json.member l j ms) least = ap (taken names ms) (swap names l k least) ∙ taken_later names k ms (lesser_unknown names l least)
+
+pub taken_all : (names : List (List ℕ)) (ms : json.Members) → taken names ms None ≡ least_unknown_key names ms
+taken_all names json.no_members = refl
+taken_all names (json.member k j ms) = taken_later names k ms None ∙ ap (lesser_unknown names k) (taken_all names ms)
+
+names_taken : (names : List (List ℕ)) (ms : json.Members) (found all : Members) → of_members ms found ≡ Some all → least_unknown names all ≡ taken names ms (least_unknown names found)
+names_taken names json.no_members found all is = ap (least_unknown names) (sym (Some_inj found all is))
+names_taken names (json.member k j ms) found all is =
     let first = then_some (λ d. of_members ms (put k d found)) (of_json j) all is in
-    names_read names ms (put k first.0 found) all first.2 ∙ ap (λ b. keys_known names ms && b) (put_known names k first.0 found)
-    ∙ swap (keys_known names ms) (list_any (bytes_eq k) names) (are_known names found)
+    names_taken names ms (put k first.0 found) all first.2 ∙ ap (taken names ms) (put_unknown names k first.0 found)
+
+pub names_read : (names : List (List ℕ)) (ms : json.Members) (all : Members) → of_members ms no_members ≡ Some all → least_unknown names all ≡ least_unknown_key names ms
+names_read names ms all is = names_taken names ms no_members all is ∙ taken_all names ms
+
+-- all names are known where there is no least unknown one
+pub known_by_least : (names : List (List ℕ)) (ms : Members) → is_none (least_unknown names ms) ≡ are_known names ms
+known_by_least names no_members = refl
+known_by_least names (member k d ms) = by (list_any (bytes_eq k) names) (known_by_least names ms)
   where
-    swap : (a b c : Bool) → (a && (b && c)) ≡ ((b && a) && c)
-    swap a b c = grind arith
+    by : (b : Bool) → is_none (least_unknown names ms) ≡ are_known names ms → is_none (cond b (least_unknown names ms) (Some (option_map_or (lesser k) (least_unknown names ms) k))) ≡ (b && are_known names ms)
+    by true rest = rest
+    by false rest = refl
+
+pub known_where_none : (names : List (List ℕ)) (ms : Members) (least : Option (Bor (List ℕ))) (b : Bool) → is_some least ≡ not b → option_map (λ name. name.now) least ≡ least_unknown names ms → b ≡ are_known names ms
+known_where_none names ms least b none same = by least none ∙ ap is_none same ∙ known_by_least names ms
+  where
+    by : (o : Option (Bor (List ℕ))) → is_some o ≡ not b → b ≡ is_none (option_map (λ name. name.now) o)
+    by None is = grind arith
+    by (Some name) is = grind arith

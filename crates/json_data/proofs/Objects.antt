@@ -1,6 +1,5 @@
 -- The members of an object as a tape has them.
-use Rattle.std.proofs.Common.{◌≡◌, ℕ, List, Bool, true, ◌&&◌, Option, Some, None, is_some, sym, ap, ◌∙◌, arith, bytes_eq}
-use Rattle.std.specs.List.{list_any}
+use Rattle.std.proofs.Common.{◌≡◌, ℕ, List, true, Option, Some, None, is_some, sym, ap, ◌∙◌}
 use Rattle.std.specs.Prelude.{MatchOption}
 use Rattle.json.specs.Token.{Token}
 use Rattle.json.specs.Json as json
@@ -10,8 +9,8 @@ use Rattle.json.proofs.Found.{Some_inj}
 use Rattle.serde_json.specs.Data.{Data, Members, null, boolean, number, string, array, object, no_members}
 use Rattle.serde_json.specs.Find.{as_object}
 use Rattle.serde_json.specs.Read.{of_json, of_items, of_members, number_of, max_depth}
-use Rattle.json_data.specs.Reading.{data_at, data_of, are_known, keys_known}
-use Rattle.json_data.proofs.Members.{mapped_some, names_read}
+use Rattle.json_data.specs.Reading.{data_at, data_of, least_unknown, least_unknown_key, lesser_unknown}
+use Rattle.json_data.proofs.Members.{mapped_some, names_read, taken}
 use Rattle.json_data.proofs.Places.{begun}
 
 abbrev pub Opens : List Token → Option (List Token) → Type 0
@@ -43,21 +42,18 @@ an_object ts rest valid finds =
     let m = mapped_some object (of_members found.0 no_members) b.read (ap of_json (sym found.1) ∙ b.reads) in
     record { found = found.0; members = m.0; inside = found.2; reads = m.1; shows = ap as_object (b.shows ∙ m.2) }
 
--- an object's names are known where its keys are
-pub known_names : (names : List (List ℕ)) (ts rest : List Token) (b : Bool) (members : Members) → is_some (data_at ts) ≡ true → Opens ts (Some rest)
-    → ((all : json.Members) → InMembers rest all → b ≡ keys_known names all) → as_object (data_of ts) ≡ Some members → b ≡ are_known names members
-known_names names ts rest b members valid finds keys is =
+-- an object's least unknown name is that of its keys
+pub unknown_name : (names : List (List ℕ)) (ts rest : List Token) (least : Option (List ℕ)) (members : Members) → is_some (data_at ts) ≡ true → Opens ts (Some rest)
+    → ((all : json.Members) → InMembers rest all → least ≡ least_unknown_key names all) → as_object (data_of ts) ≡ Some members → least ≡ least_unknown names members
+unknown_name names ts rest least members valid finds keys is =
     let o = an_object ts rest valid finds in
     let same : o.members ≡ members = Some_inj o.members members (sym o.shows ∙ is) in
-    keys o.found o.inside ∙ all (keys_known names o.found) ∙ sym (names_read names o.found no_members o.members o.reads) ∙ ap (are_known names) same
-  where
-    all : (k : Bool) → k ≡ (k && true)
-    all k = grind arith
+    keys o.found o.inside ∙ sym (names_read names o.found o.members o.reads) ∙ ap (least_unknown names) same
 
 -- one key, and those after it
-pub keys_turn : (names : List (List ℕ)) (old new at : List Token) (k : List ℕ) (ms : json.Members) → NextMember old (Some (k, at)) new → InMembers old ms
-    → (rest : json.Members) × InMembers new rest × (keys_known names ms ≡ (list_any (bytes_eq k) names && keys_known names rest))
-keys_turn names old new at k ms next inside = let f = next ms inside in (f.1, f.4, ap (keys_known names) f.2)
+pub keys_turn : (names : List (List ℕ)) (old new at : List Token) (k : List ℕ) (ms : json.Members) (least : Option (List ℕ)) → NextMember old (Some (k, at)) new → InMembers old ms
+    → (rest : json.Members) × InMembers new rest × (taken names ms least ≡ taken names rest (lesser_unknown names k least))
+keys_turn names old new at k ms least next inside = let f = next ms inside in (f.1, f.4, ap (λ (ms : json.Members). taken names ms least) f.2)
 
-pub keys_end : (names : List (List ℕ)) (old new : List Token) (ms : json.Members) → NextMember old None new → InMembers old ms → true ≡ keys_known names ms
-keys_end names old new ms next inside = sym (ap (keys_known names) (next ms inside))
+pub keys_end : (names : List (List ℕ)) (old new : List Token) (ms : json.Members) (least : Option (List ℕ)) → NextMember old None new → InMembers old ms → taken names ms least ≡ least
+keys_end names old new ms least next inside = ap (λ (ms : json.Members). taken names ms least) (next ms inside)

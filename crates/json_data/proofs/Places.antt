@@ -8,7 +8,7 @@ use Rattle.json.specs.Tree.{depth}
 use Rattle.json.proofs.Found.{Some_inj}
 use Rattle.json.proofs.Nesting.{value-depth}
 use Rattle.serde_json.specs.Data.{Data, null, boolean, number, string, array, object, no_members}
-use Rattle.serde_json.specs.Find.{get, as_str, as_bool, as_number}
+use Rattle.serde_json.specs.Find.{get, as_null, as_str, as_bool, as_number}
 use Rattle.serde_json.specs.Read.{of_json, of_items, of_members, number_of, max_depth}
 use Rattle.json_data.specs.Reading.{data_at, data_of}
 use Rattle.json_data.proofs.Documents.{value_in}
@@ -123,3 +123,14 @@ number_at ts r valid is = let b = begun ts valid in ap (option_and_then number_o
     by (json.string s) d is = ap as_number (Some_inj (string s) d is)
     by (json.array js) d is = let m = mapped_some array (of_items js) d is in ap as_number (sym m.2)
     by (json.object ms) d is = let m = mapped_some object (of_members ms no_members) d is in ap as_number (sym m.2)
+
+pub null_at : (ts : List Token) (r : Bool) → is_some (data_at ts) ≡ true → ((j : json.Json) → json_find.BeginsWith ts j → r ≡ json_find.is_null j) → r ≡ is_some (as_null (data_of ts))
+null_at ts r valid is = let b = begun ts valid in is b.value (max_depth, b.rest, b.is) ∙ by b.value b.read b.reads ∙ ap (λ d. is_some (as_null d)) (sym b.shows)
+  where
+    by : (j : json.Json) (d : Data) → of_json j ≡ Some d → json_find.is_null j ≡ is_some (as_null d)
+    by json.null d is = ap (λ d. is_some (as_null d)) (Some_inj null d is)
+    by (json.boolean b) d is = ap (λ d. is_some (as_null d)) (Some_inj (boolean b) d is)
+    by (json.number s) d is = let m = mapped_some number (number_of s) d is in ap (λ d. is_some (as_null d)) (sym m.2)
+    by (json.string s) d is = ap (λ d. is_some (as_null d)) (Some_inj (string s) d is)
+    by (json.array js) d is = let m = mapped_some array (of_items js) d is in ap (λ d. is_some (as_null d)) (sym m.2)
+    by (json.object ms) d is = let m = mapped_some object (of_members ms no_members) d is in ap (λ d. is_some (as_null d)) (sym m.2)

@@ -1,7 +1,9 @@
 -- What the tokens of a JSON text stand for, as serde_json reads them.
-use Rattle.std.specs.Prelude.{ℕ, zero, suc, List, [], ◌∷◌, Bool, true, false, ◌&&◌, Option, Some, None, option_map, option_and_then, unwrap_or, bytes_eq}
+use Rattle.std.specs.Prelude.{ℕ, zero, suc, List, [], ◌∷◌, Bool, true, false, ◌&&◌, Option, Some, None, option_map, option_and_then, unwrap_or, bytes_eq, if◌then◌else◌}
 use Rattle.std.specs.Option.{option_map_or}
 use Rattle.std.specs.List.{list_any}
+use Rattle.std.specs.Ordering.{is_lt, nat_cmp}
+use Rattle.std.specs.Cmp.Lexicographic.{slice_cmp}
 use Rattle.json.specs.Token.{Token}
 use Rattle.json.specs.Json as json
 use Rattle.serde_json.specs.Data.{Data, null, Items, no_items, Members, no_members, member}
@@ -45,7 +47,23 @@ are_known names (member name d rest) = list_any (bytes_eq name) names && are_kno
 abbrev pub rest_of : List Token → Items
 rest_of ts = unwrap_or (as_array (data_of (Token.begin_array ∷ ts))) no_items
 
+-- the lesser of two names, by their bytes
+abbrev pub lesser : List ℕ → List ℕ → List ℕ
+lesser name other = if is_lt (slice_cmp nat_cmp other name) then other else name
+
+-- the lesser of a name and the least so far; a known name counts for nothing
+abbrev pub lesser_unknown : List (List ℕ) → List ℕ → Option (List ℕ) → Option (List ℕ)
+lesser_unknown known name least =
+    if list_any (bytes_eq name) known then least
+    else Some (option_map_or (lesser name) least name)
+
+-- the least name of a member that is none of the known names
+abbrev pub least_unknown : List (List ℕ) → Members → Option (List ℕ)
+least_unknown known no_members = None
+least_unknown known (member name d rest) = lesser_unknown known name (least_unknown known rest)
+
 -- the same of an object's keys as they stand in the text
-abbrev pub keys_known : List (List ℕ) → json.Members → Bool
-keys_known names json.no_members = true
-keys_known names (json.member k j rest) = list_any (bytes_eq k) names && keys_known names rest
+abbrev pub least_unknown_key : List (List ℕ) → json.Members → Option (List ℕ)
+least_unknown_key known json.no_members = None
+least_unknown_key known (json.member k j rest) =
+    lesser_unknown known k (least_unknown_key known rest)

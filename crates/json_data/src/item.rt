@@ -3,8 +3,8 @@ ghost use Rattle.std.specs.List.{list_any};
 ghost use Rattle.json.specs.Json as json;
 ghost use Rattle.json.specs.Find.{InMembers};
 ghost use Rattle.serde_json.specs.Data.{Members};
-ghost use Rattle.serde_json.specs.Find.{as_array, as_bool, as_number, as_object, as_str, as_u64, get};
-ghost use Rattle.json_data.specs.Reading.{are_known, data_at, data_of, keys_known};
+ghost use Rattle.serde_json.specs.Find.{as_array, as_bool, as_null, as_number, as_object, as_str, as_u64, get};
+ghost use Rattle.json_data.specs.Reading.{data_at, data_of, least_unknown, least_unknown_key, lesser_unknown};
 
 use crate::items::Items;
 use crate::object::Object;
@@ -58,6 +58,13 @@ impl<'t, 'a> Item<'t, 'a> {
         }
     }
 
+    /// Whether this is `null`.
+    pub fn is_null(&self) -> bool
+        ensures { result ≡ is_some (as_null (view self.now)) }
+    {
+        self.element.is_null()
+    }
+
     /// The truth value, where this is one.
     pub fn as_bool(&self) -> Option<bool>
         ensures { result ≡ as_bool (view self.now) }
@@ -85,28 +92,45 @@ impl<'t, 'a> Item<'t, 'a> {
         }
     }
 
-    /// Whether each member, where this is an object, has one of the names.
-    pub(crate) fn has_only(&self, names: &[&str]) -> bool
+    /// The least name of a member that is none of the names, where this is an object. Names go by
+    /// their bytes.
+    pub(crate) fn least_unknown(&self, names: &[&str]) -> Option<&'a str>
         ensures { (all : Members) → as_object (view self.now) ≡ Some all
-            → result ≡ are_known (map (λ name. name.now) names.now) all }
+            → option_map (λ name. name.now) result
+            ≡ least_unknown (map (λ name. name.now) names.now) all }
     {
         match self.element.members() {
-            Some(mut members) => are_keys_known(&mut members, names),
-            None => true,
+            Some(mut members) => least_unknown_key(&mut members, names),
+            None => None,
         }
     }
 }
 
-fn are_keys_known(members: &mut json::Members<'_, '_>, names: &[&str]) -> bool
+fn least_unknown_key<'a>(members: &mut json::Members<'_, 'a>, names: &[&str]) -> Option<&'a str>
     ensures { (all : json.Members) → InMembers members.old all
-        → result ≡ keys_known (map (λ name. name.now) names.now) all }
+        → option_map (λ name. name.now) result
+        ≡ least_unknown_key (map (λ name. name.now) names.now) all }
 {
+    let mut least = None;
     while let Some((key, _member)) = members.next() {
-        if !is_one_of(key, names) {
-            return false;
-        }
+        least = lesser_unknown(names, key, least);
     }
-    true
+    least
+}
+
+/// The lesser of the key and the least so far; a key that is one of the names counts for nothing.
+fn lesser_unknown<'a>(names: &[&str], key: &'a str, least: Option<&'a str>) -> Option<&'a str>
+    ensures { option_map (λ name. name.now) result
+        ≡ lesser_unknown (map (λ name. name.now) names.now) key.now
+        (option_map (λ name. name.now) least.entry) }
+{
+    if is_one_of(key, names) {
+        return least;
+    }
+    match least {
+        Some(other) if other < key => least,
+        _ => Some(key),
+    }
 }
 
 fn is_one_of(key: &str, names: &[&str]) -> bool

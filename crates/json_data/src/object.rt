@@ -1,6 +1,6 @@
-ghost use Rattle.std.specs.Prelude.{◌≡◌, true, is_some, map, Some};
+ghost use Rattle.std.specs.Prelude.{◌≡◌, true, is_some, map, option_map, Some};
 ghost use Rattle.serde_json.specs.Find.{as_object};
-ghost use Rattle.json_data.specs.Reading.{are_known};
+ghost use Rattle.json_data.specs.Reading.{are_known, least_unknown};
 ghost use Rattle.json_data.specs.View.{view};
 
 use crate::item::Item;
@@ -26,6 +26,14 @@ impl<'s, 't, 'a> Object<'s, 't, 'a> {
     pub fn has_only(&self, names: &[&str]) -> bool
         ensures { result ≡ are_known (map (λ name. name.now) names.now) (members_view self.now) }
     {
-        self.item.has_only(names)
+        self.least_unknown(names).is_none()
+    }
+
+    /// The least name of a member that is none of the names, by their bytes.
+    pub fn least_unknown(&self, names: &[&str]) -> Option<&'a str>
+        ensures { option_map (λ name. name.now) result
+            ≡ least_unknown (map (λ name. name.now) names.now) (members_view self.now) }
+    {
+        self.item.least_unknown(names)
     }
 }

@@ -11,8 +11,7 @@ use Rattle.bench_types.specs.declared.header.Config.{Config}
 use Rattle.bench_types.specs.declared.header.Header.{Header}
 use Rattle.bench_types.specs.declared.header.TaskArgs.{TaskArgs}
 use Rattle.bench_types.specs.declared.kernel_data.TaskControl.{TaskControl}
-use Rattle.bench_types.proofs.Passes.{IsWithinLimits}
-use Rattle.bench_types.specs.Header.{has_valid_args}
+use Rattle.bench_types.proofs.Passes.{has_valid_args, IsWithinLimits}
 use Rattle.bench_types.specs.Step.{settings_of}
 use Rattle.bench_model.specs.Control.{task_at}
 use Rattle.bench_model.specs.Sound.{IsControlBlock}

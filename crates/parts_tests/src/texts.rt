@@ -2,6 +2,7 @@
 //! and as sessions are written.
 mod answers;
 mod codes;
+mod details;
 mod documents;
 mod edits;
 mod errors;

@@ -1,6 +1,7 @@
 //! Command lines: what is asked for by each, and how the program ends with it.
 use crate::devices::Sink;
-use bench_commands::{Counted, Ending, Mode, Request, carry_out, request_of};
+use bench_commands::{Mode, Request, carry_out, request_of};
+use program_io::{Counted, Ending};
 use std::alloc::{AllocError, Global};
 use std::process::Abort;
 use std::sync::Wait;
@@ -157,7 +158,7 @@ fn begins(text: &[u8], start: &str) -> bool {
 
 fn ends(ending: &Ending, output: &[u8], wanted: &Wanted<'_>) -> bool {
     ending.code() == wanted.code
-        && begins(ending.message().as_bytes(), wanted.message)
+        && begins(ending.message(), wanted.message)
         && begins(output, wanted.output)
 }
 

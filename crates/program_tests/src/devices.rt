@@ -2,7 +2,8 @@
 ghost use Rattle.std.specs.Prelude.{◌≡◌, true};
 ghost use Rattle.bench_commands.specs.Run.{has_span};
 
-use bench_commands::{Counted, CountedRead, CountedWrite, DEFAULT_SPAN, Mode, Status, run};
+use bench_commands::{DEFAULT_SPAN, Mode, Status, run};
+use program_io::{Counted, CountedRead, CountedWrite};
 use std::fmt::Debug;
 use std::io::{self, Read, Write};
 use std::process::Abort;

@@ -1,6 +1,7 @@
 //! Runs over devices that give or take little, fail, or find no memory.
 use crate::devices::{Sink, Source, expect, expect_at, expect_same, ran};
-use bench_commands::{Counted, RunFault, Status};
+use bench_commands::Status;
+use program_io::{Counted, RunFault};
 use std::io::{Read, Write};
 use std::test::Fail;
 

@@ -1,6 +1,7 @@
 //! Inputs that are no documents: what people are told of each, beside its refusal line.
 use crate::devices::{Sink, expect, expect_same};
-use bench_commands::{Counted, Ending, Prompting, carry_out};
+use bench_commands::carry_out;
+use program_io::{Counted, Ending, Prompting};
 use std::cell::Cell;
 use std::io::{self, Read, Write};
 use std::process::Abort;
@@ -32,7 +33,7 @@ fn check_told<R: Threads + Wait + Abort + Sync>(
     let mut sink = Sink::wide();
     let ending = ended(rt, host, word, input, &mut sink);
     expect_same(rt, line, ending.code(), 1);
-    expect(rt, ending.message(), ending.message().starts_with(line));
+    expect(rt, line, ending.message().starts_with(line.as_bytes()));
     expect(rt, line, sink.taken().starts_with(b"refused "));
 }
 
@@ -79,7 +80,7 @@ fn check_message<R: Threads + Wait + Abort + Sync>(
 ) {
     let mut sink = Sink::wide();
     let ending = ended(rt, host, word, input.as_bytes(), &mut sink);
-    expect_same(rt, input, ending.message(), message);
+    expect_same(rt, input, ending.message(), message.as_bytes());
 }
 
 #[test]

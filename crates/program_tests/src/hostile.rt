@@ -1,6 +1,7 @@
 //! Texts that are cut off or nested deep, and devices that are interrupted.
 use crate::devices::{Sink, expect_at, expect_same, ran};
-use bench_commands::{RunFault, Status};
+use bench_commands::Status;
+use program_io::RunFault;
 use std::alloc::AllocError;
 use std::io::{self, ErrorKind, Read, Write};
 use std::process::Abort;

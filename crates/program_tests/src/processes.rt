@@ -1,7 +1,8 @@
 //! The whole program: words, standard output and error, and the exit status.
 use crate::devices::{Sink, expect, expect_same};
-use bench_commands::{Counted, DEFAULT_SPAN, run_program};
+use bench_commands::{DEFAULT_SPAN, run_program};
 use bench_types::MAX_SPAN;
+use program_io::Counted;
 use std::alloc::{AllocError, Global};
 use std::env::Args;
 use std::io::{self, ErrorKind, Write};

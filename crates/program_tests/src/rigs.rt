@@ -1,6 +1,7 @@
 //! Recordings of rig documents over devices in memory.
 use crate::devices::{Sink, Source, expect, expect_at, expect_same};
-use bench_commands::{Counted, Ending, Gate, RunFault, Status, carry_out, record};
+use bench_commands::{Gate, Status, carry_out, record};
+use program_io::{Counted, Ending, OutputStatus, RunFault};
 use std::io::{Read, Write};
 use std::sync::Wait;
 use std::sync::atomic::{AtomicU32, Ordering};
@@ -82,7 +83,11 @@ fn the_command_records(rt: HostRuntime) {
     let mut writer = Counted::new(&mut sink);
     let words: Option<&[&str]> = Some(&["smp_bench", "record"]);
     let ending = carry_out(&rt, &rt, rt.alloc(), words, &mut reader, &mut writer);
-    expect(&rt, "ended", matches!(ending, Ending::Ran(Status::Fine)));
+    expect(
+        &rt,
+        "ended",
+        matches!(ending, Ending::Written(OutputStatus::Fine, _)),
+    );
     sink.expect(&rt, SESSION);
 }
 

@@ -1,7 +1,8 @@
 //! Runs of more steps, and trials of more edits, than small examples have: the whole of what is
 //! written, against lines that are made here.
 use crate::devices::{expect, expect_same};
-use bench_commands::{Counted, Ending, carry_out};
+use bench_commands::carry_out;
+use program_io::{Counted, Ending};
 use run_advice::Silent;
 use run_views::Places;
 use std::alloc::{AllocError, Global};
@@ -9,7 +10,7 @@ use std::process::Abort;
 use std::sync::Wait;
 use std::test::Fail;
 use std::thread::Threads;
-use view_commands::{Command, Selection, View};
+use view_commands::{Command, Job, Selection, View};
 
 /// More than a thousand.
 const TICKS: u32 = 1_500;
@@ -42,11 +43,11 @@ fn document_of(alloc: Global, session: &str, edits: &str) -> Result<String, Allo
     format!(in alloc; "{{\"session\":{session},\"edits\":[{edits}]}}")
 }
 
-/// What the command shows of a document.
+/// What the job shows of a document.
 fn check_view<R: Threads + Abort + Sync>(
     rt: &R,
     host: &HostRuntime,
-    command: &Command,
+    job: &Job,
     document: &str,
     wanted: &str,
 ) {
@@ -54,7 +55,7 @@ fn check_view<R: Threads + Abort + Sync>(
     let mut reader = Counted::new(document.as_bytes());
     let mut writer = Counted::new(&mut shown);
     let (progress, alloc) = (&mut Silent, host.alloc());
-    let ending = view_commands::run(rt, host, progress, alloc, &mut reader, &mut writer, command);
+    let ending = view_commands::run(rt, host, progress, alloc, &mut reader, &mut writer, job);
     expect_same(rt, "status", ending.code(), 0);
     expect_same(rt, "bytes", shown.len(), wanted.len());
     expect(rt, "the whole text", shown.as_slice() == wanted.as_bytes());
@@ -79,8 +80,16 @@ fn push_tick(text: &mut String, at: u32) -> Result<(), AllocError> {
     write!(text, "  done: the step was made\n  tick {at} to {next}\n")
 }
 
-fn whole_trace(alloc: Global) -> Command {
-    Command::Plain(View::Trace(Selection {
+/// The view, where refusals do not count.
+fn lenient(view: View) -> Job {
+    Job {
+        command: Command::Plain(view),
+        strict: false,
+    }
+}
+
+fn whole_trace(alloc: Global) -> Job {
+    lenient(View::Trace(Selection {
         places: Places {
             from: 0,
             to: u32::MAX,
@@ -141,7 +150,7 @@ fn compared_document(alloc: Global, ticks: u32, at: u32) -> Result<String, Alloc
 fn a_comparison_of_many_steps(rt: HostRuntime) -> Result<(), Fail> {
     let document = compared_document(rt.alloc(), TICKS, AT)?;
     let lines = comparison_lines(rt.alloc(), TICKS, AT)?;
-    check_view(&rt, &rt, &Command::Plain(View::Compare), &document, &lines);
+    check_view(&rt, &rt, &lenient(View::Compare), &document, &lines);
     Ok(())
 }
 

@@ -1,7 +1,8 @@
 //! Edits that are each tried alone: what is written for them, and by which span.
 use crate::devices::{Sink, Source, expect_at, expect_same, ran_in};
-use bench_commands::{DEFAULT_SPAN, Mode, RunFault, Status};
+use bench_commands::{DEFAULT_SPAN, Mode, Status};
 use bench_types::MAX_STEPS;
+use program_io::RunFault;
 use std::process::Abort;
 use std::test::Fail;
 use std::thread::Threads;

@@ -7,5 +7,6 @@ mod processes;
 mod reports;
 mod samples;
 mod settled;
+mod strict;
 mod traces;
 mod views;

@@ -78,6 +78,7 @@ impl Model for Cores {
 impl Cores {
     /// The start, before any core has selected: core c has idle task c, and all tasks are ready,
     /// the user tasks in header order and the idle tasks after them.
+    #[tactic(auto, using(bench_types::proofs::Passes::checked_header))]
     pub fn new(alloc: Global, header: &Header) -> Result<Self, AllocError>
         requires { header_check header.now ≡ Ok tt }
         ensures { IfOk result
@@ -444,6 +445,7 @@ impl Cores {
     }
 
     // The start where no task is ready yet.
+    #[tactic(auto, using(bench_types::proofs::Passes::checked_header))]
     fn unlisted(alloc: Global, header: &Header) -> Result<Self, AllocError>
         requires { header_check header.now ≡ Ok tt }
         ensures { IfOk result (λ start. start ≡ unlisted header.now) }

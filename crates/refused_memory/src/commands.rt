@@ -3,7 +3,8 @@ ghost use Rattle.std.specs.Prelude.{◌≡◌, true};
 ghost use Rattle.bench_commands.specs.Run.{has_span};
 
 use crate::outcome::Outcome;
-use bench_commands::{Counted, Gate, Mode, RunFault, Status, record, run};
+use bench_commands::{Gate, Mode, Status, record, run};
+use program_io::{Counted, RunFault};
 use std::io::{self, Write};
 use std::sync::Wait;
 use std::thread::Threads;

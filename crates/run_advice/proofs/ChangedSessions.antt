@@ -18,10 +18,10 @@ use Rattle.bench_types.specs.declared.header.TaskArgs.{TaskArgs}
 use Rattle.bench_types.specs.declared.step.Step.{Step}
 use Rattle.bench_types.specs.declared.step.Step.TheVariants.{Tick}
 use Rattle.bench_types.specs.Edit.{edit_check, numbers_check}
-use Rattle.bench_types.specs.Header.{cores_of_mask, has_valid_args, has_valid_numbers}
+use Rattle.bench_types.specs.Header.{cores_of_mask, has_valid_numbers}
 use Rattle.bench_types.specs.Session.{Session, IsSession}
 use Rattle.bench_types.specs.Step.{settings_of, task_check, IsCheckedStep, ◌>>◌}
-use Rattle.bench_types.proofs.Passes.{checked_header}
+use Rattle.bench_types.proofs.Passes.{checked_header, has_valid_args}
 use Rattle.list_orders.proofs.Filters.{list_all_each}
 use Rattle.bench_model.specs.Edits.{accepted, after_edit, after_edits, args_of, edited, has_place, has_room}
 use Rattle.session_laws.proofs.EditedSessions.{edited_session}

@@ -197,6 +197,7 @@ fn orders_if(alloc: Global, steps: &[Step], wanted: bool) -> Result<Vec<Change>,
 
 /// The changes of the family in a session: each user task with each other priority, then each with
 /// each other mask, by their numbers, then the exchanges of calls, by their places.
+#[tactic(auto, using(bench_types::proofs::Passes::checked_header))]
 pub fn changes_of(
     alloc: Global,
     header: &Header,

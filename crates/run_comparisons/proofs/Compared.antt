@@ -6,6 +6,7 @@ use Rattle.bench_types.specs.declared.step.Step.{Step}
 use Rattle.bench_types.specs.Limits.{max_steps}
 use Rattle.bench_types.specs.Session.{Session}
 use Rattle.bench_model.specs.Edits.{after_edits}
+use Rattle.edit_notes.specs.Refused.{refused_places}
 use Rattle.settled_runs.specs.declared.waiting_call.WaitingCall.{WaitingCall}
 use Rattle.settled_runs.specs.Settled.{IsSettled}
 use Rattle.settled_runs.specs.SettleLaws.{comes_from_outside}
@@ -32,8 +33,8 @@ events_kept session steps run left are settled = ap (filter comes_from_outside) 
 pub pair_settled : (session : Session) (edits : List Edit) (edited : Session) (rows : List Row) (steps others : List Step) (pair : SettledPair)
     → edited ≡ after_edits session edits → rows ≡ rows_of session edits → steps ≡ session.steps → IsSettled session.header session.steps pair.before.run.items pair.before.left.items → others ≡ edited.steps
     → IsSettled edited.header edited.steps pair.after.run.items pair.after.left.items → length pair.before.run.items ≤ max_steps → length pair.after.run.items ≤ max_steps
-    → AreSideBySide pair.before.run.items pair.after.run.items (shared_among steps others pair.before.run.items pair.after.run.items rows) first_places pair.rows.items → IsSettledPair session edits pair
-pair_settled session edits edited rows steps others pair is_edited are_rows are_steps settled are_others settled_too few few_too aligned =
+    → AreSideBySide pair.before.run.items pair.after.run.items (shared_among steps others pair.before.run.items pair.after.run.items rows) first_places pair.rows.items → pair.refused.items ≡ refused_places session edits → IsSettledPair session edits pair
+pair_settled session edits edited rows steps others pair is_edited are_rows are_steps settled are_others settled_too few few_too aligned not_made =
     let run = pair.before.run.items in
     let later = pair.after.run.items in
     let shared : shared_among steps others run later rows ≡ shared_events session edits run later =
@@ -46,6 +47,7 @@ pair_settled session edits edited rows steps others pair is_edited are_rows are_
       few_before = few;
       few_after = few_too;
       rows = subst (λ events. AreSideBySide run later events first_places pair.rows.items) shared aligned;
+      refused = not_made;
     }
 
 -- either run, as the settled run of its session
@@ -57,13 +59,15 @@ run_after session edits pair settled = record { run = pair.after.run.items; left
 
 -- the text of them
 pub comparison_told : (session : Session) (edits : List Edit) (edited : Session) (pair : SettledPair) (text : List ℕ) → edited ≡ after_edits session edits → IsSettledPair session edits pair
-    → text ≡ settled_text (with_steps session pair.before.run.items) (with_steps edited pair.after.run.items) pair.rows.items pair.before.left.items pair.after.left.items → IsSettledComparison session edits text
+    → text ≡ settled_text (with_steps session pair.before.run.items) (with_steps edited pair.after.run.items) pair.refused.items pair.rows.items pair.before.left.items pair.after.left.items → IsSettledComparison session edits text
 comparison_told session edits edited pair text is_edited settled told = (
   run_before session edits pair settled,
   run_after session edits pair settled,
   pair.rows.items,
   settled.rows,
-  told ∙ ap (λ (one : Session). settled_text (with_steps session pair.before.run.items) (with_steps one pair.after.run.items) pair.rows.items pair.before.left.items pair.after.left.items) is_edited,
+  told
+      ∙ ap (λ (one : Session). settled_text (with_steps session pair.before.run.items) (with_steps one pair.after.run.items) pair.refused.items pair.rows.items pair.before.left.items pair.after.left.items) is_edited
+      ∙ ap (λ (places : List ℕ). settled_text (with_steps session pair.before.run.items) (with_steps (after_edits session edits) pair.after.run.items) places pair.rows.items pair.before.left.items pair.after.left.items) settled.refused,
 )
 
 -- neither run is too long

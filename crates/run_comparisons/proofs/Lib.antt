@@ -9,6 +9,7 @@ pub mod OneText
 mod Outcomes
 mod Ranges
 pub mod RowsCounted
+mod RefusalsFound
 mod SharedPlaces
 mod Tiling
 mod Walks

@@ -4,6 +4,7 @@ use Rattle.bench_types.specs.declared.step.Step.{Step}
 use Rattle.bench_model.specs.Edits.{after_edits}
 use Rattle.settled_runs.specs.declared.waiting_call.WaitingCall.{WaitingCall}
 use Rattle.settled_runs.proofs.Settlings.{settled_run_is_one}
+use Rattle.edit_notes.specs.Refused.{refused_places}
 use Rattle.run_comparisons.specs.declared.place_pair.PlacePair.{PlacePair}
 use Rattle.run_comparisons.specs.declared.rows.Row.{Row}
 use Rattle.run_comparisons.specs.Settled.{settled_text, with_steps}
@@ -37,7 +38,7 @@ one_text session edits text other told too =
     let second = settled_run_is_one edited.header edited.steps told.1.run too.1.run told.1.left too.1.left told.1.settled too.1.settled in
     let aligned = subst (λ (run : List Step). AreSettledRows session edits told.0.run run too.2) (sym second.0) (subst (λ (run : List Step). AreSettledRows session edits run too.1.run too.2) (sym first.0) too.3) in
     let rows = one_list told.0.run told.1.run (shared_events session edits told.0.run told.1.run) first_places told.2 too.2 told.3 aligned in
-    let of_run = λ (run later : List Step). settled_text (with_steps session run) (with_steps edited later) in
+    let of_run = λ (run later : List Step). settled_text (with_steps session run) (with_steps edited later) (refused_places session edits) in
     told.4
     ∙ ap₂ (λ (run later : List Step). of_run run later told.2 told.0.left told.1.left) first.0 second.0
     ∙ ap (λ (shown : List Row). of_run too.0.run too.1.run shown told.0.left told.1.left) rows

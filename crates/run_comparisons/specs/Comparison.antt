@@ -1,9 +1,10 @@
 -- The run of a session beside the run after edits of it.
-use Rattle.std.specs.Prelude.{ℕ, List, [], ◌∷◌, ◌++◌, filter, flat_map, codes, Some, None}
+use Rattle.std.specs.Prelude.{ℕ, List, [], ◌∷◌, ◌++◌, filter, flat_map, codes, decimal, Some, None}
 use Rattle.bench_types.specs.declared.edit.Edit.{Edit}
 use Rattle.bench_types.specs.Session.{Session}
 use Rattle.bench_model.specs.Edits.{after_edits}
 use Rattle.bench_model.specs.Tally.{tallies}
+use Rattle.edit_notes.specs.Refused.{refused_places}
 use Rattle.run_comparisons.specs.declared.rows.Row.{Row}
 use Rattle.run_comparisons.specs.declared.rows.Row.TheVariants.{Both, Removed, Inserted}
 use Rattle.run_comparisons.specs.Gains.{gains_text}
@@ -29,15 +30,37 @@ abbrev pub last_of : Row → List Row → Row
 last_of row [] = row
 last_of row (next ∷ rows) = last_of next rows
 
--- the first and the last of the rows in which the runs differ
-abbrev pub differences_text : List Row → List ℕ
-differences_text [] = codes "the runs do not differ\n"
-differences_text (row ∷ rows) = ends_text row (last_of row rows)
+-- one edit more, by its place
+abbrev pub further_text : ℕ → List ℕ
+further_text place = codes ", edit " ++ decimal place
 
--- rows of a session and an edited one
-abbrev pub rows_text : Session → Session → List Row → List ℕ
-rows_text before after rows =
-    flat_map (row_line before after) rows ++ differences_text (filter (differs before after) rows)
+-- edits that are refused and so not made, by their places
+unfoldable pub not_made_text : ℕ → List ℕ → List ℕ
+not_made_text place places =
+    codes "no step differs; refused and not made: edit " ++ decimal place
+    ++ flat_map further_text places
+
+-- the same as a line
+abbrev pub not_made_line : ℕ → List ℕ → List ℕ
+not_made_line place places = not_made_text place places ++ codes "\n"
+
+-- Where no step differs, the places of the edits that are refused: the runs do not differ where
+-- there are none.
+abbrev pub no_difference_text : List ℕ → List ℕ
+no_difference_text [] = codes "the runs do not differ\n"
+no_difference_text (place ∷ places) = not_made_line place places
+
+-- The first and the last of the rows in which the runs differ. Where there are none, the edits that
+-- are refused are told.
+abbrev pub differences_text : List ℕ → List Row → List ℕ
+differences_text refused [] = no_difference_text refused
+differences_text refused (row ∷ rows) = ends_text row (last_of row rows)
+
+-- rows of a session and an edited one, and the places of the edits that are refused
+abbrev pub rows_text : Session → Session → List ℕ → List Row → List ℕ
+rows_text before after refused rows =
+    flat_map (row_line before after) rows
+    ++ differences_text refused (filter (differs before after) rows)
 
 -- a line for each task that fared otherwise
 abbrev pub fared_text : Session → Session → List ℕ
@@ -50,4 +73,5 @@ fared_text before after =
 unfoldable pub compare_text : Session → List Edit → List ℕ
 compare_text session edits =
     let after = after_edits session edits in
-    rows_text session after (rows_of session edits) ++ fared_text session after
+    rows_text session after (refused_places session edits) (rows_of session edits)
+    ++ fared_text session after

@@ -3,6 +3,7 @@ pub mod Columns
 pub mod Comparison
 pub mod Gains
 pub mod Origins
+pub mod Refusals
 pub mod RowLaws
 pub mod RowWords
 pub mod Rows

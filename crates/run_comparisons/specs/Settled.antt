@@ -6,6 +6,7 @@ use Rattle.bench_types.specs.declared.step.Step.{Step}
 use Rattle.bench_types.specs.Limits.{max_steps}
 use Rattle.bench_types.specs.Session.{Session}
 use Rattle.bench_model.specs.Edits.{after_edits}
+use Rattle.edit_notes.specs.Refused.{refused_places}
 use Rattle.settled_runs.specs.declared.waiting_call.WaitingCall.{WaitingCall}
 use Rattle.settled_runs.specs.Settled.{IsSettled}
 use Rattle.settling.specs.Notes.{left_text}
@@ -38,13 +39,13 @@ left_lines header edited left rest =
 -- A line a row, then where the two runs differ first and last, then what each task gained and lost,
 -- then the calls that were not made.
 unfoldable pub settled_text :
-    Session → Session → List Row → List WaitingCall → List WaitingCall → List ℕ
-settled_text before after rows left rest =
-    rows_text before after rows ++ fared_text before after
+    Session → Session → List ℕ → List Row → List WaitingCall → List WaitingCall → List ℕ
+settled_text before after refused rows left rest =
+    rows_text before after refused rows ++ fared_text before after
     ++ left_lines before.header after.header left rest
 
--- two settled runs, of a session and of the session after edits of it, and their rows; neither run
--- has more steps than a session may have
+-- two settled runs, of a session and of the session after edits of it, their rows, and the places of
+-- the edits that are refused; neither run has more steps than a session may have
 pub record IsSettledPair (session : Session) (edits : List Edit) (pair : SettledPair) : Type 0 where
   pub before : IsSettled session.header session.steps pair.before.run.items
       pair.before.left.items
@@ -54,6 +55,7 @@ pub record IsSettledPair (session : Session) (edits : List Edit) (pair : Settled
   pub few_after : length pair.after.run.items ≤ max_steps
   pub rows : AreSettledRows session edits pair.before.run.items pair.after.run.items
       pair.rows.items
+  pub refused : pair.refused.items ≡ refused_places session edits
 
 -- The text tells of a settled run of the session and of one of the session after the edits, which
 -- are made one after another. Those that are refused are passed over.
@@ -63,8 +65,8 @@ IsSettledComparison session edits text =
     (before : SettledRun session) × (after : SettledRun edited) × (rows : List Row)
     × AreSettledRows session edits before.run after.run rows
     × (text
-    ≡ settled_text (with_steps session before.run) (with_steps edited after.run) rows
-    before.left after.left)
+    ≡ settled_text (with_steps session before.run) (with_steps edited after.run)
+    (refused_places session edits) rows before.left after.left)
 
 -- every settled run of the session has more steps than a session may have
 abbrev pub IsSettledTooLong : Session → Type 0

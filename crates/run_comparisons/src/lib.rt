@@ -9,6 +9,7 @@ pub mod laws;
 mod making;
 mod origins;
 mod place_pair;
+mod refusals;
 mod row_words;
 mod rows;
 mod settled;
@@ -19,6 +20,7 @@ mod told;
 
 pub use columns::{Side, columns_of, law_of_columns};
 pub use comparison::compare;
+pub use refusals::has_refusal;
 pub use rows::Row;
 pub use settled::{SettledPair, compare_settled, push_left_lines, settle_both};
 pub use steps::steps_of;

@@ -26,6 +26,8 @@ pub struct SettledPair {
     pub after: Settled,
     /// The rows in which the steps of both runs stand beside each other.
     pub rows: Vec<Row>,
+    /// The places of the edits that were refused.
+    pub refused: Vec<usize>,
 }
 
 // A session's steps, and its settled run.
@@ -135,15 +137,17 @@ fn settled_text(
     alloc: Global,
     before: &Store,
     after: &Store,
+    refused: &[usize],
     rows: &[Row],
     left: &[WaitingCall],
     rest: &[WaitingCall],
 ) -> Result<String, AllocError>
     ensures { IfOk result (λ text. string_bytes text
-        ≡ settled_text before.now.session after.now.session rows.now left.now rest.now) }
+        ≡ settled_text before.now.session after.now.session refused.now rows.now left.now
+        rest.now) }
 {
     let mut text = String::new(alloc);
-    push_rows_text(alloc, &mut text, before, after, rows)?;
+    push_rows_text(alloc, &mut text, before, after, refused, rows)?;
     push_fared(alloc, &mut text, before, after)?;
     push_left_lines(&mut text, before.header(), after.header(), left, rest)?;
     Ok(text)
@@ -159,13 +163,14 @@ fn text_of(
 ) -> Result<String, AllocError>
     ensures { IfOk result (λ text. string_bytes text
         ≡ settled_text (with_steps before.now.session pair.before.run.items)
-        (with_steps after.now.session pair.after.run.items) pair.rows.items
+        (with_steps after.now.session pair.after.run.items) pair.refused.items pair.rows.items
         pair.before.left.items pair.after.left.items) }
 {
     let SettledPair {
         before: earlier,
         after: later,
         rows,
+        refused,
     } = pair;
     let Settled { run, left } = earlier;
     let Settled {
@@ -174,8 +179,9 @@ fn text_of(
     } = later;
     let one = replayed(alloc, meter, before, run)?;
     let other = replayed(alloc, meter, after, edited)?;
-    let rows = rows.as_slice();
-    settled_text(alloc, &one, &other, rows, left.as_slice(), rest.as_slice())
+    let (refused, rows) = (refused.as_slice(), rows.as_slice());
+    let (left, rest) = (left.as_slice(), rest.as_slice());
+    settled_text(alloc, &one, &other, refused, rows, left, rest)
 }
 
 /// The settled run of the session before the edits and that of the session after them, with the
@@ -197,14 +203,15 @@ pub fn settle_both(
     ensures long { result ≡ Err SettleFault.TooManySteps
         → IsComparisonTooLong before.now.session edits.now }
 {
-    let rows = rows_of(alloc, meter, after, edits)?;
+    let made = rows_of(alloc, meter, after, edits)?;
     let settled = settled_session(alloc, meter, before)?;
     let later = settled_session(alloc, meter, after)?;
-    let rows = settled_rows(alloc, &settled, &later, rows.as_slice())?;
+    let rows = settled_rows(alloc, &settled, &later, made.rows.as_slice())?;
     Ok(SettledPair {
         before: settled.settled,
         after: later.settled,
         rows,
+        refused: made.refused,
     })
 }
 

@@ -12,6 +12,7 @@ use std::alloc::{AllocError, Global};
 
 /// All that a run of a session with this header is measured by: task by task, then core by core,
 /// then mutex by mutex. Idle tasks are left out.
+#[tactic(auto, using(bench_types::proofs::Passes::checked_header))]
 pub fn subjects_of(alloc: Global, header: &Header) -> Result<Vec<Subject>, AllocError>
     requires { header_check header.now ≡ Ok tt }
     ensures value { IfOk result (λ subjects. subjects.items ≡ subjects_of header.now) }

@@ -1,5 +1,6 @@
 pub mod Each
 pub mod Leading
+pub mod Refusing
 pub mod Runs
 pub mod Shown
 pub mod Telling

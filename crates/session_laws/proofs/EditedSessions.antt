@@ -6,6 +6,7 @@ use Rattle.std.specs.Result.{result_map_both}
 use Rattle.std.proofs.lemmas.Bool.{and_parts}
 use Rattle.std.proofs.lemmas.Bool.Decides.{nat_tests}
 use Rattle.std.proofs.lemmas.List.{length-append, length-set, length-take-le, length-drop, map-set, set-get_or}
+use Rattle.std.proofs.lemmas.List.Folds.{list_all-map}
 use Rattle.std.proofs.lemmas.List.Elements.{All-take, All-drop, All-set, All-append}
 use Rattle.bench_types.specs.declared.edit.Edit.{Edit}
 use Rattle.bench_types.specs.declared.edit.Edit.TheVariants.{Insert, Remove, Replace, ChangeTask}
@@ -16,13 +17,14 @@ use Rattle.bench_types.specs.declared.fault.Fault.TheVariants.{BadHeader}
 use Rattle.bench_types.specs.declared.header.Config.{Config}
 use Rattle.bench_types.specs.declared.header.Header.{Header}
 use Rattle.bench_types.specs.declared.header.TaskArgs.{TaskArgs}
-use Rattle.bench_types.proofs.Passes.{both_pass, checked_task}
+use Rattle.bench_types.proofs.Passes.{are_named, both_pass, checked_header, checked_task, flaw_checked, has_valid_args, header_from, IsWithinLimits}
+use Rattle.bench_types.proofs.Repeats.{is_taken, repeats_name}
 use Rattle.bench_types.specs.Edit.{edit_check, numbers_check, IsEditOfWords}
-use Rattle.bench_types.specs.Header.{header_check, is_header, has_valid_config, has_valid_numbers, has_valid_args, is_taken, repeats_name, IsCheckedHeader}
-use Rattle.bench_types.specs.Name.{is_name, is_within}
+use Rattle.bench_types.specs.Header.{header_check, has_valid_numbers, IsCheckedHeader}
+use Rattle.bench_types.specs.Name.{is_name}
 use Rattle.bench_types.specs.Session.{Session, IsSession}
 use Rattle.bench_types.specs.Step.{settings_of, task_check, IsCheckedStep, ◌>>◌}
-use Rattle.bench_types.specs.Limits.{max_steps, max_tasks}
+use Rattle.bench_types.specs.Limits.{max_steps}
 use Rattle.bench_model.specs.Edits.{has_place, has_room, accepted, args_of, changed, edited}
 
 -- what an accepted edit has passed
@@ -112,27 +114,35 @@ names_stay header task priority mask =
     let args = args_of header task in
     map-set name_of header.tasks i (record args { priority = priority; mask = mask }) ∙ sym (map-set name_of header.tasks i args) ∙ ap (map name_of) (set-get_or header.tasks i _)
 
-all_pass : (a b c d : Bool) → a ≡ true → b ≡ true → c ≡ true → d ≡ true → (a && b && c && d) ≡ true
-all_pass a b c d first second third fourth = grind arith
+are_named_by_name : (tasks : List TaskArgs) → are_named tasks ≡ list_all is_name (map name_of tasks)
+are_named_by_name tasks = sym (list_all-map is_name name_of tasks)
 
-changed_fits : (header : Header) (task priority mask : ℕ) → header_check header ≡ Ok tt → has_valid_numbers header.config priority mask ≡ true → header_check (changed task priority mask header) ≡ Ok tt
-unfolding chosen
-changed_fits header task priority mask fits numbers =
+changed_within : (header : Header) (task priority mask : ℕ) → IsWithinLimits header → has_valid_numbers header.config priority mask ≡ true → IsWithinLimits (changed task priority mask header)
+changed_within header task priority mask limits numbers =
     let next = changed task priority mask header in
     let i = task - header.config.cores in
-    let config = has_valid_config header.config in
-    let some = is_within 1 max_tasks (length header.tasks) in
-    let args = list_all (has_valid_args header.config) header.tasks in
-    let names = not (repeats_name header.tasks) in
-    let all = chosen_passes (is_header header) BadHeader fits in
-    let three = and_parts (config && some && args) names all in
-    let two = and_parts (config && some) args three.0 in
-    let one = and_parts config some two.0 in
-    let same_names : repeats_name next.tasks ≡ repeats_name header.tasks = repeats_by_name next.tasks ∙ ap repeats (names_stay header task priority mask) ∙ sym (repeats_by_name header.tasks) in
+    let names = names_stay header task priority mask in
     let same_length : length next.tasks ≡ length header.tasks = length-set header.tasks i _ in
-    let passes : is_header next ≡ true = all_pass (has_valid_config next.config) (is_within 1 max_tasks (length next.tasks)) (list_all (has_valid_args next.config) next.tasks) (not (repeats_name next.tasks))
-    one.0 (ap (is_within 1 max_tasks) same_length ∙ one.1) (list_all-set (has_valid_args header.config) header.tasks i _ numbers two.1) (ap not same_names ∙ three.1) in
-    ap (λ b. chosen b BadHeader) passes
+    record {
+      some_core = limits.some_core;
+      enough_cores = limits.enough_cores;
+      few_cores = limits.few_cores;
+      some_priority = limits.some_priority;
+      few_priorities = limits.few_priorities;
+      few_mutexes = limits.few_mutexes;
+      some_note = limits.some_note;
+      few_notes = limits.few_notes;
+      some_task = omega (arith, same_length, limits.some_task);
+      few_tasks = omega (arith, same_length, limits.few_tasks);
+      named = are_named_by_name next.tasks ∙ ap (list_all is_name) names ∙ sym (are_named_by_name header.tasks) ∙ limits.named;
+      args = list_all-set (has_valid_args header.config) header.tasks i _ numbers limits.args;
+      once = repeats_by_name next.tasks ∙ ap repeats names ∙ sym (repeats_by_name header.tasks) ∙ limits.once;
+    }
+
+changed_fits : (header : Header) (task priority mask : ℕ) → header_check header ≡ Ok tt → has_valid_numbers header.config priority mask ≡ true → header_check (changed task priority mask header) ≡ Ok tt
+changed_fits header task priority mask fits numbers =
+    let next = changed task priority mask header in
+    flaw_checked next (header_from next (changed_within header task priority mask (checked_header header fits) numbers))
 
 changed_settings : (header : Header) (task priority mask : ℕ) → settings_of (changed task priority mask header) ≡ settings_of header
 changed_settings header task priority mask =

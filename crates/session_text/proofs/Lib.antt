@@ -1,7 +1,8 @@
 mod Accepting
+mod Details
 pub mod Documents
 mod Lists
 mod Loops
+mod NearWords
 mod NewNames
 mod Scripts
-mod Shown

@@ -1,12 +1,12 @@
 -- Names that do not repeat go into a set one after another.
-use Rattle.std.proofs.Common.{◌≡◌, ℕ, suc, ◌+◌, ◌<◌, Bool, true, false, not, ◌&&◌, List, [], ◌∷◌, ◌++◌, length, get_or, take, drop, map, bytes_eq, Bor, refl, sym, ◌∙◌, arith, add-one, drop-cons}
-use Rattle.std.proofs.lemmas.List.{map_more, map_push}
+use Rattle.std.proofs.Common.{◌≡◌, ℕ, suc, ◌+◌, ◌<◌, ◌≤◌, ap, Bool, true, false, not, ◌&&◌, List, [], ◌∷◌, ◌++◌, length, get_or, take, drop, map, bytes_eq, Bor, refl, sym, ◌∙◌, arith, add-one, drop-cons}
+use Rattle.std.proofs.lemmas.List.{length-map, length-take, map_more, map_push}
 use Rattle.indexmap.specs.IndexSet.{insert_key}
 use Rattle.session_text.proofs.Lists.{list_any_map}
 use Rattle.std.specs.List.{list_any, list_all}
 use Rattle.std.specs.Cmp.Lexicographic.{nat_list_eq_equiv}
 use Rattle.std.proofs.lemmas.List.Folds.{list_all-append}
-use Rattle.bench_types.specs.Header.{is_taken, repeats_name}
+use Rattle.bench_types.proofs.Repeats.{is_taken, repeats_name}
 use Rattle.bench_types.specs.declared.header.TaskArgs.{TaskArgs}
 
 -- no task has one of the names, or the name of a task before it
@@ -47,6 +47,11 @@ are_new_all tasks once = new_apart tasks [] refl once
 pub record GoesOn (tasks : List TaskArgs) (index : ℕ) (names : List (List ℕ)) : Type 0 where
   pub so_far : names ≡ map (λ task. task.name) (take index tasks)
   pub others : are_new names (drop index tasks) ≡ true
+
+-- there are no more names than tasks
+pub few_keys : (tasks : List TaskArgs) (index : ℕ) (keys : List (Bor (List ℕ))) → GoesOn tasks index (map (λ name. name.now) keys) → length keys ≤ length tasks
+few_keys tasks index keys state =
+    omega (arith, length-map keys (λ (name : Bor (List ℕ)). name.now), ap length state.so_far, length-map (take index tasks) (λ (task : TaskArgs). task.name), length-take index tasks)
 
 -- the name of the next task is new
 pub is_new : (tasks : List TaskArgs) (index : ℕ) (names : List (List ℕ)) (task : TaskArgs) → index < length tasks → task ≡ get_or tasks index task → GoesOn tasks index names → list_any (bytes_eq task.name) names ≡ false

@@ -10,7 +10,8 @@ use Rattle.session_text.specs.declared.fault.TextFault.{TextFault}
 use Rattle.bench_types.specs.declared.act.Act.{Act}
 use Rattle.bench_types.specs.declared.header.Header.{Header}
 use Rattle.session_text.specs.Accepted.{items_accepted}
-use Rattle.session_text.specs.Act.{act_fault}
+use Rattle.bench_types.specs.Step.{settings_of}
+use Rattle.bench_types.specs.StepFlaw.{act_flaw}
 use Rattle.session_text.specs.Array.{each_at, list_at}
 use Rattle.session_text.specs.Member.{array_at}
 use Rattle.session_text.specs.Outcome.{◌>>=◌, Gives}
@@ -52,7 +53,7 @@ one_per_core read at name d cores items all found has is =
     list_length read at name d items all found is ∙ same
 
 -- a script in which nothing is at fault leaves the faults to those after it
-pub script_passed : (header : Header) (at : List ℕ) (scripts : List (List Act)) (core : ℕ) → core < length scripts → items_accepted (act_fault header core) (item_path at core) 0 (get_or scripts core []) ≡ Ok tt → scripts_accepted header at (core + 1) (drop (core + 1) scripts) ≡ scripts_accepted header at core (drop core scripts)
+pub script_passed : (header : Header) (at : List ℕ) (scripts : List (List Act)) (core : ℕ) → core < length scripts → items_accepted (act_flaw (settings_of header) core) (item_path at core) 0 (get_or scripts core []) ≡ Ok tt → scripts_accepted header at (core + 1) (drop (core + 1) scripts) ≡ scripts_accepted header at core (drop core scripts)
 script_passed header at scripts core within passed =
     let front : drop core scripts ≡ get_or scripts core [] ∷ drop (suc core) scripts = drop-cons scripts core [] within in
     rw (front, passed, add-one) refl

@@ -1,13 +1,8 @@
 -- An action of a script: a step that doesn't say on which core, nor by which task.
-use Rattle.std.specs.Prelude.{◌≡◌, ℕ, List, Result, Ok, ⊤}
+use Rattle.std.specs.Prelude.{ℕ, List, Result, Ok}
 use Rattle.serde_json.specs.Data.{Data}
-use Rattle.bench_types.specs.Act.{act_check}
-use Rattle.bench_types.specs.Step.{settings_of, IsActionOfWord, IsOfWords}
 use Rattle.bench_types.specs.declared.act.Act.{Act}
 use Rattle.bench_types.specs.declared.act.Act.TheVariants as act
-use Rattle.bench_types.specs.declared.fault.Fault.{Fault}
-use Rattle.bench_types.specs.declared.header.Header.{Header}
-use Rattle.bench_types.specs.declared.kernel_data.Settings.{Settings}
 use Rattle.session_text.specs.declared.fault.TextFault.{TextFault}
 use Rattle.session_text.specs.declared.format.Format.{Format}
 use Rattle.session_text.specs.declared.step.Kind.{Kind}
@@ -42,19 +37,3 @@ unfoldable pub script_at : Format → TaskNames → List ℕ → Data → Result
 script_at format names at d = do
   items ← items_at at d
   each_at (act_at format names) at 0 items
-
--- the fault of what a core would do under a header
-abbrev pub act_fault : Header → ℕ → Act → Result ⊤ Fault
-act_fault header core made = act_check (settings_of header) core made
-
--- every number of an action is one of 32 bits
-abbrev pub IsActOfWords : Act → Type 0
-IsActOfWords (act.Call made) = IsOfWords made
-IsActOfWords (act.Interrupt note) = IsActionOfWord note.action
-IsActOfWords act.Tick = ⊤
-IsActOfWords act.Switch = ⊤
-
--- an action of a core that was checked against the settings
-pub record IsCheckedAct (settings : Settings) (core : ℕ) (made : Act) : Type 0 where
-  pub passes : act_check settings core made ≡ Ok tt
-  pub words : IsActOfWords made

@@ -7,8 +7,9 @@ use Rattle.session_text.specs.declared.detail.Detail.TheVariants.{NoWord}
 use Rattle.session_text.specs.declared.fault.TextFault.{TextFault}
 use Rattle.session_text.specs.declared.action.ActionKind.{ActionKind}
 use Rattle.session_text.specs.declared.action.ActionKind.TheVariants.{Nothing, SetBits, Increment, Set, SetNew}
-use Rattle.session_text.specs.Detail.{listed, words_of}
+use Rattle.session_text.specs.Detail.{words_of}
 use Rattle.session_text.specs.Member.{number_at, text_at}
+use Rattle.session_text.specs.Nearest.{stray}
 use Rattle.session_text.specs.Outcome.{◌>>=◌, found}
 use Rattle.session_text.specs.Path.{member_path}
 
@@ -29,7 +30,7 @@ unfoldable pub action_kind_at : List ℕ → Data → Result ActionKind TextFaul
 action_kind_at at d = do
   word ← text_at at (codes "action") d
   found (action_kind_of word) (member_path at (codes "action"))
-      (NoWord (listed (words_of action_kinds)))
+      (NoWord (stray word (words_of action_kinds)))
 
 unfoldable pub action_of_kind_at : ActionKind → List ℕ → Data → Result Action TextFault
 action_of_kind_at Nothing at d = Ok action.Nothing

@@ -3,10 +3,11 @@ use Rattle.std.specs.Prelude.{ℕ, List, [], ◌∷◌, codes, Option, Some, Non
 use Rattle.serde_json.specs.Data.{Data}
 use Rattle.serde_json.specs.Find.{get}
 use Rattle.bench_types.specs.declared.edit.Edit.{Edit}
-use Rattle.bench_types.specs.declared.fault.Fault.{Fault}
+use Rattle.bench_types.specs.declared.flaw.HeaderFlaw.{HeaderFlaw}
 use Rattle.bench_types.specs.declared.header.Header.{Header}
 use Rattle.bench_types.specs.declared.step.Step.{Step}
-use Rattle.bench_types.specs.Edit.{edit_check, IsCheckedEdit}
+use Rattle.bench_types.specs.Edit.{IsCheckedEdit}
+use Rattle.bench_types.specs.StepFlaw.{edit_flaw}
 use Rattle.bench_types.specs.Session.{IsSession}
 use Rattle.session_text.specs.declared.fault.TextFault.{TextFault}
 use Rattle.session_text.specs.declared.bench.Bench.{Bench}
@@ -32,7 +33,7 @@ unedited_at at d = do
 -- the header, accepted or not, of the session that was found as the member `session`, its steps,
 -- and the edits, which are in its format; shapes alone are judged
 unfoldable pub shapes_at :
-    List ℕ → Data → Data → Result (Result Header Fault × List Step × List Edit) TextFault
+    List ℕ → Data → Data → Result (Result Header HeaderFlaw × List Step × List Edit) TextFault
 shapes_at at d inner = do
   members ← object_at at d
   read ← session_at (member_path at (codes "session")) inner
@@ -43,11 +44,11 @@ shapes_at at d inner = do
 -- the first fault of the edits
 unfoldable pub edits_accepted : Header → List ℕ → List Edit → Result ⊤ TextFault
 edits_accepted header at edits =
-    items_accepted (edit_check header) (member_path at (codes "edits")) 0 edits
+    items_accepted (edit_flaw header) (member_path at (codes "edits")) 0 edits
 
 -- the faults of the session come before those of the edits
 unfoldable pub bench_accepted :
-    List ℕ → Result Header Fault → List Step → List Edit → Result Bench TextFault
+    List ℕ → Result Header HeaderFlaw → List Step → List Edit → Result Bench TextFault
 bench_accepted at header steps edits = do
   held ← session_accepted (member_path at (codes "session")) header steps
   done ← edits_accepted held.0 at edits

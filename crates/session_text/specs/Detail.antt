@@ -2,7 +2,7 @@
 use Rattle.std.specs.Prelude.{ℕ, List, [], ◌∷◌, ◌++◌, map, flat_map, codes}
 use Rattle.serde_json.specs.Data.{Data, Num, unsigned, negative, float, null, boolean, number, string, array, object}
 use Rattle.session_text.specs.declared.detail.Found.{Found}
-use Rattle.session_text.specs.declared.detail.Found.TheVariants.{Whole, Other, Text, Flag, Array, Object}
+use Rattle.session_text.specs.declared.detail.Found.TheVariants.{Whole, Other, Null, Text, Flag, Array, Object}
 
 -- a number that has a value of 64 bits from 0 on, or another one
 abbrev pub number_found : Num → Found
@@ -12,7 +12,7 @@ number_found (float x) = Other
 
 -- what a value is
 abbrev pub found_of : Data → Found
-found_of null = Other
+found_of null = Null
 found_of (boolean b) = Flag
 found_of (number n) = number_found n
 found_of (string s) = Text

@@ -5,7 +5,7 @@ use Rattle.bench_types.specs.declared.header.Header.{Header}
 use Rattle.bench_types.specs.declared.step.Step.{Step}
 use Rattle.bench_types.specs.declared.edit.Edit.{Edit}
 use Rattle.bench_types.specs.declared.edit.Edit.TheVariants as edit
-use Rattle.bench_types.specs.Edit.{edit_check}
+use Rattle.bench_types.specs.StepFlaw.{edit_flaw}
 use Rattle.session_text.specs.declared.detail.Detail.TheVariants.{NoWord}
 use Rattle.session_text.specs.declared.fault.TextFault.{TextFault}
 use Rattle.session_text.specs.declared.format.Format.{Format}
@@ -13,9 +13,10 @@ use Rattle.session_text.specs.declared.format.Format.TheVariants.{Two}
 use Rattle.session_text.specs.declared.edit.EditKind.{EditKind}
 use Rattle.session_text.specs.declared.edit.EditKind.TheVariants.{Insert, Remove, Replace, Change}
 use Rattle.session_text.specs.Accepted.{item_accepted}
-use Rattle.session_text.specs.Detail.{listed, words_of}
+use Rattle.session_text.specs.Detail.{words_of}
 use Rattle.session_text.specs.Member.{object_at, member_at, number_at, text_at, only_at}
 use Rattle.session_text.specs.Names.{TaskNames, names_of}
+use Rattle.session_text.specs.Nearest.{stray}
 use Rattle.session_text.specs.Outcome.{◌>>=◌, found}
 use Rattle.session_text.specs.Path.{member_path}
 use Rattle.session_text.specs.Session.{document}
@@ -33,7 +34,7 @@ edit_kind_of word = option_map (λ entry. entry.1) (find (λ entry. bytes_eq wor
 unfoldable pub edit_kind_at : List ℕ → Data → Result EditKind TextFault
 edit_kind_at at d = do
   word ← text_at at (codes "edit") d
-  found (edit_kind_of word) (member_path at (codes "edit")) (NoWord (listed (words_of edit_kinds)))
+  found (edit_kind_of word) (member_path at (codes "edit")) (NoWord (stray word (words_of edit_kinds)))
 
 abbrev pub edit_members_of : EditKind → List (List ℕ)
 edit_members_of Insert = codes "edit" ∷ codes "at" ∷ codes "step" ∷ []
@@ -80,5 +81,5 @@ unfoldable pub edit_text : Header → List ℕ → Result Edit TextFault
 edit_text header text = do
   d ← document text
   made ← edit_at Two (names_of header) [] d
-  done ← item_accepted [] (edit_check header made)
+  done ← item_accepted [] (edit_flaw header made)
   Ok made

@@ -1,14 +1,11 @@
 -- The header of a session: its settings and its user tasks.
-use Rattle.std.specs.Prelude.{ℕ, ◌&&◌, List, [], ◌∷◌, codes, Result, Ok, Err, if◌then◌else◌}
-use Rattle.std.specs.List.{list_all}
+use Rattle.std.specs.Prelude.{ℕ, List, [], ◌∷◌, codes, Option, Some, None, Result, Ok, Err}
 use Rattle.serde_json.specs.Data.{Data}
-use Rattle.bench_types.specs.declared.fault.Fault.{Fault}
-use Rattle.bench_types.specs.declared.fault.Fault.TheVariants.{BadHeader}
+use Rattle.bench_types.specs.declared.flaw.HeaderFlaw.{HeaderFlaw}
 use Rattle.bench_types.specs.declared.header.Config.{Config}
 use Rattle.bench_types.specs.declared.header.TaskArgs.{TaskArgs}
 use Rattle.bench_types.specs.declared.header.Header.{Header}
-use Rattle.bench_types.specs.Header.{is_header}
-use Rattle.bench_types.specs.Name.{is_name}
+use Rattle.bench_types.specs.Flaw.{header_flaw}
 use Rattle.session_text.specs.declared.fault.TextFault.{TextFault}
 use Rattle.session_text.specs.declared.format.Format.{Format}
 use Rattle.session_text.specs.Array.{list_at}
@@ -46,24 +43,22 @@ task_at at d = do
   only ← only_at at task_members members
   Ok (record { name = name; priority = priority; mask = mask })
 
--- F1 where the name is none
-abbrev pub named : TaskArgs → Result TaskArgs Fault
-named task = if is_name task.name then Ok task else Err BadHeader
+abbrev pub verdict : Header → Option HeaderFlaw → Result Header HeaderFlaw
+verdict header None = Ok header
+verdict header (Some flaw) = Err flaw
 
--- F1 where a name is none, or where the header is outside its limits
-abbrev pub accepted : Header → Result Header Fault
-accepted header =
-    if list_all (λ task. is_name task.name) header.tasks && is_header header then Ok header
-    else Err BadHeader
+-- the header where it has no flaw, else the first one; a name may be any text here
+abbrev pub accepted : Header → Result Header HeaderFlaw
+accepted header = verdict header (header_flaw header)
 
 -- the header with these settings, accepted or not
-abbrev pub header_of : Config → List ℕ → Data → Result (Result Header Fault) TextFault
+abbrev pub header_of : Config → List ℕ → Data → Result (Result Header HeaderFlaw) TextFault
 header_of config at d = do
   tasks ← list_at task_at at (codes "tasks") d
   Ok (accepted (record { config = config; tasks = tasks }))
 
 -- the header, accepted or not: its shape alone is judged
-unfoldable pub header_at : Format → List ℕ → Data → Result (Result Header Fault) TextFault
+unfoldable pub header_at : Format → List ℕ → Data → Result (Result Header HeaderFlaw) TextFault
 header_at format at d = do
   config ← config_at format at d
   header_of config at d

@@ -5,11 +5,11 @@ pub mod Array
 pub mod Bench
 pub mod Detail
 pub mod Edit
-pub mod Flaw
 pub mod Format
 pub mod Header
 pub mod Member
 pub mod Names
+pub mod Nearest
 pub mod Node
 pub mod Outcome
 pub mod Path

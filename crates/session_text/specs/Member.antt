@@ -3,12 +3,13 @@
 use Rattle.std.specs.Prelude.{ℕ, ◌^◌, List, Bool, nat_lt, Option, Some, None, option_and_then, Result, Ok, Err, if◌then◌else◌, ⊤}
 use Rattle.serde_json.specs.Data.{Data, Items, Members}
 use Rattle.serde_json.specs.Find.{get, as_object, as_array, as_str, as_bool, as_number, as_u64}
-use Rattle.json_data.specs.Reading.{are_known}
+use Rattle.json_data.specs.Reading.{least_unknown}
 use Rattle.session_text.specs.declared.detail.Expected.{Expected}
 use Rattle.session_text.specs.declared.detail.Expected.TheVariants.{Number, Text, Flag, Array, Object}
 use Rattle.session_text.specs.declared.detail.Detail.TheVariants.{Missing, Unknown, Wrong}
 use Rattle.session_text.specs.declared.fault.TextFault.{TextFault}
-use Rattle.session_text.specs.Detail.{found_of, listed}
+use Rattle.session_text.specs.Detail.{found_of}
+use Rattle.session_text.specs.Nearest.{stray}
 use Rattle.session_text.specs.Outcome.{◌>>=◌, found, bad_shape}
 use Rattle.session_text.specs.Path.{member_path}
 
@@ -64,7 +65,11 @@ array_at at name d = do
   value ← member_at at name d
   typed Array value (as_array value) (member_path at name)
 
+-- H2 at an object, where it has an unknown member
+abbrev pub none_unknown : List ℕ → List (List ℕ) → Option (List ℕ) → Result ⊤ TextFault
+none_unknown at names None = Ok tt
+none_unknown at names (Some member) = Err (bad_shape at (Unknown (stray member names)))
+
 -- no members beside the known ones, or H2 at the object
 abbrev pub only_at : List ℕ → List (List ℕ) → Members → Result ⊤ TextFault
-only_at at names members =
-    if are_known names members then Ok tt else Err (bad_shape at (Unknown (listed names)))
+only_at at names members = none_unknown at names (least_unknown names members)

@@ -1,7 +1,7 @@
 -- The numbers that names stand for: user tasks are numbered from the number of cores on, in the
 -- order of the header.
 use Rattle.std.specs.Prelude.{ℕ, ◌+◌, List, [], map, position, bytes_eq, Option, Some, None, Result, Ok, Err}
-use Rattle.bench_types.specs.declared.fault.Fault.{Fault}
+use Rattle.bench_types.specs.declared.flaw.HeaderFlaw.{HeaderFlaw}
 use Rattle.bench_types.specs.declared.header.Header.{Header}
 
 -- the number of cores, and the names of the user tasks
@@ -19,9 +19,9 @@ no_names = record { cores = 0; names = [] }
 
 -- the names that the steps may use; under a header that is refused, no number of theirs is ever
 -- looked at
-abbrev pub known_names : Result Header Fault → TaskNames
+abbrev pub known_names : Result Header HeaderFlaw → TaskNames
 known_names (Ok header) = names_of header
-known_names (Err fault) = no_names
+known_names (Err flaw) = no_names
 
 -- 0 is an idle task, for which no step may be made
 abbrev pub number_at_place : ℕ → Option ℕ → ℕ

@@ -4,20 +4,22 @@ use Rattle.std.specs.Prelude.{◌≡◌, ◌≤◌, ℕ, suc, Bool, true, ◌&&�
 use Rattle.serde_json.specs.Data.{Data, Items, no_items, item}
 use Rattle.serde_json.specs.Events.{items_len}
 use Rattle.serde_json.specs.Find.{as_array}
+use Rattle.bench_types.specs.Act.{IsCheckedAct}
 use Rattle.bench_types.specs.Header.{IsCheckedHeader}
 use Rattle.bench_types.specs.Limits.{max_steps}
 use Rattle.bench_types.specs.Step.{settings_of}
+use Rattle.bench_types.specs.StepFlaw.{act_flaw}
 use Rattle.bench_types.specs.declared.act.Act.{Act}
-use Rattle.bench_types.specs.declared.fault.Fault.{Fault}
 use Rattle.bench_types.specs.declared.fault.Fault.TheVariants.{BadArgument}
+use Rattle.bench_types.specs.declared.flaw.HeaderFlaw.{HeaderFlaw}
 use Rattle.bench_types.specs.declared.header.Header.{Header}
 use Rattle.session_text.specs.declared.detail.Detail.TheVariants as detail
 use Rattle.session_text.specs.declared.fault.TextFault.{TextFault}
 use Rattle.session_text.specs.declared.fault.Why.TheVariants.{Bench}
 use Rattle.session_text.specs.declared.format.Format.{Format}
 use Rattle.session_text.specs.declared.rig.RigScript.{RigScript}
-use Rattle.session_text.specs.Accepted.{items_accepted}
-use Rattle.session_text.specs.Act.{act_fault, script_at, IsCheckedAct}
+use Rattle.session_text.specs.Accepted.{header_fault, items_accepted}
+use Rattle.session_text.specs.Act.{script_at}
 use Rattle.session_text.specs.Array.{list_at}
 use Rattle.session_text.specs.Format.{format_at}
 use Rattle.session_text.specs.Header.{config_at, header_of}
@@ -40,7 +42,7 @@ no_steps_at at d = do
 
 -- the format, the number of cores, and the header, accepted or not, of a session with no steps
 unfoldable pub stepless_at :
-    List ℕ → Data → Result (Format × ℕ × Result Header Fault) TextFault
+    List ℕ → Data → Result (Format × ℕ × Result Header HeaderFlaw) TextFault
 stepless_at at d = do
   members ← object_at at d
   format ← format_at at d
@@ -78,7 +80,7 @@ rig_members = codes "session" ∷ codes "limit" ∷ codes "scripts" ∷ []
 -- the header, accepted or not, of the session, the limit and the scripts, which are in its format;
 -- shapes alone are judged
 unfoldable pub rig_shapes_at :
-    List ℕ → Data → Result (Result Header Fault × ℕ × List (List Act)) TextFault
+    List ℕ → Data → Result (Result Header HeaderFlaw × ℕ × List (List Act)) TextFault
 rig_shapes_at at d = do
   members ← object_at at d
   inner ← member_at at (codes "session") d
@@ -95,7 +97,7 @@ limit_accepted at limit =
     then Err (record {
       why = Bench BadArgument;
       path = path_text (member_path at (codes "limit"));
-      detail = detail.None;
+      detail = detail.Limit limit;
     })
     else Ok tt
 
@@ -103,14 +105,13 @@ limit_accepted at limit =
 abbrev pub scripts_accepted : Header → List ℕ → ℕ → List (List Act) → Result ⊤ TextFault
 scripts_accepted header at core [] = Ok tt
 scripts_accepted header at core (script ∷ rest) = do
-  done ← items_accepted (act_fault header core) (item_path at core) 0 script
+  done ← items_accepted (act_flaw (settings_of header) core) (item_path at core) 0 script
   scripts_accepted header at (suc core) rest
 
 -- F1 of the header has no place; the fault of the limit comes before those of the scripts
 unfoldable pub rig_accepted :
-    List ℕ → Result Header Fault → ℕ → List (List Act) → Result RigScript TextFault
-rig_accepted at (Err fault) limit scripts =
-    Err (record { why = Bench fault; path = []; detail = detail.None })
+    List ℕ → Result Header HeaderFlaw → ℕ → List (List Act) → Result RigScript TextFault
+rig_accepted at (Err flaw) limit scripts = Err (header_fault flaw)
 rig_accepted at (Ok header) limit scripts = do
   few ← limit_accepted at limit
   done ← scripts_accepted header (member_path at (codes "scripts")) 0 scripts

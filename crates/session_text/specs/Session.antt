@@ -3,19 +3,20 @@ use Rattle.std.specs.Prelude.{◌≡◌, ◌⊎◌, ℕ, List, [], ◌∷◌, co
 use Rattle.std.specs.Str.{is_utf8}
 use Rattle.serde_json.specs.Data.{Data}
 use Rattle.serde_json.specs.Read.{read}
-use Rattle.bench_types.specs.declared.fault.Fault.{Fault}
+use Rattle.bench_types.specs.declared.flaw.HeaderFlaw.{HeaderFlaw}
 use Rattle.bench_types.specs.declared.header.Header.{Header}
 use Rattle.bench_types.specs.declared.step.Step.{Step}
-use Rattle.bench_types.specs.Step.{settings_of, step_check}
+use Rattle.bench_types.specs.Step.{settings_of}
+use Rattle.bench_types.specs.StepFlaw.{step_flaw}
 use Rattle.session_text.specs.declared.detail.Detail.TheVariants as detail
-use Rattle.session_text.specs.declared.fault.Why.TheVariants.{NotJson, Bench, NoMemory}
+use Rattle.session_text.specs.declared.fault.Why.TheVariants.{NotJson, NoMemory}
 use Rattle.session_text.specs.declared.fault.TextFault.{TextFault}
 use Rattle.session_text.specs.declared.format.Format.{Format}
 use Rattle.session_text.specs.Format.{format_at, notes_member}
 use Rattle.session_text.specs.Header.{header_at}
 use Rattle.session_text.specs.Member.{object_at, only_at}
 use Rattle.session_text.specs.Names.{known_names}
-use Rattle.session_text.specs.Accepted.{items_accepted}
+use Rattle.session_text.specs.Accepted.{header_fault, items_accepted}
 use Rattle.session_text.specs.Array.{list_at}
 use Rattle.session_text.specs.Outcome.{◌>>=◌}
 use Rattle.session_text.specs.Path.{member_path}
@@ -36,7 +37,7 @@ session_members format =
 
 -- the format, the header, accepted or not, and the steps; shapes alone are judged
 unfoldable pub session_at :
-    List ℕ → Data → Result (Format × Result Header Fault × List Step) TextFault
+    List ℕ → Data → Result (Format × Result Header HeaderFlaw × List Step) TextFault
 session_at at d = do
   members ← object_at at d
   format ← format_at at d
@@ -45,17 +46,12 @@ session_at at d = do
   only ← only_at at (session_members format) members
   Ok (format, header, steps)
 
--- the fault of a step under a header
-abbrev pub step_fault : Header → Step → Result ⊤ Fault
-step_fault header step = step_check (settings_of header) step
-
 -- F1 of the header has no place
 unfoldable pub session_accepted :
-    List ℕ → Result Header Fault → List Step → Result (Header × List Step) TextFault
-session_accepted at (Err fault) steps =
-    Err (record { why = Bench fault; path = []; detail = detail.None })
+    List ℕ → Result Header HeaderFlaw → List Step → Result (Header × List Step) TextFault
+session_accepted at (Err flaw) steps = Err (header_fault flaw)
 session_accepted at (Ok header) steps = do
-  done ← items_accepted (step_fault header) (member_path at (codes "steps")) 0 steps
+  done ← items_accepted (step_flaw (settings_of header)) (member_path at (codes "steps")) 0 steps
   Ok (header, steps)
 
 -- the header and the steps that a text spells, or its first fault

@@ -15,11 +15,12 @@ use Rattle.session_text.specs.declared.step.Kind.TheVariants as kind
 use Rattle.session_text.specs.declared.call.CallKind.{CallKind}
 use Rattle.session_text.specs.declared.call.CallKind.TheVariants as callkind
 use Rattle.session_text.specs.declared.format.Format.{Format}
-use Rattle.session_text.specs.Detail.{listed, words_of}
+use Rattle.session_text.specs.Detail.{words_of}
 use Rattle.session_text.specs.Action.{action_at, action_number}
 use Rattle.session_text.specs.Format.{index_at, index_member}
 use Rattle.session_text.specs.Member.{object_at, number_at, text_at, flag_at, only_at}
 use Rattle.session_text.specs.Names.{TaskNames, number_of}
+use Rattle.session_text.specs.Nearest.{stray}
 use Rattle.session_text.specs.Outcome.{◌>>=◌, found}
 use Rattle.session_text.specs.Path.{member_path}
 
@@ -53,7 +54,7 @@ kind_of word = option_map (λ entry. entry.1) (find (λ entry. bytes_eq word ent
 unfoldable pub kind_at : List ℕ → Data → Result Kind TextFault
 kind_at at d = do
   word ← text_at at (codes "do") d
-  found (kind_of word) (member_path at (codes "do")) (NoWord (listed (words_of kinds)))
+  found (kind_of word) (member_path at (codes "do")) (NoWord (stray word (words_of kinds)))
 
 -- the members of a notification: `value` is one where the action has a number
 abbrev pub note_members : Format → Option ℕ → List (List ℕ)

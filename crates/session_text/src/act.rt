@@ -1,3 +1,4 @@
+//! Scripts, and their actions.
 ghost use Rattle.std.specs.Prelude.{◌≡◌, map};
 ghost use Rattle.session_text.specs.Act.{act_of_kind_at};
 ghost use Rattle.session_text.specs.Node.{data_of, place_of};
@@ -5,7 +6,6 @@ ghost use Rattle.session_text.specs.Outcome.{Gives};
 ghost use Rattle.session_text.specs.Step.{members_of_act};
 
 use crate::accepted::Judged;
-use crate::action::action_number;
 use crate::array::{ReadItem, each};
 use crate::call::{call_at, call_members, interrupt_members, note_at};
 use crate::fault::ReadFault;
@@ -13,7 +13,7 @@ use crate::format::Format;
 use crate::names::Names;
 use crate::node::Node;
 use crate::step::{Kind, kind_at};
-use bench_types::{Act, Fault, Header, Items};
+use bench_types::{Act, Header, Items, StepFlaw};
 
 /// The members that an action like this one has: those of a step, but for its core and its task.
 #[tactic(auto, using(crate::proofs::Lists::map_drop))]
@@ -102,22 +102,15 @@ pub(crate) struct OnCore<'h> {
 }
 
 impl Judged<OnCore<'_>> for Act {
+    ghost use Rattle.bench_types.specs.Act.{IsCheckedAct};
     ghost use Rattle.bench_types.specs.Step.{settings_of};
-    ghost use Rattle.session_text.specs.Act.{act_fault, IsCheckedAct};
+    ghost use Rattle.bench_types.specs.StepFlaw.{act_flaw};
 
-    ghost fault_of = { λ on. act_fault on.header.now on.core };
+    ghost flaw_of = { λ on. act_flaw (settings_of on.header.now) on.core };
 
     ghost IsChecked = { λ on. IsCheckedAct (settings_of on.header.now) on.core };
 
-    fn judge(&self, on: &OnCore<'_>) -> Result<(), Fault> {
-        match *self {
-            Act::Call(call) => call.check(on.header),
-            Act::Interrupt(note) => {
-                // Its number is bound, so it is known to be one of 32 bits.
-                let _number = action_number(note.action);
-                self.check(on.core, on.header)
-            }
-            Act::Tick | Act::Switch => self.check(on.core, on.header),
-        }
+    fn judge(&self, on: &OnCore<'_>) -> Option<StepFlaw> {
+        self.flaw(on.core, on.header)
     }
 }

@@ -24,11 +24,8 @@ fn action_kind_at(node: &Node<'_, '_>) -> Result<ActionKind, ReadFault>
     ensures { Gives (λ kind. kind) result
         (action_kind_at (place_of node.now) (data_of node.now)) }
 {
-    node.meant(
-        "action",
-        ActionKind::words(),
-        ActionKind::of(node.text("action")?),
-    )
+    let word = node.text("action")?;
+    node.meant("action", word, ActionKind::words(), ActionKind::of(word))
 }
 
 impl ActionKind {

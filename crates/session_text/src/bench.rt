@@ -16,7 +16,7 @@ use crate::fault::{ReadFault, TextFault};
 use crate::node::Node;
 use crate::path::Place;
 use crate::session::{document, known_names, session_accepted, session_at};
-use bench_types::{Edit, Fault, Header, Items, Step};
+use bench_types::{Edit, Header, HeaderFlaw, Items, Step};
 use json_data::{Item, Scratch};
 use std::alloc::Global;
 
@@ -98,7 +98,7 @@ fn edited_at(node: &Node<'_, '_>, session: &Item<'_, '_>) -> Result<Bench, ReadF
 fn shapes_at(
     node: &Node<'_, '_>,
     session: &Item<'_, '_>,
-) -> Result<(Result<Header, Fault>, Vec<Step>, Vec<Edit>), ReadFault>
+) -> Result<(Result<Header, HeaderFlaw>, Vec<Step>, Vec<Edit>), ReadFault>
     ensures reading { Gives (λ read. (read.0, read.1.items, read.2.items)) result
         (shapes_at (place_of node.now) (data_of node.now) (view session.now)) }
     ensures valid { IfOk result (λ read. IfOk read.0 IsCheckedHeader) }
@@ -125,7 +125,7 @@ fn shapes_at(
 fn bench_accepted(
     alloc: Global,
     place: &Place<'_>,
-    header: Result<Header, Fault>,
+    header: Result<Header, HeaderFlaw>,
     steps: Vec<Step>,
     edits: Vec<Edit>,
 ) -> Result<Bench, ReadFault>

@@ -3,6 +3,8 @@ ghost use Rattle.std.specs.Prelude.{◌≡◌, ◌++◌, codes, flat_map, map, s
 ghost use Rattle.json_data.specs.View.{view};
 ghost use Rattle.session_text.specs.Detail.{found_of, listed};
 
+use crate::nearest::Stray;
+use bench_types::{HeaderFlaw, StepFlaw};
 use json_data::Item;
 use std::alloc::{AllocError, Global};
 use std::marker::Model;
@@ -36,6 +38,13 @@ impl Words {
                 Ok(Words { text })
             }
         }
+    }
+
+    /// Words that are one text already.
+    pub(crate) fn of(text: String) -> Words
+        ensures { result ≡ string_bytes text }
+    {
+        Words { text }
     }
 
     pub fn as_str(&self) -> &str
@@ -74,8 +83,9 @@ pub enum Expected {
 pub enum Found {
     /// A whole number of 64 bits from 0 on, written without point and exponent.
     Whole,
-    /// Another number, or `null`.
+    /// Another number.
     Other,
+    Null,
     Text,
     /// `true` or `false`.
     Flag,
@@ -90,22 +100,28 @@ pub enum Detail {
     None,
     /// The member at the place is missing.
     Missing,
-    /// The object has a member with none of these names.
-    Unknown(Words),
+    /// The object has a member whose name is none of those that may stand there.
+    Unknown(Stray),
     /// The value is of another type.
     Wrong { expected: Expected, found: Found },
-    /// The text is none of these words.
-    NoWord(Words),
+    /// The text is none of the words that may stand there.
+    NoWord(Stray),
     /// There is no such format.
     NoFormat,
     /// The session of a rig has steps.
     HasSteps,
     /// The scripts are not so many arrays, one a core.
     OnePerCore(u32),
+    /// The header is not accepted for this.
+    Header(HeaderFlaw),
+    /// The step, action or edit is not accepted for this.
+    Step(StepFlaw),
+    /// A recording may not have so many entries.
+    Limit(u32),
 }
 
 /// What the value is.
-#[tactic(auto, using(crate::proofs::Shown::found_by_tests))]
+#[tactic(auto, using(crate::proofs::Details::found_by_tests))]
 pub(crate) fn found_of(value: &Item<'_, '_>) -> Found
     ensures { result ≡ found_of (view value.now) }
 {
@@ -117,6 +133,8 @@ pub(crate) fn found_of(value: &Item<'_, '_>) -> Found
         Found::Array
     } else if value.as_object().is_some() {
         Found::Object
+    } else if value.is_null() {
+        Found::Null
     } else if value.as_u64().is_some() {
         Found::Whole
     } else {

@@ -100,7 +100,8 @@ impl EditKind {
 fn edit_kind_at(node: &Node<'_, '_>) -> Result<EditKind, ReadFault>
     ensures { Gives (λ kind. kind) result (edit_kind_at (place_of node.now) (data_of node.now)) }
 {
-    node.meant("edit", EditKind::words(), EditKind::of(node.text("edit")?))
+    let word = node.text("edit")?;
+    node.meant("edit", word, EditKind::words(), EditKind::of(word))
 }
 
 /// The step that the edit brings.

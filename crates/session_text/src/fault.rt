@@ -1,11 +1,13 @@
+//! Why a text is not read, and where.
 ghost use Rattle.std.specs.Prelude.{◌≡◌};
-ghost use Rattle.session_text.specs.declared.fault.ReadFault.TheVariants.{Memory};
+ghost use Rattle.session_text.specs.declared.fault.ReadFault.TheVariants.{Memory, Fault as Refused};
+ghost use Rattle.session_text.specs.Accepted.{header_fault};
 ghost use Rattle.session_text.specs.Outcome.{told, StopsAt};
 ghost use Rattle.session_text.specs.Path.{path_of, path_text};
 
 use crate::detail::Detail;
 use crate::path::{Path, Place};
-use bench_types::Fault;
+use bench_types::{Fault, HeaderFlaw};
 use std::alloc::{AllocError, AllocFailed, Global};
 use std::error::Error as StdError;
 use std::fmt;
@@ -34,7 +36,7 @@ pub struct TextFault {
     pub why: Why,
     /// Empty for H1, for F1 of the header, and where memory ran out.
     pub path: Path,
-    /// Said of H2 alone.
+    /// Said of H2, and of F1 to F5.
     pub detail: Detail,
 }
 
@@ -67,6 +69,17 @@ impl ReadFault {
             Ok(path) => ReadFault::Fault(TextFault { why, path, detail }),
             Err(_) => ReadFault::Memory,
         }
+    }
+
+    /// F1 of the header, which has no place.
+    pub(crate) fn of_header(flaw: HeaderFlaw) -> ReadFault
+        ensures { result ≡ Refused (header_fault flaw) }
+    {
+        ReadFault::Fault(TextFault {
+            why: Why::Bench(Fault::BadHeader),
+            path: Path::empty(),
+            detail: Detail::Header(flaw),
+        })
     }
 }
 

@@ -1,6 +1,9 @@
-ghost use Rattle.std.specs.Prelude.{◌≡◌, IfOk};
+//! The header of a session: its shape, and what it is accepted as.
+ghost use Rattle.std.specs.Prelude.{◌≡◌, Some, None, IfOk, MatchResult, if◌then◌else◌};
+ghost use Rattle.bench_types.specs.Flaw.{place_of_no_name};
 ghost use Rattle.bench_types.specs.Header.{IsCheckedHeader};
-ghost use Rattle.session_text.specs.Header.{accepted, config_at, header_at, header_of, named, task_at};
+ghost use Rattle.bench_types.specs.Name.{is_name};
+ghost use Rattle.session_text.specs.Header.{accepted, config_at, header_at, header_of, task_at};
 ghost use Rattle.session_text.specs.Node.{data_of, place_of};
 ghost use Rattle.session_text.specs.Outcome.{Gives};
 
@@ -8,16 +11,16 @@ use crate::array::{ReadItem, list_at};
 use crate::fault::ReadFault;
 use crate::format::{Format, notes_at};
 use crate::node::Node;
-use bench_types::{Config, Fault, Header, Items, Name, TaskArgs};
+use bench_types::{Config, Header, HeaderFlaw, Items, Name, TaskArgs};
 use std::alloc::{AllocError, Global};
 use std::marker::Model;
 
 /// A user task as the text has it: its name may still be any text.
 #[derive(Drop)]
-pub(crate) struct TaskShape<'v> {
-    pub(crate) name: &'v str,
-    pub(crate) priority: u32,
-    pub(crate) mask: u32,
+struct TaskShape<'v> {
+    name: &'v str,
+    priority: u32,
+    mask: u32,
 }
 
 impl<'v> Model for TaskShape<'v> {
@@ -30,15 +33,18 @@ impl<'v> Model for TaskShape<'v> {
 }
 
 impl TaskShape<'_> {
-    /// The task, or F1 where its name is none.
-    fn to_args(&self) -> Result<TaskArgs, Fault>
-        ensures { result ≡ named self.now }
+    /// The task; none where its name is none.
+    fn to_args(&self) -> Option<TaskArgs>
+        ensures { result ≡ (if is_name self.now.name then Some self.now else None) }
     {
-        Ok(TaskArgs {
-            name: Name::new(self.name)?,
-            priority: self.priority,
-            mask: self.mask,
-        })
+        match Name::new(self.name) {
+            Ok(name) => Some(TaskArgs {
+                name,
+                priority: self.priority,
+                mask: self.mask,
+            }),
+            Err(_) => None,
+        }
     }
 }
 
@@ -58,7 +64,7 @@ pub(crate) fn config_at(format: Format, node: &Node<'_, '_>) -> Result<Config, R
 }
 
 /// Reads the user tasks.
-pub(crate) struct TaskReader;
+struct TaskReader;
 
 impl<'v> ReadItem<'v> for TaskReader {
     type Item = TaskShape<'v>;
@@ -80,31 +86,55 @@ impl<'v> ReadItem<'v> for TaskReader {
     }
 }
 
-/// The header, or F1. Only memory ends the call early.
+/// The tasks, or the place of the first one whose name is none. Only memory ends the call early.
+fn named_tasks(
+    alloc: Global,
+    shapes: &[TaskShape<'_>],
+) -> Result<Result<Vec<TaskArgs>, usize>, AllocError>
+    ensures { IfOk result (λ made. MatchResult made (λ tasks. tasks.items ≡ shapes.now)
+        (λ place. place_of_no_name shapes.now ≡ Some place)) }
+{
+    let mut tasks = Vec::with_capacity(alloc, shapes.len())?;
+    for (place, shape) in shapes.iter().enumerate() {
+        match shape.to_args() {
+            Some(task) => tasks.push(task)?,
+            None => return Ok(Err(place)),
+        }
+    }
+    Ok(Ok(tasks))
+}
+
+/// The header, or its first flaw.
+fn checked(header: Header) -> Result<Header, HeaderFlaw>
+    ensures value { result ≡ accepted header }
+    ensures valid { IfOk result IsCheckedHeader }
+{
+    match header.flaw() {
+        None => Ok(header),
+        Some(flaw) => Err(flaw),
+    }
+}
+
+/// The header of these tasks, or its first flaw. Only memory ends the call early.
 fn accepted(
     alloc: Global,
     config: Config,
     shapes: &[TaskShape<'_>],
-) -> Result<Result<Header, Fault>, AllocError>
+) -> Result<Result<Header, HeaderFlaw>, AllocError>
     ensures value { IfOk result
         (λ header. header ≡ accepted (record { config = config; tasks = shapes.now })) }
     ensures valid { IfOk result (λ header. IfOk header IsCheckedHeader) }
     ensures config { IfOk result (λ header. IfOk header (λ it. it.config ≡ config)) }
 {
-    let mut tasks = Vec::with_capacity(alloc, shapes.len())?;
-    for shape in shapes {
-        match shape.to_args() {
-            Ok(task) => tasks.push(task)?,
-            Err(fault) => return Ok(Err(fault)),
-        }
-    }
-    let header = Header {
-        config,
-        tasks: Items::new(tasks),
-    };
-    match header.check() {
-        Ok(()) => Ok(Ok(header)),
-        Err(fault) => Ok(Err(fault)),
+    match config.flaw(shapes.len()) {
+        Some(flaw) => Ok(Err(flaw)),
+        None => match named_tasks(alloc, shapes)? {
+            Ok(tasks) => Ok(checked(Header {
+                config,
+                tasks: Items::new(tasks),
+            })),
+            Err(place) => Ok(Err(HeaderFlaw::NoName(place))),
+        },
     }
 }
 
@@ -112,7 +142,7 @@ fn accepted(
 pub(crate) fn header_of(
     config: Config,
     node: &Node<'_, '_>,
-) -> Result<Result<Header, Fault>, ReadFault>
+) -> Result<Result<Header, HeaderFlaw>, ReadFault>
     ensures reading { Gives (λ header. header) result
         (header_of config (place_of node.now) (data_of node.now)) }
     ensures valid { IfOk result (λ header. IfOk header IsCheckedHeader) }
@@ -127,7 +157,7 @@ pub(crate) fn header_of(
 pub(crate) fn header_at(
     format: Format,
     node: &Node<'_, '_>,
-) -> Result<Result<Header, Fault>, ReadFault>
+) -> Result<Result<Header, HeaderFlaw>, ReadFault>
     ensures reading { Gives (λ header. header) result
         (header_at format (place_of node.now) (data_of node.now)) }
     ensures valid { IfOk result (λ header. IfOk header IsCheckedHeader) }

@@ -2,13 +2,15 @@ ghost use Rattle.std.specs.Prelude.{◌≡◌, map};
 ghost use Rattle.json_data.specs.ObjectView.{members_view};
 ghost use Rattle.json_data.specs.View.{items_view, view};
 ghost use Rattle.session_text.specs.declared.detail.Detail.TheVariants.{Unknown, Wrong};
-ghost use Rattle.session_text.specs.Detail.{found_of, listed};
+ghost use Rattle.session_text.specs.Detail.{found_of};
 ghost use Rattle.session_text.specs.Member.{array_at, as_u32, flag_at, items_at, member_at, number_at, number_or_at, object_at, only_at, text_at};
+ghost use Rattle.session_text.specs.Nearest.{stray};
 ghost use Rattle.session_text.specs.Node.{data_of, place_of};
 ghost use Rattle.session_text.specs.Outcome.{bad_shape, Gives, StopsAt};
 
-use crate::detail::{Detail, Expected, Words, found_of};
+use crate::detail::{Detail, Expected, found_of};
 use crate::fault::ReadFault;
+use crate::nearest::Stray;
 use crate::node::Node;
 use json_data::{Item, Items, Object};
 
@@ -22,14 +24,14 @@ impl<'p, 'v> Node<'p, 'v> {
         self.bad_shape(Detail::Wrong { expected, found })
     }
 
-    /// H2 here, where the object has a member with none of the names.
-    fn unknown(&self, names: &[&str]) -> ReadFault
+    /// H2 here, where the object has a member whose name is none of the names.
+    fn unknown(&self, member: &str, names: &[&str]) -> ReadFault
         ensures { StopsAt
             (bad_shape (place_of self.now)
-            (Unknown (listed (map (λ name. name.now) names.now)))) result }
+            (Unknown (stray member.now (map (λ name. name.now) names.now)))) result }
     {
-        match Words::listed(self.alloc, names) {
-            Ok(names) => self.bad_shape(Detail::Unknown(names)),
+        match Stray::of(self.alloc, member, names) {
+            Ok(stray) => self.bad_shape(Detail::Unknown(stray)),
             Err(_) => ReadFault::Memory,
         }
     }
@@ -118,10 +120,9 @@ impl<'p, 'v> Node<'p, 'v> {
             (only_at (place_of self.now) (map (λ name. name.now) names.now)
             (members_view members.now)) }
     {
-        if members.has_only(names) {
-            Ok(())
-        } else {
-            Err(self.unknown(names))
+        match members.least_unknown(names) {
+            None => Ok(()),
+            Some(member) => Err(self.unknown(member, names)),
         }
     }
 }

@@ -1,14 +1,16 @@
 ghost use Rattle.std.specs.Prelude.{map};
 ghost use Rattle.json_data.specs.View.{view};
 ghost use Rattle.session_text.specs.declared.detail.Detail.TheVariants.{NoWord};
-ghost use Rattle.session_text.specs.Detail.{found_of, listed};
+ghost use Rattle.session_text.specs.Detail.{found_of};
 ghost use Rattle.session_text.specs.Member.{typed};
+ghost use Rattle.session_text.specs.Nearest.{stray};
 ghost use Rattle.session_text.specs.Node.{place_of};
 ghost use Rattle.session_text.specs.Outcome.{bad_shape, found, Gives, StopsAt};
 ghost use Rattle.session_text.specs.Path.{member_path};
 
-use crate::detail::{Detail, Expected, Words, found_of};
+use crate::detail::{Detail, Expected, found_of};
 use crate::fault::{ReadFault, Why};
+use crate::nearest::Stray;
 use crate::path::Place;
 use json_data::Item;
 use std::alloc::Global;
@@ -58,13 +60,13 @@ impl<'v> Node<'_, 'v> {
     }
 
     /// H2 at the member, which has to be one of the words.
-    fn no_word(&self, name: &str, words: &[&str]) -> ReadFault
+    fn no_word(&self, name: &str, text: &str, words: &[&str]) -> ReadFault
         ensures { StopsAt
             (bad_shape (member_path (place_of self.now) name.now)
-            (NoWord (listed (map (λ word. word.now) words.now)))) result }
+            (NoWord (stray text.now (map (λ word. word.now) words.now)))) result }
     {
-        match Words::listed(self.alloc, words) {
-            Ok(words) => self.bad_member(name, Detail::NoWord(words)),
+        match Stray::of(self.alloc, text, words) {
+            Ok(stray) => self.bad_member(name, Detail::NoWord(stray)),
             Err(_) => ReadFault::Memory,
         }
     }
@@ -73,16 +75,17 @@ impl<'v> Node<'_, 'v> {
     pub(crate) fn meant<T: Drop>(
         &self,
         name: &str,
+        text: &str,
         words: &[&str],
         meaning: Option<T>,
     ) -> Result<T, ReadFault>
         ensures { Gives (λ it. it) result
             (found meaning (member_path (place_of self.now) name.now)
-            (NoWord (listed (map (λ word. word.now) words.now)))) }
+            (NoWord (stray text.now (map (λ word. word.now) words.now)))) }
     {
         match meaning {
             Some(it) => Ok(it),
-            None => Err(self.no_word(name, words)),
+            None => Err(self.no_word(name, text, words)),
         }
     }
 }

@@ -1,11 +1,12 @@
 ghost use Rattle.std.specs.Prelude.{◌≡◌, ◌<◌, ◌≤◌, ◌^◌, length, All, IfOk, OnOk};
 ghost use Rattle.std.specs.Result.{ForOk};
 ghost use Rattle.json_data.specs.View.{items_view};
+ghost use Rattle.bench_types.specs.Act.{IsCheckedAct};
 ghost use Rattle.bench_types.specs.Header.{IsCheckedHeader};
 ghost use Rattle.bench_types.specs.Limits.{max_steps};
 ghost use Rattle.bench_types.specs.Step.{settings_of};
+ghost use Rattle.bench_types.specs.StepFlaw.{act_flaw};
 ghost use Rattle.session_text.specs.Accepted.{items_accepted};
-ghost use Rattle.session_text.specs.Act.{act_fault, IsCheckedAct};
 ghost use Rattle.session_text.specs.Node.{data_of, place_of};
 ghost use Rattle.session_text.specs.Outcome.{Gives};
 ghost use Rattle.session_text.specs.Path.{item_path, path_of};
@@ -21,9 +22,9 @@ use crate::format::{Format, format_at};
 use crate::header::{config_at, header_of};
 use crate::names::Names;
 use crate::node::Node;
-use crate::path::{Path, Place};
+use crate::path::Place;
 use crate::session::{document, known_names, only_members};
-use bench_types::{Act, Fault, Header, Items, MAX_STEPS};
+use bench_types::{Act, Fault, Header, HeaderFlaw, Items, MAX_STEPS};
 use json_data::Scratch;
 use std::alloc::Global;
 
@@ -78,7 +79,7 @@ fn rig_at(node: &Node<'_, '_>) -> Result<RigScript, ReadFault>
 #[tactic(auto, unfolding(crate::specs::Rig::rig_shapes_at))]
 fn rig_shapes_at(
     node: &Node<'_, '_>,
-) -> Result<(Result<Header, Fault>, u32, Vec<Items<Act>>), ReadFault>
+) -> Result<(Result<Header, HeaderFlaw>, u32, Vec<Items<Act>>), ReadFault>
     ensures reading { Gives (λ read. (read.0, read.1, read.2.items)) result
         (rig_shapes_at (place_of node.now) (data_of node.now)) }
     ensures valid { IfOk result (λ read. IfOk read.0 IsCheckedHeader) }
@@ -102,7 +103,7 @@ fn rig_shapes_at(
 /// The format, the number of cores, and the header, accepted or not, of the session, which has no
 /// steps.
 #[tactic(auto, unfolding(crate::specs::Rig::stepless_at))]
-fn stepless_at(node: &Node<'_, '_>) -> Result<(Format, u32, Result<Header, Fault>), ReadFault>
+fn stepless_at(node: &Node<'_, '_>) -> Result<(Format, u32, Result<Header, HeaderFlaw>), ReadFault>
     ensures reading { Gives (λ read. read) result
         (stepless_at (place_of node.now) (data_of node.now)) }
     ensures valid { IfOk result (λ read. IfOk read.2 IsCheckedHeader) }
@@ -160,12 +161,13 @@ fn scripts_at(
     list_at(&ScriptReader { format, names }, node, "scripts")
 }
 
-/// The rig, or the fault of its header, or of its limit, or else of its first action at fault.
+/// The rig, or F1 for the flaw of its header, or the fault of its limit, or else that of its first
+/// action at fault.
 #[tactic(auto, unfolding(crate::specs::Rig::rig_accepted))]
 fn rig_accepted(
     alloc: Global,
     place: &Place<'_>,
-    header: Result<Header, Fault>,
+    header: Result<Header, HeaderFlaw>,
     limit: u32,
     scripts: Vec<Items<Act>>,
 ) -> Result<RigScript, ReadFault>
@@ -176,11 +178,7 @@ fn rig_accepted(
     ensures checked { IfOk result IsCheckedRig }
 {
     match header {
-        Err(fault) => Err(ReadFault::Fault(TextFault {
-            why: Why::Bench(fault),
-            path: Path::empty(),
-            detail: Detail::None,
-        })),
+        Err(flaw) => Err(ReadFault::of_header(flaw)),
         Ok(header) => {
             limit_accepted(alloc, place, limit)?;
             let inner = Place::Member(place, "scripts");
@@ -201,7 +199,7 @@ fn limit_accepted(alloc: Global, place: &Place<'_>, limit: u32) -> Result<(), Re
     if limit > MAX_STEPS {
         let place = Place::Member(place, "limit");
         let why = Why::Bench(Fault::BadArgument);
-        Err(ReadFault::at(alloc, &place, why, Detail::None))
+        Err(ReadFault::at(alloc, &place, why, Detail::Limit(limit)))
     } else {
         Ok(())
     }
@@ -234,8 +232,8 @@ fn script_accepted(
     script: &[Act],
 ) -> Result<(), ReadFault>
     ensures reading { Gives (λ done. done) result
-        (items_accepted (act_fault header.now core) (item_path (path_of place.now) core) 0
-        script.now) }
+        (items_accepted (act_flaw (settings_of header.now) core)
+        (item_path (path_of place.now) core) 0 script.now) }
     ensures checked { OnOk result (All (IsCheckedAct (settings_of header.now) core) script.now) }
 {
     let on = OnCore { header, core };

@@ -1,15 +1,18 @@
-ghost use Rattle.std.specs.Prelude.{◌≡◌, IfOk, Ok, codes, map};
+ghost use Rattle.std.specs.Prelude.{◌≡◌, All, IfOk, Ok, OnOk, codes, map};
 ghost use Rattle.json_data.specs.ObjectView.{members_view};
 ghost use Rattle.json_data.specs.View.{document_view};
 ghost use Rattle.std.specs.Result.{ForOk};
 ghost use Rattle.bench_types.specs.Header.{header_check, IsCheckedHeader};
 ghost use Rattle.bench_types.specs.Session.{IsSession};
+ghost use Rattle.bench_types.specs.Step.{settings_of, IsCheckedStep};
+ghost use Rattle.bench_types.specs.StepFlaw.{step_flaw};
+ghost use Rattle.session_text.specs.Accepted.{items_accepted};
 ghost use Rattle.session_text.specs.Array.{list_at};
 ghost use Rattle.session_text.specs.Member.{only_at};
 ghost use Rattle.session_text.specs.Names.{known_names};
 ghost use Rattle.session_text.specs.Node.{data_of, place_of};
 ghost use Rattle.session_text.specs.Outcome.{Gives};
-ghost use Rattle.session_text.specs.Path.{path_of};
+ghost use Rattle.session_text.specs.Path.{member_path, path_of};
 ghost use Rattle.session_text.specs.Step.{step_at};
 ghost use Rattle.session_text.specs.Session.{document, session, session_accepted, session_at, session_members, Answers};
 
@@ -23,7 +26,7 @@ use crate::names::Names;
 use crate::node::Node;
 use crate::path::{Path, Place};
 use crate::step::StepReader;
-use bench_types::{Fault, Header, Step};
+use bench_types::{Header, HeaderFlaw, Step};
 use json_data::{Document, Object, Refused, Scratch};
 use std::alloc::{AllocError, Global};
 
@@ -76,7 +79,7 @@ pub(crate) fn document<'a>(
 /// The names of the header's tasks, or none where it is not accepted.
 pub(crate) fn known_names(
     alloc: Global,
-    header: &Result<Header, Fault>,
+    header: &Result<Header, HeaderFlaw>,
 ) -> Result<Names<'_>, AllocError>
     requires { ForOk header.now IsCheckedHeader }
     ensures { IfOk result (λ names. names ≡ known_names header.now) }
@@ -90,7 +93,7 @@ pub(crate) fn known_names(
 /// The steps, under the names of the header.
 fn steps_at(
     format: Format,
-    header: &Result<Header, Fault>,
+    header: &Result<Header, HeaderFlaw>,
     node: &Node<'_, '_>,
 ) -> Result<Vec<Step>, ReadFault>
     requires { ForOk header.now IsCheckedHeader }
@@ -146,7 +149,7 @@ pub(crate) fn only_members(
 #[tactic(auto, unfolding(crate::specs::Session::session_at))]
 pub(crate) fn session_at(
     node: &Node<'_, '_>,
-) -> Result<(Format, Result<Header, Fault>, Vec<Step>), ReadFault>
+) -> Result<(Format, Result<Header, HeaderFlaw>, Vec<Step>), ReadFault>
     ensures reading { Gives (λ read. (read.0, read.1, read.2.items)) result
         (session_at (place_of node.now) (data_of node.now)) }
     ensures valid { IfOk result (λ read. IfOk read.1 IsCheckedHeader) }
@@ -159,12 +162,27 @@ pub(crate) fn session_at(
     Ok((format, header, steps))
 }
 
-/// The session, or the fault of its header, or else of its first step at fault.
+/// The first fault of the steps of the session at the place, if there is one.
+fn steps_accepted(
+    alloc: Global,
+    place: &Place<'_>,
+    header: &Header,
+    steps: &[Step],
+) -> Result<(), ReadFault>
+    ensures reading { Gives (λ done. done) result
+        (items_accepted (step_flaw (settings_of header.now))
+        (member_path (path_of place.now) (codes "steps")) 0 steps.now) }
+    ensures checked { OnOk result (All (IsCheckedStep (settings_of header.now)) steps.now) }
+{
+    items_accepted(alloc, header, &Place::Member(place, "steps"), steps)
+}
+
+/// The session, or F1 for the flaw of its header, or else of its first step at fault.
 #[tactic(auto, unfolding(crate::specs::Session::session_accepted))]
 pub(crate) fn session_accepted(
     alloc: Global,
     place: &Place<'_>,
-    header: Result<Header, Fault>,
+    header: Result<Header, HeaderFlaw>,
     steps: Vec<Step>,
 ) -> Result<(Header, Vec<Step>), ReadFault>
     requires { ForOk header IsCheckedHeader }
@@ -174,18 +192,9 @@ pub(crate) fn session_accepted(
         (λ read. IsSession (record { header = read.0; steps = read.1.items })) }
 {
     match header {
-        Err(fault) => Err(ReadFault::Fault(TextFault {
-            why: Why::Bench(fault),
-            path: Path::empty(),
-            detail: Detail::None,
-        })),
+        Err(flaw) => Err(ReadFault::of_header(flaw)),
         Ok(header) => {
-            items_accepted(
-                alloc,
-                &header,
-                &Place::Member(place, "steps"),
-                steps.as_slice(),
-            )?;
+            steps_accepted(alloc, place, &header, steps.as_slice())?;
             Ok((header, steps))
         }
     }

@@ -94,7 +94,8 @@ fn known_members(format: Format, step: &Step) -> &'static [&'static str]
 pub(crate) fn kind_at(node: &Node<'_, '_>) -> Result<Kind, ReadFault>
     ensures { Gives (λ kind. kind) result (kind_at (place_of node.now) (data_of node.now)) }
 {
-    node.meant("do", Kind::words(), Kind::of(node.text("do")?))
+    let word = node.text("do")?;
+    node.meant("do", word, Kind::words(), Kind::of(word))
 }
 
 #[tactic(auto, unfolding(crate::specs::Step::step_of_kind_at))]

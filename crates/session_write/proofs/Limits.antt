@@ -7,8 +7,7 @@ use Rattle.bench_types.specs.declared.step.Step.TheVariants as step
 use Rattle.bench_types.specs.declared.step.Call.{Call}
 use Rattle.bench_types.specs.declared.step.Call.TheVariants as call
 use Rattle.bench_types.proofs.Passes.{both_pass, checked_core, checked_index, checked_mutex, checked_task}
-use Rattle.bench_types.specs.Step.{settings_of, core_check, index_check, task_check, mask_check, note_check, call_check, ◌>>◌}
-use Rattle.session_text.specs.Session.{step_fault}
+use Rattle.bench_types.specs.Step.{settings_of, core_check, index_check, task_check, mask_check, note_check, call_check, step_check, ◌>>◌}
 
 -- the number of a user task
 abbrev pub IsUserTask : Header → ℕ → Type 0
@@ -84,7 +83,7 @@ has_target header call.Finish passes = tt
 has_target header call.HoldOpen passes = tt
 has_target header call.HoldClose passes = tt
 
-pub in_place : (header : Header) (made : Step) → step_fault header made ≡ Ok tt → StepFits header made
+pub in_place : (header : Header) (made : Step) → step_check (settings_of header) made ≡ Ok tt → StepFits header made
 in_place header step.Tick passes = tt
 in_place header (step.Switch core) passes = checked_core (settings_of header) core passes
 in_place header (step.Call core task made) passes =

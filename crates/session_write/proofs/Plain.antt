@@ -10,7 +10,6 @@ use Rattle.serde_json.specs.Read.{max_depth}
 use Rattle.serde_json.specs.View.{items_of}
 use Rattle.bench_types.specs.declared.header.Config.{Config}
 use Rattle.bench_types.specs.declared.header.TaskArgs.{TaskArgs}
-use Rattle.bench_types.specs.Header.{has_valid_args}
 use Rattle.bench_types.specs.declared.header.Header.{Header}
 use Rattle.bench_types.specs.declared.note.Action.{Action}
 use Rattle.bench_types.specs.declared.note.Action.TheVariants as action
@@ -24,7 +23,7 @@ use Rattle.bench_types.specs.Limits.{max_priorities}
 use Rattle.session_text.specs.declared.format.Format.{Format}
 use Rattle.session_text.specs.declared.format.Format.TheVariants.{One, Two}
 use Rattle.session_write.specs.Written.{task_data, task_name, bare_call, call_for, notify_data, interrupt_data, wait_data, take_data, state_clear_data, value_clear_data, call_data, step_data, format_for, data_in, session_data}
-use Rattle.bench_types.proofs.Passes.{IsWithinLimits}
+use Rattle.bench_types.proofs.Passes.{has_valid_args, IsWithinLimits}
 use Rattle.session_write.proofs.Limits.{StepFits, HasTarget}
 use Rattle.session_write.proofs.ReadBack.{IsPlain, ArePlain}
 

@@ -1,12 +1,11 @@
 -- A session that is written is read back.
-use Rattle.std.proofs.Common.{◌≡◌, ℕ, suc, ◌-◌, ◌^◌, ◌<◌, ◌≤◌, ◌==◌, Bool, true, false, cond, List, [], ◌∷◌, map, codes, refl, sym, ap, arith, ltb, lt-ltb, Result, Ok}
+use Rattle.std.proofs.Common.{◌≡◌, ℕ, suc, ◌-◌, ◌^◌, ◌<◌, ◌≤◌, ◌==◌, Bool, true, false, cond, List, [], ◌∷◌, map, codes, refl, sym, ap, arith, ltb, lt-ltb, Option, None, Result, Ok}
 use Rattle.std.specs.Prelude.{All, IsTrue, ⊤}
 use Rattle.std.specs.List.{list_all, AllByRecursion}
-use Rattle.std.proofs.lemmas.Bool.{and_parts, and_from}
+use Rattle.std.proofs.lemmas.Bool.{and_parts}
 use Rattle.std.proofs.lemmas.Bool.Decides.{nat_tests}
 use Rattle.std.proofs.lemmas.List.Elements.{recursion_from_All}
 use Rattle.serde_json.specs.View.{items_of}
-use Rattle.bench_types.specs.declared.fault.Fault.{Fault}
 use Rattle.bench_types.specs.declared.header.Config.{Config}
 use Rattle.bench_types.specs.declared.header.TaskArgs.{TaskArgs}
 use Rattle.bench_types.specs.declared.header.Header.{Header}
@@ -16,10 +15,12 @@ use Rattle.bench_types.specs.declared.step.Step.{Step}
 use Rattle.bench_types.specs.declared.step.Step.TheVariants as step
 use Rattle.bench_types.specs.declared.step.Call.{Call}
 use Rattle.bench_types.specs.declared.step.Call.TheVariants as call
-use Rattle.bench_types.specs.Header.{has_valid_args, is_header}
+use Rattle.bench_types.specs.declared.step_flaw.StepFlaw.{StepFlaw}
+use Rattle.bench_types.specs.Flaw.{header_flaw}
 use Rattle.bench_types.specs.Name.{is_name}
 use Rattle.bench_types.specs.Session.{IsSession}
-use Rattle.bench_types.specs.Step.{IsActionOfWord, IsOfWords, IsStepOfWords}
+use Rattle.bench_types.specs.Step.{settings_of, IsActionOfWord, IsOfWords, IsStepOfWords}
+use Rattle.bench_types.specs.StepFlaw.{step_flaw}
 use Rattle.bench_types.specs.Limits.{max_priorities}
 use Rattle.session_text.specs.Accepted.{items_accepted}
 use Rattle.session_text.specs.Action.{action_at, action_kind_at, action_of_kind_at}
@@ -29,9 +30,10 @@ use Rattle.session_text.specs.declared.format.Format.TheVariants.{One, Two}
 use Rattle.session_text.specs.Format.{format_at, notes_at, index_at}
 use Rattle.session_text.specs.Header.{task_at, config_at, header_at}
 use Rattle.session_text.specs.Member.{number_at, number_or_at, text_at, flag_at, array_at}
-use Rattle.bench_types.proofs.Passes.{IsWithinLimits, checked_header, passes_whole}
+use Rattle.bench_types.proofs.Passes.{has_valid_args, checked_flaw, checked_header, IsWithinLimits}
+use Rattle.bench_types.proofs.StepFlaws.{step_unflawed}
 use Rattle.session_text.specs.Names.{names_of, number_of}
-use Rattle.session_text.specs.Session.{session_at, session_accepted, session, step_fault}
+use Rattle.session_text.specs.Session.{session_at, session_accepted, session}
 use Rattle.session_text.specs.Step.{step_at, kind_at, step_of_kind_at, task_named_at, note_at, wait_at, call_at}
 use Rattle.session_write.specs.Written.{task_data, task_name, step_data, format_for, data_in, session_data, WrittenReadsBack}
 use Rattle.session_write.proofs.Limits.{StepFits, IsCallInPlace, IsNoteThere, IsUserTask, in_place}
@@ -161,19 +163,15 @@ config_read Two header steps at fits h =
     let notes : header.config.notes < 2 ^ 32 = omega (arith, limits.few_notes) in
     rw (lt-ltb _ _ cores, lt-ltb _ _ priorities, lt-ltb _ _ mutexes, lt-ltb _ _ notes, lt-ltb _ _ h.tick) refl
 
-are_named : (config : Config) (tasks : List TaskArgs) → AllByRecursion (IsTask config) tasks → list_all (λ task. is_name task.name) tasks ≡ true
-are_named config [] each = refl
-are_named config (task ∷ tasks) each = and_from _ _ each.0.named (are_named config tasks each.1)
-
 tasks_found : (format : Format) (header : Header) (steps : List Step) (at : List ℕ) → IsWritable header steps → list_at task_at at (codes "tasks") (data_in format header steps) ≡ Ok header.tasks
 unfolding data_in list_at array_at
 tasks_found One header steps at h = tasks_read header.config _ 0 header.tasks h.limits.few_priorities h.each_task
 tasks_found Two header steps at h = tasks_read header.config _ 0 header.tasks h.limits.few_priorities h.each_task
 
-header_read : (format : Format) (header : Header) (steps : List Step) (at : List ℕ) → Fits format header → is_header header ≡ true → IsWritable header steps → header_at format at (data_in format header steps) ≡ Ok (Ok header)
+header_read : (format : Format) (header : Header) (steps : List Step) (at : List ℕ) → Fits format header → header_flaw header ≡ None → IsWritable header steps → header_at format at (data_in format header steps) ≡ Ok (Ok header)
 unfolding header_at
 header_read format header steps at fits valid h =
-    rw (config_read format header steps at fits h, tasks_found format header steps at h, are_named header.config header.tasks h.each_task, valid) refl
+    rw (config_read format header steps at fits h, tasks_found format header steps at h, valid) refl
 
 format_read : (format : Format) (header : Header) (steps : List Step) (at : List ℕ) → format_at at (data_in format header steps) ≡ Ok format
 unfolding data_in format_at number_at
@@ -185,7 +183,7 @@ unfolding data_in list_at array_at
 steps_found One header steps at fits h = steps_read One header _ 0 steps fits h.limits h.each_step
 steps_found Two header steps at fits h = steps_read Two header _ 0 steps fits h.limits h.each_step
 
-data_read : (format : Format) (header : Header) (steps : List Step) (at : List ℕ) → Fits format header → is_header header ≡ true → IsWritable header steps → session_at at (data_in format header steps) ≡ Ok (format, Ok header, steps)
+data_read : (format : Format) (header : Header) (steps : List Step) (at : List ℕ) → Fits format header → header_flaw header ≡ None → IsWritable header steps → session_at at (data_in format header steps) ≡ Ok (format, Ok header, steps)
 unfolding data_in session_at
 data_read One header steps at fits valid h = rw (format_read One header steps at, header_read One header steps at fits valid h, steps_found One header steps at fits h) refl
 data_read Two header steps at fits valid h = rw (format_read Two header steps at, header_read Two header steps at fits valid h, steps_found Two header steps at fits h) refl
@@ -210,14 +208,14 @@ writable header steps h =
     }
 
 -- items of which none is at fault pass their checks
-none_at_fault : {A : Type 0} (fault_of : A → Result ⊤ Fault) (at : List ℕ) (index : ℕ) (items : List A) → AllByRecursion (λ item. fault_of item ≡ Ok tt) items → items_accepted fault_of at index items ≡ Ok tt
-none_at_fault fault_of at index [] each = refl
-none_at_fault fault_of at index (item ∷ items) each = rw (each.0, none_at_fault fault_of at (suc index) items each.1) refl
+none_at_fault : {A : Type 0} (flaw_of : A → Option StepFlaw) (at : List ℕ) (index : ℕ) (items : List A) → AllByRecursion (λ item. flaw_of item ≡ None) items → items_accepted flaw_of at index items ≡ Ok tt
+none_at_fault flaw_of at index [] each = refl
+none_at_fault flaw_of at index (item ∷ items) each = rw (each.0, none_at_fault flaw_of at (suc index) items each.1) refl
 
-all_accepted : {A : Type 0} (fault_of : A → Result ⊤ Fault) (at : List ℕ) (items : List A) → All (λ item. fault_of item ≡ Ok tt) items → items_accepted fault_of at 0 items ≡ Ok tt
-all_accepted fault_of at items pass = none_at_fault fault_of at 0 items (recursion_from_All (λ item. fault_of item ≡ Ok tt) items pass)
+all_accepted : {A : Type 0} (flaw_of : A → Option StepFlaw) (at : List ℕ) (items : List A) → All (λ item. flaw_of item ≡ None) items → items_accepted flaw_of at 0 items ≡ Ok tt
+all_accepted flaw_of at items pass = none_at_fault flaw_of at 0 items (recursion_from_All (λ item. flaw_of item ≡ None) items pass)
 
-accepted_read : (header : Header) (steps : List Step) → items_accepted (step_fault header) (codes "steps") 0 steps ≡ Ok tt → session_accepted [] (Ok header) steps ≡ Ok (header, steps)
+accepted_read : (header : Header) (steps : List Step) → items_accepted (step_flaw (settings_of header)) (codes "steps") 0 steps ≡ Ok tt → session_accepted [] (Ok header) steps ≡ Ok (header, steps)
 unfolding session_accepted
 accepted_read header steps passing = rw passing refl
 
@@ -226,7 +224,7 @@ unfolding session
 written_reads_back header steps h =
     let writes = writable header steps h in
     let format = format_for header.config in
-    let passing = all_accepted (step_fault header) (codes "steps") steps (λ k d short. (h.steps k d short).passes) in
-    let valid = passes_whole header h.header.passes in
+    let passing = all_accepted (step_flaw (settings_of header)) (codes "steps") steps (λ k d short. step_unflawed (settings_of header) _ (h.steps k d short).passes) in
+    let valid = checked_flaw header h.header.passes in
     rw (document-compact_text (session_data header steps) (session_plain header steps writes) (session_depth header steps), data_read format header steps [] (fits_for header) valid writes)
     (accepted_read header steps passing)

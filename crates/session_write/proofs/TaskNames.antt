@@ -6,7 +6,7 @@ use Rattle.std.proofs.lemmas.List.{length-map}
 use Rattle.std.specs.Cmp.Lexicographic.{nat_list_eq_equiv}
 use Rattle.bench_types.specs.declared.header.TaskArgs.{TaskArgs}
 use Rattle.bench_types.specs.declared.header.Header.{Header}
-use Rattle.bench_types.specs.Header.{is_taken, repeats_name}
+use Rattle.bench_types.proofs.Repeats.{is_taken, repeats_name}
 use Rattle.session_text.specs.Names.{names_of, number_of}
 use Rattle.session_write.specs.Written.{task_name}
 

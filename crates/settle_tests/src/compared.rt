@@ -5,7 +5,7 @@ ghost use Rattle.std.specs.Prelude.{◌≡◌, IfOk};
 use crate::settled::{TICK, call};
 use bench_samples::three_tasks;
 use bench_types::{Call, Edit, Header, Step};
-use run_comparisons::{Side, columns_of, compare_settled, settle_both};
+use run_comparisons::{Side, columns_of, compare, compare_settled, settle_both};
 use session_store::Store;
 use smp_kernel::Meter;
 use std::process::Abort;
@@ -52,6 +52,26 @@ const UNEDITED: &str = "  0 0 delay core 0 by A ticks 1: blocked; A B
 the runs do not differ
 not made before: B 1
 not made after: B 1
+";
+
+/// Two of three edits are refused, and the other one changes nothing.
+const REFUSED: &str = "  0 0 delay core 0 by A ticks 1: blocked; A B
+  1 1 switch core 0: done; C B
+  2 2 yield core 0 by C: done; C B
+  3 3 switch core 0: done; C B
+  4 4 tick: done; C B
+  5 5 switch core 1: done; C A
+  6 6 finish core 1 by A: done; C A
+  7 7 yield core 1 by A: done; C A
+  8 8 switch core 1: done; C A
+no step differs; refused and not made: edit 0, edit 2
+not made before: B 1
+not made after: B 1
+";
+
+/// The same of one tick, as it stands.
+const REFUSED_TICK: &str = "  0 0 tick: done; A B
+no step differs; refused and not made: edit 0, edit 2
 ";
 
 fn opened(rt: &HostRuntime, header: &Header, steps: &[Step]) -> Result<Store, Fail>
@@ -105,6 +125,36 @@ fn edits() -> [Edit; 3] {
 fn settled_runs_side_by_side(rt: HostRuntime) -> Result<(), Fail> {
     assert_text(&rt, compared(&rt, &session(), &edits())?.as_str(), COMPARED);
     assert_text(&rt, compared(&rt, &session(), &[])?.as_str(), UNEDITED);
+    Ok(())
+}
+
+/// A session of so many steps has neither the place that a step is removed from nor the one whose
+/// step is replaced. Task B keeps its priority and its mask.
+fn edits_past(steps: u32) -> [Edit; 3] {
+    [
+        Edit::Remove { at: steps },
+        Edit::ChangeTask {
+            task: 3,
+            priority: 1,
+            mask: 3,
+        },
+        Edit::Replace {
+            at: steps,
+            step: TICK,
+        },
+    ]
+}
+
+#[test]
+fn refused_edits_are_told(rt: HostRuntime) -> Result<(), Fail> {
+    let settled = compared(&rt, &session(), &edits_past(5))?;
+    assert_text(&rt, settled.as_str(), REFUSED);
+    let header = three_tasks(rt.alloc(), false)?;
+    let before = opened(&rt, &header, &[TICK])?;
+    let mut after = opened(&rt, &header, &[TICK])?;
+    let mut meter = Meter::new(&rt);
+    let plain = compare(rt.alloc(), &mut meter, &before, &mut after, &edits_past(1))?;
+    assert_text(&rt, plain.as_str(), REFUSED_TICK);
     Ok(())
 }
 

@@ -646,6 +646,7 @@ fn unstarted(alloc: Global, header: &Header) -> Result<SlowTable, AllocError>
     })
 }
 
+#[tactic(auto, using(bench_types::proofs::Passes::checked_header))]
 fn start(alloc: Global, header: &Header) -> Result<SlowTable, AllocError>
     requires { header_check header.now ≡ Ok tt }
     ensures { IfOk result (λ table. table ≡ start header.now) }
@@ -662,6 +663,7 @@ fn start(alloc: Global, header: &Header) -> Result<SlowTable, AllocError>
 ///
 /// It searches the whole table at each step, so it serves to test faster kernels. It takes the
 /// host's runtime, so that a crate that is handed none can't replay unnoticed.
+#[tactic(auto, using(bench_types::proofs::Passes::checked_header))]
 pub fn replay_slow(
     _rt: &HostRuntime,
     alloc: Global,

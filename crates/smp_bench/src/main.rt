@@ -1,7 +1,8 @@
 //! The bench as a program: a command line and bytes in, bytes and an exit status out.
 #![tactic(auto)]
 
-use bench_commands::{Counted, Prompting, run_program};
+use bench_commands::run_program;
+use program_io::{Counted, Prompting};
 use std::io::IsTerminal;
 use std::process::ExitCode;
 

@@ -75,6 +75,7 @@ impl Model for Scheduler {
 
 impl Scheduler {
     /// The start: each core selects, core 0 first.
+    #[tactic(auto, using(bench_types::proofs::Passes::checked_header))]
     pub fn start(alloc: Global, header: &Header) -> Result<Self, AllocError>
         requires { header_check header.now ≡ Ok tt }
         ensures { IfOk result (λ kernel. kernel ≡ start_seen header.now) }
@@ -87,6 +88,7 @@ impl Scheduler {
     }
 
     // Before any core has selected.
+    #[tactic(auto, using(bench_types::proofs::Passes::checked_header))]
     fn unstarted(alloc: Global, header: &Header) -> Result<Self, AllocError>
         requires { header_check header.now ≡ Ok tt }
         ensures { IfOk result (λ kernel. kernel ≡ unstarted (first_lists header.now) header.now) }

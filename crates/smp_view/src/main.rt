@@ -1,7 +1,7 @@
 //! What a run shows, as a program: a command line and bytes in, bytes and an exit status out.
 #![tactic(auto)]
 
-use bench_commands::Counted;
+use program_io::Counted;
 use std::io::IsTerminal;
 use std::process::ExitCode;
 use view_commands::{DocumentSource, Telling, run_program};

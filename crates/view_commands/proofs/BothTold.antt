@@ -7,11 +7,10 @@ use Rattle.settling.specs.declared.run.SettleFault.{SettleFault}
 use Rattle.settling.specs.declared.run.SettleFault.TheVariants.{TooManySteps}
 use Rattle.run_comparisons.specs.Settled.{IsComparisonTooLong, IsSettledComparison}
 use Rattle.view_commands.specs.SettledViews.{too_long, IsToldOfBoth}
-use Rattle.view_commands.specs.Told.{Told, plain}
-use Rattle.view_commands.specs.Views.{fine}
+use Rattle.program_io.specs.Outputs.{Told, fine}
 
 -- the first of the two stores keeps the session
-pub compared_told : (session kept : Session) (edits : List Edit) (text : List ℕ) (told : Told) → kept ≡ session → ¬ IsComparisonTooLong kept edits → IsSettledComparison kept edits text → told ≡ plain (fine text) → IsToldOfBoth session edits told
+pub compared_told : (session kept : Session) (edits : List Edit) (text : List ℕ) (told : Told) → kept ≡ session → ¬ IsComparisonTooLong kept edits → IsSettledComparison kept edits text → told ≡ fine text → IsToldOfBoth session edits told
 compared_told session kept edits text told same room compares is =
     inl
     (record {

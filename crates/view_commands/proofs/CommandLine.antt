@@ -16,13 +16,12 @@ use Rattle.clap.specs.declared.builder.value_parser.Reading.{Reading}
 use Rattle.clap.specs.declared.builder.value_parser.Reading.TheVariants.{AsWritten}
 use Rattle.clap.specs.declared.error.Error.{Error}
 use Rattle.clap.specs.declared.error.kind.ErrorKind.{ErrorKind}
-use Rattle.clap.specs.declared.error.kind.ErrorKind.TheVariants as kind
 use Rattle.clap.specs.declared.error.kind.ErrorKind.TheVariants.{OutOfMemory}
-use Rattle.bench_commands.specs.Command as bench
-use Rattle.bench_commands.proofs.ClapAnswers.{AskOne, Every, Reads, RowsFit, RuleFits, ShapeFits, Yields, app_yields, one_fits}
-use Rattle.bench_commands.proofs.OptionsRead.{simple_is_local}
+use Rattle.command_words.specs.Asking.{is_flag}
+use Rattle.command_words.proofs.ClapAnswers.{AskOne, Every, Reads, RowsFit, RuleFits, ShapeFits, Yields, app_yields, asks_first, one_fits}
+use Rattle.command_words.proofs.OptionsRead.{simple_is_local}
 use Rattle.view_commands.specs.declared.request.Request.{Request}
-use Rattle.view_commands.specs.CommandLine.{Asked, IsTold, a_mistake, asked_by, asked_for, asked_in, asked_in_words, asked_of, help, view_app}
+use Rattle.view_commands.specs.CommandLine.{Asked, IsTold, a_mistake, asked_by, asked_class, asked_for, asked_in, asked_in_words, asked_of, help, view_app}
 use Rattle.view_commands.specs.Options.{AreTaken, is_number}
 use Rattle.view_commands.proofs.NumberTexts.{number_taken}
 
@@ -57,24 +56,24 @@ as_told : (option : Rule) → arg_by_id options option.id ≡ Some option → Ru
 as_told option is = record { reading = rw is refl; values = λ text e. rw is e }
 
 top_fits : ShapeFits Value Read (built view_app).top
-top_fits = record { rules = (as_told _ refl, tt); helpless = refl }
+top_fits = record { rules = (as_told _ refl, (record { reading = refl; values = λ text e. refl }, tt)); helpless = refl }
 
 commands_fit : Every (ShapeFits Value Read) (built view_app).subs
 commands_fit = (
-  record { rules = (as_told _ refl, (as_told _ refl, (as_told _ refl, (as_told _ refl, (as_told _ refl, (as_told _ refl, (as_told _ refl, tt))))))); helpless = refl },
+  record { rules = (as_told _ refl, (as_told _ refl, (as_told _ refl, (as_told _ refl, (as_told _ refl, (as_told _ refl, (as_told _ refl, (as_told _ refl, tt)))))))); helpless = refl },
   (
-    record { rules = (as_told _ refl, (as_told _ refl, tt)); helpless = refl },
+    record { rules = (as_told _ refl, (as_told _ refl, (as_told _ refl, tt))); helpless = refl },
     (
-      record { rules = (as_told _ refl, (as_told _ refl, tt)); helpless = refl },
+      record { rules = (as_told _ refl, (as_told _ refl, (as_told _ refl, tt))); helpless = refl },
       (
-        record { rules = (as_told _ refl, (as_told _ refl, (as_told _ refl, tt))); helpless = refl },
+        record { rules = (as_told _ refl, (as_told _ refl, (as_told _ refl, (as_told _ refl, tt)))); helpless = refl },
         (
-          record { rules = (as_told _ refl, (as_told _ refl, (as_told _ refl, (as_told _ refl, (as_told _ refl, tt))))); helpless = refl },
+          record { rules = (as_told _ refl, (as_told _ refl, (as_told _ refl, (as_told _ refl, (as_told _ refl, (as_told _ refl, tt)))))); helpless = refl },
           (
-            record { rules = (as_told _ refl, (as_told _ refl, (as_told _ refl, (as_told _ refl, tt)))); helpless = refl },
+            record { rules = (as_told _ refl, (as_told _ refl, (as_told _ refl, (as_told _ refl, (as_told _ refl, tt))))); helpless = refl },
             (
-              record { rules = (as_told _ refl, (as_told _ refl, (as_told _ refl, (as_told _ refl, (as_told _ refl, tt))))); helpless = refl },
-              (record { rules = (as_told _ refl, (as_told _ refl, (as_told _ refl, (as_told _ refl, (as_told _ refl, (as_told _ refl, (as_told _ refl, tt))))))); helpless = refl }, tt),
+              record { rules = (as_told _ refl, (as_told _ refl, (as_told _ refl, (as_told _ refl, (as_told _ refl, (as_told _ refl, tt)))))); helpless = refl },
+              (record { rules = (as_told _ refl, (as_told _ refl, (as_told _ refl, (as_told _ refl, (as_told _ refl, (as_told _ refl, (as_told _ refl, (as_told _ refl, tt)))))))); helpless = refl }, tt),
             ),
           ),
         ),
@@ -109,8 +108,9 @@ one_fit id test holds rows fit = go (one_of id rows) (one_fits Value Read id row
 
 taken : (rows : List Row) → RowsFit Value Read rows → AreTaken rows
 taken rows fit = record {
-  settle = one_fit (codes "settle") bench.is_flag (λ how given read value. subst (λ how. bench.is_flag (read_as how given) ≡ true) read value) rows fit;
-  json = one_fit (codes "json") bench.is_flag (λ how given read value. subst (λ how. bench.is_flag (read_as how given) ≡ true) read value) rows fit;
+  settle = one_fit (codes "settle") is_flag (λ how given read value. subst (λ how. is_flag (read_as how given) ≡ true) read value) rows fit;
+  strict = one_fit (codes "strict") is_flag (λ how given read value. subst (λ how. is_flag (read_as how given) ≡ true) read value) rows fit;
+  json = one_fit (codes "json") is_flag (λ how given read value. subst (λ how. is_flag (read_as how given) ≡ true) read value) rows fit;
   from = one_fit (codes "from") is_number (λ how given read value. subst (λ how. is_number (read_as how given) ≡ true) read (number_taken given value)) rows fit;
   to = one_fit (codes "to") is_number (λ how given read value. subst (λ how. is_number (read_as how given) ≡ true) read (number_taken given value)) rows fit;
   best = one_fit (codes "best") is_number (λ how given read value. subst (λ how. is_number (read_as how given) ≡ true) read (number_taken given value)) rows fit;
@@ -166,43 +166,9 @@ met_asked words found (Ok request) matched is = go found matched.are_taken is (a
     go None none is asks = absurd none
     go (Some met) taken is asks = is ∙ asks
 
--- as a kind asks the bench
-abbrev by_bench : bench.Asked → Asked
-by_bench bench.help = help
-by_bench _ = a_mistake
-
-asked_by_bench : (k : ErrorKind) → asked_by k ≡ by_bench (bench.asked_by k)
-asked_by_bench kind.InvalidValue = refl
-asked_by_bench kind.UnknownArgument = refl
-asked_by_bench kind.InvalidSubcommand = refl
-asked_by_bench kind.NoEquals = refl
-asked_by_bench kind.ValueValidation = refl
-asked_by_bench kind.TooManyValues = refl
-asked_by_bench kind.TooFewValues = refl
-asked_by_bench kind.WrongNumberOfValues = refl
-asked_by_bench kind.ArgumentConflict = refl
-asked_by_bench kind.MissingRequiredArgument = refl
-asked_by_bench kind.MissingSubcommand = refl
-asked_by_bench kind.DisplayHelp = refl
-asked_by_bench kind.DisplayHelpOnMissingArgumentOrSubcommand = refl
-asked_by_bench kind.DisplayVersion = refl
-asked_by_bench kind.Io = refl
-asked_by_bench kind.Format = refl
-asked_by_bench kind.OutOfMemory = refl
-
--- kinds that ask the bench for the same do so here
-kind_same : (first k : ErrorKind) → bench.asked_by k ≡ bench.asked_by first → asked_by k ≡ asked_by first
-kind_same first k same = asked_by_bench k ∙ ap by_bench same ∙ sym (asked_by_bench first)
-
-kind_among : (first k : ErrorKind) (kinds : Kinds) → Every (λ l. bench.asked_by l ≡ bench.asked_by first) kinds → IsAmong k kinds → asked_by k ≡ asked_by first
-kind_among first k [] all among = absurd among
-kind_among first k (x ∷ xs) all (inl is) = ap asked_by is ∙ kind_same first x all.0
-kind_among first k (x ∷ xs) all (inr among) = kind_among first k xs all.1 among
-
 kind_asked : (kinds : Kinds) (met : Option (Text × List Row)) (k : ErrorKind) → AskOne kinds → IsAmong k kinds → asked_by k ≡ asked_of kinds met
 kind_asked [] met k one among = absurd among
-kind_asked (x ∷ xs) met k one (inl is) = ap asked_by is
-kind_asked (x ∷ xs) met k one (inr among) = kind_among x k xs one among
+kind_asked (x ∷ xs) met k one among = ap asked_class (asks_first k x xs one among)
 
 -- where clap gives an error, its kind says what was asked for
 pub error_asked : {E : Type 0} (words : List Text) (error : Error) (result : Result Request E) → HasKind (fault_of view_app words) error

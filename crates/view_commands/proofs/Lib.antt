@@ -2,6 +2,7 @@ mod BothTold
 mod CommandLine
 mod CommandLines
 mod EditsKept
+mod Judged
 mod LastSign
 mod MemoryRefused
 mod NamesFound
@@ -16,4 +17,3 @@ mod PicturesTold
 mod ReportsTold
 mod SettledTold
 mod Texts
-mod Written

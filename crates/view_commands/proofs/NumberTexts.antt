@@ -11,7 +11,7 @@ use Rattle.clap.specs.Matches.{ReadsOne, StepsValues}
 use Rattle.clap.specs.ValueTests.{accepts, fits_i64, is_numeral}
 use Rattle.clap.specs.Words.{Text}
 use Rattle.clap.proofs.WalkLemmas.{both}
-use Rattle.bench_commands.specs.Command.{number_of}
+use Rattle.command_words.specs.Asking.{number_of}
 use Rattle.view_commands.specs.CommandLine.{a_number}
 use Rattle.view_commands.specs.Options.{is_number}
 

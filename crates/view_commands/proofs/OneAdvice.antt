@@ -4,7 +4,7 @@ use Rattle.bench_types.specs.Session.{Session}
 use Rattle.session_advice.specs.Questions.{Asked, Told as AdviceTold}
 use Rattle.session_advice.proofs.OneAdvice.{advice_is_one}
 use Rattle.view_commands.specs.AdviceViews.{IsAdviceOf, told_of_advice}
-use Rattle.view_commands.specs.Told.{Told}
+use Rattle.program_io.specs.Outputs.{Told}
 use Rattle.view_commands.proofs.OneReport.{not_too_long}
 
 pub one_advice : (question : Asked) (session : Session) (told other : Told) → IsAdviceOf question session told → IsAdviceOf question session other → told ≡ other

@@ -6,7 +6,7 @@ use Rattle.session_reports.specs.Checks.{checked}
 use Rattle.session_reports.proofs.OneList.{figures_are_one}
 use Rattle.view_commands.specs.CheckViews.{IsCheckOf, told_of_check}
 use Rattle.view_commands.specs.Selected.{Limited}
-use Rattle.view_commands.specs.Told.{Told}
+use Rattle.program_io.specs.Outputs.{Told}
 use Rattle.view_commands.proofs.OneReport.{not_too_long}
 
 pub one_check : (view : Limited) (session : Session) (told other : Told) → IsCheckOf view session told → IsCheckOf view session other → told ≡ other

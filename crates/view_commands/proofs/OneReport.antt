@@ -9,8 +9,7 @@ use Rattle.session_reports.specs.Reports.{run_text, runs_text, IsReportOfRuns}
 use Rattle.session_reports.proofs.OneList.{figures_are_one}
 use Rattle.view_commands.specs.declared.request.ReportView.{ReportView}
 use Rattle.view_commands.specs.ReportViews.{IsReported, IsReportedAlone, IsReportedBeside}
-use Rattle.view_commands.specs.Told.{Told, plain}
-use Rattle.view_commands.specs.Views.{fine}
+use Rattle.program_io.specs.Outputs.{Told, fine}
 
 -- a session that has figures is not too long
 pub not_too_long : {A : Type 0} (settled : Bool) (session : Session) (figures : List Figure) → AreFigures settled session figures → IsTooLong settled session → A
@@ -20,7 +19,7 @@ not_too_long false session figures are long = absurd long
 one_alone : (view : ReportView) (session : Session) (told other : Told) → IsReportedAlone view session told → IsReportedAlone view session other → told ≡ other
 one_alone view session told other (inl one) (inl two) =
     let same = figures_are_one view.settled session one.is_text.figures two.is_text.figures one.is_text.are two.is_text.are in
-    one.is_told ∙ ap (λ (text : List ℕ). plain (fine text)) (one.is_text.is ∙ ap (run_text view.form view.settled session.header) same ∙ sym two.is_text.is) ∙ sym two.is_told
+    one.is_told ∙ ap (λ (text : List ℕ). fine text) (one.is_text.is ∙ ap (run_text view.form view.settled session.header) same ∙ sym two.is_text.is) ∙ sym two.is_told
 one_alone view session told other (inl one) (inr two) = not_too_long view.settled session one.is_text.figures one.is_text.are two.0
 one_alone view session told other (inr one) (inl two) = not_too_long view.settled session two.is_text.figures two.is_text.are one.0
 one_alone view session told other (inr one) (inr two) = one.1 ∙ sym two.1
@@ -34,7 +33,7 @@ one_beside view session edited told other (inl one) (inl two) =
     let before = figures_are_one view.settled session one.is_text.before two.is_text.before one.is_text.are_before two.is_text.are_before in
     let after = figures_are_one view.settled edited one.is_text.after two.is_text.after one.is_text.are_after two.is_text.are_after in
     one.is_told
-    ∙ ap (λ (text : List ℕ). plain (fine text)) (one.is_text.is ∙ ap₂ (λ (figures later : List Figure). runs_text view.form view.settled session.header figures later) before after ∙ sym two.is_text.is)
+    ∙ ap (λ (text : List ℕ). fine text) (one.is_text.is ∙ ap₂ (λ (figures later : List Figure). runs_text view.form view.settled session.header figures later) before after ∙ sym two.is_text.is)
     ∙ sym two.is_told
 one_beside view session edited told other (inl one) (inr two) = neither_is_too_long view session edited one.text one.is_text two.0
 one_beside view session edited told other (inr one) (inl two) = neither_is_too_long view session edited two.text two.is_text one.0

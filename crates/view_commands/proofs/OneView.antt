@@ -6,6 +6,7 @@ use Rattle.bench_types.specs.declared.step.Step.{Step}
 use Rattle.bench_types.specs.Limits.{max_input, max_steps}
 use Rattle.bench_types.specs.Session.{Session}
 use Rattle.bench_model.specs.Edits.{after_edits}
+use Rattle.edit_notes.specs.Notes.{edit_notes}
 use Rattle.session_text.specs.declared.bench.Bench.{Bench}
 use Rattle.session_text.specs.declared.detail.Detail.{Detail}
 use Rattle.session_text.specs.declared.fault.TextFault.{TextFault}
@@ -23,28 +24,33 @@ use Rattle.run_comparisons.specs.Shared.{shared_events}
 use Rattle.run_comparisons.specs.SideBySide.{first_places, AreSettledRows}
 use Rattle.run_comparisons.proofs.Compared.{neither_too_long}
 use Rattle.run_comparisons.proofs.OneText.{one_list, one_text}
-use Rattle.bench_commands.specs.Answer.{Output, refusal_line, why_text}
-use Rattle.bench_commands.specs.Hint.{IsFaultHint}
+use Rattle.program_io.specs.Refusal.{IsToldFault, refusal_line, why_text}
+use Rattle.program_io.specs.Hint.{IsFaultHint}
+use Rattle.program_io.specs.declared.output.OutputStatus.{OutputStatus}
+use Rattle.program_io.specs.declared.output.OutputStatus.TheVariants.{Fine, Failed, Unknown}
 use Rattle.view_commands.specs.declared.request.Command.{Command}
 use Rattle.view_commands.specs.declared.request.Command.TheVariants.{Plain, Settled, Report, Check, Advise}
+use Rattle.view_commands.specs.declared.request.Job.{Job}
 use Rattle.view_commands.specs.declared.request.SettledView.{SettledView}
 use Rattle.view_commands.specs.declared.request.SettledView.TheVariants as settled
-use Rattle.view_commands.specs.Commands.{is_json, is_json_fault, too_long_input, too_many_steps, IsRefusedOr, IsSame, IsTold, IsToldFault, IsToldOfBench, IsToldOfText, IsView, ViewIsOne}
+use Rattle.view_commands.specs.Commands.{is_json, is_json_fault, too_long_input, too_many_steps, IsDone, IsRefusedOr, IsSame, IsTold, IsToldOfBench, IsToldOfText, IsView, ViewIsOne}
 use Rattle.view_commands.specs.SettledViews.{told_of_run, IsSettledPicture, IsSettledView, IsToldOfBoth, IsToldOfPair, IsToldOfPictures, IsToldOfSettled}
-use Rattle.view_commands.specs.Told.{Told, noted, plain}
+use Rattle.program_io.specs.Outputs.{Told, noted, fine}
+use Rattle.view_commands.specs.Refused.{refused_lines}
+use Rattle.view_commands.specs.Strict.{with_lines, IsJudged, IsRefusing, IsStrict}
 use Rattle.view_commands.proofs.OneAdvice.{one_advice}
 use Rattle.view_commands.proofs.OneCheck.{one_check}
 use Rattle.view_commands.proofs.OneReport.{one_report}
-use Rattle.view_commands.specs.Views.{document_of, fine, picture_of_run, picture_of_runs, trace_output}
+use Rattle.view_commands.specs.Views.{document_of, picture_of_run, picture_of_runs, trace_output}
 
-one_of_run : (shown : Session → Output) (session : Session) (told other : Told) → IsToldOfSettled shown session told → IsToldOfSettled shown session other → told ≡ other
+one_of_run : (shown : Session → Told) (session : Session) (told other : Told) → IsToldOfSettled shown session told → IsToldOfSettled shown session other → told ≡ other
 one_of_run shown session told other one two =
     let same = settled_run_is_one session.header session.steps one.run two.run one.left two.left one.settled two.settled in
     one.is_told ∙ ap₂ (λ (run : List Step) (left : List WaitingCall). told_of_run shown session.header run left) same.0 same.1 ∙ sym two.is_told
 
 one_of_both : (session : Session) (edits : List Edit) (told other : Told) → IsToldOfBoth session edits told → IsToldOfBoth session edits other → told ≡ other
 one_of_both session edits told other (inl one) (inl two) =
-    one.is_told ∙ ap (λ (text : List ℕ). plain (fine text)) (one_text session edits one.text two.text one.compares two.compares) ∙ sym two.is_told
+    one.is_told ∙ ap (λ (text : List ℕ). fine text) (one_text session edits one.text two.text one.compares two.compares) ∙ sym two.is_told
 one_of_both session edits told other (inl one) (inr two) = absurd (one.room two.0)
 one_of_both session edits told other (inr one) (inl two) = absurd (two.room one.0)
 one_of_both session edits told other (inr one) (inr two) = one.1 ∙ sym two.1
@@ -92,6 +98,27 @@ one_told (Report view) session edits told other one two = one_report view sessio
 one_told (Check view) session edits told other one two = one_check view (after_edits session edits) told other one two
 one_told (Advise question) session edits told other one two = one_advice question (after_edits session edits) told other one two
 
+-- ---- judged
+
+one_strict : (Refused : Type 0) (status : OutputStatus) (told judged other : Told) → IsStrict Refused status told judged → IsStrict Refused status told other → judged ≡ other
+one_strict Refused Fine told judged other (inl one) (inl two) = one.1 ∙ sym two.1
+one_strict Refused Fine told judged other (inl one) (inr two) = absurd (two.0 one.0)
+one_strict Refused Fine told judged other (inr one) (inl two) = absurd (one.0 two.0)
+one_strict Refused Fine told judged other (inr one) (inr two) = one.1 ∙ sym two.1
+one_strict Refused Failed told judged other one two = one ∙ sym two
+one_strict Refused Unknown told judged other one two = one ∙ sym two
+
+one_judged : (strict : Bool) (Refused : Type 0) (told judged other : Told) → IsJudged strict Refused told judged → IsJudged strict Refused told other → judged ≡ other
+one_judged false Refused told judged other one two = one ∙ sym two
+one_judged true Refused told judged other one two = one_strict Refused told.status told judged other one two
+
+one_done : (job : Job) (session : Session) (edits : List Edit) (told other : Told) → IsDone job session edits told → IsDone job session edits other → told ≡ other
+one_done job session edits told other one two =
+    let refusing = IsRefusing job.command session edits in
+    let alone = one_told job.command session edits one.alone two.alone one.is_told two.is_told in
+    let judged = one_judged job.strict refusing two.alone one.judged two.judged (subst (λ (t : Told). IsJudged job.strict refusing t one.judged) alone one.is_judged) two.is_judged in
+    one.is_noted ∙ ap (with_lines (edit_notes session edits)) judged ∙ sym two.is_noted
+
 -- ---- by the input
 
 -- what is told in full is the same
@@ -103,11 +130,11 @@ one_or_refused : (test : Bool) (refused : Told) (claim other_claim : Type 0) (in
 one_or_refused true refused claim other_claim input told other both one two = same_told input told other (one ∙ sym two)
 one_or_refused false refused claim other_claim input told other both one two = both one two
 
-one_of_bench : (command : Command) (input : List ℕ) (bench : Bench) (told other : Told) → IsToldOfBench command bench told → IsToldOfBench command bench other → IsSame input told other
-one_of_bench command input bench told other one two =
+one_of_bench : (job : Job) (input : List ℕ) (bench : Bench) (told other : Told) → IsToldOfBench job bench told → IsToldOfBench job bench other → IsSame input told other
+one_of_bench job input bench told other one two =
     let session : Session = record { header = bench.header; steps = bench.steps } in
-    one_or_refused (nat_lt max_steps (length bench.steps)) too_many_steps (IsTold command session bench.edits told) (IsTold command session bench.edits other) input told other
-    (λ first second. same_told input told other (one_told command session bench.edits told other first second)) one two
+    one_or_refused (nat_lt max_steps (length bench.steps)) too_many_steps (IsDone job session bench.edits told) (IsDone job session bench.edits other) input told other
+    (λ first second. same_told input told other (one_done job session bench.edits told other first second)) one two
 
 -- a text that is JSON has one hint
 one_hint : (input : List ℕ) (why : Why) (path : List ℕ) (more : Detail) (hint other : List ℕ) → is_json_fault why ≡ true → IsFaultHint input why path more hint → IsFaultHint input why path more other → hint ≡ other
@@ -116,7 +143,7 @@ one_hint input why.BadShape path more hint other json one two = one ∙ sym two
 one_hint input (why.Bench fault) path more hint other json one two = one ∙ sym two
 one_hint input why.NoMemory path more hint other json one two = absurd one
 
-one_of_fault : (input : List ℕ) (fault : TextFault) (told other : Told) → bench_text input ≡ Err fault → IsToldFault input fault told → IsToldFault input fault other → IsSame input told other
+one_of_fault : (input : List ℕ) (fault : TextFault) (told other : Told) → bench_text input ≡ Err fault → IsToldFault refused_lines input fault told → IsToldFault refused_lines input fault other → IsSame input told other
 one_of_fault input fault told other read one two = record {
   status = ap (λ (t : Told). t.status) one.is_told ∙ sym (ap (λ (t : Told). t.status) two.is_told);
   text = ap (λ (t : Told). t.text) one.is_told ∙ sym (ap (λ (t : Told). t.text) two.is_told);
@@ -125,12 +152,12 @@ one_of_fault input fault told other read one two = record {
       ap (λ (t : Told). t.note) one.is_told ∙ ap (λ hint. refusal_line (why_text fault.why) fault.path ++ hint) hint ∙ sym (ap (λ (t : Told). t.note) two.is_told);
 }
 
-one_of_text : (command : Command) (input : List ℕ) (text : Result Bench TextFault) (told other : Told) → bench_text input ≡ text → IsToldOfText command input text told → IsToldOfText command input text other → IsSame input told other
-one_of_text command input (Ok bench) told other read one two = one_of_bench command input bench told other one two
-one_of_text command input (Err fault) told other read one two = one_of_fault input fault told other read one two
+one_of_text : (job : Job) (input : List ℕ) (text : Result Bench TextFault) (told other : Told) → bench_text input ≡ text → IsToldOfText job input text told → IsToldOfText job input text other → IsSame input told other
+one_of_text job input (Ok bench) told other read one two = one_of_bench job input bench told other one two
+one_of_text job input (Err fault) told other read one two = one_of_fault input fault told other read one two
 
 pub one_view : ViewIsOne
 unfolding IsView
-one_view command input told other one two =
+one_view job input told other one two =
     let text = bench_text input in
-    one_or_refused (nat_lt max_input (length input)) too_long_input (IsToldOfText command input text told) (IsToldOfText command input text other) input told other (one_of_text command input text told other refl) one two
+    one_or_refused (nat_lt max_input (length input)) too_long_input (IsToldOfText job input text told) (IsToldOfText job input text other) input told other (one_of_text job input text told other refl) one two

@@ -15,18 +15,20 @@ use Rattle.session_text.specs.declared.detail.Detail.TheVariants.{None}
 use Rattle.session_text.specs.declared.fault.TextFault.{TextFault}
 use Rattle.session_text.specs.declared.fault.Why.TheVariants.{NoMemory}
 use Rattle.session_text.specs.Bench.{bench_text, IsCheckedBench}
-use Rattle.bench_commands.specs.Hint.{IsFaultHint}
-use Rattle.bench_commands.proofs.Opened.{few_steps, opens}
-use Rattle.view_commands.specs.declared.request.Command.{Command}
-use Rattle.view_commands.specs.Commands.{IsRefusedOr, IsTold, IsToldFault, IsToldOfBench, IsToldOfText, too_many_steps}
-use Rattle.view_commands.specs.Told.{Told}
+use Rattle.program_io.specs.Hint.{IsFaultHint}
+use Rattle.program_io.specs.Refusal.{IsToldFault}
+use Rattle.view_commands.specs.Refused.{refused_lines}
+use Rattle.document_stores.proofs.Opened.{few_steps, opens}
+use Rattle.view_commands.specs.declared.request.Job.{Job}
+use Rattle.view_commands.specs.Commands.{IsDone, IsRefusedOr, IsToldOfBench, IsToldOfText, too_many_steps}
+use Rattle.program_io.specs.Outputs.{Told}
 
 -- what is told of a text that was not read
-pub refused_told : {E : Type 0} (command : Command) (input : List ℕ) (fault : TextFault) (result : Result Told E) → (bench_text input ≡ Err fault) ⊎ (fault ≡ record { why = NoMemory; path = []; detail = None })
-    → IfOk result (λ told. IsToldFault input fault told) → IfOk result (λ told. IsToldOfText command input (bench_text input) told)
-refused_told command input fault (Err e) reading line = tt
-refused_told command input fault (Ok told) (inl read) line = subst (λ text. IsToldOfText command input text told) (sym read) line
-refused_told command input fault (Ok told) (inr none) line = absurd (subst (λ (f : TextFault). IsFaultHint input f.why f.path f.detail line.hint) none line.is_hint)
+pub refused_told : {E : Type 0} (job : Job) (input : List ℕ) (fault : TextFault) (result : Result Told E) → (bench_text input ≡ Err fault) ⊎ (fault ≡ record { why = NoMemory; path = []; detail = None })
+    → IfOk result (λ told. IsToldFault refused_lines input fault told) → IfOk result (λ told. IsToldOfText job input (bench_text input) told)
+refused_told job input fault (Err e) reading line = tt
+refused_told job input fault (Ok told) (inl read) line = subst (λ text. IsToldOfText job input text told) (sym read) line
+refused_told job input fault (Ok told) (inr none) line = absurd (subst (λ (f : TextFault). IsFaultHint input f.why f.path f.detail line.hint) none line.is_hint)
 
 -- where the test says so it is the refusal, and else the claim holds
 or_refused : (test : Bool) (refused : Told) (claim : Type 0) (told : Told) → test ≡ true → told ≡ refused → IsRefusedOr test refused claim told
@@ -49,18 +51,18 @@ too_long_bench bench span why checked within memory long = go (nat_lt max_steps 
         absurd (cc (memory (opens bench.header bench.steps span checked.is_session within fits), long))
 
 -- what is told of a session that was not opened
-pub not_opened_told : {E : Type 0} (command : Command) (bench : Bench) (why : OpenRefusal) (result : Result Told E) → OnOk result (why ≡ TooLong) → IfOk result (λ told. told ≡ too_many_steps)
-    → (why ≡ TooLong → nat_lt max_steps (length bench.steps) ≡ true) → IfOk result (λ told. IsToldOfBench command bench told)
-not_opened_told command bench why (Err e) long line many = tt
-not_opened_told command bench why (Ok told) long line many =
-    or_refused (nat_lt max_steps (length bench.steps)) too_many_steps (IsTold command (record { header = bench.header; steps = bench.steps }) bench.edits told) told (many long) line
+pub not_opened_told : {E : Type 0} (job : Job) (bench : Bench) (why : OpenRefusal) (result : Result Told E) → OnOk result (why ≡ TooLong) → IfOk result (λ told. told ≡ too_many_steps)
+    → (why ≡ TooLong → nat_lt max_steps (length bench.steps) ≡ true) → IfOk result (λ told. IsToldOfBench job bench told)
+not_opened_told job bench why (Err e) long line many = tt
+not_opened_told job bench why (Ok told) long line many =
+    or_refused (nat_lt max_steps (length bench.steps)) too_many_steps (IsDone job (record { header = bench.header; steps = bench.steps }) bench.edits told) told (many long) line
 
 -- what is told of a session that was opened
-pub opened_told : {E : Type 0} (command : Command) (bench : Bench) (span : ℕ) (kept : CheckpointedSession) (result : Result Told E) → open_check bench.header bench.steps span ≡ Ok tt → kept ≡ first_kept span (record { header = bench.header; steps = bench.steps })
-    → IfOk result (λ told. IsTold command kept.session bench.edits told) → IfOk result (λ told. IsToldOfBench command bench told)
-opened_told command bench span kept (Err e) accepted same is = tt
-opened_told command bench span kept (Ok told) accepted same is =
+pub opened_told : {E : Type 0} (job : Job) (bench : Bench) (span : ℕ) (kept : CheckpointedSession) (result : Result Told E) → open_check bench.header bench.steps span ≡ Ok tt → kept ≡ first_kept span (record { header = bench.header; steps = bench.steps })
+    → IfOk result (λ told. IsDone job kept.session bench.edits told) → IfOk result (λ told. IsToldOfBench job bench told)
+opened_told job bench span kept (Err e) accepted same is = tt
+opened_told job bench span kept (Ok told) accepted same is =
     let session : Session = record { header = bench.header; steps = bench.steps } in
-    or_claim (nat_lt max_steps (length bench.steps)) too_many_steps (IsTold command session bench.edits told) told
+    or_claim (nat_lt max_steps (length bench.steps)) too_many_steps (IsDone job session bench.edits told) told
     (few_steps bench.header bench.steps span accepted)
-    (subst (λ (k : CheckpointedSession). IsTold command k.session bench.edits told) same is)
+    (subst (λ (k : CheckpointedSession). IsDone job k.session bench.edits told) same is)

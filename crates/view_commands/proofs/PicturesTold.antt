@@ -13,7 +13,7 @@ use Rattle.run_comparisons.specs.Settled.{IsComparisonTooLong, IsSettledPair}
 use Rattle.run_comparisons.proofs.RowsCounted.{few_rows}
 use Rattle.run_views.specs.declared.places.Places.{Places}
 use Rattle.view_commands.specs.SettledViews.{pair_note, picture_of_pair, too_long, IsDrawnPair, IsSettledPicture, IsToldOfPictures}
-use Rattle.view_commands.specs.Told.{Told, noted}
+use Rattle.program_io.specs.Outputs.{Told, noted}
 
 -- either settled run is too long
 pub long_pictures : {E : Type 0} (places : Places) (session kept : Session) (edits : List Edit) (fault : SettleFault) (result : Result Told E) → kept ≡ session → (fault ≡ TooManySteps → IsComparisonTooLong kept edits) → OnOk result (fault ≡ TooManySteps) → IfOk result (λ told. told ≡ too_long)

@@ -10,12 +10,11 @@ use Rattle.settled_runs.specs.Settled.{IsSettled}
 use Rattle.settled_runs.proofs.Endings.{there_is_a_settled_run}
 use Rattle.settling.specs.declared.run.SettleFault.{SettleFault}
 use Rattle.settling.specs.declared.run.SettleFault.TheVariants.{TooManySteps}
-use Rattle.bench_commands.specs.Answer.{Output}
+use Rattle.program_io.specs.Outputs.{Told, noted}
 use Rattle.view_commands.specs.SettledViews.{note_of, too_long, IsToldOfSettled}
-use Rattle.view_commands.specs.Told.{Told, noted}
 
 -- each settled run is too long, and there is one
-pub long_run_told : {E : Type 0} (shown : Session → Output) (session : Session) (fault : SettleFault) (result : Result Told E) → IsSession session
+pub long_run_told : {E : Type 0} (shown : Session → Told) (session : Session) (fault : SettleFault) (result : Result Told E) → IsSession session
     → (fault ≡ TooManySteps → (run : List Step) (left : List WaitingCall) → IsSettled session.header session.steps run left → max_steps < length run) → OnOk result (fault ≡ TooManySteps) → IfOk result (λ told. told ≡ too_long)
     → IfOk result (λ told. IsToldOfSettled shown session told)
 long_run_told shown session fault (Err e) is long why line = tt

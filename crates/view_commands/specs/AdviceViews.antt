@@ -8,9 +8,9 @@ use Rattle.session_advice.specs.declared.question.AdviceStatus.TheVariants as ad
 use Rattle.session_advice.specs.Advice.{IsAdvice}
 use Rattle.session_advice.specs.Questions.{Asked, Told as AdviceTold}
 use Rattle.session_reports.specs.Figures.{IsTooLong}
-use Rattle.view_commands.specs.declared.ending.ViewStatus.TheVariants.{Unknown}
+use Rattle.program_io.specs.declared.output.OutputStatus.TheVariants.{Unknown}
 use Rattle.view_commands.specs.SettledViews.{too_long}
-use Rattle.view_commands.specs.Told.{Told, told_with}
+use Rattle.program_io.specs.Outputs.{Told, told_with}
 
 -- by how advice ends: it goes to standard output, and the names that there are to standard error
 abbrev pub told_of_advice : AdviceStatus → List ℕ → Told

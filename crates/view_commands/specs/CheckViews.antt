@@ -8,10 +8,10 @@ use Rattle.session_reports.specs.declared.limits.CheckStatus.TheVariants as chec
 use Rattle.session_reports.specs.Asked.{Told as CheckTold}
 use Rattle.session_reports.specs.Checks.{IsCheck}
 use Rattle.session_reports.specs.Figures.{IsTooLong}
-use Rattle.view_commands.specs.declared.ending.ViewStatus.TheVariants.{Failed, Unknown}
+use Rattle.program_io.specs.declared.output.OutputStatus.TheVariants.{Failed, Unknown}
 use Rattle.view_commands.specs.Selected.{Limited}
 use Rattle.view_commands.specs.SettledViews.{too_long}
-use Rattle.view_commands.specs.Told.{Told, told_with}
+use Rattle.program_io.specs.Outputs.{Told, told_with}
 
 -- By how a check ends: the limits that are not kept go to standard output, and the names that there
 -- are to standard error.

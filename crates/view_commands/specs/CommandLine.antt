@@ -1,5 +1,5 @@
 -- What a command line asks for: what clap is told, and what it answers.
-use Rattle.std.specs.Prelude.{◌≡◌, List, [], ◌∷◌, fold, true, false, codes, Option, Some, None, pos}
+use Rattle.std.specs.Prelude.{◌≡◌, List, [], ◌∷◌, fold, Bool, true, false, codes, Option, Some, None, pos}
 use Rattle.clap.specs.Words.{App, Kinds, Row, Rule, Text, app_of, fault_of, new_app, new_rule, subcommand_of, with_rule, with_subcommand}
 use Rattle.clap.specs.declared.builder.action.ArgAction.TheVariants.{Append, SetTrue}
 use Rattle.clap.specs.declared.builder.command.Command.{Command as ClapCommand}
@@ -7,16 +7,19 @@ use Rattle.clap.specs.declared.builder.command.Command.TheViews.{out-Command as 
 use Rattle.clap.specs.declared.builder.value_parser.ValueParser.{ValueParser}
 use Rattle.clap.specs.declared.builder.value_parser.ValueParser.TheVariants.{Signed}
 use Rattle.clap.specs.declared.error.kind.ErrorKind.{ErrorKind}
-use Rattle.clap.specs.declared.error.kind.ErrorKind.TheVariants as kind
-use Rattle.view_commands.specs.Options.{command_of, file_in}
+use Rattle.command_words.specs.Asking.{Class, class_of, helps, mistakes, versions}
+use Rattle.view_commands.specs.Options.{command_of, file_in, strict_in}
 use Rattle.view_commands.specs.declared.request.Command.{Command}
+use Rattle.view_commands.specs.declared.request.Job.{Job}
 use Rattle.view_commands.specs.declared.request.Request.{Request}
-use Rattle.view_commands.specs.declared.request.Request.TheVariants.{Show, Help, Bad}
+use Rattle.view_commands.specs.declared.request.Request.TheVariants.{Show, Help, Version, Bad}
 
--- a view of a file or of standard input, the text of help, or nothing that the program does
+-- a view of a file or of standard input, the text of help, the version, or nothing that the
+-- program does
 pub data Asked : Type 0 where
-  a_view : Command → Option Text → Asked
+  a_view : Job → Option Text → Asked
   help : Asked
+  version : Asked
   a_mistake : Asked
 
 -- ---- what clap is told
@@ -25,6 +28,11 @@ pub data Asked : Type 0 where
 abbrev pub settle_rule : Rule
 settle_rule =
     record (new_rule (codes "settle")) { long = Some (codes "settle"); action = Some SetTrue }
+
+-- the flag `--strict`
+abbrev pub strict_rule : Rule
+strict_rule =
+    record (new_rule (codes "strict")) { long = Some (codes "strict"); action = Some SetTrue }
 
 -- the flag `--json`
 abbrev pub json_rule : Rule
@@ -90,37 +98,41 @@ command_app name rules = fold with_rule (new_app name) rules
 abbrev pub trace_app : App
 trace_app =
     command_app (codes "trace")
-    (settle_rule ∷ from_rule ∷ to_rule ∷ task_rule ∷ core_rule ∷ file_rule ∷ [])
+    (settle_rule ∷ from_rule ∷ to_rule ∷ task_rule ∷ core_rule ∷ strict_rule ∷ file_rule ∷ [])
 
 abbrev pub session_app : App
-session_app = command_app (codes "session") (file_rule ∷ [])
+session_app = command_app (codes "session") (strict_rule ∷ file_rule ∷ [])
 
 abbrev pub settle_app : App
-settle_app = command_app (codes "settle") (file_rule ∷ [])
+settle_app = command_app (codes "settle") (strict_rule ∷ file_rule ∷ [])
 
 abbrev pub compare_app : App
-compare_app = command_app (codes "compare") (settle_rule ∷ file_rule ∷ [])
+compare_app = command_app (codes "compare") (settle_rule ∷ strict_rule ∷ file_rule ∷ [])
 
 abbrev pub timeline_app : App
 timeline_app =
-    command_app (codes "timeline") (settle_rule ∷ from_rule ∷ to_rule ∷ file_rule ∷ [])
+    command_app (codes "timeline")
+    (settle_rule ∷ from_rule ∷ to_rule ∷ strict_rule ∷ file_rule ∷ [])
 
 abbrev pub report_app : App
-report_app = command_app (codes "report") (settle_rule ∷ json_rule ∷ file_rule ∷ [])
+report_app =
+    command_app (codes "report") (settle_rule ∷ json_rule ∷ strict_rule ∷ file_rule ∷ [])
 
 abbrev pub check_app : App
 check_app =
-    command_app (codes "check") (settle_rule ∷ at_most_rule ∷ at_least_rule ∷ file_rule ∷ [])
+    command_app (codes "check")
+    (settle_rule ∷ at_most_rule ∷ at_least_rule ∷ strict_rule ∷ file_rule ∷ [])
 
 abbrev pub advise_app : App
 advise_app =
     command_app (codes "advise")
-    (settle_rule ∷ judged_rule ∷ less_rule ∷ over_rule ∷ best_rule ∷ file_rule ∷ [])
+    (settle_rule ∷ judged_rule ∷ less_rule ∷ over_rule ∷ best_rule ∷ strict_rule ∷ file_rule ∷ [])
 
--- the program, which wants a command, and of which `help` is none
+-- the program, which has a version and wants a command, and of which `help` is none
 abbrev pub program_app : App
 program_app = record (new_app (codes "smp_view")) {
   top = record (new_app (codes "smp_view")).top {
+    has_version = true;
     disable_help_subcommand = true;
     subcommand_required = true;
   };
@@ -142,19 +154,26 @@ IsTold command app = (app_of command ≡ app) × ((fields_of command).has_global
 
 -- ---- what it answers
 
--- a command with the name of a file; none is a mistake
-abbrev asked_with : Option Command → Option Text → Asked
-asked_with (Some command) file = a_view command file
-asked_with None file = a_mistake
+-- a command with the flag `--strict` or without, and the name of a file; no command is a mistake
+abbrev asked_with : Option Command → Bool → Option Text → Asked
+asked_with (Some command) strict file =
+    a_view (record { command = command; strict = strict }) file
+asked_with None strict file = a_mistake
 
 -- what a command with this name and these options asks for
 abbrev pub asked_for : Text → List Row → Asked
-asked_for name options = asked_with (command_of name options) (file_in options)
+asked_for name options =
+    asked_with (command_of name options) (strict_in options) (file_in options)
 
--- by the kind of an error, of which `--help` and `-h` make one too
+-- by what clap's error says
+abbrev pub asked_class : Class → Asked
+asked_class helps = help
+asked_class versions = version
+asked_class mistakes = a_mistake
+
+-- by the kind of an error, of which `--help` and `--version` make one too
 abbrev pub asked_by : ErrorKind → Asked
-asked_by kind.DisplayHelp = help
-asked_by _ = a_mistake
+asked_by kind = asked_class (class_of kind)
 
 -- by the kinds that clap's error may have, which all ask for the same, or else by what it met
 abbrev pub asked_of : Kinds → Option (Text × List Row) → Asked
@@ -174,6 +193,7 @@ asked None = a_mistake
 -- ---- what a request asks for
 
 abbrev pub asked_in : Request → Asked
-asked_in (Show command file) = a_view command file
+asked_in (Show job file) = a_view job file
 asked_in (Help text) = help
+asked_in (Version text) = version
 asked_in (Bad text) = a_mistake

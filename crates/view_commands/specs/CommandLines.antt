@@ -5,10 +5,19 @@ use Rattle.run_advice.specs.declared.change.Family.{Family}
 use Rattle.run_reports.specs.declared.limits.Bound.TheVariants.{AtMost, AtLeast}
 use Rattle.run_views.specs.declared.places.Places.{Places}
 use Rattle.session_reports.specs.Asked as limit
+use Rattle.view_commands.specs.declared.request.Command.{Command}
 use Rattle.view_commands.specs.declared.request.Command.TheVariants.{Plain, Settled, Check, Advise}
 use Rattle.view_commands.specs.declared.request.SettledView.TheVariants as settled
 use Rattle.view_commands.specs.declared.request.View.TheVariants as view
-use Rattle.view_commands.specs.CommandLine.{Asked, a_view, help, a_mistake, asked}
+use Rattle.view_commands.specs.CommandLine.{Asked, a_view, help, version, a_mistake, asked}
+
+-- a command without the flag `--strict`, of a file or of standard input
+abbrev pub a_lenient : Command → Option Text → Asked
+a_lenient command = a_view (record { command = command; strict = false })
+
+-- the same with the flag
+abbrev pub a_strict : Command → Option Text → Asked
+a_strict command = a_view (record { command = command; strict = true })
 
 -- by the words after the program's name
 abbrev pub asked_after : List Text → Asked
@@ -24,12 +33,12 @@ most = 4294967295
 -- a trace of these places, tasks and cores, of a file or of standard input
 abbrev pub a_trace : Places → List Text → List ℕ → Option Text → Asked
 a_trace places tasks cores =
-    a_view (Plain (view.Trace (record { places = places; tasks = tasks; cores = cores })))
+    a_lenient (Plain (view.Trace (record { places = places; tasks = tasks; cores = cores })))
 
 -- the same of the settled run
 abbrev pub a_settled_trace : Places → List Text → List ℕ → Option Text → Asked
 a_settled_trace places tasks cores =
-    a_view (Settled (settled.Trace (record { places = places; tasks = tasks; cores = cores })))
+    a_lenient (Settled (settled.Trace (record { places = places; tasks = tasks; cores = cores })))
 
 pub record WorkedTraces : Type 0 where
   pub bare : asked_after (codes "trace" ∷ []) ≡ a_trace (places 0 most) [] [] None
@@ -64,23 +73,32 @@ pub record WorkedTraces : Type 0 where
       ≡ a_settled_trace (places 3 most) [] [] None
 
 pub record WorkedViews : Type 0 where
-  pub session : asked_after (codes "session" ∷ []) ≡ a_view (Plain view.Session) None
+  pub session : asked_after (codes "session" ∷ []) ≡ a_lenient (Plain view.Session) None
   pub session_of_file :
       asked_after (codes "session" ∷ codes "run.json" ∷ [])
-      ≡ a_view (Plain view.Session) (Some (codes "run.json"))
-  pub settle : asked_after (codes "settle" ∷ codes "-" ∷ []) ≡ a_view (Settled settled.Session) None
-  pub compare : asked_after (codes "compare" ∷ []) ≡ a_view (Plain view.Compare) None
+      ≡ a_lenient (Plain view.Session) (Some (codes "run.json"))
+  pub settle : asked_after (codes "settle" ∷ codes "-" ∷ []) ≡ a_lenient (Settled settled.Session) None
+  pub compare : asked_after (codes "compare" ∷ []) ≡ a_lenient (Plain view.Compare) None
   pub compare_settled :
       asked_after (codes "compare" ∷ codes "run.json" ∷ codes "--settle" ∷ [])
-      ≡ a_view (Settled settled.Compare) (Some (codes "run.json"))
+      ≡ a_lenient (Settled settled.Compare) (Some (codes "run.json"))
+  pub strict_session :
+      asked_after (codes "session" ∷ codes "--strict" ∷ codes "run.json" ∷ [])
+      ≡ a_strict (Plain view.Session) (Some (codes "run.json"))
+  pub strict_settle :
+      asked_after (codes "settle" ∷ codes "-" ∷ codes "--strict" ∷ [])
+      ≡ a_strict (Settled settled.Session) None
+  pub strict_comparison :
+      asked_after (codes "compare" ∷ codes "--strict" ∷ codes "--settle" ∷ [])
+      ≡ a_strict (Settled settled.Compare) None
   pub picture :
-      asked_after (codes "timeline" ∷ []) ≡ a_view (Plain (view.Timeline (places 0 most))) None
+      asked_after (codes "timeline" ∷ []) ≡ a_lenient (Plain (view.Timeline (places 0 most))) None
   pub picture_between :
       asked_after (codes "timeline" ∷ codes "--from" ∷ codes "3" ∷ codes "--to" ∷ codes "7" ∷ [])
-      ≡ a_view (Plain (view.Timeline (places 3 7))) None
+      ≡ a_lenient (Plain (view.Timeline (places 3 7))) None
   pub picture_settled :
       asked_after (codes "timeline" ∷ codes "--to" ∷ codes "7" ∷ codes "--settle" ∷ [])
-      ≡ a_view (Settled (settled.Timeline (places 0 7))) None
+      ≡ a_lenient (Settled (settled.Timeline (places 0 7))) None
 
 -- the value of this name may be at most so much, or at least so much
 abbrev pub at_most : Text → ℕ → limit.Asked
@@ -91,7 +109,7 @@ at_least name number = record { name = name; bound = AtLeast number }
 
 -- a check of these limits, of a file or of standard input
 abbrev pub a_check : Bool → List limit.Asked → Option Text → Asked
-a_check settled limits = a_view (Check (record { settled = settled; limits = limits }))
+a_check settled limits = a_lenient (Check (record { settled = settled; limits = limits }))
 
 pub record WorkedChecks : Type 0 where
   pub one_limit :
@@ -114,7 +132,7 @@ pub record WorkedChecks : Type 0 where
 -- standard input
 abbrev pub some_advice : Text → Bool → Family → ℕ → Option Text → Asked
 some_advice name settled family best =
-    a_view (Advise (record { name = name; settled = settled; family = family; best = best }))
+    a_lenient (Advise (record { name = name; settled = settled; family = family; best = best }))
 
 abbrev pub families : Bool → Bool → Bool → Family
 families priority mask order = record { priority = priority; mask = mask; order = order }
@@ -146,9 +164,15 @@ pub record WorkedHelp : Type 0 where
   pub of_compare : asked_after (codes "compare" ∷ codes "-h" ∷ []) ≡ help
   pub of_timeline : asked_after (codes "timeline" ∷ codes "--help" ∷ []) ≡ help
 
+pub record WorkedVersions : Type 0 where
+  pub of_program : asked_after (codes "--version" ∷ []) ≡ version
+  pub by_letter : asked_after (codes "-V" ∷ []) ≡ version
+  pub before_a_command : asked_after (codes "--version" ∷ codes "trace" ∷ []) ≡ version
+
 pub record WorkedMistakes : Type 0 where
   pub no_command : asked_after [] ≡ a_mistake
   pub help_as_command : asked_after (codes "help" ∷ []) ≡ a_mistake
+  pub version_of_a_command : asked_after (codes "trace" ∷ codes "--version" ∷ []) ≡ a_mistake
   pub unknown_command : asked_after (codes "trce" ∷ []) ≡ a_mistake
   pub option_before_command : asked_after (codes "--settle" ∷ codes "trace" ∷ []) ≡ a_mistake
   pub unknown_option : asked_after (codes "trace" ∷ codes "-x" ∷ []) ≡ a_mistake
@@ -163,6 +187,9 @@ pub record WorkedMistakes : Type 0 where
       asked_after (codes "trace" ∷ codes "--from" ∷ codes "3" ∷ codes "--from=3" ∷ []) ≡ a_mistake
   pub two_settles :
       asked_after (codes "compare" ∷ codes "--settle" ∷ codes "--settle" ∷ []) ≡ a_mistake
+  pub two_stricts :
+      asked_after (codes "session" ∷ codes "--strict" ∷ codes "--strict" ∷ []) ≡ a_mistake
+  pub strict_with_value : asked_after (codes "compare" ∷ codes "--strict=x" ∷ []) ≡ a_mistake
   pub settle_with_value : asked_after (codes "compare" ∷ codes "--settle=x" ∷ []) ≡ a_mistake
   pub two_files :
       asked_after (codes "session" ∷ codes "run.json" ∷ codes "other.json" ∷ []) ≡ a_mistake

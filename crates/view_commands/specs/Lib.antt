@@ -7,12 +7,11 @@ pub mod Families
 pub mod Interests
 pub mod Options
 pub mod Progress
+pub mod Refused
 pub mod ReportViews
 pub mod Selected
 pub mod SettledViews
 pub mod Source
-pub mod Told
-pub mod ViewEndings
+pub mod Strict
 pub mod ViewProgram
-pub mod ViewRun
 pub mod Views

@@ -7,7 +7,7 @@ use Rattle.std.specs.Str.{bytes_eq}
 use Rattle.std.specs.Str.Parse.{without_leading_plus}
 use Rattle.clap.specs.ValueTests.{is_numeral}
 use Rattle.clap.specs.Words.{Row, Text, all_of, first_of, many_of, one_of}
-use Rattle.bench_commands.specs.Command.{is_flag, number_of}
+use Rattle.command_words.specs.Asking.{is_flag, number_of}
 use Rattle.run_advice.specs.declared.change.Family.{Family}
 use Rattle.run_reports.specs.declared.limits.Bound.{Bound}
 use Rattle.run_reports.specs.declared.limits.Bound.TheVariants.{AtMost, AtLeast}
@@ -30,6 +30,9 @@ is_number text = is_numeral (without_leading_plus text) && nat_lt (number_of tex
 -- whether the flag is there
 abbrev pub settle_in : List Row → Bool
 settle_in options = option_map_or (bytes_eq (codes "true")) (one_of (codes "settle") options) false
+
+abbrev pub strict_in : List Row → Bool
+strict_in options = option_map_or (bytes_eq (codes "true")) (one_of (codes "strict") options) false
 
 abbrev pub json_in : List Row → Bool
 json_in options = option_map_or (bytes_eq (codes "true")) (one_of (codes "json") options) false
@@ -191,6 +194,7 @@ command_of name options =
 -- options whose values clap took
 pub record AreTaken (options : List Row) : Type 0 where
   pub settle : IfSome (one_of (codes "settle") options) (λ text. is_flag text ≡ true)
+  pub strict : IfSome (one_of (codes "strict") options) (λ text. is_flag text ≡ true)
   pub json : IfSome (one_of (codes "json") options) (λ text. is_flag text ≡ true)
   pub from : IfSome (one_of (codes "from") options) (λ text. is_number text ≡ true)
   pub to : IfSome (one_of (codes "to") options) (λ text. is_number text ≡ true)

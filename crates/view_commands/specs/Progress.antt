@@ -1,19 +1,12 @@
 -- What a terminal is told of long work.
 use Rattle.std.specs.Prelude.{◌≡◌, ◌⊎◌, ◌==◌, ℕ, List, [], ◌++◌, Bool, true, false, codes, decimal, if◌then◌else◌}
-use Rattle.bench_commands.specs.Device.{failures_after}
-use Rattle.bench_commands.specs.Program.{DeviceState, Tells}
+use Rattle.program_io.specs.Device.{DeviceState, WritesText}
 
 -- so much is done of all; the line ends with the work
 abbrev pub progress_text : ℕ → ℕ → List ℕ
 progress_text done all =
     codes "\r" ++ decimal done ++ codes " of " ++ decimal all ++ codes " tried"
     ++ (if done == all then codes "\n" else [])
-
--- the text was written, or some first bytes of it where a write failed, which is counted
-pub record WritesText (text : List ℕ) (old new : DeviceState) : Type 0 where
-  pub told : Bool
-  pub tells : Tells told old.bytes new.bytes text
-  pub failures : new.failures ≡ failures_after told old.failures
 
 -- By whether it is a terminal. Where memory is refused nothing is told.
 abbrev pub TellsProgress : Bool → ℕ → ℕ → DeviceState → DeviceState → Type 0

@@ -7,14 +7,13 @@ use Rattle.session_reports.specs.Figures.{IsTooLong}
 use Rattle.session_reports.specs.Reports.{IsReportOfRun, IsReportOfRuns}
 use Rattle.view_commands.specs.declared.request.ReportView.{ReportView}
 use Rattle.view_commands.specs.SettledViews.{too_long}
-use Rattle.view_commands.specs.Told.{Told, plain}
-use Rattle.view_commands.specs.Views.{fine}
+use Rattle.program_io.specs.Outputs.{Told, fine}
 
 -- told is a text of which the claim holds
 pub record IsToldText (claim : List ℕ → Type 0) (told : Told) : Type 0 where
   pub text : List ℕ
   pub is_text : claim text
-  pub is_told : told ≡ plain (fine text)
+  pub is_told : told ≡ fine text
 
 -- the report of the session's run; J2 where its settled run has too many steps
 abbrev pub IsReportedAlone : ReportView → Session → Told → Type 0

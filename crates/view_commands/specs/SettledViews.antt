@@ -15,11 +15,11 @@ use Rattle.run_comparisons.specs.declared.columns.Side.TheVariants.{Before, Afte
 use Rattle.run_comparisons.specs.declared.settled.SettledPair.{SettledPair}
 use Rattle.run_comparisons.specs.Columns.{columns_of}
 use Rattle.run_comparisons.specs.Settled.{left_lines, IsComparisonTooLong, IsSettledComparison, IsSettledPair}
-use Rattle.bench_commands.specs.Answer.{Output}
+use Rattle.program_io.specs.Outputs.{Told, noted, fine}
 use Rattle.view_commands.specs.declared.request.SettledView.{SettledView}
 use Rattle.view_commands.specs.declared.request.SettledView.TheVariants as settled
-use Rattle.view_commands.specs.Told.{Told, noted, plain, refused_for}
-use Rattle.view_commands.specs.Views.{document_of, fine, picture_of_run, picture_of_runs, trace_output}
+use Rattle.view_commands.specs.Refused.{refused_for}
+use Rattle.view_commands.specs.Views.{document_of, picture_of_run, picture_of_runs, trace_output}
 
 -- that these calls were not made; nothing where there are none
 abbrev pub note_of : Header → List WaitingCall → List ℕ
@@ -38,13 +38,13 @@ too_long = refused_for (codes "J2") settled_too_long_line
 
 -- what is told of a settled run and the calls that were not made, by what is shown of a session
 abbrev pub told_of_run :
-    (Session → Output) → Header → List Step → List WaitingCall → Told
+    (Session → Told) → Header → List Step → List WaitingCall → Told
 told_of_run shown header run left =
     if nat_lt max_steps (length run) then too_long
     else noted (shown (record { header = header; steps = run })) (note_of header left)
 
 -- what is told of the settled run of a session
-pub record IsToldOfSettled (shown : Session → Output) (session : Session) (told : Told) :
+pub record IsToldOfSettled (shown : Session → Told) (session : Session) (told : Told) :
     Type 0 where
   pub run : List Step
   pub left : List WaitingCall
@@ -56,7 +56,7 @@ pub record IsToldOfRuns (session : Session) (edits : List Edit) (told : Told) : 
   pub text : List ℕ
   pub room : ¬ IsComparisonTooLong session edits
   pub compares : IsSettledComparison session edits text
-  pub is_told : told ≡ plain (fine text)
+  pub is_told : told ≡ fine text
 
 -- what is told of both; J2 where one of them has more steps than a session may have
 abbrev pub IsToldOfBoth : Session → List Edit → Told → Type 0
@@ -79,7 +79,7 @@ drawn_after header pair = record {
   columns = columns_of After pair.rows.items;
 }
 
-abbrev pub picture_of_pair : Places → Header → Header → SettledPair → Output
+abbrev pub picture_of_pair : Places → Header → Header → SettledPair → Told
 picture_of_pair places header edited pair =
     picture_of_runs places (drawn_before header pair) (drawn_after edited pair)
 

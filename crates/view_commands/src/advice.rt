@@ -4,11 +4,10 @@ ghost use Rattle.bench_types.specs.Limits.{max_steps};
 ghost use Rattle.bench_types.specs.Session.{IsSession};
 ghost use Rattle.view_commands.specs.AdviceViews.{IsAdviceOf, IsAdviceView, told_of_advice};
 
-use crate::answer::Response;
 use crate::edited::make_edits;
-use crate::ending::ViewStatus;
 use crate::settled::not_settled;
 use bench_types::{Edit, Header, Step};
+use program_io::{Output, OutputStatus};
 use run_advice::Progress;
 use run_comparisons::steps_of;
 use session_advice::{AdviceStatus, Advised, Question, advise_session};
@@ -18,18 +17,18 @@ use std::alloc::{AllocError, Global};
 use std::thread::Threads;
 
 // Advice goes to standard output, and the names that there are to standard error.
-fn told_of_advice(alloc: Global, status: AdviceStatus, text: String) -> Response
+fn told_of_advice(alloc: Global, status: AdviceStatus, text: String) -> Output
     ensures { result ≡ told_of_advice status (string_bytes text) }
 {
     let (none, text) = (Vec::new(alloc), text.into_bytes());
     match status {
-        AdviceStatus::Given => Response {
-            status: ViewStatus::Fine,
+        AdviceStatus::Given => Output {
+            status: OutputStatus::Fine,
             text,
             note: none,
         },
-        AdviceStatus::Unknown => Response {
-            status: ViewStatus::Unknown,
+        AdviceStatus::Unknown => Output {
+            status: OutputStatus::Unknown,
             text: none,
             note: text,
         },
@@ -45,7 +44,7 @@ fn advice_of<T: Threads + Sync, P: Progress>(
     header: &Header,
     steps: &[Step],
     question: &Question,
-) -> Result<Response, AllocError>
+) -> Result<Output, AllocError>
     requires session { IsSession (record { header = header.now; steps = steps.now }) }
     requires few { length steps.now ≤ max_steps }
     ensures { IfOk result
@@ -70,7 +69,7 @@ pub(crate) fn told_advice<T: Threads + Sync, P: Progress>(
     store: &mut Store,
     edits: &[Edit],
     question: &Question,
-) -> Result<Response, AllocError>
+) -> Result<Output, AllocError>
     ensures { IfOk result (λ told. IsAdviceView question.now store.old.session edits.now told) }
 {
     make_edits(alloc, meter, store, edits)?;

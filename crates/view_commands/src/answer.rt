@@ -1,134 +1,44 @@
 //! What is told of an input.
-ghost use Rattle.std.specs.Prelude.{◌≡◌, ◌++◌, IfOk, OnOk};
+ghost use Rattle.std.specs.Prelude.{◌≡◌, All, IfOk, OnOk};
+ghost use Rattle.bench_types.specs.Edit.{IsCheckedEdit};
 ghost use Rattle.session_store.specs.declared.fault.OpenRefusal.TheVariants.{TooLong};
 ghost use Rattle.session_text.specs.Bench.{IsCheckedBench, bench_text};
-ghost use Rattle.view_commands.specs.Commands.{IsTold, IsToldFault, IsToldOfBench, IsToldOfText, IsView, ViewIsOne, too_long_input, too_many_steps};
-ghost use Rattle.view_commands.specs.Told.{noted, plain, refusal, refused_for};
+ghost use Rattle.program_io.specs.Refusal.{IsToldFault};
+ghost use Rattle.view_commands.specs.Commands.{IsDone, IsTold, IsToldOfBench, IsToldOfText, IsView, ViewIsOne, too_many_steps};
+ghost use Rattle.program_io.specs.Outputs.{Told};
+ghost use Rattle.view_commands.specs.Refused.{refused_lines};
+ghost use Rattle.view_commands.specs.Strict.{IsJudged, IsRefusing};
 
 use crate::advice::told_advice;
 use crate::checks::told_check;
-use crate::edited::shown;
-use crate::ending::ViewStatus;
+use crate::edited::{second, shown};
 use crate::reports::told_report;
-use crate::request::Command;
+use crate::request::{Command, Job};
 use crate::settled::told_settled;
-use bench_commands::{Answer, explained, refused, too_long, too_many_steps_hint};
-use bench_types::{Edit, EditFault, MAX_INPUT, MAX_SPAN};
+use crate::strict::{judged_strictly, with_lines};
+use bench_types::{Edit, MAX_INPUT, MAX_SPAN};
+use edit_notes::refused_edits;
+use program_io::{Output, explained, too_long};
 use run_advice::Progress;
 use session_store::{OpenRefusal, Store};
 use session_text::{Bench, TextFault, read_bench};
 use smp_kernel::Meter;
 use std::alloc::{AllocError, Global};
-use std::marker::Model;
 use std::thread::Threads;
 
-/// What is written, in bytes, and whether the input was refused.
-#[derive(Drop)]
-pub(crate) struct Shown {
-    pub(crate) is_refused: bool,
-    pub(crate) text: Vec<u8>,
-}
-
-impl Model for Shown {
-    ghost use Rattle.bench_commands.specs.Answer.{Output};
-
-    ghost Value = { Output };
-
-    ghost view = { λ it.
-        record { is_refused = it.is_refused; text = it.text.items } };
-}
-
-/// How a view ends, what is written, and what standard error is told.
-#[derive(Drop)]
-pub(crate) struct Response {
-    pub(crate) status: ViewStatus,
-    pub(crate) text: Vec<u8>,
-    pub(crate) note: Vec<u8>,
-}
-
-impl Model for Response {
-    ghost use Rattle.view_commands.specs.Told.{Told};
-
-    ghost Value = { Told };
-
-    ghost view = { λ it.
-        record { status = it.status; text = it.text.items; note = it.note.items } };
-}
-
-/// Why nothing is shown.
-pub(crate) fn refusal(alloc: Global, lines: Vec<u8>) -> Response
-    ensures { result ≡ refusal lines.items }
-{
-    Response {
-        status: ViewStatus::Failed,
-        text: Vec::new(alloc),
-        note: lines,
-    }
-}
-
-/// An output with a note beside it, unless it is a refusal.
-pub(crate) fn noted(alloc: Global, shown: Shown, note: Vec<u8>) -> Response
-    ensures { result ≡ noted shown note.items }
-{
-    if shown.is_refused {
-        return refusal(alloc, shown.text);
-    }
-    Response {
-        status: ViewStatus::Fine,
-        text: shown.text,
-        note,
-    }
-}
-
-/// An output, and nothing beside it.
-pub(crate) fn plain(alloc: Global, shown: Shown) -> Response
-    ensures { result ≡ plain shown }
-{
-    noted(alloc, shown, Vec::new(alloc))
-}
-
-// A refusal line, and what people are told.
-fn with_hint(alloc: Global, answer: Answer, hint: &str) -> Result<Response, AllocError>
-    ensures { IfOk result (λ told. told ≡ refusal (answer.text ++ hint.now)) }
-{
-    let mut lines = answer.text;
-    lines.push_str(hint)?;
-    Ok(refusal(alloc, lines.into_bytes()))
-}
-
-/// The refusal line of a code, and what people are told.
-pub(crate) fn refused_with(alloc: Global, code: &str, hint: &str) -> Result<Response, AllocError>
-    ensures { IfOk result (λ told. told ≡ refused_for code.now hint.now) }
-{
-    let answer = refused(alloc, code, "")?;
-    with_hint(alloc, answer, hint)
-}
-
 // Of a text that was not read. Want of memory is no refusal.
-fn refused_text(alloc: Global, input: &[u8], fault: TextFault) -> Result<Response, AllocError>
-    ensures { IfOk result (λ told. IsToldFault input.now fault told) }
+fn refused_text(alloc: Global, input: &[u8], fault: TextFault) -> Result<Output, AllocError>
+    ensures { IfOk result (λ told. IsToldFault refused_lines input.now fault told) }
 {
-    let (answer, hint) = explained(alloc, input, fault)?;
-    with_hint(alloc, answer, hint.as_str())
+    explained(alloc, input, fault)?.on_error(alloc)
 }
 
-// Of a session that has too many steps.
-fn too_many_steps(alloc: Global) -> Result<Response, AllocError>
-    ensures { IfOk result (λ told. told ≡ too_many_steps) }
-{
-    let hint = too_many_steps_hint(alloc)?;
-    refused_with(alloc, EditFault::TooLong.code(), hint.as_str())
-}
-
-// The answer where no store was opened, which is one only for J2.
-fn not_opened(alloc: Global, why: OpenRefusal) -> Result<Response, AllocError>
+// What is told where no store was opened, which is a refusal only for J2.
+fn not_opened(alloc: Global, why: OpenRefusal) -> Result<Output, AllocError>
     ensures why { OnOk result (why ≡ TooLong) }
     ensures line { IfOk result (λ told. told ≡ too_many_steps) }
 {
-    match why {
-        OpenRefusal::TooLong => too_many_steps(alloc),
-        _ => Err(AllocError),
-    }
+    document_stores::not_opened(alloc, why)?.on_error(alloc)
 }
 
 // What the command tells of the session and its edits.
@@ -141,11 +51,11 @@ fn told_of_store<T: Threads + Sync, P: Progress>(
     store: &mut Store,
     edits: &[Edit],
     command: &Command,
-) -> Result<Response, AllocError>
+) -> Result<Output, AllocError>
     ensures { IfOk result (λ told. IsTold command.now store.old.session edits.now told) }
 {
     match command {
-        Command::Plain(view) => Ok(plain(alloc, shown(alloc, meter, store, edits, view)?)),
+        Command::Plain(view) => shown(alloc, meter, store, edits, view),
         Command::Settled(view) => told_settled(alloc, meter, store, edits, view),
         Command::Report(view) => told_report(alloc, meter, store, edits, *view),
         Command::Check(view) => told_check(alloc, meter, store, edits, view),
@@ -153,6 +63,50 @@ fn told_of_store<T: Threads + Sync, P: Progress>(
             told_advice(rt, host, alloc, meter, progress, store, edits, question)
         }
     }
+}
+
+// The same, judged where refusals count.
+fn judged_of_store<T: Threads + Sync, P: Progress>(
+    rt: &T,
+    host: &HostRuntime,
+    progress: &mut P,
+    alloc: Global,
+    meter: &mut Meter,
+    store: &mut Store,
+    edits: &[Edit],
+    job: &Job,
+) -> Result<Output, AllocError>
+    ensures { IfOk result
+        (λ judged. (alone : Told) × IsTold job.now.command store.old.session edits.now alone
+        × IsJudged job.now.strict (IsRefusing job.now.command store.old.session edits.now) alone
+        judged) }
+{
+    let command = &job.command;
+    if !job.strict {
+        return told_of_store(rt, host, progress, alloc, meter, store, edits, command);
+    }
+    let mut twin = second(alloc, meter, store)?;
+    let told = told_of_store(rt, host, progress, alloc, meter, store, edits, command)?;
+    judged_strictly(alloc, meter, &mut twin, edits, command.is_settled(), told)
+}
+
+// What the job tells of the session and its edits.
+fn told_of_job<T: Threads + Sync, P: Progress>(
+    rt: &T,
+    host: &HostRuntime,
+    progress: &mut P,
+    alloc: Global,
+    meter: &mut Meter,
+    store: &mut Store,
+    edits: &[Edit],
+    job: &Job,
+) -> Result<Output, AllocError>
+    requires { All (IsCheckedEdit store.old.session.header) edits.now }
+    ensures { IfOk result (λ told. IsDone job.now store.old.session edits.now told) }
+{
+    let lines = refused_edits(alloc, store.len(), edits)?;
+    let judged = judged_of_store(rt, host, progress, alloc, meter, store, edits, job)?;
+    with_lines(lines, judged)
 }
 
 // What is told of a document that was read. Texts may have any number of steps, so J2 is found
@@ -163,10 +117,10 @@ fn told_of_bench<T: Threads + Sync, P: Progress>(
     progress: &mut P,
     alloc: Global,
     bench: Bench,
-    command: &Command,
-) -> Result<Response, AllocError>
+    job: &Job,
+) -> Result<Output, AllocError>
     requires { IsCheckedBench bench }
-    ensures { IfOk result (λ told. IsToldOfBench command.now bench told) }
+    ensures { IfOk result (λ told. IsToldOfBench job.now bench told) }
 {
     let Bench {
         header,
@@ -175,7 +129,7 @@ fn told_of_bench<T: Threads + Sync, P: Progress>(
     } = bench;
     let mut meter = Meter::new(host);
     match Store::open(alloc, header, steps.into_vec(), MAX_SPAN, &mut meter) {
-        Ok(mut store) => told_of_store(
+        Ok(mut store) => told_of_job(
             rt,
             host,
             progress,
@@ -183,7 +137,7 @@ fn told_of_bench<T: Threads + Sync, P: Progress>(
             &mut meter,
             &mut store,
             edits.as_slice(),
-            command,
+            job,
         ),
         Err(fault) => not_opened(alloc, fault.why),
     }
@@ -196,23 +150,15 @@ fn told_of_text<T: Threads + Sync, P: Progress>(
     progress: &mut P,
     alloc: Global,
     input: &[u8],
-    command: &Command,
-) -> Result<Response, AllocError>
+    job: &Job,
+) -> Result<Output, AllocError>
     ensures { IfOk result
-        (λ told. IsToldOfText command.now input.now (bench_text input.now) told) }
+        (λ told. IsToldOfText job.now input.now (bench_text input.now) told) }
 {
     match read_bench(alloc, input) {
         Err(fault) => refused_text(alloc, input, fault),
-        Ok(bench) => told_of_bench(rt, host, progress, alloc, bench, command),
+        Ok(bench) => told_of_bench(rt, host, progress, alloc, bench, job),
     }
-}
-
-// Of an input that is too long to be read.
-fn too_long_input(alloc: Global) -> Result<Response, AllocError>
-    ensures { IfOk result (λ told. told ≡ too_long_input) }
-{
-    let (answer, hint) = too_long(alloc)?;
-    with_hint(alloc, answer, hint.as_str())
 }
 
 /// All that is told of the input.
@@ -223,14 +169,14 @@ pub(crate) fn told_of<T: Threads + Sync, P: Progress>(
     progress: &mut P,
     alloc: Global,
     input: &[u8],
-    command: &Command,
-) -> Result<Response, AllocError>
-    ensures { IfOk result (λ told. IsView command.now input.now told) }
+    job: &Job,
+) -> Result<Output, AllocError>
+    ensures { IfOk result (λ told. IsView job.now input.now told) }
 {
     if input.len() > MAX_INPUT {
-        return too_long_input(alloc);
+        return too_long(alloc)?.on_error(alloc);
     }
-    told_of_text(rt, host, progress, alloc, input, command)
+    told_of_text(rt, host, progress, alloc, input, job)
 }
 
 /// One thing alone is told of each input. It does nothing: its contract is the law.

@@ -4,12 +4,11 @@ ghost use Rattle.bench_types.specs.Limits.{max_steps};
 ghost use Rattle.bench_types.specs.Session.{IsSession};
 ghost use Rattle.view_commands.specs.CheckViews.{IsCheckOf, IsCheckView, told_of_check};
 
-use crate::answer::Response;
 use crate::edited::make_edits;
-use crate::ending::ViewStatus;
 use crate::request::CheckView;
 use crate::settled::not_settled;
 use bench_types::{Edit, Header, Step};
+use program_io::{Output, OutputStatus};
 use run_comparisons::steps_of;
 use session_reports::{CheckStatus, Checked, check};
 use session_store::Store;
@@ -18,23 +17,23 @@ use std::alloc::{AllocError, Global};
 
 // The limits that are not kept go to standard output, and the names that there are to standard
 // error.
-fn told_of_check(alloc: Global, status: CheckStatus, text: String) -> Response
+fn told_of_check(alloc: Global, status: CheckStatus, text: String) -> Output
     ensures { result ≡ told_of_check status (string_bytes text) }
 {
     let (none, text) = (Vec::new(alloc), text.into_bytes());
     match status {
-        CheckStatus::Kept => Response {
-            status: ViewStatus::Fine,
+        CheckStatus::Kept => Output {
+            status: OutputStatus::Fine,
             text,
             note: none,
         },
-        CheckStatus::NotKept => Response {
-            status: ViewStatus::Failed,
+        CheckStatus::NotKept => Output {
+            status: OutputStatus::Failed,
             text,
             note: none,
         },
-        CheckStatus::Unknown => Response {
-            status: ViewStatus::Unknown,
+        CheckStatus::Unknown => Output {
+            status: OutputStatus::Unknown,
             text: none,
             note: text,
         },
@@ -47,7 +46,7 @@ fn check_of(
     header: &Header,
     steps: &[Step],
     view: &CheckView,
-) -> Result<Response, AllocError>
+) -> Result<Output, AllocError>
     requires session { IsSession (record { header = header.now; steps = steps.now }) }
     requires few { length steps.now ≤ max_steps }
     ensures { IfOk result
@@ -73,7 +72,7 @@ pub(crate) fn told_check(
     store: &mut Store,
     edits: &[Edit],
     view: &CheckView,
-) -> Result<Response, AllocError>
+) -> Result<Output, AllocError>
     ensures { IfOk result (λ told. IsCheckView view.now store.old.session edits.now told) }
 {
     make_edits(alloc, meter, store, edits)?;

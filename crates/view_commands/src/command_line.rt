@@ -2,14 +2,18 @@
 ghost use Rattle.std.specs.Prelude.{◌≡◌, IfOk, IsErr, map, option_map};
 ghost use Rattle.clap.specs.Words.{app_of, kind_of, rule_of};
 ghost use Rattle.clap.specs.declared.error.kind.ErrorKind.TheVariants.{OutOfMemory};
-ghost use Rattle.view_commands.specs.CommandLine.{IsTold, a_mistake, advise_app, asked, asked_by, asked_in, asked_in_words, at_least_rule, at_most_rule, best_rule, check_app, compare_app, core_rule, file_rule, from_rule, json_rule, judged_rule, less_rule, over_rule, report_app, session_app, settle_app, settle_rule, task_rule, timeline_app, to_rule, trace_app, view_app};
+ghost use Rattle.command_words.specs.Said.{class_in};
+ghost use Rattle.view_commands.specs.CommandLine.{IsTold, advise_app, asked, asked_by, asked_class, asked_in, asked_in_words, at_least_rule, at_most_rule, best_rule, check_app, compare_app, core_rule, file_rule, from_rule, json_rule, judged_rule, less_rule, over_rule, report_app, session_app, settle_app, settle_rule, strict_rule, task_rule, timeline_app, to_rule, trace_app, view_app};
 
 use crate::options::asked_for;
 use crate::request::Request;
-use clap::error::ErrorKind;
 use clap::{Arg, ArgAction, Command, Error, value_parser};
+use command_words::{Saying, not_text, said_by};
 use std::alloc::{AllocError, Global};
 use std::convert::AsStr;
+
+/// What `--version` prints behind the program's name.
+const VERSION: &str = "0.1.0";
 
 // What stands below the commands in the program's help.
 const DOCUMENTS: &str = r#"Documents, each a JSON text, in FILE or on standard input:
@@ -20,11 +24,12 @@ const DOCUMENTS: &str = r#"Documents, each a JSON text, in FILE or on standard i
 Exit status:
   0  it was shown
   1  the document or its settled run is refused, or has no such task or core, or its picture has
-     more than 4000 places, or a limit is not kept
+     more than 4000 places, or a limit is not kept; with --strict also where an edit is refused,
+     or a step of the run after the edits
   2  a bad command line, or a number that has no such name
   3  memory was refused, a read or a write failed, or the file can't be opened
 
-Standard error says why nothing is shown.
+Standard error says why nothing is shown, and which edits are refused.
 
 Example: smp_view trace --from 2 --to 3 examples/first-run.json"#;
 
@@ -89,6 +94,15 @@ fn settle_flag<'a>(alloc: Global) -> Arg<'a>
     Arg::new(alloc, "settle")
         .long("settle")
         .help("Shows settled runs: what a target makes of the calls, ticks and interrupts")
+        .action(ArgAction::SetTrue)
+}
+
+fn strict_flag<'a>(alloc: Global) -> Arg<'a>
+    ensures { rule_of result ≡ strict_rule }
+{
+    Arg::new(alloc, "strict")
+        .long("strict")
+        .help("Ends with status 1 where an edit or a step of the run is refused")
         .action(ArgAction::SetTrue)
 }
 
@@ -222,6 +236,7 @@ fn trace_command<'a>(alloc: Global) -> Result<Command<'a>, AllocError>
         .arg(to_option(alloc))?
         .arg(task_option(alloc))?
         .arg(core_option(alloc))?
+        .arg(strict_flag(alloc))?
         .arg(file_argument(alloc))
 }
 
@@ -231,6 +246,7 @@ fn session_command<'a>(alloc: Global) -> Result<Command<'a>, AllocError>
     Command::new(alloc, "session")
         .after_help(SESSIONS)
         .about("Prints the session with its edits made, as a document")
+        .arg(strict_flag(alloc))?
         .arg(file_argument(alloc))
 }
 
@@ -240,6 +256,7 @@ fn settle_command<'a>(alloc: Global) -> Result<Command<'a>, AllocError>
     Command::new(alloc, "settle")
         .after_help(SETTLED_RUNS)
         .about("Prints the settled run of the session with its edits made, as a document")
+        .arg(strict_flag(alloc))?
         .arg(file_argument(alloc))
 }
 
@@ -250,6 +267,7 @@ fn compare_command<'a>(alloc: Global) -> Result<Command<'a>, AllocError>
         .after_help(COMPARISONS)
         .about("Shows the runs before and after the edits, and what each task gained and lost")
         .arg(settle_flag(alloc))?
+        .arg(strict_flag(alloc))?
         .arg(file_argument(alloc))
 }
 
@@ -262,6 +280,7 @@ fn timeline_command<'a>(alloc: Global) -> Result<Command<'a>, AllocError>
         .arg(settle_flag(alloc))?
         .arg(from_option(alloc))?
         .arg(to_option(alloc))?
+        .arg(strict_flag(alloc))?
         .arg(file_argument(alloc))
 }
 
@@ -273,6 +292,7 @@ fn report_command<'a>(alloc: Global) -> Result<Command<'a>, AllocError>
         .about("Prints the numbers of the run, or of the runs before and after the edits")
         .arg(settle_flag(alloc))?
         .arg(json_flag(alloc))?
+        .arg(strict_flag(alloc))?
         .arg(file_argument(alloc))
 }
 
@@ -285,6 +305,7 @@ fn check_command<'a>(alloc: Global) -> Result<Command<'a>, AllocError>
         .arg(settle_flag(alloc))?
         .arg(at_most_option(alloc))?
         .arg(at_least_option(alloc))?
+        .arg(strict_flag(alloc))?
         .arg(file_argument(alloc))
 }
 
@@ -299,6 +320,7 @@ fn advise_command<'a>(alloc: Global) -> Result<Command<'a>, AllocError>
         .arg(less_option(alloc))?
         .arg(over_option(alloc))?
         .arg(best_option(alloc))?
+        .arg(strict_flag(alloc))?
         .arg(file_argument(alloc))
 }
 
@@ -316,6 +338,7 @@ fn program_command<'a>(alloc: Global) -> Result<Command<'a>, AllocError>
     let check = check_command(alloc)?;
     let advise = advise_command(alloc)?;
     Command::new(alloc, "smp_view")
+        .version(VERSION)
         .about("Shows what a run of a scheduling session does, and why")
         .after_help(DOCUMENTS)
         .disable_help_subcommand(true)
@@ -330,26 +353,22 @@ fn program_command<'a>(alloc: Global) -> Result<Command<'a>, AllocError>
         .subcommand(advise)
 }
 
+// What clap says asks for this.
+fn said(said: Saying) -> Request
+    ensures { asked_in result ≡ asked_class (class_in said) }
+{
+    match said {
+        Saying::Help(text) => Request::Help(text),
+        Saying::Version(text) => Request::Version(text),
+        Saying::Mistake(text) => Request::Bad(text),
+    }
+}
+
 fn told(alloc: Global, error: &Error) -> Result<Request, AllocError>
     ensures asked { IfOk result (λ request. asked_in request ≡ asked_by (kind_of error.now)) }
     ensures memory { kind_of error.now ≡ OutOfMemory → IsErr result }
 {
-    match error.kind() {
-        ErrorKind::OutOfMemory => Err(AllocError),
-        ErrorKind::DisplayHelp => Ok(Request::Help(error.to_string(alloc)?)),
-        _ => Ok(Request::Bad(error.to_string(alloc)?)),
-    }
-}
-
-// The refusal of words that are no text, which clap is never given.
-fn not_text(alloc: Global) -> Result<Request, AllocError>
-    ensures { IfOk result (λ request. asked_in request ≡ a_mistake) }
-{
-    let error = program_command(alloc)?.error(
-        ErrorKind::InvalidValue,
-        "invalid UTF-8 was detected in one or more arguments",
-    )?;
-    told(alloc, &error)
+    Ok(said(said_by(alloc, error)?))
 }
 
 fn request_in<S: AsStr>(alloc: Global, words: &[S]) -> Result<Request, AllocError>
@@ -370,6 +389,6 @@ pub fn request_of<S: AsStr>(alloc: Global, words: Option<&[S]>) -> Result<Reques
 {
     match words {
         Some(words) => request_in(alloc, words),
-        None => not_text(alloc),
+        None => Ok(said(not_text(alloc, &mut program_command(alloc)?)?)),
     }
 }

@@ -2,41 +2,26 @@
 ghost use Rattle.std.specs.Prelude.{◌≡◌, ◌+◌, ◌≤◌, ◌<◌, ◌^◌, [], All, IfOk, OnOk, decimal, length, map, slice_index_or, string_bytes};
 ghost use Rattle.bench_types.specs.Limits.{max_steps};
 ghost use Rattle.bench_model.specs.Edits.{after_edits};
-ghost use Rattle.session_store.specs.Outcomes.{after_edit};
 ghost use Rattle.bench_types.specs.Header.{IsCheckedHeader};
 ghost use Rattle.bench_types.specs.Session.{IsSession};
 ghost use Rattle.bench_types.specs.Step.{settings_of, IsCheckedStep};
 ghost use Rattle.run_comparisons.specs.Comparison.{compare_text};
 ghost use Rattle.run_pictures.specs.Limits.{max_places};
-ghost use Rattle.view_commands.specs.Views.{answer_output, document_of, fine, most_places, picture_of, picture_of_both, picture_of_run, refused_long, refused_core, refused_task, shown, trace_of, trace_output};
+ghost use Rattle.view_commands.specs.Views.{answer_output, document_of, most_places, picture_of, picture_of_both, picture_of_run, refused_long, refused_core, refused_task, shown, trace_of, trace_output};
+ghost use Rattle.program_io.specs.Outputs.{fine};
 
-use crate::answer::Shown;
 use crate::interest::{interest_of, unknown_core, unknown_task};
 use crate::{Selection, View};
 use bench_types::{Edit, Header, MAX_SPAN, Step};
+use document_stores::answer_to_edit;
+use program_io::Output;
 use run_comparisons::{compare, steps_of};
 use run_pictures::{Run, TooLong, timeline, timelines};
 use run_views::{Places, trace};
-use session_store::{Store, StoreFault};
+use session_store::Store;
 use session_write::write_session;
 use smp_kernel::Meter;
 use std::alloc::{AllocError, Global};
-
-// Makes an edit; one that is refused is passed over.
-fn make_edit(
-    alloc: Global,
-    meter: &mut Meter,
-    store: &mut Store,
-    edit: Edit,
-) -> Result<(), AllocError>
-    ensures { OnOk result (store.new ≡ after_edit store.old edit) }
-{
-    match store.apply(alloc, edit, meter) {
-        Ok(_) => Ok(()),
-        Err(StoreFault::Edit(_why)) => Ok(()),
-        Err(StoreFault::NoMemory) => Err(AllocError),
-    }
-}
 
 /// Makes the edits one after another.
 pub(crate) fn make_edits(
@@ -48,7 +33,7 @@ pub(crate) fn make_edits(
     ensures { OnOk result (store.new.session ≡ after_edits store.old.session edits.now) }
 {
     for edit in edits {
-        make_edit(alloc, meter, store, *edit)?;
+        let _answer = answer_to_edit(alloc, meter, store, *edit)?;
     }
     Ok(())
 }
@@ -73,18 +58,15 @@ fn trace_of(
     Ok(text.into_bytes())
 }
 
-fn refused_task(alloc: Global, name: &str) -> Result<Shown, AllocError>
+fn refused_task(alloc: Global, name: &str) -> Result<Output, AllocError>
     ensures { IfOk result (λ shown. shown ≡ refused_task name.now) }
 {
     let text = format!(in alloc; "refused task {name}\n")?;
-    Ok(Shown {
-        is_refused: true,
-        text: text.into_bytes(),
-    })
+    Ok(Output::refusal(alloc, text.into_bytes()))
 }
 
 // The name that stands there is no task's.
-fn refused_name(alloc: Global, names: &[String], index: usize) -> Result<Shown, AllocError>
+fn refused_name(alloc: Global, names: &[String], index: usize) -> Result<Output, AllocError>
     requires { index < length names.now }
     ensures { IfOk result
         (λ shown. shown
@@ -93,24 +75,11 @@ fn refused_name(alloc: Global, names: &[String], index: usize) -> Result<Shown, 
     refused_task(alloc, names[index].as_str())
 }
 
-fn refused_core(alloc: Global, core: u32) -> Result<Shown, AllocError>
+fn refused_core(alloc: Global, core: u32) -> Result<Output, AllocError>
     ensures { IfOk result (λ shown. shown ≡ refused_core core) }
 {
     let text = format!(in alloc; "refused core {core}\n")?;
-    Ok(Shown {
-        is_refused: true,
-        text: text.into_bytes(),
-    })
-}
-
-/// A text that is no refusal.
-pub(crate) fn fine(text: Vec<u8>) -> Shown
-    ensures { result ≡ fine text.items }
-{
-    Shown {
-        is_refused: false,
-        text,
-    }
+    Ok(Output::refusal(alloc, text.into_bytes()))
 }
 
 /// A trace of a session, or that it has no such task or core.
@@ -120,7 +89,7 @@ pub(crate) fn trace_output(
     header: &Header,
     steps: &[Step],
     selection: &Selection,
-) -> Result<Shown, AllocError>
+) -> Result<Output, AllocError>
     requires session { IsSession (record { header = header.now; steps = steps.now }) }
     requires few { length steps.now ≤ max_steps }
     ensures { IfOk result
@@ -134,7 +103,8 @@ pub(crate) fn trace_output(
     if let Some(core) = unknown_core(header, selection.cores.as_slice()) {
         return refused_core(alloc, core);
     }
-    Ok(fine(trace_of(alloc, meter, header, steps, selection)?))
+    let text = trace_of(alloc, meter, header, steps, selection)?;
+    Ok(Output::fine(alloc, text))
 }
 
 // The trace of the session as it stands.
@@ -143,7 +113,7 @@ fn trace_shown(
     meter: &mut Meter,
     store: &Store,
     selection: &Selection,
-) -> Result<Shown, AllocError>
+) -> Result<Output, AllocError>
     ensures { IfOk result (λ shown. shown ≡ trace_output selection.now store.now.session) }
 {
     let steps = steps_of(alloc, store)?;
@@ -155,7 +125,7 @@ pub(crate) fn document_output(
     alloc: Global,
     header: &Header,
     steps: &[Step],
-) -> Result<Shown, AllocError>
+) -> Result<Output, AllocError>
     requires { IsSession (record { header = header.now; steps = steps.now }) }
     ensures { IfOk result
         (λ shown. shown
@@ -163,11 +133,11 @@ pub(crate) fn document_output(
 {
     let mut text = write_session(alloc, header, steps)?;
     text.push(b'\n')?;
-    Ok(fine(text))
+    Ok(Output::fine(alloc, text))
 }
 
 // The session as it stands, as a document.
-fn document_shown(alloc: Global, store: &Store) -> Result<Shown, AllocError>
+fn document_shown(alloc: Global, store: &Store) -> Result<Output, AllocError>
     ensures { IfOk result (λ shown. shown ≡ fine (document_of store.now.session)) }
 {
     let steps = steps_of(alloc, store)?;
@@ -205,7 +175,7 @@ pub fn law_of_texts()
     ensures { most_places ≡ decimal max_places }
 {}
 
-fn refused_long(alloc: Global, count: u64) -> Result<Shown, AllocError>
+fn refused_long(alloc: Global, count: u64) -> Result<Output, AllocError>
     ensures { IfOk result (λ shown. shown ≡ refused_long count) }
 {
     let mut text = String::new(alloc);
@@ -213,21 +183,18 @@ fn refused_long(alloc: Global, count: u64) -> Result<Shown, AllocError>
     text.push_str(", and a picture shows at most ")?;
     text.push_str("4000")?;
     text.push_str(": name fewer by --from and --to\n")?;
-    Ok(Shown {
-        is_refused: true,
-        text: text.into_bytes(),
-    })
+    Ok(Output::refusal(alloc, text.into_bytes()))
 }
 
 /// A picture, or that it would show too many places.
 pub(crate) fn answer_output(
     alloc: Global,
     answer: Result<String, TooLong>,
-) -> Result<Shown, AllocError>
+) -> Result<Output, AllocError>
     ensures { IfOk result (λ shown. shown ≡ answer_output answer) }
 {
     match answer {
-        Ok(picture) => Ok(fine(picture.into_bytes())),
+        Ok(picture) => Ok(Output::fine(alloc, picture.into_bytes())),
         Err(why) => refused_long(alloc, why.places),
     }
 }
@@ -237,7 +204,7 @@ fn picture_of_run(
     meter: &mut Meter,
     store: &Store,
     places: Places,
-) -> Result<Shown, AllocError>
+) -> Result<Output, AllocError>
     ensures { IfOk result (λ shown. shown ≡ picture_of_run places store.now.session) }
 {
     let steps = steps_of(alloc, store)?;
@@ -253,7 +220,7 @@ fn picture_of_both(
     steps: &[Step],
     store: &Store,
     places: Places,
-) -> Result<Shown, AllocError>
+) -> Result<Output, AllocError>
     requires header { IsCheckedHeader header.now }
     requires steps { All (IsCheckedStep (settings_of header.now)) steps.now }
     requires few { length steps.now + 1 < 2 ^ 32 }
@@ -282,7 +249,7 @@ fn picture_of(
     store: &mut Store,
     edits: &[Edit],
     places: Places,
-) -> Result<Shown, AllocError>
+) -> Result<Output, AllocError>
     ensures { IfOk result
         (λ shown. shown ≡ picture_of places store.old.session edits.now) }
 {
@@ -302,7 +269,7 @@ pub(crate) fn shown(
     store: &mut Store,
     edits: &[Edit],
     view: &View,
-) -> Result<Shown, AllocError>
+) -> Result<Output, AllocError>
     ensures { IfOk result (λ answer. answer ≡ shown view.now store.old.session edits.now) }
 {
     match view {
@@ -314,7 +281,10 @@ pub(crate) fn shown(
             make_edits(alloc, meter, store, edits)?;
             document_shown(alloc, store)
         }
-        View::Compare => Ok(fine(comparison_of(alloc, meter, store, edits)?)),
+        View::Compare => {
+            let text = comparison_of(alloc, meter, store, edits)?;
+            Ok(Output::fine(alloc, text))
+        }
         View::Timeline(places) => picture_of(alloc, meter, store, edits, *places),
     }
 }

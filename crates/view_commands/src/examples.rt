@@ -1,5 +1,5 @@
 //! Command lines that were worked out by hand.
-ghost use Rattle.view_commands.specs.CommandLines.{WorkedAdvice, WorkedChecks, WorkedHelp, WorkedMistakes, WorkedTraces, WorkedViews};
+ghost use Rattle.view_commands.specs.CommandLines.{WorkedAdvice, WorkedChecks, WorkedHelp, WorkedMistakes, WorkedTraces, WorkedVersions, WorkedViews};
 
 /// Command lines with what they ask for. It does nothing: its contract is the laws, one a clause.
 pub fn examples_of_command_lines()
@@ -13,6 +13,8 @@ pub fn examples_of_command_lines()
     ensures advice { WorkedAdvice }
     // Help is asked for.
     ensures helps { WorkedHelp }
+    // The version is asked for.
+    ensures versions { WorkedVersions }
     // Nothing that the program does is asked for.
     ensures mistakes { WorkedMistakes }
 {}

@@ -1,27 +1,18 @@
 //! A view of a document, over any reader and writer.
 ghost use Rattle.std.specs.Prelude.{◌≡◌};
-ghost use Rattle.bench_commands.specs.Device.{failures_after};
-ghost use Rattle.view_commands.specs.ViewEndings.{all_reads_well, all_writes_well, failed};
-ghost use Rattle.view_commands.specs.ViewRun.{Viewed};
+ghost use Rattle.program_io.specs.Device.{failures_after};
+ghost use Rattle.program_io.specs.Endings.{EndsTelling, all_reads_well, all_writes_well};
+ghost use Rattle.view_commands.specs.Commands.{IsView};
 
-use crate::Command;
-use crate::answer::{Response, told_of};
-use crate::ending::ViewEnding;
-use bench_commands::{
-    CountedRead, CountedWrite, Ending, InputFault, RunFault, Status, read_input, write_text,
-};
+use crate::Job;
+use crate::answer::told_of;
+use program_io::{CountedRead, CountedWrite, Ending, read_input, write_output};
 use run_advice::Progress;
 use std::alloc::Global;
 use std::thread::Threads;
 
-fn failed(fault: RunFault) -> ViewEnding
-    ensures { result ≡ failed fault }
-{
-    ViewEnding::AsBench(Ending::Ran(Status::Fault(fault)))
-}
-
 /// Reads a document to its end, or one byte past the most that it is, and then writes what the
-/// command shows of it. Changes are tried in several threads, and how far that is goes to
+/// job tells of it. Changes are tried in several threads, and how far that is goes to
 /// `progress`.
 pub fn run<T: Threads + Sync, P: Progress, R: CountedRead, W: CountedWrite>(
     rt: &T,
@@ -30,26 +21,17 @@ pub fn run<T: Threads + Sync, P: Progress, R: CountedRead, W: CountedWrite>(
     alloc: Global,
     reader: &mut R,
     writer: &mut W,
-    command: &Command,
-) -> ViewEnding
-    ensures bytes { Viewed command.now result (R.Read.remaining reader.old)
+    job: &Job,
+) -> Ending
+    ensures bytes { EndsTelling (IsView job.now) result (R.Read.remaining reader.old)
         (R.Read.remaining reader.new) (W.Write.contents writer.old) (W.Write.contents writer.new) }
     ensures reads { R.CountedRead.failures reader.new
         ≡ failures_after (all_reads_well result) (R.CountedRead.failures reader.old) }
     ensures writes { W.CountedWrite.failures writer.new
         ≡ failures_after (all_writes_well result) (W.CountedWrite.failures writer.old) }
 {
-    let input = match read_input(alloc, reader) {
-        Ok(input) => input,
-        Err(InputFault::Memory) => return failed(RunFault::Memory),
-        Err(InputFault::Read) => return failed(RunFault::Read),
-    };
-    let Ok(response) = told_of(rt, host, progress, alloc, &input, command) else {
-        return failed(RunFault::Memory);
-    };
-    let Response { status, text, note } = response;
-    if write_text(writer, text.as_slice()).is_err() {
-        return failed(RunFault::Write);
+    match read_input(alloc, reader) {
+        Ok(input) => { write_output(writer, told_of(rt, host, progress, alloc, &input, job)) }
+        Err(fault) => Ending::unread(fault),
     }
-    ViewEnding::Viewed(status, note)
 }

@@ -16,6 +16,7 @@ fn position_of(tasks: &[TaskArgs], name: &str) -> Option<usize>
     tasks.iter().position(|args| name == args.name.as_str())
 }
 
+#[tactic(auto, using(bench_types::proofs::Passes::checked_header))]
 fn task_named(header: &Header, name: &str) -> Option<u32>
     requires { IsCheckedHeader header.now }
     ensures { result ≡ task_named header.now name.now }

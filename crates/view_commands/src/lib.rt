@@ -6,7 +6,6 @@ mod answer;
 mod checks;
 mod command_line;
 mod edited;
-mod ending;
 mod examples;
 mod execution;
 mod families;
@@ -20,16 +19,16 @@ mod request;
 mod settled;
 mod settled_pictures;
 mod source;
+mod strict;
 
 pub use answer::law_of_views;
 pub use command_line::request_of;
 pub use edited::law_of_texts;
-pub use ending::{ViewEnding, ViewStatus};
 pub use examples::examples_of_command_lines;
 pub use execution::run;
 pub use program::{carry_out, run_program};
 pub use progress::Telling;
 pub use request::{
-    CheckView, Command, FileName, ReportView, Request, Selection, SettledView, View,
+    CheckView, Command, FileName, Job, ReportView, Request, Selection, SettledView, View,
 };
 pub use source::{DocumentSource, Folder, Source};

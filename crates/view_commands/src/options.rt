@@ -3,12 +3,12 @@ ghost use Rattle.std.specs.Prelude.{◌≡◌, codes, IfOk, IfSome, map, option_
 ghost use Rattle.std.specs.Option.{IsSomeAnd};
 ghost use Rattle.clap.specs.Words.{found_of, rows_of, subcommand_rows_of};
 ghost use Rattle.view_commands.specs.CommandLine.{asked_for, asked_in};
-ghost use Rattle.view_commands.specs.Options.{AreTaken, advice_of, advice_with, check_of, command_of, comparison_of, cores_in, family_in, file_in, json_in, number_in, number_name, picture_of, places_in, report_of, selection_in, settle_in, tasks_in, texts_in, trace_of, usual_best, view_of};
+ghost use Rattle.view_commands.specs.Options.{AreTaken, advice_of, advice_with, check_of, command_of, comparison_of, cores_in, family_in, file_in, json_in, number_in, number_name, picture_of, places_in, report_of, selection_in, settle_in, strict_in, tasks_in, texts_in, trace_of, usual_best, view_of};
 
 use crate::families::family_of;
 use crate::limits::{are_limits, limits_in};
 use crate::request::{
-    CheckView, Command, FileName, ReportView, Request, Selection, SettledView, View,
+    CheckView, Command, FileName, Job, ReportView, Request, Selection, SettledView, View,
 };
 use clap::ArgMatches;
 use run_advice::Family;
@@ -45,6 +45,13 @@ fn settle_in(options: &ArgMatches) -> bool
     ensures { result ≡ settle_in (rows_of (found_of options.now)) }
 {
     options.get_flag("settle")
+}
+
+fn strict_in(options: &ArgMatches) -> bool
+    requires { AreTaken (rows_of (found_of options.now)) }
+    ensures { result ≡ strict_in (rows_of (found_of options.now)) }
+{
+    options.get_flag("strict")
 }
 
 fn json_in(options: &ArgMatches) -> bool
@@ -330,5 +337,6 @@ pub(crate) fn asked_for(alloc: Global, matches: &ArgMatches) -> Result<Request, 
         return Ok(Request::Bad(String::from_str(alloc, lacking(name))?));
     };
     let file = file_in(alloc, options)?;
-    Ok(Request::Show(command, file))
+    let strict = strict_in(options);
+    Ok(Request::Show(Job { command, strict }, file))
 }

@@ -1,38 +1,23 @@
+//! The program, from the words of its command line to its end.
 ghost use Rattle.std.specs.Prelude.{◌≡◌, IfOk, map, option_map, string_bytes};
 ghost use Rattle.std.specs.Process.{exit_status};
-ghost use Rattle.bench_commands.specs.Device.{failures_after};
-ghost use Rattle.bench_commands.specs.Program.{device, Shows};
-ghost use Rattle.bench_commands.specs.Run.{writes_well};
-ghost use Rattle.view_commands.specs.CommandLine.{a_view, asked, asked_in};
-ghost use Rattle.view_commands.specs.ViewEndings.{all_reads_well, all_writes_well, open_line};
-ghost use Rattle.view_commands.specs.ViewProgram.{Ends, EndsFile, EndsProcess, EndsWith};
+ghost use Rattle.program_io.specs.Device.{device, failures_after};
+ghost use Rattle.program_io.specs.Endings.{EndsProcess, EndsWith, all_reads_well, all_writes_well};
+ghost use Rattle.view_commands.specs.CommandLine.{a_view, asked_in};
+ghost use Rattle.view_commands.specs.ViewProgram.{Ends, EndsAsked, EndsFile, open_line};
 
 use crate::command_line::request_of;
-use crate::ending::ViewEnding;
 use crate::execution::run;
-use crate::request::{Command, FileName, Request};
+use crate::request::{FileName, Job, Request};
 use crate::source::Source;
-use bench_commands::{CountedWrite, Ending, RunFault, Status, write_text};
+use program_io::{CountedWrite, Ending, RunFault, end_process, given_words, show_text};
 use run_advice::Progress;
 use std::alloc::{AllocError, Global};
 use std::convert::AsStr;
 use std::env::Args;
 use std::io;
-use std::io::ErrorKind;
 use std::process::ExitCode;
 use std::thread::Threads;
-
-fn show_help<W: CountedWrite>(writer: &mut W, text: &str) -> Status
-    ensures bytes { Shows result text.now (W.Write.contents writer.old)
-        (W.Write.contents writer.new) }
-    ensures failures { W.CountedWrite.failures writer.new
-        ≡ failures_after (writes_well result) (W.CountedWrite.failures writer.old) }
-{
-    if write_text(writer, text.as_bytes()).is_err() {
-        return Status::Fault(RunFault::Write);
-    }
-    Status::Fine
-}
 
 // That the file of this name can't be opened.
 fn open_line(alloc: Global, name: &str) -> Result<String, AllocError>
@@ -47,12 +32,12 @@ fn show_file<T: Threads + Sync, P: Progress, R: Source, W: CountedWrite>(
     host: &HostRuntime,
     progress: &mut P,
     alloc: Global,
-    command: &Command,
+    job: &Job,
     name: &str,
     reader: &mut R,
     writer: &mut W,
-) -> ViewEnding
-    ensures bytes { EndsFile command.now name.now result (R.Source.file reader.old name.now)
+) -> Ending
+    ensures bytes { EndsFile job.now name.now result (R.Source.file reader.old name.now)
         (R.Read.remaining reader.old) (R.Read.remaining reader.new) (W.Write.contents writer.old)
         (W.Write.contents writer.new) }
     ensures reads { R.CountedRead.failures reader.new
@@ -61,11 +46,11 @@ fn show_file<T: Threads + Sync, P: Progress, R: Source, W: CountedWrite>(
         ≡ failures_after (all_writes_well result) (W.CountedWrite.failures writer.old) }
 {
     let Ok(line) = open_line(alloc, name) else {
-        return ViewEnding::AsBench(Ending::Ran(Status::Fault(RunFault::Memory)));
+        return Ending::Failed(RunFault::Memory);
     };
     match reader.open(name) {
-        Ok(()) => run(rt, host, progress, alloc, reader, writer, command),
-        Err(_) => ViewEnding::NotOpened(line),
+        Ok(()) => run(rt, host, progress, alloc, reader, writer, job),
+        Err(_) => Ending::NotOpened(line),
     }
 }
 
@@ -75,12 +60,12 @@ fn show_document<T: Threads + Sync, P: Progress, R: Source, W: CountedWrite>(
     host: &HostRuntime,
     progress: &mut P,
     alloc: Global,
-    command: &Command,
+    job: &Job,
     file: Option<FileName>,
     reader: &mut R,
     writer: &mut W,
-) -> ViewEnding
-    ensures bytes { Ends (a_view command.now file) result (R.Source.file reader.old)
+) -> Ending
+    ensures bytes { EndsAsked (a_view job.now file) result (R.Source.file reader.old)
         (R.Read.remaining reader.old) (R.Read.remaining reader.new) (W.Write.contents writer.old)
         (W.Write.contents writer.new) }
     ensures reads { R.CountedRead.failures reader.new
@@ -94,12 +79,12 @@ fn show_document<T: Threads + Sync, P: Progress, R: Source, W: CountedWrite>(
             host,
             progress,
             alloc,
-            command,
+            job,
             name.text.as_str(),
             reader,
             writer,
         ),
-        None => run(rt, host, progress, alloc, reader, writer, command),
+        None => run(rt, host, progress, alloc, reader, writer, job),
     }
 }
 
@@ -113,8 +98,8 @@ pub fn carry_out<T: Threads + Sync, P: Progress, R: Source, W: CountedWrite>(
     request: Request,
     reader: &mut R,
     writer: &mut W,
-) -> ViewEnding
-    ensures bytes { Ends (asked_in request) result (R.Source.file reader.old)
+) -> Ending
+    ensures bytes { EndsAsked (asked_in request) result (R.Source.file reader.old)
         (R.Read.remaining reader.old) (R.Read.remaining reader.new) (W.Write.contents writer.old)
         (W.Write.contents writer.new) }
     ensures reads { R.CountedRead.failures reader.new
@@ -123,28 +108,27 @@ pub fn carry_out<T: Threads + Sync, P: Progress, R: Source, W: CountedWrite>(
         ≡ failures_after (all_writes_well result) (W.CountedWrite.failures writer.old) }
 {
     match request {
-        Request::Show(command, file) => {
-            show_document(rt, host, progress, alloc, &command, file, reader, writer)
+        Request::Show(job, file) => {
+            show_document(rt, host, progress, alloc, &job, file, reader, writer)
         }
-        Request::Help(text) => {
-            ViewEnding::AsBench(Ending::Ran(show_help(writer, text.as_str())))
-        }
-        Request::Bad(text) => ViewEnding::AsBench(Ending::BadCommandLine(text)),
+        Request::Help(text) => show_text(alloc, writer, text.as_str()),
+        Request::Version(text) => show_text(alloc, writer, text.as_str()),
+        Request::Bad(text) => Ending::BadCommandLine(text),
     }
 }
 
 // How the program ends with these words: they are `None` where one of them is no text.
-fn ending_with<T: Threads + Sync, P: Progress, S: AsStr, R: Source, W: CountedWrite>(
+fn end_of_words<T: Threads + Sync, P: Progress, S: AsStr, R: Source, W: CountedWrite>(
     rt: &T,
     host: &HostRuntime,
     progress: &mut P,
     words: Option<&[S]>,
     reader: &mut R,
     writer: &mut W,
-) -> ViewEnding
-    ensures bytes { Ends (asked (option_map (λ all. map S.text all.now) words.entry)) result
-        (R.Source.file reader.old) (R.Read.remaining reader.old) (R.Read.remaining reader.new)
-        (W.Write.contents writer.old) (W.Write.contents writer.new) }
+) -> Ending
+    ensures bytes { Ends (R.Source.file reader.old)
+        (option_map (λ all. map S.text all.now) words.entry) result (R.Read.remaining reader.old)
+        (R.Read.remaining reader.new) (W.Write.contents writer.old) (W.Write.contents writer.new) }
     ensures reads { R.CountedRead.failures reader.new
         ≡ failures_after (all_reads_well result) (R.CountedRead.failures reader.old) }
     ensures writes { W.CountedWrite.failures writer.new
@@ -152,7 +136,7 @@ fn ending_with<T: Threads + Sync, P: Progress, S: AsStr, R: Source, W: CountedWr
 {
     match request_of(host.alloc(), words) {
         Ok(request) => carry_out(rt, host, progress, host.alloc(), request, reader, writer),
-        Err(_) => ViewEnding::AsBench(Ending::Ran(Status::Fault(RunFault::Memory))),
+        Err(_) => Ending::Failed(RunFault::Memory),
     }
 }
 
@@ -164,23 +148,19 @@ fn ending_of<T: Threads + Sync, P: Progress, R: Source, W: CountedWrite>(
     words: io::Result<Args>,
     reader: &mut R,
     writer: &mut W,
-) -> ViewEnding
-    ensures bytes { EndsWith words result (R.Source.file reader.old) (R.Read.remaining reader.old)
-        (R.Read.remaining reader.new) (W.Write.contents writer.old) (W.Write.contents writer.new) }
+) -> Ending
+    ensures bytes { EndsWith (Ends (R.Source.file reader.old)) words result
+        (R.Read.remaining reader.old) (R.Read.remaining reader.new) (W.Write.contents writer.old)
+        (W.Write.contents writer.new) }
     ensures reads { R.CountedRead.failures reader.new
         ≡ failures_after (all_reads_well result) (R.CountedRead.failures reader.old) }
     ensures writes { W.CountedWrite.failures writer.new
         ≡ failures_after (all_writes_well result) (W.CountedWrite.failures writer.old) }
 {
-    match words {
-        Ok(words) => match words.collect::<Vec<String>>(host.alloc()) {
-            Ok(words) => ending_with(rt, host, progress, Some(words.as_slice()), reader, writer),
-            Err(_) => ViewEnding::AsBench(Ending::Ran(Status::Fault(RunFault::Memory))),
-        },
-        Err(error) if error.kind() == ErrorKind::InvalidData => {
-            ending_with(rt, host, progress, None::<&[String]>, reader, writer)
-        }
-        Err(_) => ViewEnding::AsBench(Ending::Ran(Status::Fault(RunFault::Memory))),
+    match given_words(host.alloc(), words) {
+        Ok(Some(given)) => end_of_words(rt, host, progress, Some(given.as_slice()), reader, writer),
+        Ok(None) => end_of_words(rt, host, progress, None::<&[String]>, reader, writer),
+        Err(_) => Ending::Failed(RunFault::Memory),
     }
 }
 
@@ -200,7 +180,7 @@ pub fn run_program<T: Threads + Sync, P: Progress, R: Source, W: CountedWrite, E
     writer: &mut W,
     errors: &mut E,
 ) -> ExitCode
-    ensures { EndsProcess words (exit_status result) (R.Source.file reader.old)
+    ensures { EndsProcess (Ends (R.Source.file reader.old)) words (exit_status result)
         (device (R.Read.remaining reader.old) (R.CountedRead.failures reader.old))
         (device (R.Read.remaining reader.new) (R.CountedRead.failures reader.new))
         (device (W.Write.contents writer.old) (W.CountedWrite.failures writer.old))
@@ -209,6 +189,5 @@ pub fn run_program<T: Threads + Sync, P: Progress, R: Source, W: CountedWrite, E
         (device (E.Write.contents errors.new) (E.CountedWrite.failures errors.new)) }
 {
     let ending = ending_of(rt, host, progress, words, reader, writer);
-    let _ = write_text(errors, ending.message());
-    ExitCode::from(ending.code())
+    end_process(errors, &ending)
 }

@@ -1,9 +1,9 @@
 //! How far long work is, told on a terminal.
 ghost use Rattle.std.specs.Prelude.{◌≡◌, IfOk, string_bytes};
-ghost use Rattle.bench_commands.specs.Program.{device};
+ghost use Rattle.program_io.specs.Device.{device};
 ghost use Rattle.view_commands.specs.Progress.{progress_text, TellsProgress};
 
-use bench_commands::{Counted, write_text};
+use program_io::{Counted, write_text};
 use run_advice::Progress;
 use std::alloc::{AllocError, Global};
 use std::io::Write;

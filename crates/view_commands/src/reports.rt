@@ -5,10 +5,10 @@ ghost use Rattle.bench_types.specs.Session.{IsSession};
 ghost use Rattle.view_commands.specs.ReportViews.{IsReported, IsReportedAlone, IsReportedBeside};
 
 use crate::ReportView;
-use crate::answer::{Response, plain};
-use crate::edited::{fine, make_edits};
+use crate::edited::make_edits;
 use crate::settled::not_settled;
 use bench_types::{Edit, Header, Step};
+use program_io::Output;
 use run_comparisons::steps_of;
 use session_reports::{report_of_run, report_of_runs};
 use session_store::Store;
@@ -22,14 +22,14 @@ fn report_of(
     header: &Header,
     steps: &[Step],
     view: ReportView,
-) -> Result<Response, AllocError>
+) -> Result<Output, AllocError>
     requires session { IsSession (record { header = header.now; steps = steps.now }) }
     requires few { length steps.now ≤ max_steps }
     ensures { IfOk result
         (λ told. IsReportedAlone view (record { header = header.now; steps = steps.now }) told) }
 {
     match report_of_run(alloc, meter, header, steps, view.settled, view.form) {
-        Ok(text) => Ok(plain(alloc, fine(text.into_bytes()))),
+        Ok(text) => Ok(Output::fine(alloc, text.into_bytes())),
         Err(fault) => not_settled(alloc, fault),
     }
 }
@@ -39,7 +39,7 @@ fn report_told(
     meter: &mut Meter,
     store: &Store,
     view: ReportView,
-) -> Result<Response, AllocError>
+) -> Result<Output, AllocError>
     ensures { IfOk result (λ told. IsReportedAlone view store.now.session told) }
 {
     let steps = steps_of(alloc, store)?;
@@ -55,7 +55,7 @@ fn reports_of(
     edited: &Header,
     later: &[Step],
     view: ReportView,
-) -> Result<Response, AllocError>
+) -> Result<Output, AllocError>
     requires session { IsSession (record { header = header.now; steps = steps.now }) }
     requires few { length steps.now ≤ max_steps }
     requires edited_session { IsSession (record { header = edited.now; steps = later.now }) }
@@ -66,7 +66,7 @@ fn reports_of(
 {
     let (settled, form) = (view.settled, view.form);
     match report_of_runs(alloc, meter, header, steps, edited, later, settled, form) {
-        Ok(text) => Ok(plain(alloc, fine(text.into_bytes()))),
+        Ok(text) => Ok(Output::fine(alloc, text.into_bytes())),
         Err(fault) => not_settled(alloc, fault),
     }
 }
@@ -79,7 +79,7 @@ fn reports_told(
     steps: &[Step],
     store: &Store,
     view: ReportView,
-) -> Result<Response, AllocError>
+) -> Result<Output, AllocError>
     requires session { IsSession (record { header = header.now; steps = steps.now }) }
     requires few { length steps.now ≤ max_steps }
     ensures { IfOk result
@@ -105,7 +105,7 @@ pub(crate) fn told_report(
     store: &mut Store,
     edits: &[Edit],
     view: ReportView,
-) -> Result<Response, AllocError>
+) -> Result<Output, AllocError>
     ensures { IfOk result (λ told. IsReported view store.old.session edits.now told) }
 {
     if edits.is_empty() {

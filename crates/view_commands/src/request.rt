@@ -93,6 +93,32 @@ pub enum Command {
     Advise(Question),
 }
 
+impl Command {
+    ghost use Rattle.std.specs.Prelude.{◌≡◌};
+    ghost use Rattle.view_commands.specs.Strict.{is_settled};
+
+    /// Whether settled runs are shown.
+    pub fn is_settled(&self) -> bool
+        ensures { result ≡ is_settled self.now }
+    {
+        match self {
+            Command::Plain(_) => false,
+            Command::Settled(_) => true,
+            Command::Report(view) => view.settled,
+            Command::Check(view) => view.settled,
+            Command::Advise(question) => question.settled,
+        }
+    }
+}
+
+/// What is to be shown of a document, and whether refusals count.
+#[derive(Drop)]
+pub struct Job {
+    pub command: Command,
+    /// Whether the exit status tells that an edit is refused, or a step of the run.
+    pub strict: bool,
+}
+
 /// The name of a file.
 #[derive(Drop)]
 pub struct FileName {
@@ -111,9 +137,11 @@ impl Model for FileName {
 #[derive(Drop)]
 pub enum Request {
     /// A view of the document in the file of this name, or on standard input.
-    Show(Command, Option<FileName>),
+    Show(Job, Option<FileName>),
     /// This help.
     Help(String),
+    /// This version.
+    Version(String),
     /// Nothing that the program does; the text says why.
     Bad(String),
 }

@@ -5,14 +5,15 @@ ghost use Rattle.bench_types.specs.Session.{IsSession};
 ghost use Rattle.bench_model.specs.Edits.{after_edits};
 ghost use Rattle.settling.specs.declared.run.SettleFault.TheVariants.{TooManySteps};
 ghost use Rattle.view_commands.specs.SettledViews.{IsSettledPicture, IsSettledView, IsToldOfBoth, IsToldOfSettled, note_of, too_long};
-ghost use Rattle.view_commands.specs.Told.{noted};
-ghost use Rattle.view_commands.specs.Views.{document_of, fine, picture_of_run, trace_output};
+ghost use Rattle.program_io.specs.Outputs.{noted};
+ghost use Rattle.view_commands.specs.Views.{document_of, picture_of_run, trace_output};
+ghost use Rattle.program_io.specs.Outputs.{fine};
 
-use crate::answer::{Response, Shown, noted, plain, refused_with};
-use crate::edited::{answer_output, document_output, fine, make_edits, second, trace_output};
+use crate::edited::{answer_output, document_output, make_edits, second, trace_output};
 use crate::settled_pictures::pictures_told;
 use crate::{Selection, SettledView};
 use bench_types::{Edit, EditFault, Header, MAX_STEPS, Step};
+use program_io::{Output, Refusal};
 use run_comparisons::{compare_settled, steps_of};
 use run_pictures::timeline;
 use run_views::Places;
@@ -41,25 +42,25 @@ fn with_left(
     alloc: Global,
     header: &Header,
     left: &[WaitingCall],
-    shown: Shown,
-) -> Result<Response, AllocError>
+    shown: Output,
+) -> Result<Output, AllocError>
     ensures { IfOk result (λ told. told ≡ noted shown (note_of header.now left.now)) }
 {
     let note = note_of(alloc, header, left)?;
-    Ok(noted(alloc, shown, note))
+    Ok(shown.noted(note))
 }
 
 // The answer where a settled run has too many steps.
-fn too_long(alloc: Global) -> Result<Response, AllocError>
+fn too_long(alloc: Global) -> Result<Output, AllocError>
     ensures { IfOk result (λ told. told ≡ too_long) }
 {
     let mut hint = String::new(alloc);
     write!(hint, "the settled run has more than {MAX_STEPS} steps\n")?;
-    refused_with(alloc, EditFault::TooLong.code(), hint.as_str())
+    Refusal::of_code(alloc, EditFault::TooLong.code(), hint)?.on_error(alloc)
 }
 
 /// The answer where a session was not settled, which is one only for J2.
-pub(crate) fn not_settled(alloc: Global, fault: SettleFault) -> Result<Response, AllocError>
+pub(crate) fn not_settled(alloc: Global, fault: SettleFault) -> Result<Output, AllocError>
     ensures why { OnOk result (fault ≡ TooManySteps) }
     ensures line { IfOk result (λ told. told ≡ too_long) }
 {
@@ -75,7 +76,7 @@ fn trace_of_run(
     header: &Header,
     settled: &Settled,
     selection: &Selection,
-) -> Result<Response, AllocError>
+) -> Result<Output, AllocError>
     requires session { IsSession (record {
       header = header.now;
       steps = settled.now.run.items;
@@ -93,11 +94,7 @@ fn trace_of_run(
     with_left(alloc, header, settled.left.as_slice(), shown)
 }
 
-fn document_of_run(
-    alloc: Global,
-    header: &Header,
-    settled: &Settled,
-) -> Result<Response, AllocError>
+fn document_of_run(alloc: Global, header: &Header, settled: &Settled) -> Result<Output, AllocError>
     requires { IsSession (record { header = header.now; steps = settled.now.run.items }) }
     ensures { IfOk result
         (λ told. told
@@ -115,7 +112,7 @@ fn settled_trace(
     header: &Header,
     steps: &[Step],
     selection: &Selection,
-) -> Result<Response, AllocError>
+) -> Result<Output, AllocError>
     requires { IsSession (record { header = header.now; steps = steps.now }) }
     ensures { IfOk result
         (λ told. IsToldOfSettled (trace_output selection.now)
@@ -132,7 +129,7 @@ fn settled_document(
     meter: &mut Meter,
     header: &Header,
     steps: &[Step],
-) -> Result<Response, AllocError>
+) -> Result<Output, AllocError>
     requires { IsSession (record { header = header.now; steps = steps.now }) }
     ensures { IfOk result
         (λ told. IsToldOfSettled (λ run. fine (document_of run))
@@ -150,7 +147,7 @@ fn trace_told(
     meter: &mut Meter,
     store: &Store,
     selection: &Selection,
-) -> Result<Response, AllocError>
+) -> Result<Output, AllocError>
     ensures { IfOk result
         (λ told. IsToldOfSettled (trace_output selection.now) store.now.session told) }
 {
@@ -159,7 +156,7 @@ fn trace_told(
 }
 
 // That run as a document.
-fn document_told(alloc: Global, meter: &mut Meter, store: &Store) -> Result<Response, AllocError>
+fn document_told(alloc: Global, meter: &mut Meter, store: &Store) -> Result<Output, AllocError>
     ensures { IfOk result
         (λ told. IsToldOfSettled (λ run. fine (document_of run)) store.now.session told) }
 {
@@ -173,12 +170,12 @@ fn comparison_told(
     meter: &mut Meter,
     store: &mut Store,
     edits: &[Edit],
-) -> Result<Response, AllocError>
+) -> Result<Output, AllocError>
     ensures { IfOk result (λ told. IsToldOfBoth store.old.session edits.now told) }
 {
     let before = second(alloc, meter, store)?;
     match compare_settled(alloc, meter, &before, store, edits) {
-        Ok(text) => Ok(plain(alloc, fine(text.into_bytes()))),
+        Ok(text) => Ok(Output::fine(alloc, text.into_bytes())),
         Err(fault) => not_settled(alloc, fault),
     }
 }
@@ -189,7 +186,7 @@ fn picture_of_run(
     header: &Header,
     settled: &Settled,
     places: Places,
-) -> Result<Response, AllocError>
+) -> Result<Output, AllocError>
     requires session { IsSession (record {
       header = header.now;
       steps = settled.now.run.items;
@@ -213,7 +210,7 @@ fn settled_picture(
     header: &Header,
     steps: &[Step],
     places: Places,
-) -> Result<Response, AllocError>
+) -> Result<Output, AllocError>
     requires { IsSession (record { header = header.now; steps = steps.now }) }
     ensures { IfOk result
         (λ told. IsToldOfSettled (picture_of_run places)
@@ -231,7 +228,7 @@ fn picture_told(
     meter: &mut Meter,
     store: &Store,
     places: Places,
-) -> Result<Response, AllocError>
+) -> Result<Output, AllocError>
     ensures { IfOk result
         (λ told. IsToldOfSettled (picture_of_run places) store.now.session told) }
 {
@@ -246,7 +243,7 @@ fn pictured(
     store: &mut Store,
     edits: &[Edit],
     places: Places,
-) -> Result<Response, AllocError>
+) -> Result<Output, AllocError>
     ensures { IfOk result (λ told. IsSettledPicture places store.old.session edits.now told) }
 {
     if edits.len() == 0 {
@@ -263,7 +260,7 @@ pub(crate) fn told_settled(
     store: &mut Store,
     edits: &[Edit],
     view: &SettledView,
-) -> Result<Response, AllocError>
+) -> Result<Output, AllocError>
     ensures { IfOk result
         (λ told. IsSettledView view.now store.old.session edits.now told) }
 {

@@ -1,12 +1,12 @@
 //! The picture of the settled run of a session and of that of the session after edits of it.
 ghost use Rattle.std.specs.Prelude.{◌≡◌, IfOk, string_bytes};
 ghost use Rattle.view_commands.specs.SettledViews.{pair_note, picture_of_pair, IsDrawnPair, IsToldOfPictures};
-ghost use Rattle.view_commands.specs.Told.{noted};
+ghost use Rattle.program_io.specs.Outputs.{noted};
 
-use crate::answer::{Response, Shown, noted};
 use crate::edited::{answer_output, second};
 use crate::settled::not_settled;
 use bench_types::{Edit, Header};
+use program_io::Output;
 use run_comparisons::{SettledPair, Side, columns_of, push_left_lines, settle_both};
 use run_pictures::{Run, timelines};
 use run_views::Places;
@@ -20,15 +20,15 @@ fn noted_pair(
     header: &Header,
     edited: &Header,
     pair: &SettledPair,
-    shown: Shown,
-) -> Result<Response, AllocError>
+    shown: Output,
+) -> Result<Output, AllocError>
     ensures { IfOk result
         (λ told. told ≡ noted shown (pair_note header.now edited.now pair.now)) }
 {
     let mut note = String::new(alloc);
     let left = pair.before.left.as_slice();
     push_left_lines(&mut note, header, edited, left, pair.after.left.as_slice())?;
-    Ok(noted(alloc, shown, note.into_bytes()))
+    Ok(shown.noted(note.into_bytes()))
 }
 
 // The runs of the pair as a picture, a row in each column.
@@ -39,7 +39,7 @@ fn picture_of_pair(
     edited: &Header,
     pair: &SettledPair,
     places: Places,
-) -> Result<Shown, AllocError>
+) -> Result<Output, AllocError>
     requires { IsDrawnPair header.now edited.now pair.now }
     ensures { IfOk result
         (λ shown. shown ≡ picture_of_pair places header.now edited.now pair.now) }
@@ -68,7 +68,7 @@ fn pictures_of(
     edited: &Header,
     pair: &SettledPair,
     places: Places,
-) -> Result<Response, AllocError>
+) -> Result<Output, AllocError>
     requires { IsDrawnPair header.now edited.now pair.now }
     ensures { IfOk result
         (λ told. told
@@ -86,7 +86,7 @@ pub(crate) fn pictures_told(
     store: &mut Store,
     edits: &[Edit],
     places: Places,
-) -> Result<Response, AllocError>
+) -> Result<Output, AllocError>
     ensures { IfOk result (IsToldOfPictures places store.old.session edits.now) }
 {
     let before = second(alloc, meter, store)?;

@@ -2,10 +2,10 @@
 ghost use Rattle.std.specs.Prelude.{◌≡◌, ℕ, List, Option, None, IfOk, OnErr, OnOk, is_ok};
 ghost use Rattle.std.specs.Io.{ReadsAtMost};
 ghost use Rattle.std.specs.Io.KnownBytes.{ReadConsumes};
-ghost use Rattle.bench_commands.specs.Device.{failures_after};
+ghost use Rattle.program_io.specs.Device.{failures_after};
 ghost use Rattle.view_commands.specs.Source.{remaining_of};
 
-use bench_commands::CountedRead;
+use program_io::CountedRead;
 use std::fs::File;
 use std::io;
 use std::io::Read;

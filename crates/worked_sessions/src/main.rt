@@ -16,7 +16,8 @@ mod rows;
 mod run;
 mod state;
 
-use bench_commands::{Counted, run_program};
+use bench_commands::run_program;
+use program_io::Counted;
 use std::process::ExitCode;
 
 fn main(rt: HostRuntime) -> ExitCode {

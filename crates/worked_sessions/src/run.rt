@@ -1,5 +1,6 @@
 //! Runs of the bench over texts.
-use bench_commands::{Counted, Ending, carry_out};
+use bench_commands::carry_out;
+use program_io::{Counted, Ending};
 use std::alloc::AllocError;
 use std::sync::Wait;
 use std::thread::Threads;
@@ -57,5 +58,6 @@ fn push_status(text: &mut String, ending: &Ending) -> Result<(), AllocError> {
     if ending.code() == 0 {
         return Ok(());
     }
-    write!(text, "status {}\n{}", ending.code(), ending.message())
+    let message = text_of(ending.message());
+    write!(text, "status {}\n{message}", ending.code())
 }

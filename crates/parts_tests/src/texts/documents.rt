@@ -1,6 +1,6 @@
 //! Documents: which texts are some, and what is found in them.
 use crate::expected::{expect_is, expect_same};
-use json_data::{Document, Item, Items, Refused, Scratch};
+use json_data::{Document, Item, Items, Object, Refused, Scratch};
 use std::alloc::{AllocError, Global};
 use std::process::Abort;
 use std::test::Fail;
@@ -145,9 +145,31 @@ fn check_names(rt: &impl Abort, root: &Item<'_, '_>) {
             expect_is(rt, members.has_only(&["a", "b", "c", "d"]));
             expect_is(rt, members.has_only(&["e", "d", "c", "b", "a"]));
             expect_is(rt, !members.has_only(&["a", "b", "d"]));
+            check_unknown(rt, &members);
         }
         None => expect_is(rt, false),
     }
+}
+
+fn check_unknown(rt: &impl Abort, members: &Object<'_, '_, '_>) {
+    expect_same(rt, &members.least_unknown(&["a", "b", "c", "d"]), &None);
+    expect_same(rt, &members.least_unknown(&["b"]), &Some("a"));
+    expect_same(rt, &members.least_unknown(&["a", "b", "d"]), &Some("c"));
+    expect_same(rt, &members.least_unknown(&["a", "c"]), &Some("b"));
+}
+
+fn is_null(alloc: Global, text: &str) -> Result<bool, Fail> {
+    let mut scratch = Scratch::new(alloc);
+    let document = Document::parse(alloc, text.as_bytes(), &mut scratch)?;
+    Ok(document.root().is_null())
+}
+
+#[test]
+fn tells_null(rt: HostRuntime) -> Result<(), Fail> {
+    expect_is(&rt, is_null(rt.alloc(), "null")?);
+    expect_is(&rt, !is_null(rt.alloc(), "false")?);
+    expect_is(&rt, !is_null(rt.alloc(), "[null]")?);
+    Ok(())
 }
 
 fn next_number(items: &mut Items<'_, '_>) -> Option<Option<u64>> {

@@ -1,9 +1,10 @@
 //! Edits: which fault each has under a header.
 
+use crate::expected::expect_same;
 use crate::texts::answers::{Answer, check_answer};
 use Fault::{BadCore, BadHeader, BadTask};
 use bench_samples::{PLAIN, crowd};
-use bench_types::{Call, Config, Edit, Fault, Header, MAX_STEPS, Step};
+use bench_types::{Call, Config, Edit, Fault, Header, MAX_STEPS, Step, StepFlaw};
 use std::alloc::Global;
 use std::process::Abort;
 use std::test::Fail;
@@ -96,6 +97,43 @@ fn check_change(rt: &impl Abort, alloc: Global, row: &ChangeRow) -> Result<(), F
 fn changes_of_tasks(rt: HostRuntime) -> Result<(), Fail> {
     for row in CHANGES {
         check_change(&rt, rt.alloc(), row)?;
+    }
+    Ok(())
+}
+
+/// The task, the priority and the mask of a change under plain settings, and its first flaw.
+type FlawRow = (u32, u32, u32, Option<StepFlaw>);
+
+const FLAWS: &[FlawRow] = &[
+    (2, 4, 3, None),
+    (1, 5, 4, Some(StepFlaw::Task(1))),
+    (
+        2,
+        7,
+        4,
+        Some(StepFlaw::NewPriority {
+            priority: 7,
+            priorities: 5,
+        }),
+    ),
+    (2, 4, 4, Some(StepFlaw::NewMask { mask: 4, cores: 2 })),
+];
+
+fn check_flaw(rt: &impl Abort, header: &Header, row: &FlawRow) {
+    let (task, priority, mask, want) = *row;
+    let edit = Edit::ChangeTask {
+        task,
+        priority,
+        mask,
+    };
+    expect_same(rt, &edit.flaw(header), &want);
+}
+
+#[test]
+fn flaws_of_changes(rt: HostRuntime) -> Result<(), Fail> {
+    let header = crowd(rt.alloc(), PLAIN, 3)?;
+    for row in FLAWS {
+        check_flaw(&rt, &header, row);
     }
     Ok(())
 }

@@ -1,9 +1,9 @@
 //! Headers: their limits, their copies and the names of their tasks.
 
-use crate::expected::expect_text;
+use crate::expected::{expect_same, expect_text};
 use crate::texts::answers::{Answer, check_answer, check_task};
 use bench_samples::{PLAIN, crowd, header_of};
-use bench_types::{Config, Fault, Header};
+use bench_types::{Config, Fault, Header, HeaderFlaw};
 use std::alloc::Global;
 use std::process::Abort;
 use std::test::Fail;
@@ -123,6 +123,46 @@ fn check_header(rt: &impl Abort, alloc: Global, row: &HeaderRow) -> Result<(), F
     };
     let header = header_of(alloc, config, tasks)?;
     check_answer(rt, &header, header.check(), answer(fits));
+    Ok(())
+}
+
+/// The tasks of a header with plain settings, and its first flaw.
+type FlawRow = (Tasks, Option<HeaderFlaw>);
+
+const FLAWS: &[FlawRow] = &[
+    (ONE, None),
+    (&[], Some(HeaderFlaw::TaskCount(0))),
+    // Priorities are judged before masks, and masks before names, whichever task they are of.
+    (
+        &[("A", 0, 4), ("A", 5, 3), ("B", 6, 3)],
+        Some(HeaderFlaw::Priority {
+            task: 1,
+            priorities: 5,
+        }),
+    ),
+    (
+        &[("A", 0, 3), ("A", 0, 4)],
+        Some(HeaderFlaw::Mask { task: 1, cores: 2 }),
+    ),
+    // The first task of those that share a name.
+    (
+        &[("A", 0, 3), ("B", 0, 3), ("C", 0, 3), ("B", 0, 3)],
+        Some(HeaderFlaw::SharedName(1)),
+    ),
+];
+
+fn check_flaw(rt: &impl Abort, alloc: Global, row: &FlawRow) -> Result<(), Fail> {
+    let (tasks, want) = *row;
+    let header = header_of(alloc, PLAIN, tasks)?;
+    expect_same(rt, &header.flaw(), &want);
+    Ok(())
+}
+
+#[test]
+fn flaws(rt: HostRuntime) -> Result<(), Fail> {
+    for row in FLAWS {
+        check_flaw(&rt, rt.alloc(), row)?;
+    }
     Ok(())
 }
 

@@ -1,7 +1,7 @@
 //! Checks of limits, and why nothing is shown of a document.
 use crate::processes::args_of;
 use crate::view::processes::{Wanted, check_program};
-use crate::view::samples::SHARED_MUTEX;
+use crate::view::samples::{NO_NINTH, SHARED_MUTEX};
 use std::alloc::AllocError;
 use std::process::Abort;
 use std::test::Fail;
@@ -19,7 +19,7 @@ fn limits_that_are_kept(rt: HostRuntime) -> Result<(), Fail> {
         "smp_view check --settle --at-most control.blocked.mutex=0",
         "smp_view check --settle --at-least control.run=1 --at-most mutex.0.waits=0",
     ] {
-        expect(&rt, &rt, line, SHARED_MUTEX, 0, "", "")?;
+        expect(&rt, &rt, line, SHARED_MUTEX, 0, "", NO_NINTH)?;
     }
     Ok(())
 }
@@ -28,7 +28,7 @@ fn limits_that_are_kept(rt: HostRuntime) -> Result<(), Fail> {
 fn limits_that_are_not_kept(rt: HostRuntime) -> Result<(), Fail> {
     let line = "smp_view check --settle --at-least control.run=2 --at-most logger.run=1 \
     --at-least mutex.0.held.longest=7";
-    expect(&rt, &rt, line, SHARED_MUTEX, 1, LOW_RUN, "")?;
+    expect(&rt, &rt, line, SHARED_MUTEX, 1, LOW_RUN, NO_NINTH)?;
     Ok(())
 }
 

@@ -8,7 +8,8 @@ use std::alloc::{AllocError, Global};
 use std::process::Abort;
 use std::test::Fail;
 use view_commands::{
-    CheckView, Command, FileName, ReportView, Request, Selection, SettledView, View, request_of,
+    CheckView, Command, FileName, Job, ReportView, Request, Selection, SettledView, View,
+    request_of,
 };
 
 /// Command lines, and what each asks for: a trace with its first place, its last, its tasks and its
@@ -26,6 +27,11 @@ smp_view trace --settle --to 7 --task B => settled 0 7 task B
 smp_view trace --from 1 --settle => settled 1 4294967295
 smp_view trace run.json --settle --from 1 => settled 1 4294967295 file run.json
 smp_view session => session
+smp_view session --strict => strict session
+smp_view settle --strict - => strict settled
+smp_view compare --settle --strict => strict settled compare
+smp_view trace --strict --to 7 => strict 0 7
+smp_view check --strict --at-most A.run=3 f => strict check A.run most 3 file f
 smp_view settle => settled
 smp_view compare => compare
 smp_view compare --settle => settled compare
@@ -71,6 +77,9 @@ smp_view trace --help => help: Prints each place of a run, and each step with al
 smp_view trace -h --from => help: Prints each place of a run, and each step with all that it changed
 smp_view session run.json -h => help: Prints the session with its edits made, as a document
 smp_view timeline --from 3 -h => help: Draws the runs before and after the edits, as an SVG picture
+smp_view --version => version: smp_view 0.1.0
+smp_view -V trace => version: smp_view 0.1.0
+smp_view trace --version => bad
 smp_view => bad
 smp_view help => bad
 smp_view help trace => bad
@@ -96,6 +105,9 @@ smp_view trace --to 3 --from 3 --to=3 => bad
 smp_view trace --until 3 => bad
 smp_view trace --settle --settle => bad
 smp_view trace --settle=no => bad
+smp_view session --strict --strict => bad
+smp_view session --strict=no => bad
+smp_view --strict session => bad
 smp_view session --from 3 => bad
 smp_view session --settle => bad
 smp_view settle --settle => bad
@@ -170,7 +182,7 @@ fn expect_part(rt: &impl Abort, text: &str, part: &str) {
 fn text_of(request: &Request) -> &str {
     match request {
         Request::Show(_, _) => "",
-        Request::Help(text) | Request::Bad(text) => text.as_str(),
+        Request::Help(text) | Request::Version(text) | Request::Bad(text) => text.as_str(),
     }
 }
 
@@ -187,8 +199,9 @@ fn check_line(rt: &impl Abort, alloc: Global, line: &str, asked: &str) -> Result
 
 fn told_of(alloc: Global, request: &Request) -> Result<String, AllocError> {
     match request {
-        Request::Show(command, file) => view_told(alloc, command, file.as_ref()),
+        Request::Show(job, file) => view_told(alloc, job, file.as_ref()),
         Request::Help(text) => help_told(alloc, text.as_str()),
+        Request::Version(text) => version_told(alloc, text.as_str()),
         Request::Bad(text) => String::from_str(alloc, mistake_told(text.as_str())),
     }
 }
@@ -198,6 +211,11 @@ fn help_told(alloc: Global, text: &str) -> Result<String, AllocError> {
     format!(in alloc; "help: {first}")
 }
 
+fn version_told(alloc: Global, text: &str) -> Result<String, AllocError> {
+    let line = text.strip_suffix("\n").unwrap_or("no line feed");
+    format!(in alloc; "version: {line}")
+}
+
 fn mistake_told(text: &str) -> &str {
     if text.starts_with("error: ") {
         return "bad";
@@ -205,12 +223,12 @@ fn mistake_told(text: &str) -> &str {
     text
 }
 
-fn view_told(
-    alloc: Global,
-    command: &Command,
-    file: Option<&FileName>,
-) -> Result<String, AllocError> {
-    let mut text = command_told(alloc, command)?;
+fn view_told(alloc: Global, job: &Job, file: Option<&FileName>) -> Result<String, AllocError> {
+    let mut text = String::new(alloc);
+    if job.strict {
+        text.push_str("strict ")?;
+    }
+    text.push_str(command_told(alloc, &job.command)?.as_str())?;
     if let Some(file) = file {
         text.push_str(" file ")?;
         text.push_str(file.text.as_str())?;

@@ -1,9 +1,9 @@
 //! Documents in files.
 ghost use Rattle.std.specs.Prelude.{Some};
 
-use crate::view::samples::SHARED_MUTEX;
+use crate::view::samples::{NO_NINTH, SHARED_MUTEX};
 use crate::view::views::KEPT;
-use bench_commands::Counted;
+use program_io::Counted;
 use run_advice::Silent;
 use std::alloc::AllocError;
 use std::io;
@@ -11,7 +11,7 @@ use std::io::ErrorKind;
 use std::process::Abort;
 use std::test::Fail;
 use std::thread::Threads;
-use view_commands::{Command, DocumentSource, FileName, Folder, Request, View, carry_out};
+use view_commands::{Command, DocumentSource, FileName, Folder, Job, Request, View, carry_out};
 
 /// A folder with one file.
 #[derive(Drop)]
@@ -35,8 +35,8 @@ impl<'a> Folder for Shelf<'a> {
 
 #[test]
 fn a_file_that_is_named(rt: HostRuntime) -> Result<(), Fail> {
-    expect(&rt, &rt, None, 0, "", KEPT)?;
-    expect(&rt, &rt, Some("run.json"), 0, "", KEPT)?;
+    expect(&rt, &rt, None, 0, NO_NINTH, KEPT)?;
+    expect(&rt, &rt, Some("run.json"), 0, NO_NINTH, KEPT)?;
     expect(
         &rt,
         &rt,
@@ -71,7 +71,11 @@ fn expect<R: Threads + Abort + Sync>(
     let mut reader = DocumentSource::new(standard, &shelf);
     let mut shown = Vec::new(host.alloc());
     let mut writer = Counted::new(&mut shown);
-    let request = Request::Show(Command::Plain(View::Session), file_named(host, name)?);
+    let job = Job {
+        command: Command::Plain(View::Session),
+        strict: false,
+    };
+    let request = Request::Show(job, file_named(host, name)?);
     let progress = &mut Silent;
     let alloc = host.alloc();
     let ending = carry_out(rt, host, progress, alloc, request, &mut reader, &mut writer);

@@ -5,7 +5,7 @@ use crate::processes::args_of;
 use crate::view::files::Shelf;
 use crate::view::samples::FIRST_RUN;
 use crate::view::traces::WHOLE;
-use bench_commands::Counted;
+use program_io::Counted;
 use run_advice::Silent;
 use std::env::Args;
 use std::io;

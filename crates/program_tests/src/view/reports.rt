@@ -1,7 +1,7 @@
 //! Reports: tables and JSON. What is wanted is what `scripts/report.py` makes of the documents.
 use crate::processes::args_of;
 use crate::view::processes::{Wanted, check_program};
-use crate::view::samples::{FIRST_RUN, SHARED_MUTEX};
+use crate::view::samples::{FIRST_RUN, NO_NINTH, SHARED_MUTEX};
 use std::alloc::AllocError;
 use std::process::Abort;
 use std::test::Fail;
@@ -83,12 +83,12 @@ const OBJECT: &str = "\
 
 #[test]
 fn reports(rt: HostRuntime) -> Result<(), Fail> {
-    for (line, document, output) in [
-        ("smp_view report", FIRST_RUN, ONE_RUN),
-        ("smp_view report --settle", SHARED_MUTEX, TWO_RUNS),
-        ("smp_view report --json --settle", ONE_TICK, OBJECT),
+    for (line, document, output, errors) in [
+        ("smp_view report", FIRST_RUN, ONE_RUN, ""),
+        ("smp_view report --settle", SHARED_MUTEX, TWO_RUNS, NO_NINTH),
+        ("smp_view report --json --settle", ONE_TICK, OBJECT, ""),
     ] {
-        check(&rt, &rt, line, document, output)?;
+        check(&rt, &rt, line, document, output, errors)?;
     }
     Ok(())
 }
@@ -100,12 +100,13 @@ fn check<R: Threads + Abort + Sync>(
     line: &str,
     document: &str,
     output: &str,
+    errors: &str,
 ) -> Result<(), AllocError> {
     let words = Ok(args_of(host.alloc(), line)?);
     let wanted = Wanted {
         code: 0,
         output,
-        errors: "",
+        errors,
     };
     check_program(rt, host, words, document, "", wanted);
     Ok(())

@@ -24,6 +24,9 @@ pub const SHARED_MUTEX: &str = "{\"session\": {\"format\": 1, \"cores\": 2, \"pr
     {\"edit\": \"replace\", \"at\": 4, \"step\": {\"do\": \"yield\", \"core\": 1, \"by\": \"logger\"}}, \
     {\"edit\": \"remove\", \"at\": 9}]}";
 
+/// What standard error is told of the last edit of `SHARED_MUTEX`.
+pub const NO_NINTH: &str = "edit 3 refused J1: the session has 5 steps\n";
+
 /// A waits at index 1; interrupts notify it at index 0 and then at index 1, and it runs on.
 pub const TWO_NOTES: &str = "{\"format\": 2, \"cores\": 2, \"priorities\": 5, \"slicing\": false, \
     \"tick\": 0, \"mutexes\": 0, \"notes\": 2, \"tasks\": [\
@@ -50,3 +53,6 @@ pub const LEFT_CALLS: &str = "\
     {\"do\": \"yield\", \"core\": 0, \"by\": \"control\"}, {\"do\": \"mutex_give\", \
     \"core\": 1, \"by\": \"logger\", \"mutex\": 0}]}, \"edits\": [{\"edit\": \"remove\", \
     \"at\": 1}, {\"edit\": \"remove\", \"at\": 9}]}";
+
+/// What standard error is told of the last edit of `LEFT_CALLS`.
+pub const LEFT_REFUSED: &str = "edit 1 refused J1: the session has 7 steps\n";

@@ -2,7 +2,7 @@
 //! `scripts/settle.py` makes of it.
 use crate::processes::args_of;
 use crate::view::processes::{Wanted, check_program};
-use crate::view::samples::{FIRST_RUN, LEFT_CALLS, SHARED_MUTEX};
+use crate::view::samples::{FIRST_RUN, LEFT_CALLS, LEFT_REFUSED, NO_NINTH, SHARED_MUTEX};
 use crate::view::traces::WHOLE;
 use std::alloc::AllocError;
 use std::process::Abort;
@@ -29,8 +29,8 @@ const GIVEN_FIRST: &str = "\
     \"tasks\":[{\"mask\":1,\"name\":\"control\",\"priority\":3},{\"mask\":2,\"name\":\"logger\",\
     \"priority\":1}],\"tick\":0}\n";
 
-/// What is told of the calls of `LEFT_CALLS` that are not made.
-const NOTE: &str = "not made: control 2, logger 1\n";
+/// What is told of the refused edit of `LEFT_CALLS`, and of the calls that are not made.
+const NOTE: &str = "edit 1 refused J1: the session has 7 steps\nnot made: control 2, logger 1\n";
 
 /// The last place of the settled run of `LEFT_CALLS`.
 const LAST: &str = "place 6, tick 1; core 0 spare; core 1 IDLE0\n";
@@ -63,7 +63,7 @@ fn settled_documents(rt: HostRuntime) -> Result<(), Fail> {
         SHARED_MUTEX,
         0,
         GIVEN_FIRST,
-        "",
+        NO_NINTH,
     )?;
     Ok(())
 }
@@ -71,7 +71,7 @@ fn settled_documents(rt: HostRuntime) -> Result<(), Fail> {
 #[test]
 fn settled_runs_beside_each_other(rt: HostRuntime) -> Result<(), Fail> {
     let line = "smp_view compare --settle";
-    check(&rt, &rt, line, LEFT_CALLS, 0, COMPARED, "")?;
+    check(&rt, &rt, line, LEFT_CALLS, 0, COMPARED, LEFT_REFUSED)?;
     Ok(())
 }
 
@@ -91,7 +91,7 @@ fn traces_of_settled_runs(rt: HostRuntime) -> Result<(), Fail> {
             LEFT_CALLS,
             1,
             "",
-            "refused task nobody\n",
+            "edit 1 refused J1: the session has 7 steps\nrefused task nobody\n",
         ),
     ] {
         check(&rt, &rt, line, document, code, output, errors)?;

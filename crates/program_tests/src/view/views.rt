@@ -1,14 +1,14 @@
 //! What each command shows of a document.
 
-use crate::view::samples::{FIRST_RUN, SHARED_MUTEX, TWO_NOTES};
-use bench_commands::Counted;
+use crate::view::samples::{FIRST_RUN, NO_NINTH, SHARED_MUTEX, TWO_NOTES};
+use program_io::Counted;
 use run_advice::Silent;
 use run_views::Places;
 use std::alloc::{AllocError, Global};
 use std::process::Abort;
 use std::test::Fail;
 use std::thread::Threads;
-use view_commands::{Command, Selection, View, run};
+use view_commands::{Command, Job, Selection, View, run};
 
 const COMPARED: &str =
     "  0 0 mutex_take core 1 by logger mutex 0 ticks 0: true: the mutex was taken; control logger
@@ -65,17 +65,17 @@ pub(crate) const KEPT: &str =
 
 #[test]
 fn views(rt: HostRuntime) -> Result<(), Fail> {
-    expect(&rt, &rt, View::Compare, SHARED_MUTEX, COMPARED);
-    expect(&rt, &rt, View::Compare, FIRST_RUN, UNEDITED);
-    expect(&rt, &rt, View::Session, SHARED_MUTEX, KEPT);
+    expect(&rt, &rt, View::Compare, SHARED_MUTEX, COMPARED, NO_NINTH);
+    expect(&rt, &rt, View::Compare, FIRST_RUN, UNEDITED, "");
+    expect(&rt, &rt, View::Session, SHARED_MUTEX, KEPT, NO_NINTH);
     expect_traces(&rt, &rt)?;
     Ok(())
 }
 
 #[test]
 fn views_of_two_notifications(rt: HostRuntime) -> Result<(), Fail> {
-    expect(&rt, &rt, View::Compare, TWO_NOTES, INDEXED);
-    expect(&rt, &rt, View::Session, TWO_NOTES, INDEXED_KEPT);
+    expect(&rt, &rt, View::Compare, TWO_NOTES, INDEXED, "");
+    expect(&rt, &rt, View::Session, TWO_NOTES, INDEXED_KEPT, "");
     Ok(())
 }
 
@@ -85,24 +85,20 @@ fn expect<R: Threads + Abort + Sync>(
     view: View,
     document: &str,
     wanted: &str,
+    note: &str,
 ) {
-    let command = Command::Plain(view);
+    let job = Job {
+        command: Command::Plain(view),
+        strict: false,
+    };
     let mut shown = Vec::new(host.alloc());
     let mut reader = Counted::new(document.as_bytes());
     let mut writer = Counted::new(&mut shown);
     let progress = &mut Silent;
     let alloc = host.alloc();
-    let ending = run(
-        rt,
-        host,
-        progress,
-        alloc,
-        &mut reader,
-        &mut writer,
-        &command,
-    );
+    let ending = run(rt, host, progress, alloc, &mut reader, &mut writer, &job);
     assert_eq!(rt; ending.code(), 0);
-    assert!(rt; ending.message().is_empty());
+    assert!(rt; ending.message() == note.as_bytes());
     assert!(rt; shown.as_slice() == wanted.as_bytes());
 }
 
@@ -121,9 +117,16 @@ place 5, tick 1; core 0 C; core 1 B
 
 fn expect_traces<R: Threads + Abort + Sync>(rt: &R, host: &HostRuntime) -> Result<(), AllocError> {
     let alloc = host.alloc();
-    expect(rt, host, trace_of(alloc, "C", None)?, FIRST_RUN, OF_C);
+    expect(rt, host, trace_of(alloc, "C", None)?, FIRST_RUN, OF_C, "");
     let last = "place 5, tick 1; core 0 C; core 1 B\n";
-    expect(rt, host, trace_of(alloc, "B", Some(1))?, FIRST_RUN, last);
+    expect(
+        rt,
+        host,
+        trace_of(alloc, "B", Some(1))?,
+        FIRST_RUN,
+        last,
+        "",
+    );
     Ok(())
 }
 

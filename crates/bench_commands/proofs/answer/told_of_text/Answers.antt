@@ -1,6 +1,9 @@
 use Rattle.bench_commands.specs.Answer.{bench_output}
-use Rattle.bench_commands.proofs.RefusedTexts.{refused_output}
+use Rattle.bench_commands.proofs.RefusedTexts.{read_told, refused_told}
 use Rattle.bench_commands.proofs.answer.told_of_text.Goals as goal
 
-pub returns-in-Err-clause-output : goal.returns-in-Err-clause-output
-returns-in-Err-clause-output g c = refused_output (bench_output c.args.mode) c.args.input.now c.in-Err.fault c.explained.result c.in-Err.ensures.reading c.explained.ensures.line c.explained.ensures.memory
+pub returns-in-Err : goal.returns-in-Err
+returns-in-Err g c = refused_told c.args.mode (bench_output c.args.mode) c.args.input.now c.in-Err.fault c.refused_text.result c.in-Err.ensures.reading c.refused_text.ensures.told c.refused_text.ensures.memory
+
+pub returns-in-Ok : goal.returns-in-Ok
+returns-in-Ok g c = read_told c.args.mode (bench_output c.args.mode) c.args.input.now c.in-Ok.bench c.told_of_bench.result c.in-Ok.ensures.reading c.told_of_bench.ensures

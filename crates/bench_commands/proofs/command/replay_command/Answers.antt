@@ -3,7 +3,7 @@ use Rattle.std.proofs.lemmas.Result.{IfOk-weaker}
 use Rattle.clap.specs.Words.{Rule, app_of, new_app, with_rule}
 use Rattle.clap.specs.declared.builder.command.Command.TheViews.{out-Command as fields_of}
 use Rattle.bench_commands.specs.Command.{span_rule}
-use Rattle.bench_commands.proofs.OptionsRead.{simple_is_local}
+use Rattle.command_words.proofs.OptionsRead.{simple_is_local}
 use Rattle.bench_commands.proofs.command.replay_command.Goals as goal
 
 pub returns-clause-app : goal.returns-clause-app

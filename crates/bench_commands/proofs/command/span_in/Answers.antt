@@ -4,8 +4,10 @@ use Rattle.std.specs.Option.{option_map_or}
 use Rattle.std.specs.Str.Parse.{ExplainsUnsignedError, HasUnsignedDigitsIfOk, ParsesUnsigned}
 use Rattle.clap.specs.Matches.{one_text}
 use Rattle.clap.specs.Words.{Text, found_of}
-use Rattle.bench_commands.specs.Command.{default_span, is_span, number_of}
-use Rattle.bench_commands.proofs.OptionsRead.{number_read, row_read}
+use Rattle.bench_commands.specs.Command.{default_span, is_span}
+use Rattle.command_words.specs.Asking.{number_of}
+use Rattle.bench_commands.proofs.SpanRead.{number_read}
+use Rattle.command_words.proofs.OptionsRead.{row_read}
 use Rattle.bench_commands.proofs.command.span_in.Goals as goal
 
 pub returns : goal.returns

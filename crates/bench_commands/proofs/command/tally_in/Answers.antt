@@ -3,8 +3,8 @@ use Rattle.std.specs.Prelude.{IfSome}
 use Rattle.std.specs.Option.{option_map_or}
 use Rattle.clap.specs.Matches.{one_text}
 use Rattle.clap.specs.Words.{Text, found_of}
-use Rattle.bench_commands.specs.Command.{is_flag}
-use Rattle.bench_commands.proofs.OptionsRead.{flag_read, row_read}
+use Rattle.command_words.specs.Asking.{is_flag}
+use Rattle.command_words.proofs.OptionsRead.{flag_read, row_read}
 use Rattle.bench_commands.proofs.command.tally_in.Goals as goal
 
 pub returns : goal.returns

@@ -1,5 +1,5 @@
 use Rattle.std.proofs.Common.{string_bytes}
-use Rattle.bench_commands.proofs.EditsMade.{AreMade}
+use Rattle.bench_commands.proofs.EditLines.{AreMade}
 use Rattle.bench_commands.proofs.output.push_edits.Given as goal
 
 abbrev pub invariant-loop-index : goal.invariant-loop-index

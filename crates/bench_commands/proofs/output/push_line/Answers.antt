@@ -1,7 +1,8 @@
 use Rattle.std.proofs.Common.{◌≡◌, ◌++◌, List, ℕ, Some, None, decimal, string_bytes, codes, ap, sym, subst, ◌∙◌}
 use Rattle.std.specs.Prelude.{OnOk}
 use Rattle.std.proofs.lemmas.List.{append-nil}
-use Rattle.bench_commands.specs.Lines.{reply_text, spaced}
+use Rattle.bench_commands.specs.Lines.{reply_text}
+use Rattle.program_io.specs.Refusal.{spaced}
 use Rattle.bench_commands.proofs.Replays.{line_of, row_some}
 use Rattle.bench_commands.proofs.output.push_line.Goals as goal
 

@@ -1,20 +1,20 @@
-use Rattle.std.proofs.Common.{◌≡◌, List, refl, sym, subst, ◌∙◌, map, map-id}
-use Rattle.std.specs.Prelude.{String, Some, string_bytes}
+use Rattle.std.proofs.Common.{List, Some, map, subst}
+use Rattle.std.specs.Prelude.{String, string_bytes}
 use Rattle.std.specs.declared.alloc.Global.{Global}
-use Rattle.std.specs.Vec.Iter.{into_iter_items}
-use Rattle.std.proofs.lemmas.Iterator.{items_from_drains}
-use Rattle.std.proofs.lemmas.Iterator.Adapters.{YieldsList-from_vec}
+use Rattle.program_io.proofs.Ended.{words_ended, words_refused}
 use Rattle.bench_commands.specs.Command.{asked}
 use Rattle.bench_commands.specs.Program.{Ends}
+use Rattle.bench_commands.proofs.Requests.{refused_well}
 use Rattle.bench_commands.proofs.program.ending_of.Goals as goal
 
-pub returns-in-Ok-collect-clause-bytes : goal.returns-in-Ok-collect-clause-bytes
-returns-in-Ok-collect-clause-bytes g c =
-    let handed = c.in-Ok.words in
-    let ran = c.in-Ok-collect.ensures.ran in
-    let yields = YieldsList-from_vec (into_iter_items handed) refl handed.rest.ok.0 in
-    let same : c.in-Ok-collect.words.items ≡ into_iter_items handed = ran.2.0 ∙ sym (map-id ran.0) ∙ items_from_drains ran.0 ran.1 yields in
-    rw c.in-Ok.is
+pub returns-in-Ok-Some-clause-bytes : goal.returns-in-Ok-Some-clause-bytes
+returns-in-Ok-Some-clause-bytes g c =
+    let are = rw c.in-Ok-Some.field-0-is at c.in-Ok-Some.ensures in
+    words_ended Ends c.args.words (g.R.Read.remaining c.args.reader.now) (g.R.Read.remaining c.carry_out.new.reader) (g.W.Write.contents c.args.writer.now) (g.W.Write.contents c.carry_out.new.writer) (Some (map string_bytes c.in-Ok-Some.given.items)) c.carry_out.result are
     (subst
-    (λ (words : List (String Global)). Ends (asked (Some (map string_bytes words))) c.carry_out.result (g.R.Read.remaining c.args.reader.now) (g.R.Read.remaining c.carry_out.new.reader) (g.W.Write.contents c.args.writer.now) (g.W.Write.contents c.carry_out.new.writer))
-    (c.as_slice.ensures.value ∙ same) c.carry_out.ensures.bytes)
+    (λ (words : List (String Global)). Ends (Some (map string_bytes words)) c.carry_out.result (g.R.Read.remaining c.args.reader.now) (g.R.Read.remaining c.carry_out.new.reader) (g.W.Write.contents c.args.writer.now) (g.W.Write.contents c.carry_out.new.writer))
+    c.as_slice.ensures.value c.carry_out.ensures.bytes)
+
+pub returns-in-Err-clause-bytes : goal.returns-in-Err-clause-bytes
+returns-in-Err-clause-bytes g c =
+    words_refused Ends c.args.words (g.R.Read.remaining c.args.reader.now) (g.W.Write.contents c.args.writer.now) (λ given. refused_well (asked given) (g.R.Read.remaining c.args.reader.now) (g.W.Write.contents c.args.writer.now))

@@ -1,37 +1,29 @@
-use Rattle.std.proofs.Common.{rules, ◌≡◌, ℕ, List, true, subst}
-use Rattle.std.specs.Prelude.{is_err, string_bytes}
-use Rattle.bench_commands.specs.Hint.{IsRigHint}
-use Rattle.bench_commands.specs.Record.{IsAnswer}
-use Rattle.bench_commands.proofs.Told.{part_written}
+use Rattle.std.proofs.Common.{ℕ, List, Err, IfOk, refl, sym, ap, subst, ◌∙◌}
+use Rattle.program_io.specs.declared.ending.Ending.{Ending}
+use Rattle.program_io.specs.Device.{failures_after}
+use Rattle.program_io.specs.Endings.{all_reads_well, all_writes_well, EndsTelling}
+use Rattle.program_io.proofs.Ended.{told_ended, unread_counted, unread_ended, unread_writes}
+use Rattle.bench_commands.specs.Record.{IsRecording}
 use Rattle.bench_commands.proofs.recording.end_of_recording.Goals as goal
 
-pub returns-then-is_err-clause-bytes : goal.returns-then-is_err-clause-bytes
-returns-then-is_err-clause-bytes g c =
-    let made = c.in-Ok-recording_of in
-    let failed : is_err c.write_text.result ≡ true = search rules in
-    let same : c.as_slice.result.now ≡ made.recording.text = search rules in (
-      record {
-        input = c.in-Ok.input.items;
-        reads = c.in-Ok.ensures.input;
-        output = made.recording;
-        answer = subst (λ (input : List ℕ). IsAnswer input made.recording) c.deref.ensures.value made.ensures.answer;
-        writes = part_written c.write_text.result _ _ c.as_slice.result.now made.recording.text failed c.write_text.ensures.prefix same;
-      },
-      λ e. cc e,
-    )
+pub returns-in-Ok-clause-bytes : goal.returns-in-Ok-clause-bytes
+returns-in-Ok-clause-bytes g c =
+    told_ended IsRecording (g.I.Read.remaining c.args.reader.now) (g.I.Read.remaining c.read_input.new.reader) (g.O.Write.contents c.args.writer.now) (g.O.Write.contents c.write_output.new.writer) c.in-Ok.input.items c.told_of.result c.write_output.result c.in-Ok.ensures.input
+    (subst (λ (input : List ℕ). IfOk c.told_of.result (IsRecording input)) c.deref.ensures.value c.told_of.ensures) c.write_output.ensures.bytes
 
-pub returns-then-recording-clause-bytes : goal.returns-then-recording-clause-bytes
-returns-then-recording-clause-bytes g c =
-    let made = c.in-Ok-recording_of in
-    let refused : made.recording.is_refused ≡ true = search rules in
-    record {
-      wrote = record {
-        input = c.in-Ok.input.items;
-        reads = c.in-Ok.ensures.input;
-        output = made.recording;
-        answer = subst (λ (input : List ℕ). IsAnswer input made.recording) c.deref.ensures.value made.ensures.answer;
-        status = search rules;
-        writes = search rules;
-      };
-      told = subst (λ (input : List ℕ). IsRigHint input (string_bytes made.hint)) c.deref.ensures.value made.ensures.hint;
-    }
+pub returns-in-Ok-clause-reads : goal.returns-in-Ok-clause-reads
+returns-in-Ok-clause-reads g c = c.in-Ok.ensures.failures ∙ sym (ap (λ well. failures_after well (g.I.CountedRead.failures c.args.reader.now)) c.write_output.ensures.reads)
+
+pub returns-in-Err-clause-bytes : goal.returns-in-Err-clause-bytes
+returns-in-Err-clause-bytes g c =
+    subst (λ (ending : Ending). EndsTelling IsRecording ending (g.I.Read.remaining c.args.reader.now) (g.I.Read.remaining c.read_input.new.reader) (g.O.Write.contents c.args.writer.now) (g.O.Write.contents c.args.writer.now)) (sym c.unread.ensures)
+    (unread_ended IsRecording (g.I.Read.remaining c.args.reader.now) (g.I.Read.remaining c.read_input.new.reader) (g.O.Write.contents c.args.writer.now) (g.O.Write.contents c.args.writer.now) c.in-Err.fault c.in-Err.ensures.some refl)
+
+pub returns-in-Err-clause-reads : goal.returns-in-Err-clause-reads
+returns-in-Err-clause-reads g c =
+    c.in-Err.ensures.failures
+    ∙ sym (ap (λ well. failures_after well (g.I.CountedRead.failures c.args.reader.now)) (ap all_reads_well c.unread.ensures ∙ unread_counted {A = Unit {0}} c.in-Err.fault (Err c.in-Err.fault) refl))
+
+pub returns-in-Err-clause-writes : goal.returns-in-Err-clause-writes
+returns-in-Err-clause-writes g c =
+    sym (ap (λ well. failures_after well (g.O.CountedWrite.failures c.args.writer.now)) (ap all_writes_well c.unread.ensures ∙ unread_writes c.in-Err.fault))

@@ -6,4 +6,4 @@ use Rattle.run_comparisons.proofs.comparison.push_differences.Goals as goal
 pub returns-in-len1-up : goal.returns-in-len1-up
 returns-in-len1-up c =
     on_ok_then c.push_ends.result c.push_ends.ensures
-    (λ told. told ∙ ap (λ all. string_bytes c.args.text.now ++ all) (sym (ends_told c.args.rows.now _ _ _ _ c.in-len1-up.len_at_least refl refl)))
+    (λ told. told ∙ ap (λ all. string_bytes c.args.text.now ++ all) (sym (ends_told c.args.refused.now c.args.rows.now _ _ _ _ c.in-len1-up.len_at_least refl refl)))

@@ -1,6 +1,7 @@
 use Rattle.std.proofs.Common.{ap, subst, ◌∙◌, inr}
 use Rattle.bench_types.specs.Session.{Session}
 use Rattle.bench_model.specs.Edits.{after_edits}
+use Rattle.edit_notes.specs.Refused.{refused_places}
 use Rattle.run_comparisons.specs.Rows.{rows_of}
 use Rattle.run_comparisons.specs.Settled.{IsSettledTooLong}
 use Rattle.run_comparisons.proofs.Compared.{events_kept, fault_told, pair_settled}
@@ -8,7 +9,7 @@ use Rattle.run_comparisons.proofs.settled.settle_both.Goals as goal
 
 pub returns-in_err-later-clause-long : goal.returns-in_err-later-clause-long
 returns-in_err-later-clause-long c = λ long.
-    let edited = c.in_ok-rows.ensures.session ∙ ap (λ (session : Session). after_edits session c.args.edits.now) c.requires in
+    let edited = c.in_ok-made.ensures.session ∙ ap (λ (session : Session). after_edits session c.args.edits.now) c.requires in
     let told = fault_told c.from_residual-in_err-later.result c.in_err-later.field-0.0 c.from_residual-in_err-later.ensures.1 long in
     inr (subst IsSettledTooLong edited (c.in_err-later.ensures.long told))
 
@@ -22,7 +23,8 @@ settled_rows-requires-clause-edited c =
 
 pub returns-clause-pair : goal.returns-clause-pair
 returns-clause-pair c =
-    let edited = c.in_ok-rows.ensures.session ∙ ap (λ (session : Session). after_edits session c.args.edits.now) c.requires in
-    let rows = c.as_slice.ensures.value ∙ c.in_ok-rows.ensures.rows ∙ ap (λ (session : Session). rows_of session c.args.edits.now) c.requires in
+    let edited = c.in_ok-made.ensures.session ∙ ap (λ (session : Session). after_edits session c.args.edits.now) c.requires in
+    let rows = c.as_slice.ensures.value ∙ c.in_ok-made.ensures.rows ∙ ap (λ (session : Session). rows_of session c.args.edits.now) c.requires in
     pair_settled c.args.before.now.session c.args.edits.now c.rows_of.new.store.session c.as_slice.result.now c.in_ok-settled.settled.steps.items c.in_ok-later.later.steps.items _
-    edited rows c.in_ok-settled.ensures.steps c.in_ok-settled.ensures.settled c.in_ok-later.ensures.steps c.in_ok-later.ensures.settled c.in_ok-settled.ensures.room c.in_ok-later.ensures.room c.in_ok-rows-2.ensures
+    edited rows c.in_ok-settled.ensures.steps c.in_ok-settled.ensures.settled c.in_ok-later.ensures.steps c.in_ok-later.ensures.settled c.in_ok-settled.ensures.room c.in_ok-later.ensures.room c.in_ok-rows.ensures
+    (c.in_ok-made.ensures.refused ∙ ap (λ (session : Session). refused_places session c.args.edits.now) c.requires)

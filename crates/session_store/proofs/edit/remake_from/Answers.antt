@@ -3,9 +3,13 @@ use Rattle.std.specs.Prelude.{All}
 use Rattle.bench_types.specs.Step.{IsCheckedStep}
 use Rattle.bench_model.specs.Session.{state_after}
 use Rattle.segment_laws.specs.Segments.{SegmentView, all_steps}
-use Rattle.session_store.proofs.EditReplays.{are_remade, gave_up, gives_up, is_last_is, kernel_some, later_settings, part_checked, part_few, placed_few, placed_some, remade_counted, remade_outcome, slice_few, slice_within}
+use Rattle.session_store.proofs.EditReplays.{are_remade, gave_up, gives_up, is_last_is, kernel_few, kernel_some, later_settings, part_checked, part_few, placed_few, placed_some, remade_counted, remade_outcome, slice_few, slice_within}
 use Rattle.session_store.proofs.EditTold.{counts_err}
 use Rattle.session_store.proofs.edit.remake_from.Goals as goal
+
+pub push_cut-requires-clause-few : goal.push_cut-requires-clause-few
+push_cut-requires-clause-few g c =
+    kernel_few c.args.header.now c.args.span c.args.segments.now c.args.edit.now c.requires.kept c.requires.words c.requires.accepted c.args.parting.now.kernel c.args.parting.now.steps.items c.args.parting.now.before c.args.parting.now.after c.requires.parting
 
 pub push_cut-requires-clause-steps : goal.push_cut-requires-clause-steps
 push_cut-requires-clause-steps g c =

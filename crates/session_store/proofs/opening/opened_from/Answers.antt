@@ -1,10 +1,23 @@
-use Rattle.std.proofs.Common.{◌≡◌, ◌-◌, ◌*◌, ◌/◌, ap, arith, drop, length, take}
+use Rattle.std.proofs.Common.{◌≡◌, ◌≤◌, ◌-◌, ◌*◌, ◌/◌, ap, arith, drop, length, take}
+use Rattle.bench_types.specs.declared.kernel_data.Settings.{Settings}
+use Rattle.bench_types.specs.Limits.{max_cores}
+use Rattle.bench_types.proofs.Passes.{checked_header}
 use Rattle.bench_model.specs.Session.{state_after}
 use Rattle.bench_model.specs.Start.{start}
 use Rattle.bench_model.specs.Meeting.{first_kept}
 use Rattle.session_segments.proofs.Counts.{counts_on, counts_some}
 use Rattle.session_store.proofs.Opened.{part_after, some_span, opened_count, opened_meter, opened_steps, opened_segments, on_ok, if_segments}
 use Rattle.session_store.proofs.opening.opened_from.Goals as goal
+
+pub push_spans-requires-clause-few : goal.push_spans-requires-clause-few
+push_spans-requires-clause-few g c =
+    let few : c.args.header.now.config.cores ≤ max_cores = (checked_header c.args.header.now c.requires.session.header.passes).few_cores in
+    omega (arith, few, ap (λ (settings : Settings). settings.cores) c.requires.settings)
+
+pub push_segment-requires-clause-few : goal.push_segment-requires-clause-few
+push_segment-requires-clause-few g c =
+    let few : c.args.header.now.config.cores ≤ max_cores = (checked_header c.args.header.now c.requires.session.header.passes).few_cores in
+    omega (arith, few, ap (λ (settings : Settings). settings.cores) c.requires.settings, ap (λ (settings : Settings). settings.cores) c.in_ok-push_spans.ensures.settings)
 
 pub push_segment-requires-clause-stands : goal.push_segment-requires-clause-stands
 push_segment-requires-clause-stands g c =

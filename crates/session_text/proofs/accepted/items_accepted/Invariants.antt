@@ -7,9 +7,9 @@ use Rattle.session_text.proofs.accepted.items_accepted.Given as goal
 -- no item so far is at fault, so that only those from here on are left to look at
 abbrev pub invariant-loop-index : goal.invariant-loop-index
 invariant-loop-index g l =
-    let fault_of = g.T.Judged.fault_of l.header in
+    let flaw_of = g.T.Judged.flaw_of l.header in
     let at = path_of l.place in
     record {
-      reading : items_accepted fault_of at l.index (drop l.index l.items) ≡ items_accepted fault_of at 0 l.items;
+      reading : items_accepted flaw_of at l.index (drop l.index l.items) ≡ items_accepted flaw_of at 0 l.items;
       checked : All (g.T.Judged.IsChecked l.header) (take l.index l.items);
     }

@@ -1,11 +1,20 @@
-use Rattle.std.proofs.Common.{sym, ◌∙◌}
-use Rattle.session_text.proofs.Accepting.{takes_over, stops}
+use Rattle.std.proofs.Common.{◌≡◌, Some, Vec, ap, sym, ◌∙◌}
+use Rattle.std.specs.declared.alloc.Global.{Global}
+use Rattle.bench_types.specs.Flaw.{place_of_no_name}
+use Rattle.bench_types.specs.declared.header.TaskArgs.{TaskArgs}
+use Rattle.bench_types.proofs.Passes.{names_decide, numbers_decide}
+use Rattle.bench_types.specs.declared.header.Header.{Header}
+use Rattle.session_text.specs.Header.{verdict}
+use Rattle.session_text.proofs.Accepting.{of_refused}
 use Rattle.session_text.proofs.header.accepted.Goals as goal
+
+pub returns-in-Some-clause-value : goal.returns-in-Some-clause-value
+returns-in-Some-clause-value c =
+    let header : Header = record { config = c.args.config; tasks = c.args.shapes.now } in
+    sym (ap (verdict header) (numbers_decide header c.in-Some.flaw (sym c.flaw.ensures ∙ c.in-Some.is)))
 
 pub returns-in-Err-clause-value : goal.returns-in-Err-clause-value
 returns-in-Err-clause-value c =
-    sym (stops c.args.config c.args.shapes.now c.loop-shape.shape-index c.loop-shape.tasks.items c.shape-item.result c.in-Err.fault c.loop-shape-test.true c.shape-item.is (sym c.to_args.ensures ∙ c.in-Err.is) c.loop-shape.invariant)
-
-pub loop-shape-preserved : goal.loop-shape-preserved
-loop-shape-preserved c =
-    rw c.in_ok-push-in-Ok.ensures.items (takes_over c.args.shapes.now c.loop-shape.shape-index c.loop-shape.tasks.items c.shape-item.result c.in-Ok.task c.loop-shape-test.true c.shape-item.is (sym c.to_args.ensures ∙ c.in-Ok.is) c.loop-shape.invariant)
+    let header : Header = record { config = c.args.config; tasks = c.args.shapes.now } in
+    let place = of_refused (λ (tasks : Vec TaskArgs Global). tasks.items ≡ c.args.shapes.now) (λ place. place_of_no_name c.args.shapes.now ≡ Some place) c.in_ok-tasks-in-None.field-0 c.in-Err.place c.in-Err.is c.in_ok-tasks-in-None.ensures in
+    sym (ap (verdict header) (names_decide header c.in-Err.place (sym c.flaw.ensures ∙ c.in-None.is) place))

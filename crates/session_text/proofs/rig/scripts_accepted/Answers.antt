@@ -3,7 +3,8 @@ use Rattle.std.specs.Prelude.{All}
 use Rattle.std.proofs.lemmas.List.{get_or_default}
 use Rattle.bench_types.specs.Step.{settings_of}
 use Rattle.session_text.specs.Accepted.{items_accepted}
-use Rattle.session_text.specs.Act.{act_fault, IsCheckedAct}
+use Rattle.bench_types.specs.Act.{IsCheckedAct}
+use Rattle.bench_types.specs.StepFlaw.{act_flaw}
 use Rattle.session_text.specs.Path.{item_path, path_of}
 use Rattle.session_text.proofs.Scripts.{each_more, script_passed}
 use Rattle.session_text.proofs.rig.scripts_accepted.Goals as goal
@@ -15,7 +16,7 @@ loop-core-preserved c =
     let scripts = c.args.scripts.now in
     let core = c.loop-core.core in
     let script : c.as_slice.result.now ≡ get_or scripts core [] = c.as_slice.ensures ∙ c.index-scripts-core.is ∙ get_or_default scripts core _ [] c.loop-core-test.true in
-    let passed = subst (λ acts. items_accepted (act_fault header core) (item_path at core) 0 acts ≡ Ok tt) script c.in_ok-script_accepted.ensures.reading in
+    let passed = subst (λ acts. items_accepted (act_flaw (settings_of header) core) (item_path at core) 0 acts ≡ Ok tt) script c.in_ok-script_accepted.ensures.reading in
     record {
       reading = script_passed header at scripts core c.loop-core-test.true passed ∙ c.loop-core.invariant.reading;
       checked = each_more (λ core script. All (IsCheckedAct (settings_of header) core) script) scripts [] core c.loop-core.invariant.checked (subst (All (IsCheckedAct (settings_of header) core)) script c.in_ok-script_accepted.ensures.checked);

@@ -1,7 +1,7 @@
 use Rattle.std.proofs.Common.{◌≡◌, ◌<◌, ℕ, [], drop, get_or}
 use Rattle.std.specs.Prelude.{All}
 use Rattle.bench_types.specs.Step.{settings_of}
-use Rattle.session_text.specs.Act.{IsCheckedAct}
+use Rattle.bench_types.specs.Act.{IsCheckedAct}
 use Rattle.session_text.specs.Path.{path_of}
 use Rattle.session_text.specs.Rig.{scripts_accepted}
 use Rattle.session_text.proofs.rig.scripts_accepted.Given as goal

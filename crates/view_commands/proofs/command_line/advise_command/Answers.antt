@@ -13,4 +13,5 @@ returns c =
     let numbers = more_told c.in_ok-arg-2.field-0 c.in_ok-arg-3.field-0 _ c.less_option.result _ tasks c.less_option.ensures refl c.in_ok-arg-3.ensures in
     let families = more_told c.in_ok-arg-3.field-0 c.in_ok-arg-4.field-0 _ c.over_option.result _ numbers c.over_option.ensures refl c.in_ok-arg-4.ensures in
     let counts = more_told c.in_ok-arg-4.field-0 c.in_ok-arg-5.field-0 _ c.best_option.result _ families c.best_option.ensures refl c.in_ok-arg-5.ensures in
-    IfOk-weaker c.arg-6.result _ _ (λ command added. more_told c.in_ok-arg-5.field-0 command _ c.file_argument.result _ counts c.file_argument.ensures refl added) c.arg-6.ensures
+    let strict_flags = more_told c.in_ok-arg-5.field-0 c.in_ok-arg-6.field-0 _ c.strict_flag.result _ counts c.strict_flag.ensures refl c.in_ok-arg-6.ensures in
+    IfOk-weaker c.arg-7.result _ _ (λ command added. more_told c.in_ok-arg-6.field-0 command _ c.file_argument.result _ strict_flags c.file_argument.ensures refl added) c.arg-7.ensures

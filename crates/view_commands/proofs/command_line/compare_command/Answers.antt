@@ -9,4 +9,5 @@ pub returns : goal.returns
 returns c =
     let bare : IsTold c.about.result (new_app (codes "compare")) = (search rules, search rules) in
     let settle_flags = more_told c.about.result c.in_ok-arg.field-0 _ c.settle_flag.result _ bare c.settle_flag.ensures refl c.in_ok-arg.ensures in
-    IfOk-weaker c.arg-2.result _ _ (λ command added. more_told c.in_ok-arg.field-0 command _ c.file_argument.result _ settle_flags c.file_argument.ensures refl added) c.arg-2.ensures
+    let strict_flags = more_told c.in_ok-arg.field-0 c.in_ok-arg-2.field-0 _ c.strict_flag.result _ settle_flags c.strict_flag.ensures refl c.in_ok-arg-2.ensures in
+    IfOk-weaker c.arg-3.result _ _ (λ command added. more_told c.in_ok-arg-2.field-0 command _ c.file_argument.result _ strict_flags c.file_argument.ensures refl added) c.arg-3.ensures

@@ -8,4 +8,5 @@ use Rattle.view_commands.proofs.command_line.settle_command.Goals as goal
 pub returns : goal.returns
 returns c =
     let bare : IsTold c.about.result (new_app (codes "settle")) = (search rules, search rules) in
-    IfOk-weaker c.arg.result _ _ (λ command added. more_told c.about.result command _ c.file_argument.result _ bare c.file_argument.ensures refl added) c.arg.ensures
+    let strict_flags = more_told c.about.result c.in_ok-arg.field-0 _ c.strict_flag.result _ bare c.strict_flag.ensures refl c.in_ok-arg.ensures in
+    IfOk-weaker c.arg-2.result _ _ (λ command added. more_told c.in_ok-arg.field-0 command _ c.file_argument.result _ strict_flags c.file_argument.ensures refl added) c.arg-2.ensures

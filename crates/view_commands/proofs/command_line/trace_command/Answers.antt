@@ -13,4 +13,5 @@ returns c =
     let to_options = more_told c.in_ok-arg-2.field-0 c.in_ok-arg-3.field-0 _ c.to_option.result _ from_options c.to_option.ensures refl c.in_ok-arg-3.ensures in
     let task_options = more_told c.in_ok-arg-3.field-0 c.in_ok-arg-4.field-0 _ c.task_option.result _ to_options c.task_option.ensures refl c.in_ok-arg-4.ensures in
     let core_options = more_told c.in_ok-arg-4.field-0 c.in_ok-arg-5.field-0 _ c.core_option.result _ task_options c.core_option.ensures refl c.in_ok-arg-5.ensures in
-    IfOk-weaker c.arg-6.result _ _ (λ command added. more_told c.in_ok-arg-5.field-0 command _ c.file_argument.result _ core_options c.file_argument.ensures refl added) c.arg-6.ensures
+    let strict_flags = more_told c.in_ok-arg-5.field-0 c.in_ok-arg-6.field-0 _ c.strict_flag.result _ core_options c.strict_flag.ensures refl c.in_ok-arg-6.ensures in
+    IfOk-weaker c.arg-7.result _ _ (λ command added. more_told c.in_ok-arg-6.field-0 command _ c.file_argument.result _ strict_flags c.file_argument.ensures refl added) c.arg-7.ensures

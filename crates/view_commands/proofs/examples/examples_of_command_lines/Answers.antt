@@ -1,4 +1,4 @@
-use Rattle.view_commands.proofs.CommandLines.{advice, checks, helps, mistakes, traces, views}
+use Rattle.view_commands.proofs.CommandLines.{advice, checks, helps, mistakes, traces, versions, views}
 use Rattle.view_commands.proofs.examples.examples_of_command_lines.Goals as goal
 
 pub returns-clause-traces : goal.returns-clause-traces
@@ -15,6 +15,9 @@ returns-clause-advice c = advice
 
 pub returns-clause-helps : goal.returns-clause-helps
 returns-clause-helps c = helps
+
+pub returns-clause-versions : goal.returns-clause-versions
+returns-clause-versions c = versions
 
 pub returns-clause-mistakes : goal.returns-clause-mistakes
 returns-clause-mistakes c = mistakes

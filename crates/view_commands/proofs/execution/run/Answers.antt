@@ -1,31 +1,29 @@
-use Rattle.std.proofs.Common.{◌≡◌, rules}
-use Rattle.std.specs.Io.KnownBytes.{Appends}
-use Rattle.bench_commands.specs.Device.{AppendsPrefix}
+use Rattle.std.proofs.Common.{ℕ, List, Err, IfOk, refl, sym, ap, subst, ◌∙◌}
+use Rattle.program_io.specs.declared.ending.Ending.{Ending}
+use Rattle.program_io.specs.Device.{failures_after}
+use Rattle.program_io.specs.Endings.{all_reads_well, all_writes_well, EndsTelling}
+use Rattle.program_io.proofs.Ended.{told_ended, unread_counted, unread_ended, unread_writes}
 use Rattle.view_commands.specs.Commands.{IsView}
-use Rattle.view_commands.specs.Told.{Told}
-use Rattle.view_commands.proofs.Written.{all_written, part_written}
 use Rattle.view_commands.proofs.execution.run.Goals as goal
 
-pub returns-then-is_err-clause-bytes : goal.returns-then-is_err-clause-bytes
-returns-then-is_err-clause-bytes g c =
-    let input = c.in-Ok.input.items in
-    let text = c.response.inside.text.items in
-    let note = c.response.inside.note.items in
-    let told : Told = record { status = c.response.inside.status; text = text; note = note } in
-    let same : c.in-Ok-told_of.response ≡ told = search rules in
-    let is_view : IsView c.args.command.now input c.in-Ok-told_of.response = search rules in
-    let writes : AppendsPrefix (g.W.Write.contents c.args.writer.now) (g.W.Write.contents c.write_text.new.writer) text = search rules in
-    part_written c.args.command.now input text note c.response.inside.status c.in-Ok-told_of.response (g.R.Read.remaining c.args.reader.now) (g.R.Read.remaining c.read_input.new.reader) (g.W.Write.contents c.args.writer.now) (g.W.Write.contents c.write_text.new.writer) c.in-Ok.ensures.input is_view
-    same c.failed-then-is_err.result c.failed-then-is_err.ensures writes
+pub returns-in-Ok-clause-bytes : goal.returns-in-Ok-clause-bytes
+returns-in-Ok-clause-bytes g c =
+    told_ended (IsView c.args.job.now) (g.R.Read.remaining c.args.reader.now) (g.R.Read.remaining c.read_input.new.reader) (g.W.Write.contents c.args.writer.now) (g.W.Write.contents c.write_output.new.writer) c.in-Ok.input.items c.told_of.result c.write_output.result c.in-Ok.ensures.input
+    (subst (λ (input : List ℕ). IfOk c.told_of.result ((IsView c.args.job.now) input)) c.deref.ensures.value c.told_of.ensures) c.write_output.ensures.bytes
 
-pub returns-clause-bytes : goal.returns-clause-bytes
-returns-clause-bytes g c =
-    let input = c.in-Ok.input.items in
-    let text = c.response.inside.text.items in
-    let note = c.response.inside.note.items in
-    let told : Told = record { status = c.response.inside.status; text = text; note = note } in
-    let same : c.in-Ok-told_of.response ≡ told = search rules in
-    let is_view : IsView c.args.command.now input c.in-Ok-told_of.response = search rules in
-    let writes : Appends (g.W.Write.contents c.args.writer.now) (g.W.Write.contents c.write_text.new.writer) text = search rules in
-    all_written c.args.command.now input text note c.response.inside.status c.in-Ok-told_of.response (g.R.Read.remaining c.args.reader.now) (g.R.Read.remaining c.read_input.new.reader) (g.W.Write.contents c.args.writer.now) (g.W.Write.contents c.write_text.new.writer) c.in-Ok.ensures.input is_view
-    same writes
+pub returns-in-Ok-clause-reads : goal.returns-in-Ok-clause-reads
+returns-in-Ok-clause-reads g c = c.in-Ok.ensures.failures ∙ sym (ap (λ well. failures_after well (g.R.CountedRead.failures c.args.reader.now)) c.write_output.ensures.reads)
+
+pub returns-in-Err-clause-bytes : goal.returns-in-Err-clause-bytes
+returns-in-Err-clause-bytes g c =
+    subst (λ (ending : Ending). EndsTelling (IsView c.args.job.now) ending (g.R.Read.remaining c.args.reader.now) (g.R.Read.remaining c.read_input.new.reader) (g.W.Write.contents c.args.writer.now) (g.W.Write.contents c.args.writer.now)) (sym c.unread.ensures)
+    (unread_ended (IsView c.args.job.now) (g.R.Read.remaining c.args.reader.now) (g.R.Read.remaining c.read_input.new.reader) (g.W.Write.contents c.args.writer.now) (g.W.Write.contents c.args.writer.now) c.in-Err.fault c.in-Err.ensures.some refl)
+
+pub returns-in-Err-clause-reads : goal.returns-in-Err-clause-reads
+returns-in-Err-clause-reads g c =
+    c.in-Err.ensures.failures
+    ∙ sym (ap (λ well. failures_after well (g.R.CountedRead.failures c.args.reader.now)) (ap all_reads_well c.unread.ensures ∙ unread_counted {A = Unit {0}} c.in-Err.fault (Err c.in-Err.fault) refl))
+
+pub returns-in-Err-clause-writes : goal.returns-in-Err-clause-writes
+returns-in-Err-clause-writes g c =
+    sym (ap (λ well. failures_after well (g.W.CountedWrite.failures c.args.writer.now)) (ap all_writes_well c.unread.ensures ∙ unread_writes c.in-Err.fault))

@@ -1,5 +1,5 @@
 use Rattle.std.proofs.Common.{◌∙◌, ℕ, Bool, ap, sym, Some, None, if◌then◌else◌}
-use Rattle.bench_commands.specs.Command.{number_of}
+use Rattle.command_words.specs.Asking.{number_of}
 use Rattle.view_commands.proofs.NumberTexts.{read_is_number, unread_is_none}
 use Rattle.view_commands.proofs.limits.numbered.Goals as goal
 

@@ -5,7 +5,7 @@ use Rattle.std.specs.Str.Parse.{ExplainsUnsignedError, HasUnsignedDigitsIfOk, Pa
 use Rattle.std.proofs.lemmas.List.{append-nil}
 use Rattle.clap.specs.Words.{Text, found_of, values_left}
 use Rattle.clap.proofs.WalkLemmas.{typed_values-rows}
-use Rattle.bench_commands.specs.Command.{number_of}
+use Rattle.command_words.specs.Asking.{number_of}
 use Rattle.view_commands.specs.Options.{is_number}
 use Rattle.view_commands.proofs.NumberTexts.{all_read, none_fails}
 use Rattle.view_commands.proofs.options.cores_in.Goals as goal

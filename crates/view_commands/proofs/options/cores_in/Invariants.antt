@@ -1,7 +1,7 @@
 use Rattle.std.proofs.Common.{◌≡◌, ◌++◌, true, map}
 use Rattle.std.specs.List.{list_all}
 use Rattle.clap.specs.Words.{values_left}
-use Rattle.bench_commands.specs.Command.{number_of}
+use Rattle.command_words.specs.Asking.{number_of}
 use Rattle.view_commands.specs.Options.{is_number}
 use Rattle.view_commands.proofs.options.cores_in.Given as goal
 

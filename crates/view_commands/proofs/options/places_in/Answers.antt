@@ -6,7 +6,7 @@ use Rattle.clap.specs.Matches.{one_text}
 use Rattle.clap.specs.Words.{Text, found_of}
 use Rattle.clap.proofs.WalkLemmas.{one_text-rows}
 use Rattle.run_views.specs.declared.places.Places.{Places}
-use Rattle.bench_commands.specs.Command.{number_of}
+use Rattle.command_words.specs.Asking.{number_of}
 use Rattle.view_commands.specs.Options.{is_number}
 use Rattle.view_commands.proofs.NumberTexts.{number_read}
 use Rattle.view_commands.proofs.options.places_in.Goals as goal

@@ -4,8 +4,8 @@ use Rattle.std.specs.Option.{option_map_or}
 use Rattle.clap.specs.Matches.{one_text}
 use Rattle.clap.specs.Words.{Text, found_of}
 use Rattle.clap.proofs.WalkLemmas.{one_text-rows}
-use Rattle.bench_commands.specs.Command.{is_flag}
-use Rattle.bench_commands.proofs.OptionsRead.{flag_read}
+use Rattle.command_words.specs.Asking.{is_flag}
+use Rattle.command_words.proofs.OptionsRead.{flag_read}
 use Rattle.view_commands.proofs.options.settle_in.Goals as goal
 
 pub returns : goal.returns

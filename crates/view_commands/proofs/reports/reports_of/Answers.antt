@@ -4,14 +4,13 @@ use Rattle.bench_types.specs.Session.{Session}
 use Rattle.settling.specs.declared.run.SettleFault.{SettleFault}
 use Rattle.session_reports.specs.Figures.{IsTooLong}
 use Rattle.session_reports.specs.Reports.{IsReportOfRuns}
-use Rattle.view_commands.specs.Told.{plain}
-use Rattle.view_commands.specs.Views.{fine}
+use Rattle.program_io.specs.Outputs.{fine}
 use Rattle.view_commands.proofs.ReportsTold.{long_report}
 use Rattle.view_commands.proofs.reports.reports_of.Goals as goal
 
 pub returns-in-Ok : goal.returns-in-Ok
 returns-in-Ok c =
-    let told : c.plain.result ≡ plain (fine (string_bytes c.in-Ok.text)) = search rules in
+    let told : c.fine.result ≡ fine (string_bytes c.in-Ok.text) = search rules in
     inl (record { text = string_bytes c.in-Ok.text; is_text = c.in-Ok.ensures.text; is_told = told })
 
 pub returns-in-Err : goal.returns-in-Err

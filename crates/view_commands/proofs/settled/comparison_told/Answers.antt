@@ -1,15 +1,14 @@
 use Rattle.std.proofs.Common.{◌≡◌, rules, Err, ap}
 use Rattle.std.specs.Prelude.{string_bytes}
 use Rattle.settling.specs.declared.run.SettleFault.{SettleFault}
-use Rattle.view_commands.specs.Told.{plain}
-use Rattle.view_commands.specs.Views.{fine}
+use Rattle.program_io.specs.Outputs.{fine}
 use Rattle.view_commands.proofs.BothTold.{compared_told, long_told}
 use Rattle.view_commands.proofs.settled.comparison_told.Goals as goal
 
 pub returns-in-Ok : goal.returns-in-Ok
 returns-in-Ok c =
-    let told : c.plain.result ≡ plain (fine (string_bytes c.in-Ok.text)) = search rules in
-    compared_told c.args.store.now.session c.in_ok-before.before.session c.args.edits.now (string_bytes c.in-Ok.text) c.plain.result c.in_ok-before.ensures c.in-Ok.ensures.room c.in-Ok.ensures.text told
+    let told : c.fine.result ≡ fine (string_bytes c.in-Ok.text) = search rules in
+    compared_told c.args.store.now.session c.in_ok-before.before.session c.args.edits.now (string_bytes c.in-Ok.text) c.fine.result c.in_ok-before.ensures c.in-Ok.ensures.room c.in-Ok.ensures.text told
 
 pub returns : goal.returns
 returns c =

@@ -1,7 +1,8 @@
 use Rattle.std.proofs.Common.{Err, ap}
 use Rattle.settling.specs.declared.run.SettleFault.{SettleFault}
 use Rattle.settled_runs.proofs.Rests.{settled_run_is_session}
-use Rattle.view_commands.specs.Views.{document_of, fine}
+use Rattle.view_commands.specs.Views.{document_of}
+use Rattle.program_io.specs.Outputs.{fine}
 use Rattle.view_commands.proofs.SettledTold.{long_run_told}
 use Rattle.view_commands.proofs.settled.settled_document.Goals as goal
 

@@ -1,7 +1,7 @@
 use Rattle.std.proofs.Common.{◌+◌, length, sym, ap, ◌∙◌, string_bytes}
 use Rattle.std.proofs.lemmas.List.{length-append}
 use Rattle.bench_types.specs.Header.{name_of}
-use Rattle.bench_commands.specs.Lines.{spaced}
+use Rattle.program_io.specs.Refusal.{spaced}
 use Rattle.bench_commands.proofs.Labelled.{labels_more}
 use Rattle.bench_commands.proofs.labels.Labels.of_tasks.Goals as goal
 

@@ -1,8 +1,11 @@
-use Rattle.std.proofs.Common.{◌≡◌, ◌∙◌, All, None, Ok, length, sym, ap, subst}
+use Rattle.std.proofs.Common.{◌≡◌, ◌≤◌, ◌∙◌, All, None, Ok, length, vec_len, sym, ap, subst, arith}
 use Rattle.std.specs.Prelude.{sum_by}
+use Rattle.std.proofs.lemmas.Grind.{common_steps}
 use Rattle.std.proofs.lemmas.List.Elements.{All-map}
 use Rattle.bench_types.specs.declared.header.Header.{Header}
 use Rattle.bench_types.specs.Header.{IsCheckedHeader}
+use Rattle.bench_types.specs.Limits.{max_cores}
+use Rattle.bench_types.proofs.Passes.{checked_header}
 use Rattle.bench_model.specs.History.{end_of, IsLegal}
 use Rattle.history_laws.proofs.Recorded.{legal_session}
 use Rattle.port_locks.specs.Seats as locks_seats
@@ -12,6 +15,12 @@ use Rattle.core_rig.specs.Seats.{CoreView}
 use Rattle.core_rig.proofs.Closing.{counts_add_up, ends_of, ends_unheld, pair_check}
 use Rattle.core_rig.proofs.rig.Rig.end.Goals as goal
 use Rattle.core_rig.proofs.rig.Rig.end.Goals.{After-into_parts-header}
+
+pub move_all-requires-clause-room : goal.move_all-requires-clause-room
+move_all-requires-clause-room c =
+    let few : c.self.inside.header.config.cores ≤ max_cores = (checked_header c.self.inside.header c.self.invariant.checked.passes).few_cores in
+    let cores : c.args.self.cores ≡ c.self.inside.header.config.cores = ap (λ rig. rig.cores) (sym c.self.view_is) ∙ c.self.invariant.cores in
+    grind (arith, common_steps, few, cores, c.requires.all, c.into_list-inner.ensures.room)
 
 pub close-requires : goal.close-requires
 close-requires c =

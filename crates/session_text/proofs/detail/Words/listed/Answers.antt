@@ -1,6 +1,6 @@
 use Rattle.std.proofs.Common.{◌∙◌, ◌++◌, ℕ, List, get_or, codes, flat_map, take, drop, length, Bor, ap, []}
 use Rattle.std.specs.Prelude.{◌-◌}
-use Rattle.session_text.proofs.Shown.{listed_some}
+use Rattle.session_text.proofs.Details.{listed_some}
 use Rattle.session_text.proofs.detail.Words.listed.Goals as goal
 
 pub returns-in_ok-push_others-in-len1-up : goal.returns-in_ok-push_others-in-len1-up

@@ -1,5 +1,0 @@
-use Rattle.std.proofs.Common.{append_assoc}
-use Rattle.bench_commands.proofs.hint.push_task.Goals as goal
-
-pub returns : goal.returns
-returns c = simp append_assoc c.write.ensures.bytes

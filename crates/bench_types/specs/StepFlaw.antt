@@ -1,0 +1,121 @@
+-- For what a step, an act or an edit is not accepted: the first of these things, in the order in
+-- which its faults are tried.
+use Rattle.std.specs.Prelude.{ℕ, ◌==◌, ◌&&◌, nat_lt, nat_le, Option, Some, None, Result, Ok, Err, if◌then◌else◌, ⊤}
+use Rattle.std.specs.Option.{option_or}
+use Rattle.bench_types.specs.declared.act.Act.{Act}
+use Rattle.bench_types.specs.declared.act.Act.TheVariants as act
+use Rattle.bench_types.specs.declared.edit.Edit.{Edit}
+use Rattle.bench_types.specs.declared.edit.Edit.TheVariants as edit
+use Rattle.bench_types.specs.declared.fault.Fault.{Fault}
+use Rattle.bench_types.specs.declared.fault.Fault.TheVariants.{BadHeader, BadCore, BadTask, BadMutex, BadArgument}
+use Rattle.bench_types.specs.declared.header.Config.{Config}
+use Rattle.bench_types.specs.declared.header.Header.{Header}
+use Rattle.bench_types.specs.declared.kernel_data.Settings.{Settings}
+use Rattle.bench_types.specs.declared.note.Note.{Note}
+use Rattle.bench_types.specs.declared.step.Call.{Call}
+use Rattle.bench_types.specs.declared.step.Call.TheVariants as call
+use Rattle.bench_types.specs.declared.step.Step.{Step}
+use Rattle.bench_types.specs.declared.step.Step.TheVariants as step
+use Rattle.bench_types.specs.declared.step_flaw.StepFlaw.{StepFlaw}
+use Rattle.bench_types.specs.declared.step_flaw.StepFlaw.TheVariants.{Core, TickCore, Task, Mutex, Mask, Increment, Index, NewPriority, NewMask}
+use Rattle.bench_types.specs.Mask.{cores_of_mask}
+use Rattle.bench_types.specs.Step.{settings_of}
+
+-- the fault that it is
+abbrev pub flaw_fault : StepFlaw → Fault
+flaw_fault (Core core cores) = BadCore
+flaw_fault (TickCore core) = BadCore
+flaw_fault (Task task) = BadTask
+flaw_fault (Mutex mutex mutexes) = BadMutex
+flaw_fault (Mask mask cores) = BadArgument
+flaw_fault Increment = BadArgument
+flaw_fault (Index index notes) = BadArgument
+flaw_fault (NewPriority priority priorities) = BadHeader
+flaw_fault (NewMask mask cores) = BadHeader
+
+-- what a check answers where this is the first one
+abbrev pub judged : Option StepFlaw → Result ⊤ Fault
+judged None = Ok tt
+judged (Some flaw) = Err (flaw_fault flaw)
+
+abbrev pub core_flaw : Settings → ℕ → Option StepFlaw
+core_flaw settings core =
+    if nat_lt core settings.cores then None else Some (Core core settings.cores)
+
+abbrev pub task_flaw : Settings → ℕ → Option StepFlaw
+task_flaw settings task =
+    if nat_le settings.cores task && nat_lt task settings.tasks then None else Some (Task task)
+
+abbrev pub mutex_flaw : Settings → ℕ → Option StepFlaw
+mutex_flaw settings mutex =
+    if nat_lt mutex settings.mutexes then None else Some (Mutex mutex settings.mutexes)
+
+abbrev pub mask_flaw : Settings → ℕ → Option StepFlaw
+mask_flaw settings mask =
+    if nat_lt 0 (cores_of_mask settings.cores mask) then None else Some (Mask mask settings.cores)
+
+abbrev pub index_flaw : Settings → ℕ → Option StepFlaw
+index_flaw settings index =
+    if nat_lt index settings.notes then None else Some (Index index settings.notes)
+
+abbrev pub increment_flaw : ℕ → Option StepFlaw
+increment_flaw inc = if inc == 0 then Some Increment else None
+
+abbrev pub note_flaw : Settings → Note → Option StepFlaw
+note_flaw settings note = option_or (task_flaw settings note.task) (index_flaw settings note.index)
+
+-- the first flaw of a call's arguments
+abbrev pub call_flaw : Settings → Call → Option StepFlaw
+call_flaw settings call.Yield = None
+call_flaw settings (call.Delay ticks) = None
+call_flaw settings (call.DelayUntil prev inc) = increment_flaw inc
+call_flaw settings call.Finish = None
+call_flaw settings call.HoldOpen = None
+call_flaw settings call.HoldClose = None
+call_flaw settings (call.PrioritySet task priority) = task_flaw settings task
+call_flaw settings (call.AffinitySet task mask) =
+    option_or (task_flaw settings task) (mask_flaw settings mask)
+call_flaw settings (call.PreemptOff task) = task_flaw settings task
+call_flaw settings (call.PreemptOn task) = task_flaw settings task
+call_flaw settings (call.Notify note) = note_flaw settings note
+call_flaw settings (call.NotifyWait entry exit ticks index) = index_flaw settings index
+call_flaw settings (call.NotifyTake clear ticks index) = index_flaw settings index
+call_flaw settings (call.StateClear task index) =
+    option_or (task_flaw settings task) (index_flaw settings index)
+call_flaw settings (call.ValueClear task bits index) =
+    option_or (task_flaw settings task) (index_flaw settings index)
+call_flaw settings (call.MutexTake mutex ticks) = mutex_flaw settings mutex
+call_flaw settings (call.MutexGive mutex) = mutex_flaw settings mutex
+
+-- the first flaw of a step
+abbrev pub step_flaw : Settings → Step → Option StepFlaw
+step_flaw settings step.Tick = None
+step_flaw settings (step.Switch core) = core_flaw settings core
+step_flaw settings (step.Call core task call) =
+    option_or (option_or (core_flaw settings core) (task_flaw settings task))
+    (call_flaw settings call)
+step_flaw settings (step.Interrupt core note) =
+    option_or (core_flaw settings core) (note_flaw settings note)
+
+-- of what the core would do
+abbrev pub act_flaw : Settings → ℕ → Act → Option StepFlaw
+act_flaw settings core (act.Call call) = call_flaw settings call
+act_flaw settings core (act.Interrupt note) = note_flaw settings note
+act_flaw settings core act.Tick = if core == 0 then None else Some (TickCore core)
+act_flaw settings core act.Switch = None
+
+-- of a task's new numbers
+abbrev pub numbers_flaw : Config → ℕ → ℕ → Option StepFlaw
+numbers_flaw config priority mask =
+    option_or
+    (if nat_lt priority config.priorities then None
+    else Some (NewPriority priority config.priorities))
+    (if nat_lt 0 (cores_of_mask config.cores mask) then None else Some (NewMask mask config.cores))
+
+-- of an edit
+abbrev pub edit_flaw : Header → Edit → Option StepFlaw
+edit_flaw header (edit.Insert at step) = step_flaw (settings_of header) step
+edit_flaw header (edit.Remove at) = None
+edit_flaw header (edit.Replace at step) = step_flaw (settings_of header) step
+edit_flaw header (edit.ChangeTask task priority mask) =
+    option_or (task_flaw (settings_of header) task) (numbers_flaw header.config priority mask)

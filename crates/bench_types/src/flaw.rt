@@ -1,0 +1,197 @@
+//! For what a header is not accepted.
+ghost use Rattle.std.specs.Prelude.{◌≡◌, ◌==◌, ◌<◌, ◌^◌, nat_lt, All, IfNone};
+ghost use Rattle.bench_types.specs.Flaw.{args_flaw, config_flaw, count_of_name, limits_flaw, mask_flaw, name_flaw, numbers_flaw, place_of_mask, place_of_no_name, place_of_priority, place_of_shared_name, priority_flaw, shared_flaw};
+ghost use Rattle.bench_types.specs.Mask.{cores_of_mask as cores_in};
+ghost use Rattle.bench_types.specs.Name.{is_within};
+
+use crate::mask::cores_of_mask;
+use crate::name::spells_name;
+use crate::{
+    Config, MAX_CORES, MAX_MUTEXES, MAX_NOTES, MAX_PRIORITIES, MAX_TASKS, MIN_CORES, TaskArgs,
+};
+
+/// A thing for which a header is not accepted. A user task is told by its place among them.
+#[derive(Clone, Copy, Debug, PartialEq, Eq)]
+pub enum HeaderFlaw {
+    /// There may not be so many cores.
+    Cores(u32),
+    /// There may not be so many priorities.
+    Priorities(u32),
+    /// There may not be so many mutexes.
+    Mutexes(u32),
+    /// There may not be so many notifications a task.
+    Notes(u32),
+    /// There may not be so many user tasks.
+    TaskCount(usize),
+    /// The name of the task is none. No `Header` has such a task; a text may have one.
+    NoName(usize),
+    /// The priority of the task is not below this number of priorities.
+    Priority { task: usize, priorities: u32 },
+    /// The core affinity mask of the task has a bit for none of so many cores.
+    Mask { task: usize, cores: u32 },
+    /// Another task has the name of this one.
+    SharedName(usize),
+}
+
+impl Config {
+    /// The first flaw of the numbers of a header with these settings and so many user tasks.
+    pub fn flaw(self, tasks: usize) -> Option<HeaderFlaw>
+        ensures { result ≡ numbers_flaw self tasks }
+    {
+        let count = HeaderFlaw::TaskCount(tasks);
+        config_flaw(self).or(limits_flaw(1, MAX_TASKS, tasks, count))
+    }
+}
+
+fn is_within(low: usize, high: usize, n: usize) -> bool
+    ensures { result ≡ is_within low high n }
+{
+    low <= n && n <= high
+}
+
+fn limits_flaw(low: u32, high: u32, n: usize, flaw: HeaderFlaw) -> Option<HeaderFlaw>
+    ensures { result ≡ limits_flaw low high n flaw }
+{
+    if is_within(low as usize, high as usize, n) {
+        None
+    } else {
+        Some(flaw)
+    }
+}
+
+fn config_flaw(config: Config) -> Option<HeaderFlaw>
+    ensures { result ≡ config_flaw config }
+{
+    let Config {
+        cores,
+        priorities,
+        slicing: _,
+        tick: _,
+        mutexes,
+        notes,
+    } = config;
+    limits_flaw(
+        MIN_CORES,
+        MAX_CORES,
+        cores as usize,
+        HeaderFlaw::Cores(cores),
+    )
+    .or(limits_flaw(
+        1,
+        MAX_PRIORITIES,
+        priorities as usize,
+        HeaderFlaw::Priorities(priorities),
+    ))
+    .or(limits_flaw(
+        0,
+        MAX_MUTEXES,
+        mutexes as usize,
+        HeaderFlaw::Mutexes(mutexes),
+    ))
+    .or(limits_flaw(1, MAX_NOTES, notes as usize, HeaderFlaw::Notes(notes)))
+}
+
+fn place_of_no_name(tasks: &[TaskArgs]) -> Option<usize>
+    ensures { result ≡ place_of_no_name tasks.now }
+{
+    tasks
+        .iter()
+        .position(|task| !spells_name(task.name.as_str().as_bytes()))
+}
+
+fn name_flaw(tasks: &[TaskArgs]) -> Option<HeaderFlaw>
+    ensures { result ≡ name_flaw tasks.now }
+{
+    match place_of_no_name(tasks) {
+        Some(task) => Some(HeaderFlaw::NoName(task)),
+        None => None,
+    }
+}
+
+fn place_of_priority(priorities: u32, tasks: &[TaskArgs]) -> Option<usize>
+    ensures { result ≡ place_of_priority priorities tasks.now }
+{
+    tasks.iter().position(|task| priorities <= task.priority)
+}
+
+fn priority_flaw(priorities: u32, tasks: &[TaskArgs]) -> Option<HeaderFlaw>
+    ensures { result ≡ priority_flaw priorities tasks.now }
+{
+    match place_of_priority(priorities, tasks) {
+        Some(task) => Some(HeaderFlaw::Priority { task, priorities }),
+        None => None,
+    }
+}
+
+/// Whether no bit of the mask means one of so many cores.
+fn means_no_core(cores: u32, mask: u32) -> bool
+    ensures value { result ≡ (cores_in cores mask == 0) }
+    ensures word { mask < 2 ^ 32 }
+{
+    cores_of_mask(cores, mask) == 0
+}
+
+/// The place of the first task that may run on none of so many cores.
+fn place_of_mask(cores: u32, tasks: &[TaskArgs]) -> Option<usize>
+    ensures value { result ≡ place_of_mask cores tasks.now }
+    ensures words { IfNone result (All (λ task. task.mask < 2 ^ 32) tasks.now) }
+{
+    for (place, task) in tasks.iter().enumerate() {
+        if means_no_core(cores, task.mask) {
+            return Some(place);
+        }
+    }
+    None
+}
+
+fn mask_flaw(cores: u32, tasks: &[TaskArgs]) -> Option<HeaderFlaw>
+    ensures value { result ≡ mask_flaw cores tasks.now }
+    ensures words { IfNone result (All (λ task. task.mask < 2 ^ 32) tasks.now) }
+{
+    match place_of_mask(cores, tasks) {
+        Some(task) => Some(HeaderFlaw::Mask { task, cores }),
+        None => None,
+    }
+}
+
+/// How many tasks have the name.
+fn count_of_name(tasks: &[TaskArgs], name: &str) -> usize
+    ensures { result ≡ count_of_name tasks.now name.now }
+{
+    tasks
+        .iter()
+        .filter(|task| name == task.name.as_str())
+        .count()
+}
+
+fn shares_name(tasks: &[TaskArgs], task: &TaskArgs) -> bool
+    ensures { result ≡ nat_lt 1 (count_of_name tasks.now task.now.name) }
+{
+    1 < count_of_name(tasks, task.name.as_str())
+}
+
+fn place_of_shared_name(tasks: &[TaskArgs]) -> Option<usize>
+    ensures { result ≡ place_of_shared_name tasks.now }
+{
+    tasks.iter().position(|task| shares_name(tasks, task))
+}
+
+fn shared_flaw(tasks: &[TaskArgs]) -> Option<HeaderFlaw>
+    ensures { result ≡ shared_flaw tasks.now }
+{
+    match place_of_shared_name(tasks) {
+        Some(task) => Some(HeaderFlaw::SharedName(task)),
+        None => None,
+    }
+}
+
+/// The first flaw of tasks, of which there are not too many.
+pub(crate) fn args_flaw(config: Config, tasks: &[TaskArgs]) -> Option<HeaderFlaw>
+    ensures value { result ≡ args_flaw config tasks.now }
+    ensures words { IfNone result (All (λ task. task.mask < 2 ^ 32) tasks.now) }
+{
+    name_flaw(tasks)
+        .or(priority_flaw(config.priorities, tasks))
+        .or(mask_flaw(config.cores, tasks))
+        .or(shared_flaw(tasks))
+}

@@ -1,0 +1,2 @@
+pub mod ClapAnswers
+pub mod OptionsRead

@@ -1,0 +1,2 @@
+pub mod EditsMade
+pub mod Opened

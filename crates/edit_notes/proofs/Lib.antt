@@ -1,0 +1,4 @@
+mod RefusedLaws
+mod Told
+pub mod Accepting
+pub mod Places

@@ -1,0 +1,140 @@
+//! What is told of a refused shape: the text that stands where a word has to, the word nearest to
+//! it, and what a value is in place of a number. The nearest words were counted by hand.
+
+use crate::expected::expect_same;
+use crate::texts::sessions::with_steps;
+use session_text::{Detail, Expected, Found, Shown, Stray, Words, read_session};
+use std::alloc::Global;
+use std::process::Abort;
+use std::test::Fail;
+
+/// What a step of a session with the tasks A and B is refused for.
+fn detail_of(alloc: Global, step: &str) -> Result<Detail, Fail> {
+    let text = with_steps(alloc, 0, step)?;
+    match read_session(alloc, text.as_bytes()) {
+        Ok(_) => Err(Fail::from("the text is a session")),
+        Err(fault) => Ok(fault.detail),
+    }
+}
+
+/// The text that is told, the nearest word, and all words.
+type Told = (Option<&'static str>, Option<&'static str>, &'static str);
+
+fn text_of(shown: &Shown) -> Option<&str> {
+    match shown {
+        Shown::Long => None,
+        Shown::Text(text) => Some(text.as_str()),
+    }
+}
+
+fn word_of(nearest: &Option<Words>) -> Option<&str> {
+    match nearest {
+        Some(word) => Some(word.as_str()),
+        None => None,
+    }
+}
+
+fn check_stray(rt: &impl Abort, stray: &Stray, told: &Told) {
+    let (text, nearest, words) = *told;
+    expect_same(rt, &text_of(&stray.text), &text);
+    expect_same(rt, &word_of(&stray.nearest), &nearest);
+    expect_same(rt, &stray.words.as_str(), &words);
+}
+
+/// Steps with unknown members, of which the least is told.
+const UNKNOWN: &[(&str, Told)] = &[
+    (
+        "{\"do\":\"tick\",\"cord\":1}",
+        (Some("cord"), Some("do"), "do"),
+    ),
+    (
+        "{\"do\":\"switch\",\"core\":0,\"zebra\":1,\"b\":2}",
+        (Some("b"), Some("do"), "core, do"),
+    ),
+    (
+        "{\"do\":\"yield\",\"core\":0,\"by\":\"A\",\"b\\u0001\\u00e9\\\"\":0}",
+        (Some("b???\""), Some("by"), "core, by, do"),
+    ),
+    // A name of 64 bytes, and one of 65.
+    (
+        "{\"do\":\"tick\",\"aaaaaaaaaaaaaaaaaaaaaaaaaaaaaaaaaaaaaaaaaaaaaaaaaaaaaaaaaaaaaaaa\":0}",
+        (
+            Some("aaaaaaaaaaaaaaaaaaaaaaaaaaaaaaaaaaaaaaaaaaaaaaaaaaaaaaaaaaaaaaaa"),
+            Some("do"),
+            "do",
+        ),
+    ),
+    (
+        "{\"do\":\"tick\",\"aaaaaaaaaaaaaaaaaaaaaaaaaaaaaaaaaaaaaaaaaaaaaaaaaaaaaaaaaaaaaaaaa\":0}",
+        (None, None, "do"),
+    ),
+];
+
+#[test]
+fn unknown_members(rt: HostRuntime) -> Result<(), Fail> {
+    for (step, told) in UNKNOWN {
+        match detail_of(rt.alloc(), step)? {
+            Detail::Unknown(stray) => check_stray(&rt, &stray, told),
+            _ => return Err(Fail::from("a member is unknown")),
+        }
+    }
+    Ok(())
+}
+
+const ACTIONS: &str = "none, set_bits, increment, set, set_new";
+
+/// Actions that are none.
+const NO_WORDS: &[(&str, Told)] = &[
+    ("inc", (Some("inc"), Some("none"), ACTIONS)),
+    ("setbits", (Some("setbits"), Some("set_bits"), ACTIONS)),
+    ("", (Some(""), Some("set"), ACTIONS)),
+    ("SET", (Some("SET"), Some("set"), ACTIONS)),
+    (
+        "aaaaaaaaaaaaaaaaaaaaaaaaaaaaaaaaaaaaaaaaaaaaaaaaaaaaaaaaaaaaaaaaa",
+        (None, None, ACTIONS),
+    ),
+];
+
+#[test]
+fn texts_that_are_no_words(rt: HostRuntime) -> Result<(), Fail> {
+    for (word, told) in NO_WORDS {
+        let step = format!(in rt.alloc();
+            "{{\"do\":\"isr_notify\",\"core\":0,\"to\":\"A\",\"action\":\"{word}\"}}"
+        )?;
+        match detail_of(rt.alloc(), step.as_str())? {
+            Detail::NoWord(stray) => check_stray(&rt, &stray, told),
+            _ => return Err(Fail::from("the text is no word")),
+        }
+    }
+    Ok(())
+}
+
+/// Values in place of a number.
+const FOUND: [(&str, Found); 11] = [
+    ("null", Found::Null),
+    ("-1", Found::Other),
+    ("-0", Found::Other),
+    ("1.0", Found::Other),
+    ("1e0", Found::Other),
+    ("18446744073709551616", Found::Other),
+    ("4294967296", Found::Whole),
+    ("\"0\"", Found::Text),
+    ("true", Found::Flag),
+    ("[0]", Found::Array),
+    ("{}", Found::Object),
+];
+
+#[test]
+fn values_that_are_no_numbers(rt: HostRuntime) -> Result<(), Fail> {
+    for (value, what) in &FOUND {
+        let step = format!(in rt.alloc(); "{{\"do\":\"switch\",\"core\":{value}}}")?;
+        match detail_of(rt.alloc(), step.as_str())? {
+            Detail::Wrong { expected, found } => {
+                expect_same(&rt, &expected, &Expected::Number);
+                expect_same(&rt, &found, what);
+            }
+            _ => return Err(Fail::from("a number is expected")),
+        }
+    }
+    Ok(())
+}

@@ -1,0 +1,136 @@
+-- What was read and written when a program ends.
+use Rattle.std.proofs.Common.{◌≡◌, ◌≢◌, ℕ, ◌+◌, List, [], Bool, true, Option, Some, None, Result, Ok, Err, IfOk, map, string_bytes, refl, sym, ap, subst, ◌∙◌, arith}
+use Rattle.std.specs.IoError.{error_kind}
+use Rattle.std.specs.declared.io.ErrorKind.TheVariants.{InvalidData}
+use Rattle.bench_types.specs.Limits.{max_input}
+use Rattle.program_io.specs.declared.ending.Ending.{Ending}
+use Rattle.program_io.specs.declared.ending.Ending.TheVariants.{BadCommandLine, Failed, Gone, NotOpened, Written}
+use Rattle.program_io.specs.declared.ending.RunFault.TheVariants.{Memory, Read, Write}
+use Rattle.program_io.specs.declared.input.InputFault.{InputFault}
+use Rattle.program_io.specs.declared.input.InputFault.TheVariants as input
+use Rattle.program_io.specs.declared.output.OutputStatus.TheVariants.{Fine, Failed as Refused, Unknown}
+use Rattle.program_io.specs.Device.{ReadsInput, ReadsSome, reads_on}
+use Rattle.program_io.specs.Endings.{all_reads_well, all_writes_well, AreGiven, Bytes, Ends, EndsBad, EndsHelp, EndsTelling, EndsWith, EndsWriting, Shows, gone_as_fault, unread, Words}
+use Rattle.program_io.specs.Outputs.{Told}
+
+-- ---- what a command tells
+
+module _ (Promises : List ℕ → Told → Type 0) (read_old read_new write_old write_new : Bytes) where
+  -- what it promises was told, or memory was refused for it
+  pub told_ended : {E : Type 0} (input : List ℕ) (result : Result Told E) (ending : Ending) → ReadsInput read_old read_new input → IfOk result (Promises input) → EndsWriting result ending write_old write_new
+      → EndsTelling Promises ending read_old read_new write_old write_new
+  told_ended input (Ok told) (Written status note) reads promised wrote = record { input = input; reads = reads; told = told; promised = promised; is_status = wrote.0; is_note = wrote.1; writes = wrote.2 }
+  told_ended input (Ok told) Gone reads promised wrote = record { input = input; reads = reads; told = told; promised = promised; writes = wrote }
+  told_ended input (Ok told) (Failed Write) reads promised wrote = record { input = input; reads = reads; told = told; promised = promised; writes = wrote }
+  told_ended input (Ok told) (Failed Memory) reads promised wrote = absurd wrote
+  told_ended input (Ok told) (Failed Read) reads promised wrote = absurd wrote
+  told_ended input (Ok told) (BadCommandLine text) reads promised wrote = absurd wrote
+  told_ended input (Ok told) (NotOpened line) reads promised wrote = absurd wrote
+  told_ended input (Err e) (Failed Memory) reads promised wrote = record { reads = record { bytes = input; consumes = reads.consumes; within = reads.within }; writes = wrote }
+  told_ended input (Err e) (Failed Read) reads promised wrote = absurd wrote
+  told_ended input (Err e) (Failed Write) reads promised wrote = absurd wrote
+  told_ended input (Err e) (Written status note) reads promised wrote = absurd wrote
+  told_ended input (Err e) Gone reads promised wrote = absurd wrote
+  told_ended input (Err e) (BadCommandLine text) reads promised wrote = absurd wrote
+  told_ended input (Err e) (NotOpened line) reads promised wrote = absurd wrote
+
+  -- the input was not read
+  pub unread_ended : (fault : InputFault) → ReadsSome read_old read_new (max_input + 1) → write_new ≡ write_old → EndsTelling Promises (unread fault) read_old read_new write_old write_new
+  unread_ended input.Memory reads same = record { reads = reads; writes = same }
+  unread_ended input.Read reads same = record { reads = reads; writes = same }
+
+  -- where the reader of the output has gone, some first bytes of it were written
+  pub gone_telling : (ending : Ending) → EndsTelling Promises ending read_old read_new write_old write_new → EndsTelling Promises (gone_as_fault ending) read_old read_new write_old write_new
+  gone_telling (Written status note) ended = ended
+  gone_telling (BadCommandLine text) ended = ended
+  gone_telling (NotOpened line) ended = ended
+  gone_telling Gone ended = ended
+  gone_telling (Failed fault) ended = ended
+
+none_read : (bytes : Bytes) → ReadsSome bytes bytes (max_input + 1)
+none_read None = record { bytes = []; consumes = tt; within = omega arith }
+none_read (Some bytes) = record { bytes = []; consumes = refl; within = omega arith }
+
+-- memory was refused before anything was read
+pub nothing_told : (Promises : List ℕ → Told → Type 0) (read write : Bytes) → EndsTelling Promises (Failed Memory) read read write write
+nothing_told Promises read write = record { reads = none_read read; writes = refl }
+
+-- ---- help
+
+pub help_ended : (text : List ℕ) (ending : Ending) (read write_old write_new : Bytes) → Shows text ending write_old write_new → EndsHelp ending read read write_old write_new
+help_ended text (Written Fine note) read write_old write_new shows = (refl, (text, shows))
+help_ended text (Written Refused note) read write_old write_new shows = absurd shows
+help_ended text (Written Unknown note) read write_old write_new shows = absurd shows
+help_ended text (BadCommandLine words) read write_old write_new shows = absurd shows
+help_ended text (NotOpened line) read write_old write_new shows = absurd shows
+help_ended text Gone read write_old write_new shows = (refl, (text, shows))
+help_ended text (Failed Memory) read write_old write_new shows = absurd shows
+help_ended text (Failed Read) read write_old write_new shows = absurd shows
+help_ended text (Failed Write) read write_old write_new shows = (refl, (text, shows))
+
+-- ---- a write that failed, in place of a reader that has gone
+
+pub gone_help : (ending : Ending) (read_old read_new write_old write_new : Bytes) → EndsHelp ending read_old read_new write_old write_new → EndsHelp (gone_as_fault ending) read_old read_new write_old write_new
+gone_help (Written status note) read_old read_new write_old write_new ended = ended
+gone_help (BadCommandLine text) read_old read_new write_old write_new ended = ended
+gone_help (NotOpened line) read_old read_new write_old write_new ended = ended
+gone_help Gone read_old read_new write_old write_new ended = ended
+gone_help (Failed fault) read_old read_new write_old write_new ended = ended
+
+pub gone_bad : (ending : Ending) (read_old read_new write_old write_new : Bytes) → EndsBad ending read_old read_new write_old write_new → EndsBad (gone_as_fault ending) read_old read_new write_old write_new
+gone_bad (Written status note) read_old read_new write_old write_new ended = ended
+gone_bad (BadCommandLine text) read_old read_new write_old write_new ended = ended
+gone_bad (NotOpened line) read_old read_new write_old write_new ended = ended
+gone_bad Gone read_old read_new write_old write_new ended = absurd ended
+gone_bad (Failed fault) read_old read_new write_old write_new ended = ended
+
+pub gone_reads : (ending : Ending) → all_reads_well (gone_as_fault ending) ≡ all_reads_well ending
+gone_reads (Written status note) = refl
+gone_reads (BadCommandLine text) = refl
+gone_reads (NotOpened line) = refl
+gone_reads Gone = refl
+gone_reads (Failed fault) = refl
+
+pub gone_writes : (ending : Ending) → all_writes_well (gone_as_fault ending) ≡ all_writes_well ending
+gone_writes (Written status note) = refl
+gone_writes (BadCommandLine text) = refl
+gone_writes (NotOpened line) = refl
+gone_writes Gone = refl
+gone_writes (Failed fault) = refl
+
+-- none is left
+pub never_gone : (ending : Ending) → gone_as_fault ending ≢ Gone
+never_gone (Written status note) is = cc is
+never_gone (BadCommandLine text) is = cc is
+never_gone (NotOpened line) is = cc is
+never_gone Gone is = cc is
+never_gone (Failed fault) is = cc is
+
+-- ---- reads that failed
+
+pub unread_counted : {A : Type 0} (fault : InputFault) (result : Result A InputFault) → result ≡ Err fault → all_reads_well (unread fault) ≡ reads_on result
+unread_counted {A = A} fault result is = go fault ∙ sym (ap (λ r. reads_on r) is)
+  where
+    go : (fault : InputFault) → all_reads_well (unread fault) ≡ reads_on {A = A} (Err fault)
+    go input.Memory = refl
+    go input.Read = refl
+
+pub unread_writes : (fault : InputFault) → all_writes_well (unread fault) ≡ true
+unread_writes input.Memory = refl
+unread_writes input.Read = refl
+
+-- ---- the words of the process
+
+module _ (ends : Ends) (words : Words) (read_old read_new write_old write_new : Bytes) where
+  -- by the words that it was given
+  pub words_ended : (given : Option (List (List ℕ))) (ending : Ending) → AreGiven words given → ends given ending read_old read_new write_old write_new → EndsWith ends words ending read_old read_new write_old write_new
+  words_ended given ending are ended = go words are
+    where
+      go : (words : Words) → AreGiven words given → EndsWith ends words ending read_old read_new write_old write_new
+      go (Ok handed) is = subst (λ (given : Option (List (List ℕ))). ends given ending read_old read_new write_old write_new) is ended
+      go (Err error) is = (λ same. subst (λ (given : Option (List (List ℕ))). ends given ending read_old read_new write_old write_new) is.1 ended, λ other. absurd (other is.0))
+
+-- memory was refused before they were known
+pub words_refused : (ends : Ends) (words : Words) (read write : Bytes) → ((given : Option (List (List ℕ))) → ends given (Failed Memory) read read write write) → EndsWith ends words (Failed Memory) read read write write
+words_refused ends (Ok handed) read write law = law (Some (map string_bytes _))
+words_refused ends (Err error) read write law = (λ same. law None, λ other. (refl, (refl, refl)))

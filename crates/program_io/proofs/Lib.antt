@@ -1,0 +1,5 @@
+pub mod Ended
+mod KnownInput
+mod KnownOutput
+mod Prompted
+pub mod Told

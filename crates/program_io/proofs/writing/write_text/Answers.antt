@@ -1,0 +1,15 @@
+use Rattle.std.proofs.Common.{length, arith, ◌∙◌, ap}
+use Rattle.std.proofs.lemmas.List.{length-drop}
+use Rattle.program_io.proofs.KnownOutput.{appends_piece, appends_whole, take_rest, none_counted}
+use Rattle.program_io.proofs.writing.write_text.Goals as goal
+
+-- src/writing.rt:18:5
+pub loop-written-preserved : goal.loop-written-preserved
+loop-written-preserved g c = record {
+  wrote = appends_piece (g.W.Write.contents c.args.writer.now) (g.W.Write.contents c.loop-written.writer) (g.W.Write.contents c.write_counted.new.self) c.loop-written.written c.in-Ok.count c.args.text.now c.loop-written.invariant.wrote c.in-Ok.ensures.bytes;
+  within = omega (arith, c.in-Ok.ensures.bound, c.loop-written-test.true, length-drop c.loop-written.written c.args.text.now, ap (λ bytes. length bytes) (take_rest c.loop-written.written c.args.text.now));
+  none_failed = c.write_counted.ensures.count ∙ none_counted c.write_counted.result c.in-Ok.count (g.W.CountedWrite.failures c.loop-written.writer) c.in-Ok.is c.if-count-eq0.false ∙ c.loop-written.invariant.none_failed;
+}
+
+pub returns-clause-whole : goal.returns-clause-whole
+returns-clause-whole g c = appends_whole (g.W.Write.contents c.args.writer.now) (g.W.Write.contents c.loop-written.writer) c.loop-written.written c.args.text.now c.loop-written-test.false c.loop-written.invariant.wrote

@@ -1,0 +1,272 @@
+-- What people are told of a refused input: a line on standard error, beside the refusal line.
+use Rattle.std.specs.Prelude.{◌≡◌, ◌==◌, ◌-◌, if◌then◌else◌, ℕ, List, [], ◌∷◌, ◌++◌, length, nat_eq, nat_lt, codes, decimal, Bool, true, false, Option, Some, None, Result, Ok, Err}
+use Rattle.std.specs.List.{starts_with}
+use Rattle.std.specs.Str.{is_utf8}
+use Rattle.serde_json.specs.Read.{read}
+use Rattle.bench_types.specs.declared.flaw.HeaderFlaw.{HeaderFlaw}
+use Rattle.bench_types.specs.declared.flaw.HeaderFlaw.TheVariants.{Cores, Priorities, Mutexes, Notes, TaskCount, NoName, Priority, Mask, SharedName}
+use Rattle.bench_types.specs.declared.step_flaw.StepFlaw.{StepFlaw}
+use Rattle.bench_types.specs.declared.step_flaw.StepFlaw.TheVariants as flaws
+use Rattle.bench_types.specs.Limits.{min_cores, max_cores, max_priorities, max_tasks, max_mutexes, max_notes, max_input, max_steps}
+use Rattle.session_text.specs.declared.bench.Bench.{Bench}
+use Rattle.session_text.specs.declared.detail.Detail.{Detail}
+use Rattle.session_text.specs.declared.detail.Detail.TheVariants as detail
+use Rattle.session_text.specs.declared.detail.Expected.{Expected}
+use Rattle.session_text.specs.declared.detail.Expected.TheVariants as expected
+use Rattle.session_text.specs.declared.detail.Found.{Found}
+use Rattle.session_text.specs.declared.detail.Found.TheVariants as found
+use Rattle.session_text.specs.declared.fault.TextFault.{TextFault}
+use Rattle.session_text.specs.declared.fault.Why.{Why}
+use Rattle.session_text.specs.declared.fault.Why.TheVariants.{NotJson, BadShape, NoMemory}
+use Rattle.session_text.specs.declared.fault.Why.TheVariants as why
+use Rattle.session_text.specs.declared.nearest.Shown.{Shown}
+use Rattle.session_text.specs.declared.nearest.Shown.TheVariants as shown
+use Rattle.session_text.specs.declared.nearest.Stray.{Stray}
+use Rattle.session_text.specs.declared.rig.RigScript.{RigScript}
+use Rattle.session_text.specs.Bench.{bench_text}
+use Rattle.session_text.specs.Rig.{rig_text}
+
+-- ---- H1
+
+-- some place is told, from which on the text is no JSON
+pub record TellsPlace (hint : List ℕ) : Type 0 where
+  pub line : ℕ
+  pub column : ℕ
+  pub text :
+      hint
+      ≡ codes "not JSON: line " ++ decimal line ++ codes ", column " ++ decimal column ++ codes "\n"
+
+-- of a text, that place; of bytes that are none, that they are no UTF-8
+pub record IsShortTextHint (input hint : List ℕ) : Type 0 where
+  pub place : is_utf8 input ≡ true → read input ≡ None → TellsPlace hint
+  pub bytes : is_utf8 input ≡ false → hint ≡ codes "not JSON: not UTF-8\n"
+
+-- the most bytes that are read again for the place; a tree of them takes up to 130 times as many
+abbrev pub max_placed : ℕ
+max_placed = 8388608
+
+abbrev pub no_place_line : List ℕ
+no_place_line = codes "not JSON\n"
+
+-- by whether the input is too long for that
+abbrev pub IsNotJsonHintWhere : Bool → List ℕ → List ℕ → Type 0
+IsNotJsonHintWhere true input hint = hint ≡ no_place_line
+IsNotJsonHintWhere false input hint = IsShortTextHint input hint
+
+-- the bytes of a byte order mark
+abbrev pub byte_order_mark : List ℕ
+byte_order_mark = 0xEF ∷ 0xBB ∷ 0xBF ∷ []
+
+abbrev pub mark_line : List ℕ
+mark_line = codes "not JSON: the text begins with a byte order mark; save it without one\n"
+
+-- by whether the input begins with such a mark
+abbrev pub IsHintOfMarked : Bool → List ℕ → List ℕ → Type 0
+IsHintOfMarked true input hint = hint ≡ mark_line
+IsHintOfMarked false input hint =
+    IsNotJsonHintWhere (nat_lt max_placed (length input)) input hint
+
+abbrev pub IsNotJsonHint : List ℕ → List ℕ → Type 0
+IsNotJsonHint input hint = IsHintOfMarked (starts_with nat_eq input byte_order_mark) input hint
+
+-- ---- F1 of the header
+
+-- a number of the header, and what it may be
+abbrev pub limits_line : List ℕ → ℕ → ℕ → ℕ → List ℕ
+limits_line member n least most =
+    codes "header: " ++ member ++ codes " is " ++ decimal n ++ codes ", and may be "
+    ++ decimal least ++ codes " to " ++ decimal most ++ codes "\n"
+
+-- a user task by its place, then what is wrong with it
+abbrev pub task_line : ℕ → List ℕ → List ℕ
+task_line task text = codes "header: tasks[" ++ decimal task ++ codes "]" ++ text ++ codes "\n"
+
+-- the same with a number at the end
+abbrev pub task_limit_line : ℕ → List ℕ → ℕ → List ℕ
+task_limit_line task text n =
+    codes "header: tasks[" ++ decimal task ++ codes "]" ++ text ++ decimal n ++ codes "\n"
+
+abbrev pub flaw_line : HeaderFlaw → List ℕ
+flaw_line (Cores n) = limits_line (codes "cores") n min_cores max_cores
+flaw_line (Priorities n) = limits_line (codes "priorities") n 1 max_priorities
+flaw_line (Mutexes n) = limits_line (codes "mutexes") n 0 max_mutexes
+flaw_line (Notes n) = limits_line (codes "notes") n 1 max_notes
+flaw_line (TaskCount n) = limits_line (codes "the number of tasks") n 1 max_tasks
+flaw_line (NoName task) =
+    task_line task
+    (codes ".name has to be 1 to 15 characters from ! to ~, and not begin with IDLE")
+flaw_line (Priority task priorities) =
+    task_limit_line task (codes ".priority has to be below ") priorities
+flaw_line (Mask task cores) =
+    task_limit_line task (codes ".mask has to have a bit below bit ") cores
+flaw_line (SharedName task) = task_line task (codes ".name is that of another task too")
+
+-- ---- faults that have a path
+
+abbrev pub line_at : List ℕ → List ℕ → List ℕ
+line_at path meaning = path ++ codes ": " ++ meaning ++ codes "\n"
+
+-- ---- H2
+
+abbrev pub expected_text : Expected → List ℕ
+expected_text expected.Number = codes "a whole number from 0 to 4294967295"
+expected_text expected.Text = codes "a text"
+expected_text expected.Flag = codes "true or false"
+expected_text expected.Array = codes "an array"
+expected_text expected.Object = codes "an object"
+
+-- a whole number that is found where a number is expected is too great
+abbrev pub whole_text : Expected → List ℕ
+whole_text expected.Number = codes "a greater one"
+whole_text expected.Text = codes "a whole number"
+whole_text expected.Flag = codes "a whole number"
+whole_text expected.Array = codes "a whole number"
+whole_text expected.Object = codes "a whole number"
+
+-- of the other numbers, those that are not expected
+abbrev pub number_text : Expected → List ℕ
+number_text expected.Number =
+    codes "a number that is negative, too large, or written with a point or an exponent"
+number_text expected.Text = codes "a number"
+number_text expected.Flag = codes "a number"
+number_text expected.Array = codes "a number"
+number_text expected.Object = codes "a number"
+
+abbrev pub found_text : Expected → Found → List ℕ
+found_text expected found.Whole = whole_text expected
+found_text expected found.Other = number_text expected
+found_text expected found.Null = codes "null"
+found_text expected found.Text = codes "a text"
+found_text expected found.Flag = codes "true or false"
+found_text expected found.Array = codes "an array"
+found_text expected found.Object = codes "an object"
+
+abbrev pub wrong_text : Expected → Found → List ℕ
+wrong_text expected found =
+    codes "expected " ++ expected_text expected ++ codes ", found " ++ found_text expected found
+
+abbrev pub quoted : List ℕ → List ℕ
+quoted word = codes "\"" ++ word ++ codes "\""
+
+-- the nearest word, where there is one
+abbrev pub nearest_text : Option (List ℕ) → List ℕ
+nearest_text None = []
+nearest_text (Some word) = codes "; the nearest is " ++ quoted word
+
+-- then all words, with what they are
+abbrev pub words_text : Stray → List ℕ → List ℕ
+words_text stray meaning = nearest_text stray.nearest ++ meaning ++ stray.words
+
+abbrev pub member_text : Shown → List ℕ
+member_text shown.Long = codes "there is a member with a long name"
+member_text (shown.Text name) = codes "there is no member " ++ quoted name
+
+-- of a member that may not stand there
+abbrev pub unknown_text : Stray → List ℕ
+unknown_text stray = member_text stray.text ++ words_text stray (codes "; these may stand here: ")
+
+abbrev pub word_text : Shown → List ℕ
+word_text shown.Long = codes "a long text is no word that stands here"
+word_text (shown.Text word) = quoted word ++ codes " is no word that stands here"
+
+-- of a text that is no word that may stand there
+abbrev pub no_word_text : Stray → List ℕ
+no_word_text stray = word_text stray.text ++ words_text stray (codes "; these are: ")
+
+-- ---- F1 to F5 of a step, an action or an edit
+
+-- a number that is none of so many
+abbrev pub none_of_text : List ℕ → ℕ → List ℕ → ℕ → List ℕ
+none_of_text word n words count =
+    word ++ codes " " ++ decimal n ++ codes " is none of the " ++ words ++ codes " 0 to "
+    ++ decimal (count - 1)
+
+abbrev pub mutex_text : ℕ → ℕ → List ℕ
+mutex_text mutex count =
+    if count == 0
+    then codes "mutex " ++ decimal mutex ++ codes " is none: the session has no mutexes"
+    else none_of_text (codes "mutex") mutex (codes "mutexes") count
+
+abbrev pub mask_text : ℕ → ℕ → List ℕ
+mask_text mask cores =
+    codes "mask " ++ decimal mask ++ codes " has no bit below bit " ++ decimal cores
+
+abbrev pub step_flaw_text : StepFlaw → List ℕ
+step_flaw_text (flaws.Core core cores) = none_of_text (codes "core") core (codes "cores") cores
+step_flaw_text (flaws.TickCore core) = codes "only core 0 has ticks"
+step_flaw_text (flaws.Task task) = codes "no user task has such a name"
+step_flaw_text (flaws.Mutex mutex mutexes) = mutex_text mutex mutexes
+step_flaw_text (flaws.Mask mask cores) = mask_text mask cores
+step_flaw_text flaws.Increment = codes "inc has to be 1 or more"
+step_flaw_text (flaws.Index index notes) =
+    none_of_text (codes "index") index (codes "notifications") notes
+step_flaw_text (flaws.NewPriority priority priorities) =
+    codes "priority " ++ decimal priority ++ codes " has to be below " ++ decimal priorities
+step_flaw_text (flaws.NewMask mask cores) = mask_text mask cores
+
+-- ---- what is wrong at a place
+
+abbrev pub shape_text : Detail → List ℕ
+shape_text detail.None = codes "a member is missing, ill-typed or unknown"
+shape_text detail.Missing = codes "this member is missing"
+shape_text (detail.Unknown stray) = unknown_text stray
+shape_text (detail.Wrong expected found) = wrong_text expected found
+shape_text (detail.NoWord stray) = no_word_text stray
+shape_text detail.NoFormat = codes "expected 1 or 2"
+shape_text detail.HasSteps = codes "the session of a rig has no steps"
+shape_text (detail.OnePerCore cores) =
+    codes "expected an array for each core, " ++ decimal cores ++ codes " of them"
+shape_text (detail.Header flaw) = codes "this header is not accepted"
+shape_text (detail.Step flaw) = step_flaw_text flaw
+shape_text (detail.Limit limit) =
+    codes "limit is " ++ decimal limit ++ codes ", and may be 0 to " ++ decimal max_steps
+
+-- F1 of the header has no path
+abbrev pub fault_line : List ℕ → Detail → List ℕ
+fault_line path (detail.Header flaw) = flaw_line flaw
+fault_line path more = line_at path (shape_text more)
+
+-- ---- the line
+
+-- of a text that is refused for this, at this path, with what more is known of it; want of memory
+-- is no refusal
+abbrev pub IsFaultHint : List ℕ → Why → List ℕ → Detail → List ℕ → Type 0
+IsFaultHint input NotJson path more hint = IsNotJsonHint input hint
+IsFaultHint input BadShape path more hint = hint ≡ line_at path (shape_text more)
+IsFaultHint input (why.Bench fault) path more hint = hint ≡ fault_line path more
+IsFaultHint input NoMemory path more hint = ⊥
+
+-- H3
+abbrev pub too_long_line : List ℕ
+too_long_line = codes "the input has more than " ++ decimal max_input ++ codes " bytes\n"
+
+-- J2
+abbrev pub too_many_steps_line : List ℕ
+too_many_steps_line = codes "the session has more than " ++ decimal max_steps ++ codes " steps\n"
+
+-- by what a text is read as: a bench document that is read is refused for its number of steps alone
+abbrev pub IsBenchTextHint : List ℕ → Result Bench TextFault → List ℕ → Type 0
+IsBenchTextHint input (Ok bench) hint = hint ≡ too_many_steps_line
+IsBenchTextHint input (Err fault) hint = IsFaultHint input fault.why fault.path fault.detail hint
+
+-- a rig document that is read is not refused
+abbrev pub IsRigTextHint : List ℕ → Result RigScript TextFault → List ℕ → Type 0
+IsRigTextHint input (Ok rig) hint = hint ≡ []
+IsRigTextHint input (Err fault) hint = IsFaultHint input fault.why fault.path fault.detail hint
+
+-- by whether the input is too long
+abbrev pub IsBenchHintWhere : Bool → List ℕ → List ℕ → Type 0
+IsBenchHintWhere true input hint = hint ≡ too_long_line
+IsBenchHintWhere false input hint = IsBenchTextHint input (bench_text input) hint
+
+abbrev pub IsRigHintWhere : Bool → List ℕ → List ℕ → Type 0
+IsRigHintWhere true input hint = hint ≡ too_long_line
+IsRigHintWhere false input hint = IsRigTextHint input (rig_text input) hint
+
+-- the line of a bench document that is refused
+abbrev pub IsBenchHint : List ℕ → List ℕ → Type 0
+IsBenchHint input hint = IsBenchHintWhere (nat_lt max_input (length input)) input hint
+
+-- the line of a rig document that is refused
+abbrev pub IsRigHint : List ℕ → List ℕ → Type 0
+IsRigHint input hint = IsRigHintWhere (nat_lt max_input (length input)) input hint

@@ -1,0 +1,427 @@
+//! What people are told of a refused input, beside its refusal line.
+ghost use Rattle.std.specs.Prelude.{◌≡◌, ◌++◌, None, IfOk, IsErr, OnOk, string_bytes, true};
+ghost use Rattle.serde_json.specs.Read.{read};
+ghost use Rattle.bench_types.specs.declared.step_flaw.StepFlaw.TheVariants.{NewPriority};
+ghost use Rattle.session_text.specs.declared.detail.Detail.TheVariants.{Limit, OnePerCore};
+ghost use Rattle.session_text.specs.declared.fault.Why.TheVariants.{NoMemory};
+ghost use Rattle.program_io.specs.Hint.{IsFaultHint, IsNotJsonHint, IsShortTextHint, TellsPlace, expected_text, fault_line, flaw_line, found_text, limits_line, line_at, mask_text, member_text, mutex_text, nearest_text, no_word_text, none_of_text, number_text, quoted, shape_text, step_flaw_text, task_limit_line, task_line, too_long_line, too_many_steps_line, unknown_text, whole_text, word_text, words_text, wrong_text};
+
+use bench_types::{
+    HeaderFlaw, MAX_CORES, MAX_INPUT, MAX_MUTEXES, MAX_NOTES, MAX_PRIORITIES, MAX_STEPS, MAX_TASKS,
+    MIN_CORES, StepFlaw,
+};
+use serde_json::{Error, Value};
+use session_text::{Detail, Expected, Found, Shown, Stray, TextFault, Why, Words};
+use std::alloc::{AllocError, Global};
+
+/// The most bytes that are read again for the place of a fault: serde_json's tree of them takes up
+/// to 130 times as many.
+const MAX_PLACED: usize = 8_388_608;
+
+fn place_hint(alloc: Global, error: &Error) -> Result<String, AllocError>
+    ensures { IfOk result (λ hint. TellsPlace (string_bytes hint)) }
+{
+    let line = error.line();
+    let column = error.column();
+    let mut hint = String::new(alloc);
+    write!(hint, "not JSON: line {line}, column {column}\n")?;
+    Ok(hint)
+}
+
+// The line of a text that serde_json doesn't read: it is read again for the place.
+fn no_value_hint(alloc: Global, text: &str) -> Result<String, AllocError>
+    ensures { IfOk result (λ hint. read text.now ≡ None → TellsPlace (string_bytes hint)) }
+{
+    match Value::from_str(alloc, text) {
+        Ok(_) => Ok(String::new(alloc)),
+        Err(error) => {
+            if error.is_memory() {
+                return Err(AllocError);
+            }
+            place_hint(alloc, &error)
+        }
+    }
+}
+
+fn short_text_hint(alloc: Global, input: &[u8]) -> Result<String, AllocError>
+    ensures { IfOk result (λ hint. IsShortTextHint input.now (string_bytes hint)) }
+{
+    match std::str::from_utf8(input) {
+        Ok(text) => no_value_hint(alloc, text),
+        Err(_) => String::from_str(alloc, "not JSON: not UTF-8\n"),
+    }
+}
+
+fn not_json_hint(alloc: Global, input: &[u8]) -> Result<String, AllocError>
+    ensures { IfOk result (λ hint. IsNotJsonHint input.now (string_bytes hint)) }
+{
+    if input.starts_with(b"\xEF\xBB\xBF") {
+        return String::from_str(
+            alloc,
+            "not JSON: the text begins with a byte order mark; save it without one\n",
+        );
+    }
+    if input.len() > MAX_PLACED {
+        return String::from_str(alloc, "not JSON\n");
+    }
+    short_text_hint(alloc, input)
+}
+
+fn push_limits(
+    text: &mut String,
+    member: &str,
+    number: usize,
+    least: u32,
+    most: u32,
+) -> Result<(), AllocError>
+    ensures { OnOk result
+        (string_bytes text.new
+        ≡ string_bytes text.old ++ limits_line member.now number least most) }
+{
+    write!(
+        text,
+        "header: {member} is {number}, and may be {least} to {most}\n"
+    )
+}
+
+fn push_task(text: &mut String, task: usize, wrong: &str) -> Result<(), AllocError>
+    ensures { OnOk result
+        (string_bytes text.new ≡ string_bytes text.old ++ task_line task wrong.now) }
+{
+    write!(text, "header: tasks[{task}]{wrong}\n")
+}
+
+// The same with a number at the end.
+fn push_task_limit(
+    text: &mut String,
+    task: usize,
+    wrong: &str,
+    number: u32,
+) -> Result<(), AllocError>
+    ensures { OnOk result
+        (string_bytes text.new
+        ≡ string_bytes text.old ++ task_limit_line task wrong.now number) }
+{
+    write!(text, "header: tasks[{task}]{wrong}{number}\n")
+}
+
+fn push_flaw(text: &mut String, flaw: HeaderFlaw) -> Result<(), AllocError>
+    ensures { OnOk result (string_bytes text.new ≡ string_bytes text.old ++ flaw_line flaw) }
+{
+    match flaw {
+        HeaderFlaw::Cores(n) => push_limits(text, "cores", n as usize, MIN_CORES, MAX_CORES),
+        HeaderFlaw::Priorities(n) => push_limits(text, "priorities", n as usize, 1, MAX_PRIORITIES),
+        HeaderFlaw::Mutexes(n) => push_limits(text, "mutexes", n as usize, 0, MAX_MUTEXES),
+        HeaderFlaw::Notes(n) => push_limits(text, "notes", n as usize, 1, MAX_NOTES),
+        HeaderFlaw::TaskCount(n) => push_limits(text, "the number of tasks", n, 1, MAX_TASKS),
+        HeaderFlaw::NoName(task) => push_task(
+            text,
+            task,
+            ".name has to be 1 to 15 characters from ! to ~, and not begin with IDLE",
+        ),
+        HeaderFlaw::Priority { task, priorities } => {
+            push_task_limit(text, task, ".priority has to be below ", priorities)
+        }
+        HeaderFlaw::Mask { task, cores } => {
+            push_task_limit(text, task, ".mask has to have a bit below bit ", cores)
+        }
+        HeaderFlaw::SharedName(task) => push_task(text, task, ".name is that of another task too"),
+    }
+}
+
+fn header_hint(alloc: Global, flaw: HeaderFlaw) -> Result<String, AllocError>
+    ensures { IfOk result (λ hint. string_bytes hint ≡ flaw_line flaw) }
+{
+    let mut hint = String::new(alloc);
+    push_flaw(&mut hint, flaw)?;
+    Ok(hint)
+}
+
+fn expected_text(expected: Expected) -> &'static str
+    ensures { result.now ≡ expected_text expected }
+{
+    match expected {
+        Expected::Number => "a whole number from 0 to 4294967295",
+        Expected::Text => "a text",
+        Expected::Flag => "true or false",
+        Expected::Array => "an array",
+        Expected::Object => "an object",
+    }
+}
+
+fn whole_text(expected: Expected) -> &'static str
+    ensures { result.now ≡ whole_text expected }
+{
+    match expected {
+        Expected::Number => "a greater one",
+        Expected::Text | Expected::Flag | Expected::Array | Expected::Object => "a whole number",
+    }
+}
+
+fn number_text(expected: Expected) -> &'static str
+    ensures { result.now ≡ number_text expected }
+{
+    match expected {
+        Expected::Number => {
+            "a number that is negative, too large, or written with a point or an exponent"
+        }
+        Expected::Text | Expected::Flag | Expected::Array | Expected::Object => "a number",
+    }
+}
+
+fn found_text(expected: Expected, found: Found) -> &'static str
+    ensures { result.now ≡ found_text expected found }
+{
+    match found {
+        Found::Whole => whole_text(expected),
+        Found::Other => number_text(expected),
+        Found::Null => "null",
+        Found::Text => "a text",
+        Found::Flag => "true or false",
+        Found::Array => "an array",
+        Found::Object => "an object",
+    }
+}
+
+fn push_wrong(text: &mut String, expected: Expected, found: Found) -> Result<(), AllocError>
+    ensures { OnOk result
+        (string_bytes text.new ≡ string_bytes text.old ++ wrong_text expected found) }
+{
+    text.push_str("expected ")?;
+    text.push_str(expected_text(expected))?;
+    text.push_str(", found ")?;
+    text.push_str(found_text(expected, found))
+}
+
+fn push_quoted(text: &mut String, word: &str) -> Result<(), AllocError>
+    ensures { OnOk result (string_bytes text.new ≡ string_bytes text.old ++ quoted word.now) }
+{
+    text.push_str("\"")?;
+    text.push_str(word)?;
+    text.push_str("\"")
+}
+
+fn push_nearest(text: &mut String, nearest: &Option<Words>) -> Result<(), AllocError>
+    ensures { OnOk result
+        (string_bytes text.new ≡ string_bytes text.old ++ nearest_text nearest.now) }
+{
+    match nearest {
+        Some(word) => {
+            text.push_str("; the nearest is ")?;
+            push_quoted(text, word.as_str())
+        }
+        None => Ok(()),
+    }
+}
+
+// The nearest word, and then all of them after what they are.
+fn push_words(text: &mut String, stray: &Stray, meaning: &str) -> Result<(), AllocError>
+    ensures { OnOk result
+        (string_bytes text.new ≡ string_bytes text.old ++ words_text stray.now meaning.now) }
+{
+    push_nearest(text, &stray.nearest)?;
+    text.push_str(meaning)?;
+    text.push_str(stray.words.as_str())
+}
+
+fn push_member(text: &mut String, member: &Shown) -> Result<(), AllocError>
+    ensures { OnOk result
+        (string_bytes text.new ≡ string_bytes text.old ++ member_text member.now) }
+{
+    match member {
+        Shown::Long => text.push_str("there is a member with a long name"),
+        Shown::Text(name) => {
+            text.push_str("there is no member ")?;
+            push_quoted(text, name.as_str())
+        }
+    }
+}
+
+fn push_unknown(text: &mut String, stray: &Stray) -> Result<(), AllocError>
+    ensures { OnOk result
+        (string_bytes text.new ≡ string_bytes text.old ++ unknown_text stray.now) }
+{
+    push_member(text, &stray.text)?;
+    push_words(text, stray, "; these may stand here: ")
+}
+
+fn push_word(text: &mut String, word: &Shown) -> Result<(), AllocError>
+    ensures { OnOk result (string_bytes text.new ≡ string_bytes text.old ++ word_text word.now) }
+{
+    match word {
+        Shown::Long => text.push_str("a long text is no word that stands here"),
+        Shown::Text(word) => {
+            push_quoted(text, word.as_str())?;
+            text.push_str(" is no word that stands here")
+        }
+    }
+}
+
+fn push_no_word(text: &mut String, stray: &Stray) -> Result<(), AllocError>
+    ensures { OnOk result
+        (string_bytes text.new ≡ string_bytes text.old ++ no_word_text stray.now) }
+{
+    push_word(text, &stray.text)?;
+    push_words(text, stray, "; these are: ")
+}
+
+fn push_per_core(text: &mut String, cores: u32) -> Result<(), AllocError>
+    ensures { OnOk result
+        (string_bytes text.new ≡ string_bytes text.old ++ shape_text (OnePerCore cores)) }
+{
+    write!(text, "expected an array for each core, {cores} of them")
+}
+
+fn push_none_of(
+    text: &mut String,
+    word: &str,
+    number: u32,
+    words: &str,
+    count: u32,
+) -> Result<(), AllocError>
+    ensures { OnOk result
+        (string_bytes text.new
+        ≡ string_bytes text.old ++ none_of_text word.now number words.now count) }
+{
+    let last = count.saturating_sub(1);
+    write!(text, "{word} {number} is none of the {words} 0 to {last}")
+}
+
+fn push_mutex(text: &mut String, mutex: u32, mutexes: u32) -> Result<(), AllocError>
+    ensures { OnOk result
+        (string_bytes text.new ≡ string_bytes text.old ++ mutex_text mutex mutexes) }
+{
+    if mutexes == 0 {
+        write!(text, "mutex {mutex} is none: the session has no mutexes")
+    } else {
+        push_none_of(text, "mutex", mutex, "mutexes", mutexes)
+    }
+}
+
+fn push_mask(text: &mut String, mask: u32, cores: u32) -> Result<(), AllocError>
+    ensures { OnOk result (string_bytes text.new ≡ string_bytes text.old ++ mask_text mask cores) }
+{
+    write!(text, "mask {mask} has no bit below bit {cores}")
+}
+
+fn push_priority(text: &mut String, priority: u32, priorities: u32) -> Result<(), AllocError>
+    ensures { OnOk result
+        (string_bytes text.new
+        ≡ string_bytes text.old ++ step_flaw_text (NewPriority priority priorities)) }
+{
+    write!(text, "priority {priority} has to be below {priorities}")
+}
+
+fn push_step_flaw(text: &mut String, flaw: StepFlaw) -> Result<(), AllocError>
+    ensures { OnOk result (string_bytes text.new ≡ string_bytes text.old ++ step_flaw_text flaw) }
+{
+    match flaw {
+        StepFlaw::Core { core, cores } => push_none_of(text, "core", core, "cores", cores),
+        StepFlaw::TickCore(_) => text.push_str("only core 0 has ticks"),
+        StepFlaw::Task(_) => text.push_str("no user task has such a name"),
+        StepFlaw::Mutex { mutex, mutexes } => push_mutex(text, mutex, mutexes),
+        StepFlaw::Mask { mask, cores } | StepFlaw::NewMask { mask, cores } => {
+            push_mask(text, mask, cores)
+        }
+        StepFlaw::Increment => text.push_str("inc has to be 1 or more"),
+        StepFlaw::Index { index, notes } => {
+            push_none_of(text, "index", index, "notifications", notes)
+        }
+        StepFlaw::NewPriority {
+            priority,
+            priorities,
+        } => push_priority(text, priority, priorities),
+    }
+}
+
+fn push_limit(text: &mut String, limit: u32) -> Result<(), AllocError>
+    ensures { OnOk result
+        (string_bytes text.new ≡ string_bytes text.old ++ shape_text (Limit limit)) }
+{
+    write!(text, "limit is {limit}, and may be 0 to {MAX_STEPS}")
+}
+
+fn push_shape(text: &mut String, detail: &Detail) -> Result<(), AllocError>
+    ensures { OnOk result
+        (string_bytes text.new ≡ string_bytes text.old ++ shape_text detail.now) }
+{
+    match detail {
+        Detail::None => text.push_str("a member is missing, ill-typed or unknown"),
+        Detail::Missing => text.push_str("this member is missing"),
+        Detail::Unknown(stray) => push_unknown(text, stray),
+        Detail::Wrong { expected, found } => push_wrong(text, *expected, *found),
+        Detail::NoWord(stray) => push_no_word(text, stray),
+        Detail::NoFormat => text.push_str("expected 1 or 2"),
+        Detail::HasSteps => text.push_str("the session of a rig has no steps"),
+        Detail::OnePerCore(cores) => push_per_core(text, *cores),
+        Detail::Header(_) => text.push_str("this header is not accepted"),
+        Detail::Step(flaw) => push_step_flaw(text, *flaw),
+        Detail::Limit(limit) => push_limit(text, *limit),
+    }
+}
+
+// What is wrong at the path.
+fn shape_hint(alloc: Global, path: &str, detail: &Detail) -> Result<String, AllocError>
+    ensures { IfOk result
+        (λ hint. string_bytes hint ≡ line_at path.now (shape_text detail.now)) }
+{
+    let mut hint = String::from_str(alloc, path)?;
+    hint.push_str(": ")?;
+    push_shape(&mut hint, detail)?;
+    hint.push_str("\n")?;
+    Ok(hint)
+}
+
+// F1 to F5 at the path.
+fn bench_fault_hint(alloc: Global, path: &str, detail: &Detail) -> Result<String, AllocError>
+    ensures { IfOk result (λ hint. string_bytes hint ≡ fault_line path.now detail.now) }
+{
+    match detail {
+        Detail::Header(flaw) => header_hint(alloc, *flaw),
+        Detail::None
+        | Detail::Missing
+        | Detail::Unknown(_)
+        | Detail::Wrong { .. }
+        | Detail::NoWord(_)
+        | Detail::NoFormat
+        | Detail::HasSteps
+        | Detail::OnePerCore(_)
+        | Detail::Step(_)
+        | Detail::Limit(_) => shape_hint(alloc, path, detail),
+    }
+}
+
+/// What people are told of a text that was not read, a line. Want of memory has none. Only for the
+/// place of what is no JSON is the text read again.
+pub fn fault_hint(alloc: Global, input: &[u8], fault: &TextFault) -> Result<String, AllocError>
+    ensures line { IfOk result
+        (λ hint. IsFaultHint input.now fault.now.why fault.now.path fault.now.detail
+        (string_bytes hint)) }
+    ensures memory { fault.now.why ≡ NoMemory → IsErr result }
+{
+    let path = fault.path.as_str();
+    match fault.why {
+        Why::NotJson => not_json_hint(alloc, input),
+        Why::BadShape => shape_hint(alloc, path, &fault.detail),
+        Why::Bench(_) => bench_fault_hint(alloc, path, &fault.detail),
+        Why::NoMemory => Err(AllocError),
+    }
+}
+
+/// The same of an input that is too long to be read.
+pub fn too_long_hint(alloc: Global) -> Result<String, AllocError>
+    ensures { IfOk result (λ hint. string_bytes hint ≡ too_long_line) }
+{
+    let mut hint = String::new(alloc);
+    write!(hint, "the input has more than {MAX_INPUT} bytes\n")?;
+    Ok(hint)
+}
+
+/// What people are told of a session that has too many steps, a line.
+pub fn too_many_steps_hint(alloc: Global) -> Result<String, AllocError>
+    ensures { IfOk result (λ hint. string_bytes hint ≡ too_many_steps_line) }
+{
+    let mut hint = String::new(alloc);
+    write!(hint, "the session has more than {MAX_STEPS} steps\n")?;
+    Ok(hint)
+}

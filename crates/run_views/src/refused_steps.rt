@@ -1,0 +1,49 @@
+//! Whether the kernel refuses a step of a run.
+ghost use Rattle.std.specs.Prelude.{◌≡◌, ◌↔◌, All, IfOk, IsTrue};
+ghost use Rattle.bench_types.specs.Session.{IsSession};
+ghost use Rattle.bench_types.specs.Step.{IsCheckedStep};
+ghost use Rattle.bench_model.specs.Equal.{StandsFor};
+ghost use Rattle.bench_model.specs.Table.{Table};
+ghost use Rattle.run_views.specs.RefusedSteps.{is_refusal, HasRefusedStep, IsRefusedFrom};
+
+use bench_types::{Header, Reply, Step};
+use smp_kernel::{Kernel, Meter};
+use std::alloc::{AllocError, Global};
+
+fn is_refusal(reply: Reply) -> bool
+    ensures { result ≡ is_refusal reply }
+{
+    matches!(reply, Reply::Refused(_))
+}
+
+// Makes the steps up to one that is refused.
+fn refuses_one(kernel: &mut Kernel, meter: &mut Meter, steps: &[Step]) -> bool
+    requires { All (IsCheckedStep kernel.old.settings) steps.now }
+    ensures { (table : Table) → StandsFor kernel.old table
+        → IsTrue result ↔ IsRefusedFrom table steps.now }
+{
+    for step in steps {
+        let reply = kernel.step(meter, step);
+        if is_refusal(reply) {
+            return true;
+        }
+    }
+    false
+}
+
+/// Whether the kernel refuses a step of the run of a checked session. The meter counts the steps up
+/// to the first that is refused.
+pub fn has_refused_step(
+    alloc: Global,
+    meter: &mut Meter,
+    header: &Header,
+    steps: &[Step],
+) -> Result<bool, AllocError>
+    requires { IsSession (record { header = header.now; steps = steps.now }) }
+    ensures { IfOk result (λ found. IsTrue found ↔ HasRefusedStep header.now steps.now) }
+{
+    match Kernel::start(alloc, header) {
+        Ok(mut kernel) => Ok(refuses_one(&mut kernel, meter, steps)),
+        Err(_) => Err(AllocError),
+    }
+}

@@ -1,0 +1,12 @@
+use Rattle.std.proofs.Common.{◌≡◌, not, take}
+use Rattle.bench_types.specs.declared.header.TaskArgs.{TaskArgs}
+use Rattle.bench_types.specs.Name.{is_name}
+use Rattle.bench_types.proofs.Positions.{IsSoughtTo}
+use Rattle.session_text.proofs.header.named_tasks.Given as goal
+
+-- the tasks so far are taken over, since their names are names
+abbrev pub invariant-loop-place : goal.invariant-loop-place
+invariant-loop-place l = record {
+  so_far : l.tasks.items ≡ take l.place l.shapes;
+  sought : IsSoughtTo (λ (task : TaskArgs). not (is_name task.name)) l.shapes l.place;
+}

@@ -1,0 +1,61 @@
+//! A status that tells of refusals.
+ghost use Rattle.std.specs.Prelude.{◌≡◌, IfOk, string_bytes};
+ghost use Rattle.run_comparisons.specs.Refusals.{HasRefusal};
+ghost use Rattle.view_commands.specs.Strict.{IsStrict, with_lines};
+
+use bench_types::Edit;
+use program_io::{Output, OutputStatus};
+use run_comparisons::has_refusal;
+use session_store::Store;
+use smp_kernel::Meter;
+use std::alloc::{AllocError, Global};
+
+// The same with the status of a failure.
+fn failed(output: Output) -> Output
+    ensures { result ≡ record output { status = OutputStatus.Failed } }
+{
+    Output {
+        status: OutputStatus::Failed,
+        text: output.text,
+        note: output.note,
+    }
+}
+
+/// What is told where refusals count: the status fails where it was fine and an edit of the session
+/// of the store is refused, or a step of the run after the edits.
+pub(crate) fn judged_strictly(
+    alloc: Global,
+    meter: &mut Meter,
+    store: &mut Store,
+    edits: &[Edit],
+    settled: bool,
+    output: Output,
+) -> Result<Output, AllocError>
+    ensures { IfOk result
+        (λ judged. IsStrict (HasRefusal settled store.old.session edits.now) output.status
+        output judged) }
+{
+    match output.status {
+        OutputStatus::Fine => {
+            if has_refusal(alloc, meter, store, edits, settled)? {
+                return Ok(failed(output));
+            }
+            Ok(output)
+        }
+        OutputStatus::Failed | OutputStatus::Unknown => Ok(output),
+    }
+}
+
+/// The lines, and then what is told.
+pub(crate) fn with_lines(lines: String, told: Output) -> Result<Output, AllocError>
+    ensures { IfOk result (λ noted. noted ≡ with_lines (string_bytes lines) told) }
+{
+    let Output { status, text, note } = told;
+    let mut lines = lines.into_bytes();
+    lines.extend_from_slice(note.as_slice())?;
+    Ok(Output {
+        status,
+        text,
+        note: lines,
+    })
+}

@@ -1,0 +1,4 @@
+pub mod Counts
+pub mod Paths
+pub mod Scanning
+pub mod Walks

@@ -157,8 +157,8 @@ fn told_of_trials<T: Threads + Sync>(
     }
 }
 
-// What is told of a bench document that was read. Texts may have any number of steps, so J2 is found
-// here.
+// What is told of a bench document that was read. Texts may have any number of steps, so J2 is
+// found here.
 fn told_of_bench<T: Threads + Sync>(
     rt: &T,
     host: &HostRuntime,

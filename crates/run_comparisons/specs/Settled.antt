@@ -44,8 +44,8 @@ settled_text before after refused rows left rest =
     rows_text before after refused rows ++ fared_text before after
     ++ left_lines before.header after.header left rest
 
--- two settled runs, of a session and of the session after edits of it, their rows, and the places of
--- the edits that are refused; neither run has more steps than a session may have
+-- two settled runs, of a session and of the session after edits of it, their rows, and the places
+-- of the edits that are refused; neither run has more steps than a session may have
 pub record IsSettledPair (session : Session) (edits : List Edit) (pair : SettledPair) : Type 0 where
   pub before : IsSettled session.header session.steps pair.before.run.items
       pair.before.left.items

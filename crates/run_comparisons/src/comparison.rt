@@ -163,8 +163,8 @@ fn push_differences(text: &mut String, refused: &[usize], rows: &[Row]) -> Resul
     }
 }
 
-/// Writes the rows, and where the runs differ first and last. Where they do not, the edits that were
-/// refused are told.
+/// Writes the rows, and where the runs differ first and last. Where they do not, the edits that
+/// were refused are told.
 pub(crate) fn push_rows_text(
     alloc: Global,
     text: &mut String,

@@ -39,8 +39,8 @@ fn make_edit(
     }
 }
 
-/// Makes the edits, and moves the origins as they move the steps. Gives the places of the edits that
-/// are refused.
+/// Makes the edits, and moves the origins as they move the steps. Gives the places of the edits
+/// that are refused.
 pub(crate) fn make_edits(
     alloc: Global,
     meter: &mut Meter,

@@ -75,7 +75,8 @@ fn printable(byte: u8) -> char
 }
 
 fn push_printable(told: &mut String, text: &str) -> Result<(), AllocError>
-    ensures { OnOk result (string_bytes told.new ≡ string_bytes told.old ++ map printable text.now) }
+    ensures { OnOk result
+        (string_bytes told.new ≡ string_bytes told.old ++ map printable text.now) }
 {
     for byte in text.as_bytes() {
         told.push(printable(*byte))?;

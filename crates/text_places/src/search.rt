@@ -1,4 +1,4 @@
-//! Where in a text a path leads, and where a token stands. The text is read once, a token at a time.
+//! Where in a text a path leads, and where a token stands. The text is read once, token by token.
 ghost use Rattle.std.specs.Prelude.{◌≡◌, ◌+◌, ◌<◌, ◌≤◌, ◌^◌, length, option_map, IfOk, IsErr, OnOk};
 ghost use Rattle.json.specs.Json.{array, items, members, object, value};
 ghost use Rattle.text_places.specs.Leads.{led_in, place_of, token_place, wanted_at};

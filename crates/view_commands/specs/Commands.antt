@@ -31,8 +31,8 @@ IsTold (Report view) session edits told = IsReported view session edits told
 IsTold (Check view) session edits told = IsCheckView view session edits told
 IsTold (Advise question) session edits told = IsAdviceView question session edits told
 
--- What a job tells: what its command does, judged, and before that note a line for each edit that is
--- refused.
+-- What a job tells: what its command does, judged, and before that note a line for each edit that
+-- is refused.
 pub record IsDone (job : Job) (session : Session) (edits : List Edit) (told : Told) : Type 0 where
   pub alone : Told
   pub is_told : IsTold job.command session edits alone

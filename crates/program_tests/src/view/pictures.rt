@@ -1,7 +1,7 @@
 //! Pictures.
 
-use crate::view::samples::FIRST_RUN;
-use run_pictures::{Run, timeline, timelines};
+use crate::view::samples::{FIRST_RUN, HINDERED};
+use run_pictures::{Run, law_of_hindrances, timeline, timelines};
 use run_views::Places;
 use session_text::read_session;
 use smp_kernel::Meter;
@@ -17,8 +17,56 @@ const TOLD: &str = "<title>places 0 to 1: core 0 A</title>
 <title>places 3 to 5: tick 1</title>
 <title>place 0: A runs on core 0</title>
 <title>places 1 to 5: A blocked until tick 2 (delay)</title>
-<title>places 0 to 1: C ready</title>
 <title>places 2 to 5: C runs on core 0</title>";
+
+/// What it tells of a ready task, cut where a core became due.
+const READY: [&str; 2] = [
+    "<title>place 0: C ready
+core 0: A of priority 2 runs
+core 1: B of priority 1 runs</title>",
+    "<title>place 1: C ready
+core 0: due, has not switched yet
+core 1: B of priority 1 runs</title>",
+];
+
+/// What is in the way of B, of A and of C.
+const IN_THE_WAY: [&str; 9] = [
+    "<title>place 0: B ready
+core 0: A of priority 3 runs
+core 1: C of priority 2 runs</title>",
+    "<title>place 1: B ready
+the kernel is held by core 0</title>",
+    "<title>places 2 to 3: B ready
+core 0: A of priority 3 runs
+core 1: C of priority 2 runs</title>",
+    "<title>place 4: B ready
+core 0: A of priority 3 runs
+core 1: C of priority 2 runs with preemption off</title>",
+    "<title>place 5: B ready
+core 0: A of priority 3 runs
+core 1: not in its mask</title>",
+    "<title>place 6: B ready
+core 0: due, has not switched yet
+core 1: not in its mask</title>",
+    "<title>place 7: A ready
+core 0: B of priority 4 runs
+core 1: C of priority 2 runs with preemption off</title>",
+    "<title>place 9: C ready
+core 1: A of priority 3 runs
+core 0: not in its mask</title>",
+    "<title>place 11: C ready
+core 0: B of priority 4 runs, which is lower; the core was not asked
+core 1: due, has not switched yet</title>",
+];
+
+/// What stands beside the bars of C, and above them.
+const BESIDE: [&str; 2] = [
+    "<text class='s' x='8' y='181'>priority 2, mask 2 ..<title>C
+places 0 to 9: priority 2, mask 2
+place 10: priority 2
+place 11: priority 6</title></text>",
+    "<title>places 3 to 7: C preemption off</title>",
+];
 
 /// What is told where the places of the upper run begin at other columns: step 0 is as wide as two,
 /// and step 2 of the upper run stands above step 3 of the lower.
@@ -39,9 +87,29 @@ fn a_picture_of_a_run(rt: HostRuntime) -> Result<(), Fail> {
     assert!(rt; steps.len() < 100);
     let mut meter = Meter::new(&rt);
     match timeline(alloc, &mut meter, ALL, &header, steps.as_slice())? {
-        Ok(picture) => expect_told(&rt, picture.as_str(), TOLD),
+        Ok(picture) => {
+            expect_told(&rt, picture.as_str(), TOLD);
+            expect_each(&rt, picture.as_str(), &READY);
+        }
         Err(_) => panic!(rt; "too long"),
     }
+    Ok(())
+}
+
+#[test]
+fn a_picture_of_what_is_in_the_way(rt: HostRuntime) -> Result<(), Fail> {
+    let alloc = rt.alloc();
+    let (header, steps) = read_session(alloc, HINDERED.as_bytes())?;
+    assert!(rt; steps.len() < 100);
+    let mut meter = Meter::new(&rt);
+    match timeline(alloc, &mut meter, ALL, &header, steps.as_slice())? {
+        Ok(picture) => {
+            expect_each(&rt, picture.as_str(), &IN_THE_WAY);
+            expect_each(&rt, picture.as_str(), &BESIDE);
+        }
+        Err(_) => panic!(rt; "too long"),
+    }
+    law_of_hindrances();
     Ok(())
 }
 
@@ -65,6 +133,12 @@ fn a_picture_of_two_runs_in_columns(rt: HostRuntime) -> Result<(), Fail> {
         Err(_) => panic!(rt; "too long"),
     }
     Ok(())
+}
+
+fn expect_each(rt: &impl Abort, picture: &str, wanted: &[&str]) {
+    for told in wanted {
+        assert!(rt; picture.contains(*told), "{told}");
+    }
 }
 
 fn expect_told(rt: &impl Abort, picture: &str, wanted: &str) {

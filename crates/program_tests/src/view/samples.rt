@@ -8,6 +8,23 @@ pub const FIRST_RUN: &str = "{\"format\": 1, \"cores\": 2, \"priorities\": 5, \"
     {\"do\": \"switch\", \"core\": 0}, {\"do\": \"tick\"}, \
     {\"do\": \"yield\", \"core\": 0, \"by\": \"C\"}, {\"do\": \"switch\", \"core\": 0}]}";
 
+/// B is kept from both cores, in turn by higher tasks, a hold, preemption that is off, its mask and
+/// a switch that is to come; then A is, and C while one core alone is asked for it.
+pub const HINDERED: &str = "{\"format\": 1, \"cores\": 2, \"priorities\": 8, \"slicing\": false, \
+    \"tick\": 0, \"mutexes\": 0, \"tasks\": [{\"name\": \"A\", \"priority\": 3, \"mask\": 3}, \
+    {\"name\": \"B\", \"priority\": 1, \"mask\": 3}, {\"name\": \"C\", \"priority\": 2, \"mask\": 2}], \
+    \"steps\": [{\"do\": \"hold_open\", \"core\": 0, \"by\": \"A\"}, \
+    {\"do\": \"hold_close\", \"core\": 0, \"by\": \"A\"}, \
+    {\"do\": \"preempt_off\", \"core\": 1, \"by\": \"C\", \"to\": \"C\"}, \
+    {\"do\": \"priority_set\", \"core\": 0, \"by\": \"A\", \"to\": \"B\", \"priority\": 3}, \
+    {\"do\": \"affinity_set\", \"core\": 0, \"by\": \"A\", \"to\": \"B\", \"mask\": 1}, \
+    {\"do\": \"priority_set\", \"core\": 0, \"by\": \"A\", \"to\": \"B\", \"priority\": 4}, \
+    {\"do\": \"switch\", \"core\": 0}, \
+    {\"do\": \"preempt_on\", \"core\": 0, \"by\": \"B\", \"to\": \"C\"}, \
+    {\"do\": \"switch\", \"core\": 1}, \
+    {\"do\": \"affinity_set\", \"core\": 0, \"by\": \"B\", \"to\": \"C\", \"mask\": 3}, \
+    {\"do\": \"priority_set\", \"core\": 0, \"by\": \"B\", \"to\": \"C\", \"priority\": 6}]}";
+
 /// A control loop waits for a mutex that a logger has; edits give the mutex first, leave out the
 /// switch, give the logger another step, and ask for a place that there is not.
 pub const SHARED_MUTEX: &str = "{\"session\": {\"format\": 1, \"cores\": 2, \"priorities\": 4, \

@@ -1,7 +1,7 @@
 -- Stretches tile the values.
-use Rattle.std.proofs.Common.{◌≡◌, ◌<◌, ◌≤◌, ℕ, suc, ◌+◌, ◌-◌, List, [], ◌∷◌, ◌++◌, flat_map, length, replicate, drop, get_or, Bool, true, false, refl, sym, ap, subst, ◌∙◌, arith, true≢false, add-zero}
+use Rattle.std.proofs.Common.{◌≡◌, ◌≤◌, ℕ, suc, ◌+◌, ◌-◌, List, [], ◌∷◌, ◌++◌, flat_map, length, length-append, append_assoc, replicate, Bool, true, false, refl, sym, ap, subst, ◌∙◌, arith, true≢false, add-zero}
 use Rattle.std.specs.Prelude.{Decides, if◌then◌else◌}
-use Rattle.std.proofs.Math.Seq.{drop-cons}
+use Rattle.std.proofs.lemmas.List.{append-nil}
 use Rattle.run_pictures.specs.declared.span.Span.{Span}
 use Rattle.run_pictures.specs.Stretches.{extended, NeighboursDiffer, stretches, Tiles, values_in}
 
@@ -50,25 +50,33 @@ module _ {X : Type 0} (same : X → X → Bool) (tells : (a b : X) → Decides (
   tiled place [] = record { follow = tt; cover = refl; differ = tt }
   tiled place (value ∷ values) = more place value values (stretches same (suc place) values) (tiled (suc place) values)
 
--- one value more in front
-pub one_more : {X : Type 0} (same : X → X → Bool) (first count : ℕ) (values : List X) (item : X) (spans next : List (Span X)) → 0 < count → count ≤ length values → item ≡ get_or values (count - 1) item → spans ≡ stretches same (first + count) (drop count values)
-    → next ≡ extended same (first + (count - 1)) item spans → next ≡ stretches same (first + (count - 1)) (drop (count - 1) values)
-one_more same first count values item spans next some within is are extends =
-    let index = count - 1 in
-    let later : count ≡ suc index = omega arith in
-    let place : first + count ≡ suc (first + index) = omega arith in
-    let early : index < length values = omega arith in
-    let rest : drop index values ≡ get_or values index item ∷ drop count values = drop-cons values index item early ∙ ap (λ n. get_or values index item ∷ drop n values) (sym later) in
-    extends
-    ∙ ap (extended same (first + index) item) (are ∙ ap (λ n. stretches same n (drop count values)) place)
-    ∙ ap (λ x. extended same (first + index) x (stretches same (suc (first + index)) (drop count values))) is
-    ∙ ap (stretches same (first + index)) (sym rest)
+-- the spans are those of the values that are not left, of which the first stands behind these
+pub record Stretched {X : Type 0} (same : X → X → Bool) (first : ℕ) (values left : List X) (spans : List (Span X)) : Type 0 where
+  pub rest : List X
+  pub all : left ++ rest ≡ values
+  pub are : spans ≡ stretches same (first + length left) rest
 
--- the values from index 0 on are all
-pub all_there : {X : Type 0} (same : X → X → Bool) (first index : ℕ) (values : List X) (spans : List (Span X)) → index ≤ 0 → spans ≡ stretches same (first + index) (drop index values) → spans ≡ stretches same first values
-all_there same first index values spans none are =
-    let zero : index ≡ 0 = omega arith in
-    are ∙ ap (λ n. stretches same (first + n) (drop n values)) zero ∙ ap (λ n. stretches same n values) (add-zero first)
+pub all_left : {X : Type 0} (same : X → X → Bool) (first : ℕ) (values : List X) → Stretched same first values values []
+all_left same first values = record { rest = []; all = append-nil values; are = refl }
+
+-- the last of those that are left is taken
+pub one_taken : {X : Type 0} (same : X → X → Bool) (first : ℕ) (values left less : List X) (value : X) (spans next : List (Span X)) → Stretched same first values left spans → left ≡ less ++ value ∷ []
+    → next ≡ extended same (first + length less) value spans → Stretched same first values less next
+one_taken same first values left less value spans next were last extends =
+    let place : first + length left ≡ suc (first + length less) = omega (arith, ap length last, length-append less (value ∷ [])) in
+    record {
+      rest = value ∷ were.rest;
+      all = sym (append_assoc less (value ∷ []) were.rest) ∙ ap (λ xs. xs ++ were.rest) (sym last) ∙ were.all;
+      are = extends ∙ ap (extended same (first + length less) value) (were.are ∙ ap (λ n. stretches same n were.rest) place);
+    }
+
+-- none is left
+pub none_left : {X : Type 0} (same : X → X → Bool) (first : ℕ) (values left : List X) (spans : List (Span X)) → Stretched same first values left spans → left ≡ [] → spans ≡ stretches same first values
+none_left same first values left spans were none =
+    were.are
+    ∙ ap (λ xs. stretches same (first + length xs) were.rest) none
+    ∙ ap (λ n. stretches same n were.rest) (add-zero first)
+    ∙ ap (stretches same first) (ap (λ xs. xs ++ were.rest) (sym none) ∙ were.all)
 
 -- what is equal to them tiles them too
 pub tiled_by : {X : Type 0} (same : X → X → Bool) (tells : (a b : X) → Decides (same a b) (a ≡ b)) (place : ℕ) (values : List X) (spans : List (Span X)) → spans ≡ stretches same place values → Tiles place values spans

@@ -4,3 +4,11 @@ use Rattle.std.specs.Prelude.{ℕ}
 -- the places that a picture shows
 abbrev pub max_places : ℕ
 max_places = 4000
+
+-- the stretches of ready tasks that are told apart by what is in the way
+abbrev pub max_pieces : ℕ
+max_pieces = 16384
+
+-- the cores of which it is told
+abbrev pub max_lines : ℕ
+max_lines = 8

@@ -18,6 +18,7 @@ use Rattle.run_pictures.specs.Drawn.{Drawn}
 use Rattle.run_pictures.specs.Frame.{column_of, pixels, scale_for}
 use Rattle.run_pictures.specs.Limits.{max_places}
 use Rattle.run_pictures.specs.Marks.{step_at}
+use Rattle.run_pictures.specs.Poses.{detail_for}
 use Rattle.run_pictures.specs.Spans.{holder_spans}
 use Rattle.run_pictures.specs.TaskBands.{holder_bar, task_row}
 
@@ -68,7 +69,9 @@ core_rows header frame y looks =
 -- of the user tasks
 abbrev pub task_rows : Header → Frame → ℕ → Film → List ℕ
 task_rows header frame y film =
-    flat_map (λ user. task_row header frame (y + 28 * user) film (header.config.cores + user))
+    let detail = detail_for header frame.first film.looks in
+    flat_map
+    (λ user. task_row header frame (y + 28 * user) film detail (header.config.cores + user))
     (numbers (length header.tasks))
 
 -- where tasks hold mutexes, in the rows of these tasks

@@ -1,16 +1,21 @@
 -- The tests of what bands show tell of any two values whether they are one.
-use Rattle.std.specs.Prelude.{◌≡◌, ℕ, Bool, Decides, None, Option, nat_eq, false, true}
+use Rattle.std.specs.Prelude.{◌≡◌, ℕ, List, [], ◌∷◌, Bool, Decides, None, Option, nat_eq, false, true, ◌&&◌, ◌==◌}
 use Rattle.std.proofs.Common.{ap, refl, sym, true≢false}
 use Rattle.std.proofs.lemmas.Bool.Decides.{Decides-and, Decides-eqb, Decides-like}
 use Rattle.bench_types.specs.declared.kernel_data.Hold.{Hold}
-use Rattle.bench_model.specs.SameTest.{are_same_holds, are_same_options}
+use Rattle.bench_model.specs.SameTest.{are_same_bools, are_same_holds, are_same_lists, are_same_options}
 use Rattle.run_views.proofs.Tests as tests
+use Rattle.run_pictures.specs.declared.hindrance.Hindrance.{Hindrance}
+use Rattle.run_pictures.specs.declared.hindrance.Obstacle.{Obstacle}
+use Rattle.run_pictures.specs.declared.hindrance.Obstacle.TheVariants as obstacle
+use Rattle.run_pictures.specs.declared.pose.Pose.{Pose}
 use Rattle.run_pictures.specs.declared.shown.Due.{Due}
 use Rattle.run_pictures.specs.declared.shown.Priorities.{Priorities}
 use Rattle.run_pictures.specs.declared.stance.Stance.{Stance}
 use Rattle.run_pictures.specs.declared.stance.Stance.TheVariants.{Runs, Ready, Blocked}
+use Rattle.run_pictures.specs.declared.task_names.Terms.{Terms}
 use Rattle.run_views.specs.Changes.{are_same_numbers}
-use Rattle.run_pictures.specs.Same.{are_same_dues, are_same_priorities, are_same_stances}
+use Rattle.run_pictures.specs.Same.{are_same_dues, are_same_hindrances, are_same_obstacles, are_same_poses, are_same_priorities, are_same_stances, are_same_terms}
 
 pub numbers_told : (m n : ℕ) → Decides (nat_eq m n) (m ≡ n)
 numbers_told = Decides-eqb
@@ -30,8 +35,17 @@ priorities_told a b = Decides-like (are_same_priorities a b)
     (λ e. (λ i. (e i).in_use, λ i. (e i).base))
     (Decides-and _ _ (Decides-eqb a.in_use b.in_use) (Decides-eqb a.base b.base))
 
+pub terms_told : (a b : Terms) → Decides (are_same_terms a b) (a ≡ b)
+terms_told a b = Decides-like (are_same_terms a b)
+    (λ h i. record { base = h.0 i; mask = h.1 i })
+    (λ e. (λ i. (e i).base, λ i. (e i).mask))
+    (Decides-and _ _ (Decides-eqb a.base b.base) (Decides-eqb a.mask b.mask))
+
 pub holders_told : (a b : Option ℕ) → Decides (are_same_numbers a b) (a ≡ b)
 holders_told = tests.numbers_told
+
+pub flags_told : (a b : Bool) → Decides (are_same_bools a b) (a ≡ b)
+flags_told = tests.bools_told
 
 -- two values that the test never finds equal, and that are not
 apart : {P : Type 0} → (P → ⊥) → Decides false P
@@ -69,3 +83,51 @@ stances_told Ready (Runs core) = apart (λ e. true≢false (sym (ap does_run e))
 stances_told Ready (Blocked wake) = apart (λ e. true≢false (sym (ap is_blocked e)))
 stances_told (Blocked wake) (Runs core) = apart (λ e. true≢false (sym (ap does_run e)))
 stances_told (Blocked wake) Ready = apart (λ e. true≢false (ap is_blocked e))
+
+-- of two numbers each
+both_told : (task other priority level : ℕ)
+    → Decides (task == other && priority == level) ((task ≡ other) × (priority ≡ level))
+both_told task other priority level =
+    Decides-and _ _ (Decides-eqb task other) (Decides-eqb priority level)
+
+pub obstacles_told : (a b : Obstacle) → Decides (are_same_obstacles a b) (a ≡ b)
+obstacles_told obstacle.Masked obstacle.Masked = (λ e. refl, λ e. refl)
+obstacles_told obstacle.Due obstacle.Due = (λ e. refl, λ e. refl)
+obstacles_told (obstacle.Held holder) (obstacle.Held other) =
+    Decides-like (nat_eq holder other) (λ e. ap obstacle.Held e) (λ e. cc e)
+    (Decides-eqb holder other)
+obstacles_told (obstacle.Unpreempted task priority) (obstacle.Unpreempted other level) =
+    Decides-like (task == other && priority == level)
+    (λ e i. obstacle.Unpreempted (e.0 i) (e.1 i)) (λ e. (cc e, cc e))
+    (both_told task other priority level)
+obstacles_told (obstacle.Outranked task priority) (obstacle.Outranked other level) =
+    Decides-like (task == other && priority == level)
+    (λ e i. obstacle.Outranked (e.0 i) (e.1 i)) (λ e. (cc e, cc e))
+    (both_told task other priority level)
+obstacles_told (obstacle.Lower task priority) (obstacle.Lower other level) =
+    Decides-like (task == other && priority == level)
+    (λ e i. obstacle.Lower (e.0 i) (e.1 i)) (λ e. (cc e, cc e))
+    (both_told task other priority level)
+obstacles_told a b = apart (λ e. cc e)
+
+hindrances_told : (a b : Hindrance) → Decides (are_same_hindrances a b) (a ≡ b)
+hindrances_told a b = Decides-like (are_same_hindrances a b)
+    (λ e i. record { core = e.0 i; by = e.1 i })
+    (λ e. (λ i. (e i).core, λ i. (e i).by))
+    (Decides-and _ _ (Decides-eqb a.core b.core) (obstacles_told a.by b.by))
+
+lists_told : (xs ys : List Hindrance) → Decides (are_same_lists are_same_hindrances xs ys) (xs ≡ ys)
+lists_told [] [] = (λ e. refl, λ e. refl)
+lists_told (x ∷ xs) (y ∷ ys) =
+    Decides-like (are_same_hindrances x y && are_same_lists are_same_hindrances xs ys)
+    (λ e i. e.0 i ∷ e.1 i) (λ e. (cc e, cc e))
+    (Decides-and (are_same_hindrances x y) (are_same_lists are_same_hindrances xs ys)
+    (hindrances_told x y) (lists_told xs ys))
+lists_told [] (y ∷ ys) = apart (λ e. cc e)
+lists_told (x ∷ xs) [] = apart (λ e. cc e)
+
+pub poses_told : (a b : Pose) → Decides (are_same_poses a b) (a ≡ b)
+poses_told a b = Decides-like (are_same_poses a b)
+    (λ e i. record { stance = e.0 i; hindrances = e.1 i })
+    (λ e. (λ i. (e i).stance, λ i. (e i).hindrances))
+    (Decides-and _ _ (stances_told a.stance b.stance) (lists_told a.hindrances b.hindrances))

@@ -11,14 +11,20 @@ use Rattle.run_pictures.specs.declared.film.Made.{Made}
 use Rattle.run_pictures.specs.declared.frame.Frame.{Frame}
 use Rattle.run_pictures.specs.declared.ink.Ink.{Ink}
 use Rattle.run_pictures.specs.declared.ink.Ink.TheVariants as ink
+use Rattle.run_pictures.specs.declared.pose.Detail.{Detail}
+use Rattle.run_pictures.specs.declared.pose.Pose.{Pose}
 use Rattle.run_pictures.specs.declared.shown.Priorities.{Priorities}
 use Rattle.run_pictures.specs.declared.span.Span.{Span}
 use Rattle.run_pictures.specs.declared.stance.Stance.{Stance}
 use Rattle.run_pictures.specs.declared.stance.Stance.TheVariants.{Runs, Ready, Blocked}
 use Rattle.run_pictures.specs.declared.waits.Wait.{Wait}
 use Rattle.run_pictures.specs.declared.waits.Wait.TheVariants.{Delay, Notification, Mutex}
-use Rattle.run_pictures.specs.Bar.{bar_text, label_text, name_text, over_text}
-use Rattle.run_pictures.specs.Spans.{priority_spans, stance_spans}
+use Rattle.run_pictures.specs.Bar.{bar_text, label_text, over_text}
+use Rattle.run_pictures.specs.HindranceWords.{hindered_text}
+use Rattle.run_pictures.specs.Poses.{told_spans}
+use Rattle.run_pictures.specs.Preemption.{off_bars}
+use Rattle.run_pictures.specs.Spans.{priority_spans}
+use Rattle.run_pictures.specs.TaskNames.{task_name}
 use Rattle.run_pictures.specs.Waits.{last_wait}
 
 abbrev pub wait_name : Wait → List ℕ
@@ -80,13 +86,23 @@ label_of frame y first last wait (Blocked wake) = blocked_label frame y first la
 unfoldable pub stance_label : Frame → ℕ → Option Wait → Span Stance → List ℕ
 stance_label frame y wait span = label_of frame y span.first span.last wait span.value
 
--- a stretch at which the task stands alike
-unfoldable pub stance_bar : Header → Frame → ℕ → ℕ → List Made → Span Stance → List ℕ
-stance_bar header frame y task made span =
+-- the span without what is in the way
+abbrev pub stance_span : Span Pose → Span Stance
+stance_span span =
+    record { first = span.first; last = span.last; value = span.value.stance }
+
+abbrev pub pose_words : Header → ℕ → Option Wait → Detail → Span Pose → List ℕ
+pose_words header task wait detail span =
+    stance_words header task wait (stance_span span)
+    ++ hindered_text header detail span.first span.value.hindrances
+
+-- a stretch at which the task stands alike, and the same is in its way
+unfoldable pub pose_bar : Header → Frame → ℕ → ℕ → List Made → Detail → Span Pose → List ℕ
+pose_bar header frame y task made detail span =
     let wait = last_wait task made span.first in
-    bar_text frame (stance_shape (task - header.config.cores) y span)
-    (stance_words header task wait span)
-    ++ stance_label frame y wait span
+    bar_text frame (stance_shape (task - header.config.cores) y (stance_span span))
+    (pose_words header task wait detail span)
+    ++ stance_label frame y wait (stance_span span)
 
 abbrev pub inherited_words : Header → ℕ → Span Priorities → List ℕ
 inherited_words header task span =
@@ -106,12 +122,13 @@ inherited_bar header frame y task span =
     }) (inherited_words header task span)
 
 -- the row of a task
-unfoldable pub task_row : Header → Frame → ℕ → Film → ℕ → List ℕ
-task_row header frame y film task =
-    name_text (y + 14) (name_of header task)
-    ++ flat_map (stance_bar header frame y task film.made)
-    (stance_spans frame.first film.looks task)
+unfoldable pub task_row : Header → Frame → ℕ → Film → Detail → ℕ → List ℕ
+task_row header frame y film detail task =
+    task_name header frame.first y film.looks task
+    ++ flat_map (pose_bar header frame y task film.made detail)
+    (told_spans detail frame.first film.looks task)
     ++ flat_map (inherited_bar header frame y task) (priority_spans frame.first film.looks task)
+    ++ off_bars header frame y film.looks task
 
 abbrev pub held_words : Header → ℕ → ℕ → ℕ → ℕ → List ℕ
 held_words header mutex first last task =

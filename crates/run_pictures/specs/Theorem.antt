@@ -1,17 +1,44 @@
 -- What a picture shows is what the replay has.
-use Rattle.std.specs.Prelude.{ℕ, ◌+◌, ◌<◌, List, length, map}
+use Rattle.std.specs.Prelude.{ℕ, ◌+◌, ◌<◌, List, length, map, Bool, Option}
 use Rattle.bench_types.specs.declared.header.Header.{Header}
+use Rattle.bench_types.specs.declared.kernel_data.Hold.{Hold}
 use Rattle.bench_types.specs.declared.step.Step.{Step}
-use Rattle.bench_model.specs.Control.{current}
+use Rattle.bench_model.specs.Control.{core_at, current, task_at}
 use Rattle.bench_model.specs.Session.{state_at}
-use Rattle.bench_model.specs.Table.{tick_count}
+use Rattle.bench_model.specs.State.{holder_at}
+use Rattle.bench_model.specs.Table.{Table, tick_count}
 use Rattle.run_views.specs.declared.places.Places.{Places}
+use Rattle.run_pictures.specs.declared.pose.Pose.{Pose}
+use Rattle.run_pictures.specs.declared.shown.Due.{Due}
+use Rattle.run_pictures.specs.declared.shown.Priorities.{Priorities}
 use Rattle.run_pictures.specs.declared.stance.Stance.{Stance}
+use Rattle.run_pictures.specs.declared.task_names.Terms.{Terms}
 use Rattle.run_pictures.specs.Film.{film, looks_of, shown_places}
-use Rattle.run_pictures.specs.Spans.{current_spans, stance_spans, tick_spans}
+use Rattle.run_pictures.specs.Poses.{pose_of, pose_spans}
+use Rattle.run_pictures.specs.Preemption.{preempt_spans}
+use Rattle.run_pictures.specs.Spans.{current_spans, due_spans, hold_spans, holder_spans, own_hold, priority_spans, stance_spans, tick_spans}
 use Rattle.run_pictures.specs.Stances.{stance_of}
 use Rattle.run_pictures.specs.Stretches.{Tiles}
+use Rattle.run_pictures.specs.TaskNames.{terms_spans}
 use Rattle.run_pictures.specs.Waits.{last_wait, wait_made, IsLast}
+
+abbrev pub priorities_at : Table → ℕ → Priorities
+priorities_at table task = record {
+  in_use = (task_at table.control task).in_use;
+  base = (task_at table.control task).base;
+}
+
+abbrev pub terms_at : Table → ℕ → Terms
+terms_at table task = record {
+  base = (task_at table.control task).base;
+  mask = (task_at table.control task).mask;
+}
+
+abbrev pub due_at : Table → ℕ → Due
+due_at table core = record {
+  pend = (core_at table.control core).pend;
+  asked = (core_at table.control core).asked;
+}
 
 -- the current task of the core at each place that is shown
 abbrev pub currents_of : Places → Header → List Step → ℕ → List ℕ
@@ -28,6 +55,43 @@ abbrev pub ticks_of : Places → Header → List Step → List ℕ
 ticks_of places header steps =
     map (λ place. tick_count (state_at header steps place).orders) (shown_places places steps)
 
+-- how the task stands there, and what is in its way
+abbrev pub poses_of : Places → Header → List Step → ℕ → List Pose
+poses_of places header steps task =
+    map (λ place. pose_of (state_at header steps place) task) (shown_places places steps)
+
+-- the task's priority in use and its base priority there
+abbrev pub priorities_of : Places → Header → List Step → ℕ → List Priorities
+priorities_of places header steps task =
+    map (λ place. priorities_at (state_at header steps place) task) (shown_places places steps)
+
+-- its base priority and its mask there
+abbrev pub terms_of : Places → Header → List Step → ℕ → List Terms
+terms_of places header steps task =
+    map (λ place. terms_at (state_at header steps place) task) (shown_places places steps)
+
+-- whether its preemption is on there
+abbrev pub preempts_of : Places → Header → List Step → ℕ → List Bool
+preempts_of places header steps task =
+    map (λ place. (task_at (state_at header steps place).control task).preempt)
+    (shown_places places steps)
+
+-- by whom the core was asked to switch there
+abbrev pub dues_of : Places → Header → List Step → ℕ → List Due
+dues_of places header steps core =
+    map (λ place. due_at (state_at header steps place) core) (shown_places places steps)
+
+-- the hold of the kernel there, where it is the core's
+abbrev pub holds_of : Places → Header → List Step → ℕ → List (Option Hold)
+holds_of places header steps core =
+    map (λ place. own_hold core (state_at header steps place).hold) (shown_places places steps)
+
+-- the task that holds the mutex there
+abbrev pub holders_of : Places → Header → List Step → ℕ → List (Option ℕ)
+holders_of places header steps mutex =
+    map (λ place. holder_at (state_at header steps place).holders mutex)
+    (shown_places places steps)
+
 -- the spans that are drawn tile what the replay has at the places that are shown, and a task is
 -- told to wait for what it began to wait for last in the replay
 pub record IsTiled (places : Places) (header : Header) (steps : List Step) : Type 0 where
@@ -37,6 +101,27 @@ pub record IsTiled (places : Places) (header : Header) (steps : List Step) : Typ
   pub tasks : (task : ℕ) → task < header.config.cores + length header.tasks
       → Tiles places.from (stances_of places header steps task)
       (stance_spans places.from (looks_of places header steps) task)
+  pub poses : (task : ℕ) → task < header.config.cores + length header.tasks
+      → Tiles places.from (poses_of places header steps task)
+      (pose_spans places.from (looks_of places header steps) task)
+  pub priorities : (task : ℕ) → task < header.config.cores + length header.tasks
+      → Tiles places.from (priorities_of places header steps task)
+      (priority_spans places.from (looks_of places header steps) task)
+  pub terms : (task : ℕ) → task < header.config.cores + length header.tasks
+      → Tiles places.from (terms_of places header steps task)
+      (terms_spans places.from (looks_of places header steps) task)
+  pub preempts : (task : ℕ) → task < header.config.cores + length header.tasks
+      → Tiles places.from (preempts_of places header steps task)
+      (preempt_spans places.from (looks_of places header steps) task)
+  pub dues : (core : ℕ) → core < header.config.cores
+      → Tiles places.from (dues_of places header steps core)
+      (due_spans places.from (looks_of places header steps) core)
+  pub holds : (core : ℕ) → core < header.config.cores
+      → Tiles places.from (holds_of places header steps core)
+      (hold_spans places.from (looks_of places header steps) core)
+  pub holders : (mutex : ℕ) → mutex < header.config.mutexes
+      → Tiles places.from (holders_of places header steps mutex)
+      (holder_spans places.from (looks_of places header steps) mutex)
   pub ticks : Tiles places.from (ticks_of places header steps)
       (tick_spans places.from (looks_of places header steps))
   pub waits : (task : ℕ) (place : ℕ)

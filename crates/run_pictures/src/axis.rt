@@ -23,7 +23,7 @@ fn tick_spans(alloc: Global, first: u32, looks: &[Look]) -> Result<Vec<Span<u32>
     ensures { IfOk result (λ spans. spans.items ≡ tick_spans first looks.now) }
 {
     let values = ticks(alloc, looks)?;
-    stretches(alloc, first, values.as_slice())
+    stretches(alloc, first, values)
 }
 
 // The number of a place, where it is one of those that are numbered.

@@ -78,7 +78,13 @@ fn fits(letters: Letters, width: u64, bytes: usize) -> bool
     }
 }
 
-fn push_origin(text: &mut String, letters: Letters, x: u64, y: u64) -> Result<(), AllocError>
+/// Writes where words begin.
+pub(crate) fn push_origin(
+    text: &mut String,
+    letters: Letters,
+    x: u64,
+    y: u64,
+) -> Result<(), AllocError>
     ensures { OnOk result
         (string_bytes text.new ≡ string_bytes text.old ++ origin_text letters x y) }
 {

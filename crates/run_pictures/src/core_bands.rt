@@ -13,10 +13,11 @@ use bench_types::{CoreLook, Header, Hold};
 use run_views::{Look, due_text, push_hold};
 use std::alloc::{AllocError, Global};
 
-fn core_in(look: &Look, core: u32) -> CoreLook
+/// What a look shows of a core.
+pub(crate) fn core_in(look: &Look, core: usize) -> CoreLook
     ensures { result ≡ core_in core look.now }
 {
-    match look.cores.as_slice().get(core as usize) {
+    match look.cores.as_slice().get(core) {
         Some(core) => *core,
         None => CoreLook {
             current: 0,
@@ -40,14 +41,14 @@ fn currents(alloc: Global, looks: &[Look], core: u32) -> Result<Vec<u32>, AllocE
 {
     looks
         .iter()
-        .map(|look| core_in(look, core).current)
+        .map(|look| core_in(look, core as usize).current)
         .collect(alloc)
 }
 
 fn due_in(look: &Look, core: u32) -> Due
     ensures { result ≡ due_in core look.now }
 {
-    let CoreLook { pend, asked, .. } = core_in(look, core);
+    let CoreLook { pend, asked, .. } = core_in(look, core as usize);
     Due { pend, asked }
 }
 
@@ -75,7 +76,7 @@ fn current_spans(
     ensures { IfOk result (λ spans. spans.items ≡ current_spans first looks.now core) }
 {
     let values = currents(alloc, looks, core)?;
-    stretches(alloc, first, values.as_slice())
+    stretches(alloc, first, values)
 }
 
 #[tactic(auto, unfolding(crate::specs::Spans::due_spans))]
@@ -89,7 +90,7 @@ fn due_spans(
     ensures { IfOk result (λ spans. spans.items ≡ due_spans first looks.now core) }
 {
     let values = dues(alloc, looks, core)?;
-    stretches(alloc, first, values.as_slice())
+    stretches(alloc, first, values)
 }
 
 #[tactic(auto, unfolding(crate::specs::Spans::hold_spans))]
@@ -103,7 +104,7 @@ fn hold_spans(
     ensures { IfOk result (λ spans. spans.items ≡ hold_spans first looks.now core) }
 {
     let values = holds(alloc, looks, core)?;
-    stretches(alloc, first, values.as_slice())
+    stretches(alloc, first, values)
 }
 
 fn push_core_words(

@@ -19,6 +19,8 @@ pub(crate) enum Ink {
     Due,
     Held,
     Inherited,
+    /// Preemption is off.
+    Off,
     Taken,
     /// Nothing is drawn; it is there to hover over.
     Clear,
@@ -60,6 +62,7 @@ pub(crate) fn push_ink(text: &mut String, ink: Ink) -> Result<(), AllocError>
         Ink::Due => text.push_str("d"),
         Ink::Held => text.push_str("h"),
         Ink::Inherited => text.push_str("u"),
+        Ink::Off => text.push_str("p"),
         Ink::Taken => text.push_str("m"),
         Ink::Clear => text.push_str("z"),
     }

@@ -15,6 +15,7 @@ use crate::core_bands::push_core_row;
 use crate::film::Film;
 use crate::frame::{Frame, Scale, column_of, scale_for};
 use crate::marks::push_steps;
+use crate::pose::detail_for;
 use crate::style::{LEGEND, OPENING, STYLE};
 use crate::task_bands::{push_mutex, push_task_row};
 use bench_types::{Header, Items, Step};
@@ -153,9 +154,19 @@ fn push_tasks(
         ≡ string_bytes text.old ++ task_rows header.now frame.now y film.now) }
 {
     let cores = header.config.cores;
+    let detail = detail_for(alloc, header, frame.first, film.looks.as_slice())?;
     for user in 0..header.tasks.as_slice().len() as u32 {
         let below = y + 28 * user as u64;
-        push_task_row(alloc, text, header, frame, below, film, cores + user)?;
+        push_task_row(
+            alloc,
+            text,
+            header,
+            frame,
+            below,
+            film,
+            detail,
+            cores + user,
+        )?;
     }
     Ok(())
 }

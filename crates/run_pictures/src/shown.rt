@@ -21,7 +21,7 @@ impl Shade for Due {
 
     ghost tells = { dues_told };
 
-    fn is_same(self, other: Self) -> bool {
+    fn is_same(&self, other: &Self) -> bool {
         is_same_flag(self.pend, other.pend) && is_same_flag(self.asked, other.asked)
     }
 }
@@ -33,8 +33,8 @@ impl Shade for Option<Hold> {
 
     ghost tells = { holds_told };
 
-    fn is_same(self, other: Self) -> bool {
-        match (self, other) {
+    fn is_same(&self, other: &Self) -> bool {
+        match (*self, *other) {
             (None, None) => true,
             (Some(hold), Some(other)) => hold.core == other.core && hold.depth == other.depth,
             _ => false,
@@ -56,7 +56,7 @@ impl Shade for Priorities {
 
     ghost tells = { priorities_told };
 
-    fn is_same(self, other: Self) -> bool {
+    fn is_same(&self, other: &Self) -> bool {
         self.in_use == other.in_use && self.base == other.base
     }
 }
@@ -68,8 +68,20 @@ impl Shade for Option<u32> {
 
     ghost tells = { holders_told };
 
-    fn is_same(self, other: Self) -> bool {
-        is_same_number(self, other)
+    fn is_same(&self, other: &Self) -> bool {
+        is_same_number(*self, *other)
+    }
+}
+
+impl Shade for bool {
+    ghost use Rattle.run_pictures.specs.Shades.{flags_told};
+
+    ghost same = { are_same_bools };
+
+    ghost tells = { flags_told };
+
+    fn is_same(&self, other: &Self) -> bool {
+        is_same_flag(*self, *other)
     }
 }
 

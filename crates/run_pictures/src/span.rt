@@ -7,12 +7,12 @@ use std::alloc::{AllocError, Global};
 use std::collections::VecDeque;
 
 /// A value that a band shows at each place.
-pub trait Shade: Copy {
+pub trait Shade: Drop {
     ghost same: { Self → Self → Bool };
 
     /// Whether the two are the same.
-    fn is_same(self, other: Self) -> bool
-        ensures { result ≡ same self other };
+    fn is_same(&self, other: &Self) -> bool
+        ensures { result ≡ same self.now other.now };
 
     // Then they are one value.
     ghost tells: { (a b : Self) → Decides (same a b) (a ≡ b) };
@@ -23,13 +23,13 @@ impl Shade for u32 {
 
     ghost tells = { numbers_told };
 
-    fn is_same(self, other: Self) -> bool {
-        self == other
+    fn is_same(&self, other: &Self) -> bool {
+        *self == *other
     }
 }
 
 /// Places one after another at which a value stays the same.
-#[derive(Clone, Copy, Debug, PartialEq, Eq)]
+#[derive(Clone, Copy, Debug, Drop, PartialEq, Eq)]
 pub struct Span<T> {
     /// The first place.
     pub first: u32,
@@ -43,15 +43,16 @@ pub struct Span<T> {
 pub fn stretches<T: Shade>(
     alloc: Global,
     first: u32,
-    values: &[T],
+    values: Vec<T>,
 ) -> Result<Vec<Span<T>>, AllocError>
-    requires { first + length values.now ≤ 2 ^ 32 }
-    ensures spans { IfOk result (λ spans. spans.items ≡ stretches T.same first values.now) }
-    ensures tiles { IfOk result (λ spans. Tiles first values.now spans.items) }
+    requires { first + length values.items ≤ 2 ^ 32 }
+    ensures spans { IfOk result (λ spans. spans.items ≡ stretches T.same first values.items) }
+    ensures tiles { IfOk result (λ spans. Tiles first values.items spans.items) }
 {
     let mut spans = VecDeque::new(alloc);
-    for index in (0..values.len()).rev() {
-        extend(&mut spans, first + index as u32, values[index])?;
+    let mut left = values;
+    while let Some(value) = left.pop() {
+        extend(&mut spans, first + left.len() as u32, value)?;
     }
     Ok(Vec::from(spans))
 }
@@ -60,7 +61,7 @@ pub fn stretches<T: Shade>(
 fn extend<T: Shade>(spans: &mut VecDeque<Span<T>>, place: u32, value: T) -> Result<(), AllocError>
     ensures { OnOk result (spans.new.items ≡ extended T.same place value spans.old.items) }
 {
-    if !spans.is_empty() && spans[0].value.is_same(value) {
+    if !spans.is_empty() && spans[0].value.is_same(&value) {
         spans[0].first = place;
         return Ok(());
     }

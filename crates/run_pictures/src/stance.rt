@@ -1,13 +1,15 @@
 //! How a task stands at a place.
-ghost use Rattle.std.specs.Prelude.{◌≡◌};
+ghost use Rattle.std.specs.Prelude.{◌≡◌, ◌+◌, ◌≤◌, ◌^◌, IfOk, length, map};
 ghost use Rattle.run_views.specs.Changes.{are_same_numbers};
 ghost use Rattle.run_pictures.specs.Same.{are_same_stances};
+ghost use Rattle.run_pictures.specs.Spans.{stance_spans};
 ghost use Rattle.run_pictures.specs.Stances.{core_of, stance_in, status_in};
 
 use crate::shown::is_same_number;
-use crate::span::Shade;
+use crate::span::{Shade, Span, stretches};
 use bench_types::NoteState;
 use run_views::{Look, Standing, TaskStatus};
+use std::alloc::{AllocError, Global};
 
 /// How a task stands at a place.
 #[derive(Clone, Copy, Debug, PartialEq, Eq)]
@@ -27,15 +29,20 @@ impl Shade for Stance {
 
     ghost tells = { stances_told };
 
-    fn is_same(self, other: Self) -> bool {
-        match (self, other) {
-            (Stance::Runs { core }, Stance::Runs { core: other }) => core == other,
-            (Stance::Ready, Stance::Ready) => true,
-            (Stance::Blocked { wake }, Stance::Blocked { wake: other }) => {
-                is_same_number(wake, other)
-            }
-            _ => false,
-        }
+    fn is_same(&self, other: &Self) -> bool {
+        is_same_stance(*self, *other)
+    }
+}
+
+/// Whether the two are the same.
+pub(crate) fn is_same_stance(stance: Stance, other: Stance) -> bool
+    ensures { result ≡ are_same_stances stance other }
+{
+    match (stance, other) {
+        (Stance::Runs { core }, Stance::Runs { core: other }) => core == other,
+        (Stance::Ready, Stance::Ready) => true,
+        (Stance::Blocked { wake }, Stance::Blocked { wake: other }) => is_same_number(wake, other),
+        _ => false,
     }
 }
 
@@ -77,4 +84,28 @@ pub(crate) fn stance_in(look: &Look, task: u32) -> Stance
             None => Stance::Ready,
         },
     }
+}
+
+fn stances(alloc: Global, looks: &[Look], task: u32) -> Result<Vec<Stance>, AllocError>
+    ensures { IfOk result (λ values. values.items ≡ map (stance_in task) looks.now) }
+{
+    looks
+        .iter()
+        .map(|look| stance_in(look, task))
+        .collect(alloc)
+}
+
+/// The spans of how the task stands.
+#[tactic(auto, unfolding(crate::specs::Spans::stance_spans))]
+pub(crate) fn stance_spans(
+    alloc: Global,
+    first: u32,
+    looks: &[Look],
+    task: u32,
+) -> Result<Vec<Span<Stance>>, AllocError>
+    requires { first + length looks.now ≤ 2 ^ 32 }
+    ensures { IfOk result (λ spans. spans.items ≡ stance_spans first looks.now task) }
+{
+    let values = stances(alloc, looks, task)?;
+    stretches(alloc, first, values)
 }

@@ -9,7 +9,7 @@ pub(crate) const STYLE: &str = "\
 <style>text{font:12px monospace;fill:#222}.s{font-size:10px;fill:#667}\
 .b{fill:#fff}.l{fill:#111;pointer-events:none}.k{font-weight:bold}\
 .t{fill:#bcc5cf}.v{fill:#9aa6b2}.i{fill:#c6cad0}.w{fill:#7d8793}\
-.d{fill:#c62828}.h{fill:#5e35b1}.u{fill:#ad1f8f}.m{fill:#1b6e43}\
+.d{fill:#c62828}.h{fill:#5e35b1}.u{fill:#ad1f8f}.m{fill:#1b6e43}.p{fill:#222}\
 .x{fill:none;stroke:#d3122a;stroke-width:2}.n{fill:#1530c0;stroke:#fff}\
 .z{fill:transparent}.r{fill-opacity:.4}
 .i,.c0,.c1,.c2,.c3,.c4,.c5,.c6,.c7{stroke:#000;stroke-opacity:.4;stroke-width:.5}
@@ -17,7 +17,7 @@ pub(crate) const STYLE: &str = "\
 .c4{fill:#9aa8f5}.c5{fill:#f0875c}.c6{fill:#dd98c6}.c7{fill:#86cfcf}
 @media(prefers-color-scheme:dark){text{fill:#dde1e6}.s{fill:#a3acb6}\
 .b{fill:#14171b}.l{fill:#111}.t{fill:#8b96a3}.v{fill:#717d8a}.i{fill:#7b838d}\
-.w{fill:#8d98a5}.u{fill:#f472d0}.m{fill:#5fd39a}}</style>
+.w{fill:#8d98a5}.u{fill:#f472d0}.m{fill:#5fd39a}.p{fill:#dde1e6}}</style>
 <rect class='b' width='100%' height='100%'/>
 ";
 

@@ -2,30 +2,24 @@
 //! and the mutexes that it holds.
 ghost use Rattle.std.specs.Prelude.{◌≡◌, ◌++◌, ◌+◌, ◌<◌, ◌≤◌, ◌^◌, IfOk, OnOk, flat_map, length, map, string_bytes};
 ghost use Rattle.list_orders.specs.Search.{numbers};
-ghost use Rattle.run_pictures.specs.Spans.{holder_in, holder_spans, priorities_in, priority_spans, stance_spans};
-ghost use Rattle.run_pictures.specs.Stances.{stance_in};
-ghost use Rattle.run_pictures.specs.TaskBands.{blocked_label, holder_bar, inherited_bar, reason_text, stance_bar, stance_label, stance_shape, stance_text, stance_words, task_row, wait_name};
+ghost use Rattle.run_pictures.specs.Spans.{holder_in, holder_spans, priorities_in, priority_spans};
+ghost use Rattle.run_pictures.specs.TaskBands.{blocked_label, holder_bar, inherited_bar, pose_bar, pose_words, reason_text, stance_label, stance_shape, stance_span, stance_text, stance_words, task_row, wait_name};
 
-use crate::bar::{Bar, Letters, push_bar, push_label, push_name, push_over};
+use crate::bar::{Bar, Letters, push_bar, push_label, push_over};
 use crate::frame::Frame;
+use crate::hindrance_words::push_hindered;
 use crate::ink::Ink;
+use crate::pose::{Detail, Pose, told_spans};
+use crate::preemption::push_offs;
 use crate::shown::Priorities;
 use crate::span::{Span, stretches};
-use crate::stance::{Stance, stance_in, status_in};
+use crate::stance::{Stance, status_in};
+use crate::task_names::push_task_name;
 use crate::waits::{Wait, last_wait};
 use crate::{Film, Made};
 use bench_types::Header;
 use run_views::{Look, Standing, push_standing};
 use std::alloc::{AllocError, Global};
-
-fn stances(alloc: Global, looks: &[Look], task: u32) -> Result<Vec<Stance>, AllocError>
-    ensures { IfOk result (λ values. values.items ≡ map (stance_in task) looks.now) }
-{
-    looks
-        .iter()
-        .map(|look| stance_in(look, task))
-        .collect(alloc)
-}
 
 fn priorities_in(look: &Look, task: u32) -> Priorities
     ensures { result ≡ priorities_in task look.now }
@@ -64,21 +58,6 @@ fn holders(alloc: Global, looks: &[Look], mutex: u32) -> Result<Vec<Option<u32>>
         .collect(alloc)
 }
 
-// The spans of how the task stands.
-#[tactic(auto, unfolding(crate::specs::Spans::stance_spans))]
-fn stance_spans(
-    alloc: Global,
-    first: u32,
-    looks: &[Look],
-    task: u32,
-) -> Result<Vec<Span<Stance>>, AllocError>
-    requires { first + length looks.now ≤ 2 ^ 32 }
-    ensures { IfOk result (λ spans. spans.items ≡ stance_spans first looks.now task) }
-{
-    let values = stances(alloc, looks, task)?;
-    stretches(alloc, first, values.as_slice())
-}
-
 #[tactic(auto, unfolding(crate::specs::Spans::priority_spans))]
 fn priority_spans(
     alloc: Global,
@@ -90,7 +69,7 @@ fn priority_spans(
     ensures { IfOk result (λ spans. spans.items ≡ priority_spans first looks.now task) }
 {
     let values = priorities(alloc, looks, task)?;
-    stretches(alloc, first, values.as_slice())
+    stretches(alloc, first, values)
 }
 
 #[tactic(auto, unfolding(crate::specs::Spans::holder_spans))]
@@ -104,7 +83,7 @@ fn holder_spans(
     ensures { IfOk result (λ spans. spans.items ≡ holder_spans first looks.now mutex) }
 {
     let values = holders(alloc, looks, mutex)?;
-    stretches(alloc, first, values.as_slice())
+    stretches(alloc, first, values)
 }
 
 fn push_wait(text: &mut String, wait: Wait) -> Result<(), AllocError>
@@ -242,32 +221,38 @@ fn push_stance_label(
     }
 }
 
-// A stretch at which the task stands alike.
-#[tactic(auto, unfolding(crate::specs::TaskBands::stance_bar))]
-fn push_stance(
-    alloc: Global,
-    text: &mut String,
-    header: &Header,
-    frame: &Frame,
-    y: u64,
-    task: u32,
-    made: &[Made],
-    span: Span<Stance>,
-) -> Result<(), AllocError>
-    requires { y < 2 ^ 40 }
-    ensures { OnOk result
-        (string_bytes text.new
-        ≡ string_bytes text.old ++ stance_bar header.now frame.now y task made.now span) }
+// The span without what is in the way.
+fn stance_span(span: &Span<Pose>) -> Span<Stance>
+    ensures { result ≡ stance_span span.now }
 {
-    let wait = last_wait(task, made, span.first);
-    let mut words = String::new(alloc);
-    push_stance_words(&mut words, header, task, wait, span)?;
-    let user = task.saturating_sub(header.config.cores);
-    push_bar(text, frame, stance_shape(user, y, span), words.as_str())?;
-    push_stance_label(alloc, text, frame, y, wait, span)
+    Span {
+        first: span.first,
+        last: span.last,
+        value: span.value.stance,
+    }
 }
 
-fn push_stances(
+fn push_pose_words(
+    alloc: Global,
+    words: &mut String,
+    header: &Header,
+    task: u32,
+    wait: Option<Wait>,
+    detail: Detail,
+    span: &Span<Pose>,
+) -> Result<(), AllocError>
+    ensures { OnOk result
+        (string_bytes words.new
+        ≡ string_bytes words.old ++ pose_words header.now task wait detail span.now) }
+{
+    push_stance_words(words, header, task, wait, stance_span(span))?;
+    let hindrances = span.value.hindrances.as_slice();
+    push_hindered(alloc, words, header, detail, span.first, hindrances)
+}
+
+// A stretch at which the task stands alike, and the same is in its way.
+#[tactic(auto, unfolding(crate::specs::TaskBands::pose_bar))]
+fn push_pose(
     alloc: Global,
     text: &mut String,
     header: &Header,
@@ -275,16 +260,43 @@ fn push_stances(
     y: u64,
     task: u32,
     made: &[Made],
-    spans: &[Span<Stance>],
+    detail: Detail,
+    span: &Span<Pose>,
 ) -> Result<(), AllocError>
     requires { y < 2 ^ 40 }
     ensures { OnOk result
         (string_bytes text.new
         ≡ string_bytes text.old
-        ++ flat_map (stance_bar header.now frame.now y task made.now) spans.now) }
+        ++ pose_bar header.now frame.now y task made.now detail span.now) }
+{
+    let wait = last_wait(task, made, span.first);
+    let standing = stance_span(span);
+    let mut words = String::new(alloc);
+    push_pose_words(alloc, &mut words, header, task, wait, detail, span)?;
+    let user = task.saturating_sub(header.config.cores);
+    push_bar(text, frame, stance_shape(user, y, standing), words.as_str())?;
+    push_stance_label(alloc, text, frame, y, wait, standing)
+}
+
+fn push_poses(
+    alloc: Global,
+    text: &mut String,
+    header: &Header,
+    frame: &Frame,
+    y: u64,
+    task: u32,
+    made: &[Made],
+    detail: Detail,
+    spans: &[Span<Pose>],
+) -> Result<(), AllocError>
+    requires { y < 2 ^ 40 }
+    ensures { OnOk result
+        (string_bytes text.new
+        ≡ string_bytes text.old
+        ++ flat_map (pose_bar header.now frame.now y task made.now detail) spans.now) }
 {
     for span in spans {
-        push_stance(alloc, text, header, frame, y, task, made, *span)?;
+        push_pose(alloc, text, header, frame, y, task, made, detail, span)?;
     }
     Ok(())
 }
@@ -352,32 +364,24 @@ pub(crate) fn push_task_row(
     frame: &Frame,
     y: u64,
     film: &Film,
+    detail: Detail,
     task: u32,
 ) -> Result<(), AllocError>
     requires y { y < 2 ^ 40 }
     requires few { frame.now.first + length film.now.looks ≤ 2 ^ 32 }
     ensures { OnOk result
         (string_bytes text.new
-        ≡ string_bytes text.old ++ task_row header.now frame.now y film.now task) }
+        ≡ string_bytes text.old ++ task_row header.now frame.now y film.now detail task) }
 {
     let looks = film.looks.as_slice();
     let made = film.made.as_slice();
-    let mut name = String::new(alloc);
-    header.push_name(&mut name, task)?;
-    push_name(text, y + 14, name.as_str())?;
-    let stances = stance_spans(alloc, frame.first, looks, task)?;
-    push_stances(
-        alloc,
-        text,
-        header,
-        frame,
-        y,
-        task,
-        made,
-        stances.as_slice(),
-    )?;
+    push_task_name(alloc, text, header, frame.first, y, looks, task)?;
+    let poses = told_spans(alloc, detail, frame.first, looks, task)?;
+    let spans = poses.as_slice();
+    push_poses(alloc, text, header, frame, y, task, made, detail, spans)?;
     let priorities = priority_spans(alloc, frame.first, looks, task)?;
-    push_inheritances(alloc, text, header, frame, y, task, priorities.as_slice())
+    push_inheritances(alloc, text, header, frame, y, task, priorities.as_slice())?;
+    push_offs(alloc, text, header, frame, y, looks, task)
 }
 
 // A stretch at which a task holds the mutex, in the row of that task.

@@ -1,0 +1,74 @@
+-- How tasks stand, and what is in their way.
+use Rattle.std.specs.Prelude.{ℕ, ◌+◌, ◌-◌, List, [], filter, length, map, sum_by, Bool, true, false, nat_le, slice_get, if◌then◌else◌}
+use Rattle.std.specs.Option.{option_map_or}
+use Rattle.bench_types.specs.declared.header.Header.{Header}
+use Rattle.bench_model.specs.Table.{Table}
+use Rattle.list_orders.specs.Search.{numbers}
+use Rattle.run_views.specs.declared.look.Look.{Look}
+use Rattle.run_pictures.specs.declared.pose.Detail.{Detail}
+use Rattle.run_pictures.specs.declared.pose.Detail.TheVariants.{EachPlace, FirstPlace}
+use Rattle.run_pictures.specs.declared.pose.Pose.{Pose}
+use Rattle.run_pictures.specs.declared.span.Span.{Span}
+use Rattle.run_pictures.specs.declared.stance.Stance.{Stance}
+use Rattle.run_pictures.specs.declared.stance.Stance.TheVariants.{Runs, Ready, Blocked}
+use Rattle.run_pictures.specs.Hindrances.{hindrances_in, hindrances_of}
+use Rattle.run_pictures.specs.Limits.{max_pieces}
+use Rattle.run_pictures.specs.Same.{are_same_poses}
+use Rattle.run_pictures.specs.Spans.{stance_spans}
+use Rattle.run_pictures.specs.Stances.{stance_in, stance_of}
+use Rattle.run_pictures.specs.Stretches.{stretches}
+
+-- in a look
+abbrev pub pose_in : ℕ → Look → Pose
+pose_in task look =
+    record { stance = stance_in task look; hindrances = hindrances_in task look }
+
+-- in a state
+abbrev pub pose_of : Table → ℕ → Pose
+pose_of table task =
+    record { stance = stance_of table task; hindrances = hindrances_of table task }
+
+-- the spans of how the task stands and of what is in its way
+unfoldable pub pose_spans : ℕ → List Look → ℕ → List (Span Pose)
+pose_spans first looks task = stretches are_same_poses first (map (pose_in task) looks)
+
+-- a span of how the task stands, with what is in its way at the first place of it
+abbrev pub opening : ℕ → List Look → ℕ → Span Stance → Span Pose
+opening first looks task span = record {
+  first = span.first;
+  last = span.last;
+  value = record {
+    stance = span.value;
+    hindrances = option_map_or (hindrances_in task) (slice_get looks (span.first - first)) [];
+  };
+}
+
+abbrev pub openings : ℕ → List Look → ℕ → List (Span Stance) → List (Span Pose)
+openings first looks task spans = map (opening first looks task) spans
+
+-- the spans of a task that are drawn
+abbrev pub told_spans : Detail → ℕ → List Look → ℕ → List (Span Pose)
+told_spans EachPlace first looks task = pose_spans first looks task
+told_spans FirstPlace first looks task =
+    openings first looks task (stance_spans first looks task)
+
+abbrev pub stands_ready : Stance → Bool
+stands_ready Ready = true
+stands_ready (Runs core) = false
+stands_ready (Blocked wake) = false
+
+-- how many of the spans are of a ready task
+abbrev pub count_ready : List (Span Pose) → ℕ
+count_ready spans = length (filter (λ span. stands_ready span.value.stance) spans)
+
+-- how many there are of all user tasks
+abbrev pub pieces_of : Header → ℕ → List Look → ℕ
+pieces_of header first looks =
+    sum_by (λ user. count_ready (pose_spans first looks (header.config.cores + user)))
+    (numbers (length header.tasks))
+
+-- What is in the way of ready tasks is told of each place, or, where that takes too many stretches,
+-- of the first place of each stretch at which a task is ready.
+abbrev pub detail_for : Header → ℕ → List Look → Detail
+detail_for header first looks =
+    if nat_le (pieces_of header first looks) max_pieces then EachPlace else FirstPlace

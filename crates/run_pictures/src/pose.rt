@@ -1,0 +1,189 @@
+//! How a task stands at a place, and what is in its way there.
+ghost use Rattle.std.specs.Prelude.{◌≡◌, ◌+◌, ◌<◌, ◌≤◌, ◌^◌, IfOk, length, map};
+ghost use Rattle.run_pictures.specs.Poses.{count_ready, detail_for, opening, openings, pose_in, pose_spans, stands_ready, told_spans};
+ghost use Rattle.run_pictures.specs.Same.{are_same_poses};
+
+use crate::hindrance::{Hindrance, are_same_lists, hindrances_in};
+use crate::span::{Shade, Span, stretches};
+use crate::stance::{Stance, is_same_stance, stance_in, stance_spans};
+use bench_types::{Header, Items};
+use run_views::Look;
+use std::alloc::{AllocError, Global};
+
+/// How many stretches of ready tasks are told apart by what is in the way, at most.
+const MAX_PIECES: usize = 16_384;
+
+/// How a task stands at a place, and what is in its way there.
+#[derive(Debug, Drop)]
+pub struct Pose {
+    pub stance: Stance,
+    /// At each core, where the task is ready and on none.
+    pub hindrances: Items<Hindrance>,
+}
+
+impl Shade for Pose {
+    ghost use Rattle.run_pictures.specs.Shades.{poses_told};
+
+    ghost same = { are_same_poses };
+
+    ghost tells = { poses_told };
+
+    fn is_same(&self, other: &Self) -> bool {
+        is_same_stance(self.stance, other.stance)
+            && are_same_lists(self.hindrances.as_slice(), other.hindrances.as_slice())
+    }
+}
+
+/// Of which places what is in the way of a ready task is told.
+#[derive(Clone, Copy, Debug, PartialEq, Eq)]
+pub(crate) enum Detail {
+    /// Of each place.
+    EachPlace,
+    /// Of the first place at which it is ready.
+    FirstPlace,
+}
+
+fn pose_in(alloc: Global, look: &Look, task: u32) -> Result<Pose, AllocError>
+    ensures { IfOk result (λ pose. pose ≡ pose_in task look.now) }
+{
+    Ok(Pose {
+        stance: stance_in(look, task),
+        hindrances: Items::new(hindrances_in(alloc, look, task)?),
+    })
+}
+
+fn poses(alloc: Global, looks: &[Look], task: u32) -> Result<Vec<Pose>, AllocError>
+    ensures { IfOk result (λ values. values.items ≡ map (pose_in task) looks.now) }
+{
+    let mut poses = Vec::with_capacity(alloc, looks.len())?;
+    for look in looks {
+        poses.push(pose_in(alloc, look, task)?)?;
+    }
+    Ok(poses)
+}
+
+// The spans of how the task stands and of what is in its way.
+#[tactic(auto, unfolding(crate::specs::Poses::pose_spans))]
+fn pose_spans(
+    alloc: Global,
+    first: u32,
+    looks: &[Look],
+    task: u32,
+) -> Result<Vec<Span<Pose>>, AllocError>
+    requires { first + length looks.now ≤ 2 ^ 32 }
+    ensures { IfOk result (λ spans. spans.items ≡ pose_spans first looks.now task) }
+{
+    let values = poses(alloc, looks, task)?;
+    stretches(alloc, first, values)
+}
+
+// The span, with what is in the way at its first place.
+fn opening(
+    alloc: Global,
+    first: u32,
+    looks: &[Look],
+    task: u32,
+    span: Span<Stance>,
+) -> Result<Span<Pose>, AllocError>
+    ensures { IfOk result (λ told. told ≡ opening first looks.now task span) }
+{
+    let hindrances = match looks.get(span.first.saturating_sub(first) as usize) {
+        Some(look) => hindrances_in(alloc, look, task)?,
+        None => Vec::new(alloc),
+    };
+    Ok(Span {
+        first: span.first,
+        last: span.last,
+        value: Pose {
+            stance: span.value,
+            hindrances: Items::new(hindrances),
+        },
+    })
+}
+
+fn openings(
+    alloc: Global,
+    first: u32,
+    looks: &[Look],
+    task: u32,
+    spans: &[Span<Stance>],
+) -> Result<Vec<Span<Pose>>, AllocError>
+    ensures { IfOk result (λ told. told.items ≡ openings first looks.now task spans.now) }
+{
+    let mut told = Vec::with_capacity(alloc, spans.len())?;
+    for span in spans {
+        told.push(opening(alloc, first, looks, task, *span)?)?;
+    }
+    Ok(told)
+}
+
+/// The spans of a task that are drawn.
+pub(crate) fn told_spans(
+    alloc: Global,
+    detail: Detail,
+    first: u32,
+    looks: &[Look],
+    task: u32,
+) -> Result<Vec<Span<Pose>>, AllocError>
+    requires { first + length looks.now ≤ 2 ^ 32 }
+    ensures { IfOk result (λ spans. spans.items ≡ told_spans detail first looks.now task) }
+{
+    match detail {
+        Detail::EachPlace => pose_spans(alloc, first, looks, task),
+        Detail::FirstPlace => {
+            let stances = stance_spans(alloc, first, looks, task)?;
+            openings(alloc, first, looks, task, stances.as_slice())
+        }
+    }
+}
+
+fn stands_ready(stance: Stance) -> bool
+    ensures { result ≡ stands_ready stance }
+{
+    match stance {
+        Stance::Ready => true,
+        Stance::Runs { .. } | Stance::Blocked { .. } => false,
+    }
+}
+
+// How many of the spans are of a ready task.
+fn count_ready(spans: &[Span<Pose>]) -> usize
+    ensures { result ≡ count_ready spans.now }
+{
+    spans
+        .iter()
+        .filter(|span| stands_ready(span.value.stance))
+        .count()
+}
+
+// How many spans are of the task while it is ready.
+fn count_pieces(alloc: Global, first: u32, looks: &[Look], task: u32) -> Result<usize, AllocError>
+    requires { first + length looks.now ≤ 2 ^ 32 }
+    ensures { IfOk result
+        (λ count. count ≡ count_ready (pose_spans first looks.now task)) }
+{
+    let spans = pose_spans(alloc, first, looks, task)?;
+    Ok(count_ready(spans.as_slice()))
+}
+
+/// What is told of the ready tasks of the looks.
+pub(crate) fn detail_for(
+    alloc: Global,
+    header: &Header,
+    first: u32,
+    looks: &[Look],
+) -> Result<Detail, AllocError>
+    requires few { first + length looks.now ≤ 2 ^ 32 }
+    requires tasks { header.now.config.cores + length header.now.tasks < 2 ^ 32 }
+    ensures { IfOk result (λ detail. detail ≡ detail_for header.now first looks.now) }
+{
+    let mut pieces = 0;
+    for user in 0..header.tasks.as_slice().len() as u32 {
+        let count = count_pieces(alloc, first, looks, header.config.cores + user)?;
+        if count > MAX_PIECES - pieces {
+            return Ok(Detail::FirstPlace);
+        }
+        pieces += count;
+    }
+    Ok(Detail::EachPlace)
+}

@@ -1,0 +1,203 @@
+//! What stands at the left of a task's row: its name, and below it its base priority and its mask.
+ghost use Rattle.std.specs.Prelude.{◌≡◌, ◌++◌, ◌+◌, ◌<◌, ◌≤◌, ◌^◌, IfOk, OnOk, flat_map, length, map, string_bytes};
+ghost use Rattle.std.specs.List.{list_all};
+ghost use Rattle.list_orders.specs.Search.{numbers};
+ghost use Rattle.run_pictures.specs.Same.{are_same_terms};
+ghost use Rattle.run_pictures.specs.TaskNames.{all_told, has_all, later_text, line_text, mask_text, task_name, terms_in, terms_line, terms_part, terms_spans, terms_text, title_text};
+
+use crate::bar::{Letters, push_name, push_origin, push_over};
+use crate::escape::push_escaped;
+use crate::hindrance::has_core;
+use crate::span::{Shade, Span, stretches};
+use crate::stance::status_in;
+use bench_types::Header;
+use run_views::Look;
+use std::alloc::{AllocError, Global};
+
+/// What a task has until it is set anew.
+#[derive(Clone, Copy, Debug, PartialEq, Eq)]
+pub(crate) struct Terms {
+    /// The base priority.
+    pub(crate) base: u32,
+    pub(crate) mask: u32,
+}
+
+impl Shade for Terms {
+    ghost use Rattle.run_pictures.specs.Shades.{terms_told};
+
+    ghost same = { are_same_terms };
+
+    ghost tells = { terms_told };
+
+    fn is_same(&self, other: &Self) -> bool {
+        self.base == other.base && self.mask == other.mask
+    }
+}
+
+fn terms_in(look: &Look, task: u32) -> Terms
+    ensures { result ≡ terms_in task look.now }
+{
+    let status = status_in(look, task);
+    Terms {
+        base: status.base,
+        mask: status.mask,
+    }
+}
+
+fn all_terms(alloc: Global, looks: &[Look], task: u32) -> Result<Vec<Terms>, AllocError>
+    ensures { IfOk result (λ values. values.items ≡ map (terms_in task) looks.now) }
+{
+    looks.iter().map(|look| terms_in(look, task)).collect(alloc)
+}
+
+#[tactic(auto, unfolding(crate::specs::TaskNames::terms_spans))]
+fn terms_spans(
+    alloc: Global,
+    first: u32,
+    looks: &[Look],
+    task: u32,
+) -> Result<Vec<Span<Terms>>, AllocError>
+    requires { first + length looks.now ≤ 2 ^ 32 }
+    ensures { IfOk result (λ spans. spans.items ≡ terms_spans first looks.now task) }
+{
+    let values = all_terms(alloc, looks, task)?;
+    stretches(alloc, first, values)
+}
+
+fn has_all(mask: u32, cores: u32) -> bool
+    ensures { result ≡ has_all mask cores }
+{
+    (0..cores).all(|core| has_core(mask, core as usize))
+}
+
+// The mask, where it has not all cores.
+fn push_mask(text: &mut String, cores: u32, mask: u32) -> Result<(), AllocError>
+    ensures { OnOk result (string_bytes text.new ≡ string_bytes text.old ++ mask_text cores mask) }
+{
+    if has_all(mask, cores) {
+        return Ok(());
+    }
+    write!(text, ", mask {mask}")
+}
+
+#[tactic(auto, unfolding(crate::specs::TaskNames::terms_text))]
+fn push_terms(text: &mut String, cores: u32, terms: Terms) -> Result<(), AllocError>
+    ensures { OnOk result
+        (string_bytes text.new ≡ string_bytes text.old ++ terms_text cores terms) }
+{
+    write!(text, "priority {}", terms.base)?;
+    push_mask(text, cores, terms.mask)
+}
+
+// A stretch, on a line of its own.
+#[tactic(auto, unfolding(crate::specs::TaskNames::terms_part))]
+fn push_part(text: &mut String, cores: u32, span: Span<Terms>) -> Result<(), AllocError>
+    ensures { OnOk result (string_bytes text.new ≡ string_bytes text.old ++ terms_part cores span) }
+{
+    text.push_str("\n")?;
+    push_over(text, span.first, span.last)?;
+    push_terms(text, cores, span.value)
+}
+
+#[tactic(auto, unfolding(crate::specs::TaskNames::all_told))]
+fn push_told(
+    text: &mut String,
+    header: &Header,
+    task: u32,
+    spans: &[Span<Terms>],
+) -> Result<(), AllocError>
+    ensures { OnOk result
+        (string_bytes text.new ≡ string_bytes text.old ++ all_told header.now task spans.now) }
+{
+    header.push_name(text, task)?;
+    for span in spans {
+        push_part(text, header.config.cores, *span)?;
+    }
+    Ok(())
+}
+
+// That there are later stretches.
+#[tactic(auto, unfolding(crate::specs::TaskNames::later_text))]
+fn push_later(text: &mut String, spans: &[Span<Terms>]) -> Result<(), AllocError>
+    ensures { OnOk result (string_bytes text.new ≡ string_bytes text.old ++ later_text spans.now) }
+{
+    if spans.len() < 2 {
+        return Ok(());
+    }
+    text.push_str(" ..")
+}
+
+// Words that are told on hover, and the end of a text.
+#[tactic(auto, unfolding(crate::specs::TaskNames::title_text))]
+fn push_title(text: &mut String, words: &str) -> Result<(), AllocError>
+    ensures { OnOk result (string_bytes text.new ≡ string_bytes text.old ++ title_text words.now) }
+{
+    text.push_str("<title>")?;
+    push_escaped(text, words)?;
+    text.push_str("</title></text>\n")
+}
+
+// What the task has at first, and on hover the stretches of what it has.
+#[tactic(auto, unfolding(crate::specs::TaskNames::line_text))]
+fn push_line(
+    alloc: Global,
+    text: &mut String,
+    header: &Header,
+    y: u64,
+    task: u32,
+    terms: Terms,
+    spans: &[Span<Terms>],
+) -> Result<(), AllocError>
+    ensures { OnOk result
+        (string_bytes text.new
+        ≡ string_bytes text.old ++ line_text header.now y task terms spans.now) }
+{
+    push_origin(text, Letters::Small, 8, y)?;
+    push_terms(text, header.config.cores, terms)?;
+    push_later(text, spans)?;
+    let mut words = String::new(alloc);
+    push_told(&mut words, header, task, spans)?;
+    push_title(text, words.as_str())
+}
+
+fn push_terms_line(
+    alloc: Global,
+    text: &mut String,
+    header: &Header,
+    y: u64,
+    task: u32,
+    spans: &[Span<Terms>],
+) -> Result<(), AllocError>
+    ensures { OnOk result
+        (string_bytes text.new
+        ≡ string_bytes text.old ++ terms_line header.now y task spans.now) }
+{
+    match spans.first() {
+        Some(span) => push_line(alloc, text, header, y, task, span.value, spans),
+        None => Ok(()),
+    }
+}
+
+/// Writes the name of the task's row, and below it its base priority and its mask.
+#[tactic(auto, unfolding(crate::specs::TaskNames::task_name))]
+pub(crate) fn push_task_name(
+    alloc: Global,
+    text: &mut String,
+    header: &Header,
+    first: u32,
+    y: u64,
+    looks: &[Look],
+    task: u32,
+) -> Result<(), AllocError>
+    requires y { y < 2 ^ 40 }
+    requires few { first + length looks.now ≤ 2 ^ 32 }
+    ensures { OnOk result
+        (string_bytes text.new
+        ≡ string_bytes text.old ++ task_name header.now first y looks.now task) }
+{
+    let mut name = String::new(alloc);
+    header.push_name(&mut name, task)?;
+    push_name(text, y + 14, name.as_str())?;
+    let spans = terms_spans(alloc, first, looks, task)?;
+    push_terms_line(alloc, text, header, y + 25, task, spans.as_slice())
+}

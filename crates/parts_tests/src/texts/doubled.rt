@@ -124,7 +124,10 @@ fn benches(rt: HostRuntime) -> Result<(), Fail> {
         "{\"format\":1,\"cores\":2,\"priorities\":5,\"slicing\":false,\"tick\":0,\"mutexes\":0,\"tasks\":[{\"name\":\"A\",\"priority\":9,\"mask\":3,\"priority\":2}],\"steps\":[]}";
     match read_bench_noted(alloc, text.as_bytes()) {
         Ok(noted) => {
-            expect_same(&rt, noted.document.header.tasks.as_slice()[0].priority, 2);
+            match noted.document.header.tasks.as_slice().get(0) {
+                Some(task) => expect_same(&rt, task.priority, 2),
+                None => expect_is(&rt, false),
+            }
             check_member(&rt, &noted.doubled, "priority", 22);
         }
         Err(_) => return Err(Fail::from("the text is a session")),

@@ -1,3 +1,4 @@
+pub mod Escaping
 pub mod Filming
 pub mod Hindered
 pub mod Hindering

@@ -23,6 +23,7 @@ mod task_bands;
 mod task_names;
 mod waits;
 
+pub use escape::{law_of_escapes, push_escaped, push_escaped_bytes};
 pub use film::{Film, Made};
 pub use hindrance::{Hindrance, Obstacle};
 pub use laws::law_of_hindrances;

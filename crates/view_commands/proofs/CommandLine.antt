@@ -73,7 +73,10 @@ commands_fit = (
             record { rules = (as_told _ refl, (as_told _ refl, (as_told _ refl, (as_told _ refl, (as_told _ refl, tt))))); helpless = refl },
             (
               record { rules = (as_told _ refl, (as_told _ refl, (as_told _ refl, (as_told _ refl, (as_told _ refl, (as_told _ refl, tt)))))); helpless = refl },
-              (record { rules = (as_told _ refl, (as_told _ refl, (as_told _ refl, (as_told _ refl, (as_told _ refl, (as_told _ refl, (as_told _ refl, (as_told _ refl, tt)))))))); helpless = refl }, tt),
+              (
+                record { rules = (as_told _ refl, (as_told _ refl, (as_told _ refl, (as_told _ refl, (as_told _ refl, (as_told _ refl, (as_told _ refl, (as_told _ refl, tt)))))))); helpless = refl },
+                (record { rules = (as_told _ refl, (as_told _ refl, (as_told _ refl, (as_told _ refl, (as_told _ refl, (as_told _ refl, tt)))))); helpless = refl }, tt),
+              ),
             ),
           ),
         ),

@@ -114,6 +114,11 @@ timeline_app =
     command_app (codes "timeline")
     (settle_rule ∷ from_rule ∷ to_rule ∷ strict_rule ∷ file_rule ∷ [])
 
+abbrev pub page_app : App
+page_app =
+    command_app (codes "page")
+    (settle_rule ∷ from_rule ∷ to_rule ∷ strict_rule ∷ file_rule ∷ [])
+
 abbrev pub report_app : App
 report_app =
     command_app (codes "report") (settle_rule ∷ json_rule ∷ strict_rule ∷ file_rule ∷ [])
@@ -142,7 +147,7 @@ program_app = record (new_app (codes "smp_view")) {
 abbrev pub commands : List App
 commands =
     trace_app ∷ session_app ∷ settle_app ∷ compare_app ∷ timeline_app ∷ report_app
-    ∷ check_app ∷ advise_app ∷ []
+    ∷ check_app ∷ advise_app ∷ page_app ∷ []
 
 -- the program with its commands
 abbrev pub view_app : App

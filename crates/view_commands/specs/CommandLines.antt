@@ -6,7 +6,7 @@ use Rattle.run_reports.specs.declared.limits.Bound.TheVariants.{AtMost, AtLeast}
 use Rattle.run_views.specs.declared.places.Places.{Places}
 use Rattle.session_reports.specs.Asked as limit
 use Rattle.view_commands.specs.declared.request.Command.{Command}
-use Rattle.view_commands.specs.declared.request.Command.TheVariants.{Plain, Settled, Check, Advise}
+use Rattle.view_commands.specs.declared.request.Command.TheVariants.{Plain, Settled, Check, Advise, Page}
 use Rattle.view_commands.specs.declared.request.SettledView.TheVariants as settled
 use Rattle.view_commands.specs.declared.request.View.TheVariants as view
 use Rattle.view_commands.specs.CommandLine.{Asked, a_view, help, version, a_mistake, asked}
@@ -99,6 +99,13 @@ pub record WorkedViews : Type 0 where
   pub picture_settled :
       asked_after (codes "timeline" ∷ codes "--to" ∷ codes "7" ∷ codes "--settle" ∷ [])
       ≡ a_lenient (Settled (settled.Timeline (places 0 7))) None
+  pub page :
+      asked_after (codes "page" ∷ codes "--from" ∷ codes "3" ∷ codes "run.json" ∷ [])
+      ≡ a_lenient (Page (record { settled = false; places = places 3 most }))
+      (Some (codes "run.json"))
+  pub page_settled :
+      asked_after (codes "page" ∷ codes "--settle" ∷ codes "--to=7" ∷ [])
+      ≡ a_lenient (Page (record { settled = true; places = places 0 7 })) None
 
 -- the value of this name may be at most so much, or at least so much
 abbrev pub at_most : Text → ℕ → limit.Asked
@@ -163,6 +170,7 @@ pub record WorkedHelp : Type 0 where
   pub of_settle : asked_after (codes "settle" ∷ codes "--help" ∷ []) ≡ help
   pub of_compare : asked_after (codes "compare" ∷ codes "-h" ∷ []) ≡ help
   pub of_timeline : asked_after (codes "timeline" ∷ codes "--help" ∷ []) ≡ help
+  pub of_page : asked_after (codes "page" ∷ codes "--help" ∷ []) ≡ help
 
 pub record WorkedVersions : Type 0 where
   pub of_program : asked_after (codes "--version" ∷ []) ≡ version
@@ -197,5 +205,6 @@ pub record WorkedMistakes : Type 0 where
       asked_after (codes "session" ∷ codes "--from" ∷ codes "3" ∷ []) ≡ a_mistake
   pub settled_settle : asked_after (codes "settle" ∷ codes "--settle" ∷ []) ≡ a_mistake
   pub compared_task : asked_after (codes "compare" ∷ codes "--task" ∷ codes "A" ∷ []) ≡ a_mistake
+  pub page_of_task : asked_after (codes "page" ∷ codes "--task" ∷ codes "A" ∷ []) ≡ a_mistake
   pub picture_of_core : asked_after (codes "timeline" ∷ codes "--core" ∷ codes "0" ∷ []) ≡ a_mistake
   pub no_text : asked None ≡ a_mistake

@@ -17,7 +17,7 @@ use Rattle.session_reports.specs.declared.report.Form.TheVariants.{Json, Table}
 use Rattle.view_commands.specs.Families.{family_of}
 use Rattle.view_commands.specs.Selected.{Selected}
 use Rattle.view_commands.specs.declared.request.Command.{Command}
-use Rattle.view_commands.specs.declared.request.Command.TheVariants.{Plain, Settled, Report, Check, Advise}
+use Rattle.view_commands.specs.declared.request.Command.TheVariants.{Plain, Settled, Report, Check, Advise, Page}
 use Rattle.view_commands.specs.declared.request.SettledView.TheVariants as settled
 use Rattle.view_commands.specs.declared.request.View.TheVariants as view
 
@@ -127,6 +127,9 @@ picture_of options =
     if settle_in options then Settled (settled.Timeline (places_in options))
     else Plain (view.Timeline (places_in options))
 
+abbrev pub page_of : List Row → Command
+page_of options = Page (record { settled = settle_in options; places = places_in options })
+
 abbrev pub report_of : List Row → Command
 report_of options = Report (record {
   settled = settle_in options;
@@ -141,6 +144,7 @@ view_of name options =
     else if bytes_eq name (codes "settle") then Settled settled.Session
     else if bytes_eq name (codes "compare") then comparison_of options
     else if bytes_eq name (codes "report") then report_of options
+    else if bytes_eq name (codes "page") then page_of options
     else picture_of options
 
 -- a check, if there are limits and all are written as such

@@ -3,7 +3,7 @@ ghost use Rattle.std.specs.Prelude.{◌≡◌, IfOk, IsErr, map, option_map};
 ghost use Rattle.clap.specs.Words.{app_of, kind_of, rule_of};
 ghost use Rattle.clap.specs.declared.error.kind.ErrorKind.TheVariants.{OutOfMemory};
 ghost use Rattle.command_words.specs.Said.{class_in};
-ghost use Rattle.view_commands.specs.CommandLine.{IsTold, advise_app, asked, asked_by, asked_class, asked_in, asked_in_words, at_least_rule, at_most_rule, best_rule, check_app, compare_app, core_rule, file_rule, from_rule, json_rule, judged_rule, less_rule, over_rule, report_app, session_app, settle_app, settle_rule, strict_rule, task_rule, timeline_app, to_rule, trace_app, view_app};
+ghost use Rattle.view_commands.specs.CommandLine.{IsTold, advise_app, asked, asked_by, asked_class, asked_in, asked_in_words, at_least_rule, at_most_rule, best_rule, check_app, compare_app, core_rule, file_rule, from_rule, json_rule, judged_rule, less_rule, over_rule, page_app, report_app, session_app, settle_app, settle_rule, strict_rule, task_rule, timeline_app, to_rule, trace_app, view_app};
 
 use crate::options::asked_for;
 use crate::request::Request;
@@ -62,6 +62,13 @@ Example: smp_view compare --settle examples/settled/shorter-timeout.json";
 const PICTURES: &str = "A picture shows at most 4000 places.
 
 Example: smp_view timeline examples/questions/shared-mutex.json";
+
+// Below the options of a page.
+const PAGES: &str =
+    "The page has the picture and the trace of the run, with edits the comparison, and the report. It
+needs nothing from elsewhere, and shows at most 4000 places.
+
+Example: smp_view page examples/questions/shared-mutex.json > page.html";
 
 // Below the options of a report.
 const REPORTS: &str =
@@ -284,6 +291,19 @@ fn timeline_command<'a>(alloc: Global) -> Result<Command<'a>, AllocError>
         .arg(file_argument(alloc))
 }
 
+fn page_command<'a>(alloc: Global) -> Result<Command<'a>, AllocError>
+    ensures { IfOk result (λ command. IsTold command page_app) }
+{
+    Command::new(alloc, "page")
+        .after_help(PAGES)
+        .about("Writes one HTML file of the runs: picture, trace, comparison and report")
+        .arg(settle_flag(alloc))?
+        .arg(from_option(alloc))?
+        .arg(to_option(alloc))?
+        .arg(strict_flag(alloc))?
+        .arg(file_argument(alloc))
+}
+
 fn report_command<'a>(alloc: Global) -> Result<Command<'a>, AllocError>
     ensures { IfOk result (λ command. IsTold command report_app) }
 {
@@ -337,6 +357,7 @@ fn program_command<'a>(alloc: Global) -> Result<Command<'a>, AllocError>
     let report = report_command(alloc)?;
     let check = check_command(alloc)?;
     let advise = advise_command(alloc)?;
+    let page = page_command(alloc)?;
     Command::new(alloc, "smp_view")
         .version(VERSION)
         .about("Shows what a run of a scheduling session does, and why")
@@ -350,7 +371,8 @@ fn program_command<'a>(alloc: Global) -> Result<Command<'a>, AllocError>
         .subcommand(timeline)?
         .subcommand(report)?
         .subcommand(check)?
-        .subcommand(advise)
+        .subcommand(advise)?
+        .subcommand(page)
 }
 
 // What clap says asks for this.

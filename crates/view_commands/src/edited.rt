@@ -156,8 +156,8 @@ pub(crate) fn second(alloc: Global, meter: &mut Meter, store: &Store) -> Result<
     }
 }
 
-// The run of the session beside the run after the edits.
-fn comparison_of(
+/// The run of the session beside the run after the edits.
+pub(crate) fn comparison_of(
     alloc: Global,
     meter: &mut Meter,
     store: &mut Store,
@@ -243,7 +243,8 @@ fn picture_of_both(
     answer_output(alloc, answer)
 }
 
-fn picture_of(
+/// The picture of the run, and with edits that of the run after them below it.
+pub(crate) fn picture_of(
     alloc: Global,
     meter: &mut Meter,
     store: &mut Store,

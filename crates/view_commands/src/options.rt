@@ -3,12 +3,12 @@ ghost use Rattle.std.specs.Prelude.{◌≡◌, codes, IfOk, IfSome, map, option_
 ghost use Rattle.std.specs.Option.{IsSomeAnd};
 ghost use Rattle.clap.specs.Words.{found_of, rows_of, subcommand_rows_of};
 ghost use Rattle.view_commands.specs.CommandLine.{asked_for, asked_in};
-ghost use Rattle.view_commands.specs.Options.{AreTaken, advice_of, advice_with, check_of, command_of, comparison_of, cores_in, family_in, file_in, json_in, number_in, number_name, picture_of, places_in, report_of, selection_in, settle_in, strict_in, tasks_in, texts_in, trace_of, usual_best, view_of};
+ghost use Rattle.view_commands.specs.Options.{AreTaken, advice_of, advice_with, check_of, command_of, comparison_of, cores_in, family_in, file_in, json_in, number_in, number_name, page_of, picture_of, places_in, report_of, selection_in, settle_in, strict_in, tasks_in, texts_in, trace_of, usual_best, view_of};
 
 use crate::families::family_of;
 use crate::limits::{are_limits, limits_in};
 use crate::request::{
-    CheckView, Command, FileName, Job, ReportView, Request, Selection, SettledView, View,
+    CheckView, Command, FileName, Job, PageView, ReportView, Request, Selection, SettledView, View,
 };
 use clap::ArgMatches;
 use run_advice::Family;
@@ -182,6 +182,16 @@ fn picture_of(options: &ArgMatches) -> Command
     Command::Plain(View::Timeline(places))
 }
 
+fn page_of(options: &ArgMatches) -> Command
+    requires { AreTaken (rows_of (found_of options.now)) }
+    ensures { result ≡ page_of (rows_of (found_of options.now)) }
+{
+    Command::Page(PageView {
+        settled: settle_in(options),
+        places: places_in(options),
+    })
+}
+
 fn report_of(options: &ArgMatches) -> Command
     requires { AreTaken (rows_of (found_of options.now)) }
     ensures { result ≡ report_of (rows_of (found_of options.now)) }
@@ -312,6 +322,9 @@ fn view_of(alloc: Global, name: &str, options: &ArgMatches) -> Result<Command, A
     }
     if name == "report" {
         return Ok(report_of(options));
+    }
+    if name == "page" {
+        return Ok(page_of(options));
     }
     Ok(picture_of(options))
 }

@@ -78,6 +78,14 @@ impl Model for CheckView {
     ghost view = { λ it. record { settled = it.settled; limits = it.limits.items } };
 }
 
+/// Which places of the session's run, and of the run after the edits, a page shows.
+#[derive(Clone, Copy, Debug, PartialEq, Eq)]
+pub struct PageView {
+    /// Whether the runs are settled.
+    pub settled: bool,
+    pub places: Places,
+}
+
 /// What is to be shown of a document.
 #[derive(Drop)]
 pub enum Command {
@@ -91,6 +99,8 @@ pub enum Command {
     Check(CheckView),
     /// Which changes make a number of its run lower.
     Advise(Question),
+    /// A page with the picture, the trace, the comparison and the report.
+    Page(PageView),
 }
 
 impl Command {
@@ -107,6 +117,7 @@ impl Command {
             Command::Report(view) => view.settled,
             Command::Check(view) => view.settled,
             Command::Advise(question) => question.settled,
+            Command::Page(view) => view.settled,
         }
     }
 }

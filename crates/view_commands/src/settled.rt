@@ -164,8 +164,8 @@ fn document_told(alloc: Global, meter: &mut Meter, store: &Store) -> Result<Outp
     settled_document(alloc, meter, store.header(), steps.as_slice())
 }
 
-// The settled runs of the session and of the session after the edits, beside each other.
-fn comparison_told(
+/// The settled runs of the session and of the session after the edits, beside each other.
+pub(crate) fn comparison_told(
     alloc: Global,
     meter: &mut Meter,
     store: &mut Store,
@@ -236,8 +236,8 @@ fn picture_told(
     settled_picture(alloc, meter, store.header(), steps.as_slice(), places)
 }
 
-// The picture of the settled run, and with edits that of the settled run after them below it.
-fn pictured(
+/// The picture of the settled run, and with edits that of the settled run after them below it.
+pub(crate) fn pictured(
     alloc: Global,
     meter: &mut Meter,
     store: &mut Store,

@@ -8,7 +8,7 @@ use std::alloc::{AllocError, Global};
 use std::process::Abort;
 use std::test::Fail;
 use view_commands::{
-    CheckView, Command, FileName, Job, ReportView, Request, Selection, SettledView, View,
+    CheckView, Command, FileName, Job, PageView, ReportView, Request, Selection, SettledView, View,
     request_of,
 };
 
@@ -40,6 +40,9 @@ smp_view timeline --to 7 --from 3 => picture 3 7
 smp_view timeline --settle => settled picture 0 4294967295
 smp_view timeline --from 3 --settle => settled picture 3 4294967295
 smp_view timeline --settle --to 7 run.json => settled picture 0 7 file run.json
+smp_view page => page 0 4294967295
+smp_view page --settle --to 7 run.json => settled page 0 7 file run.json
+smp_view page --strict --from 3 => strict page 3 4294967295
 smp_view report => report table
 smp_view report --json => report object
 smp_view report --settle => report settled table
@@ -143,7 +146,8 @@ smp_view advise --task A --task B --less run => bad
 smp_view advise --task A --less run --from 3 => bad
 smp_view timeline -3 => bad
 smp_view timeline --task A => bad
-smp_view timeline --settle --core 0 => bad";
+smp_view timeline --settle --core 0 => bad
+smp_view page --task A => bad";
 
 #[test]
 fn command_lines(rt: HostRuntime) -> Result<(), Fail> {
@@ -161,13 +165,15 @@ fn words_that_are_no_text(rt: HostRuntime) -> Result<(), Fail> {
     Ok(())
 }
 
-/// The help of a picture says how many places it shows at most.
+/// The help of a picture and that of a page say how many places they show at most.
 #[test]
 fn most_places_in_help(rt: HostRuntime) -> Result<(), Fail> {
-    let words = ["smp_view", "timeline", "--help"];
-    let request = request_of(rt.alloc(), Some(words.as_slice()))?;
-    let most = format!(in rt.alloc(); " {MAX_PLACES} places")?;
-    expect_part(&rt, text_of(&request), most.as_str());
+    for command in ["timeline", "page"] {
+        let words = ["smp_view", command, "--help"];
+        let request = request_of(rt.alloc(), Some(words.as_slice()))?;
+        let most = format!(in rt.alloc(); " {MAX_PLACES} places")?;
+        expect_part(&rt, text_of(&request), most.as_str());
+    }
     Ok(())
 }
 
@@ -243,7 +249,14 @@ fn command_told(alloc: Global, command: &Command) -> Result<String, AllocError> 
         Command::Report(view) => report_told(alloc, *view),
         Command::Check(view) => check_told(alloc, view),
         Command::Advise(question) => advice_told(alloc, question),
+        Command::Page(view) => page_told(alloc, *view),
     }
+}
+
+fn page_told(alloc: Global, view: PageView) -> Result<String, AllocError> {
+    let settled = if view.settled { "settled " } else { "" };
+    let places = view.places;
+    format!(in alloc; "{settled}page {} {}", places.from, places.to)
 }
 
 fn advice_told(alloc: Global, question: &Question) -> Result<String, AllocError> {

@@ -26,4 +26,5 @@ returns c =
     let timelines = one_more c.in_ok-subcommand-4.field-0 c.in_ok-subcommand-5.field-0 _ c.in_ok-timeline.timeline _ compares c.in_ok-timeline.ensures c.in_ok-subcommand-5.ensures in
     let reports = one_more c.in_ok-subcommand-5.field-0 c.in_ok-subcommand-6.field-0 _ c.in_ok-report.report _ timelines c.in_ok-report.ensures c.in_ok-subcommand-6.ensures in
     let checks = one_more c.in_ok-subcommand-6.field-0 c.in_ok-subcommand-7.field-0 _ c.in_ok-check.check _ reports c.in_ok-check.ensures c.in_ok-subcommand-7.ensures in
-    IfOk-weaker c.subcommand-8.result _ _ (λ command added. one_more c.in_ok-subcommand-7.field-0 command _ c.in_ok-advise.advise _ checks c.in_ok-advise.ensures added) c.subcommand-8.ensures
+    let advices = one_more c.in_ok-subcommand-7.field-0 c.in_ok-subcommand-8.field-0 _ c.in_ok-advise.advise _ checks c.in_ok-advise.ensures c.in_ok-subcommand-8.ensures in
+    IfOk-weaker c.subcommand-9.result _ _ (λ command added. one_more c.in_ok-subcommand-8.field-0 command _ c.in_ok-page.page _ advices c.in_ok-page.ensures added) c.subcommand-9.ensures

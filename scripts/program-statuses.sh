@@ -87,6 +87,11 @@ run 'replay of steps that the kernel refuses' 0 "start A B
 6 done C B
 " '' replay
 
+session '"core": 0' '"core": 7, "core": 0'
+core_twice=$'the member "core" stands twice, and the last one counts: line 14, column 32\n'
+run 'replay of a session with a member twice' 0 "$lines" "$core_twice" replay
+run 'whatif of one' 0 '' "${core_twice}no edits: nothing was tried" whatif
+
 cp examples/another-call.json "$folder/in"
 edited='edit 0 from 0 met 5 replayed 5
 edit 1 refused J1
@@ -180,6 +185,8 @@ run 'replay of a recording' 0 'start A B
 6 done A B
 7 done A B
 ' '' replay
+with '"limit": 9' '"limit": 3, "limit": 9'
+run 'record: a rig with a member twice' 0 "$recorded" $'the member "limit" stands twice, and the last one counts: line 3, column 14\n' record
 with '"limit": 9' '"limit": 1000000'
 run 'record: a hold that is open at the end is closed' 0 "${recorded/'"do":"finish"}'/'"do":"finish"},{"by":"A","core":0,"do":"hold_open"},{"by":"A","core":0,"do":"hold_close"}'}" '' record
 with '"limit": 9' '"limit": 0'
@@ -208,31 +215,31 @@ run 'a text that is not UTF-8' 1 $'refused H1\n' 'not JSON: not UTF-8' replay
 printf '\357\273\277{}' >"$folder/in"
 run 'a byte order mark' 1 $'refused H1\n' 'not JSON: the text begins with a byte order mark' replay
 printf '{}' >"$folder/in"
-run 'a missing member' 1 $'refused H2 format\n' 'format: this member is missing' replay
+run 'a missing member' 1 $'refused H2 format\n' 'format: this member is missing (line 1, column 1)' replay
 session '"core": 0' '"core": "0"'
-run 'an ill-typed member' 1 $'refused H2 steps[0].core\n' 'steps[0].core: expected a whole number from 0 to 4294967295, found a text' replay
+run 'an ill-typed member' 1 $'refused H2 steps[0].core\n' 'steps[0].core: expected a whole number from 0 to 4294967295, found a text (line 14, column 29)' replay
 session '"core": 0' '"core": 4294967296'
-run 'a number that is too great' 1 $'refused H2 steps[0].core\n' 'steps[0].core: expected a whole number from 0 to 4294967295, found a greater one' replay
+run 'a number that is too great' 1 $'refused H2 steps[0].core\n' 'steps[0].core: expected a whole number from 0 to 4294967295, found a greater one (line 14, column 29)' replay
 session '"steps": [' '"notes": 1, "steps": ['
 run 'an unknown member' 1 $'refused H2 top\n' 'top: there is no member "notes"; the nearest is "cores"; these may stand here: format, cores, priorities' replay
 session '"format": 1' '"format": 3'
-run 'another format' 1 $'refused H2 format\n' 'format: expected 1 or 2' replay
+run 'another format' 1 $'refused H2 format\n' 'format: expected 1 or 2 (line 2, column 13)' replay
 sed 's/"edit": "replace"/"edit": "add"/' examples/another-call.json >"$folder/in"
-run 'an unknown word' 1 $'refused H2 edits[0].edit\n' 'edits[0].edit: "add" is no word that stands here; the nearest is "change"; these are: insert, remove, replace, change' replay
+run 'an unknown word' 1 $'refused H2 edits[0].edit\n' 'edits[0].edit: "add" is no word that stands here; the nearest is "change"; these are: insert, remove, replace, change (line 23, column 14)' replay
 head -c 268435456 /dev/zero | tr '\0' ' ' >"$folder/in"
 run 'the longest input' 1 $'refused H1\n' 'not JSON' replay
 printf ' ' >>"$folder/in"
 run 'an input one byte longer' 1 $'refused H3\n' 'the input has more than 268435456 bytes' replay
 session '"cores": 2' '"cores": 1'
-run 'a header that is outside its limits' 1 $'refused F1\n' 'header: cores is 1, and may be 2 to 32' replay
+run 'a header that is outside its limits' 1 $'refused F1\n' 'header: cores is 1, and may be 2 to 32 (line 3, column 12)' replay
 session '"core": 0' '"core": 2'
-run 'no such core' 1 $'refused F2 steps[0]\n' 'steps[0]: core 2 is none of the cores 0 to 1' replay
+run 'no such core' 1 $'refused F2 steps[0]\n' 'steps[0]: core 2 is none of the cores 0 to 1 (line 14, column 5)' replay
 session '"by": "C"' '"by": "D"'
-run 'no such task' 1 $'refused F3 steps[3]\n' 'steps[3]: no user task has such a name' replay
+run 'no such task' 1 $'refused F3 steps[3]\n' 'steps[3]: no user task is named "D"; the nearest name is "A" (line 17, column 5)' replay
 sed 's/"by": "A"}}/"by": "D"}}/' examples/another-call.json >"$folder/in"
-run 'no such task in an edit' 1 $'refused F3 edits[0]\n' 'edits[0]: no user task has such a name' replay
+run 'no such task in an edit' 1 $'refused F3 edits[0]\n' 'edits[0]: no user task is named "D"; the nearest name is "A" (line 23, column 5)' replay
 sed 's/"at": 6, //' examples/another-call.json >"$folder/in"
-run 'an edit at no place' 1 $'refused H2 edits[1].at\n' 'edits[1].at: this member is missing' replay
+run 'an edit at no place' 1 $'refused H2 edits[1].at\n' 'edits[1].at: this member is missing (line 24, column 5)' replay
 ticks="$(printf '%01000001d' 0 | sed 's/0/{"do":"tick"},/g')"
 session '"steps": [' "\"steps\": [$ticks"
 run 'more steps than a session may have' 1 $'refused J2\n' 'the session has more than 1000000 steps' replay
@@ -241,23 +248,23 @@ run 'more steps than a session may have' 1 $'refused J2\n' 'the session has more
 run 'no document' 1 $'refused H1\n' 'not JSON: line 1, column 0' whatif
 run 'no rig' 1 $'refused H1\n' 'not JSON: line 1, column 0' record
 session '' ''
-run 'a session in place of a rig' 1 $'refused H2 session\n' 'session: this member is missing' record
+run 'a session in place of a rig' 1 $'refused H2 session\n' 'session: this member is missing (line 1, column 1)' record
 with '"steps": []' '"steps": [{"do": "tick"}]'
-run 'a rig whose session has steps' 1 $'refused H2 session.steps\n' 'session.steps: the session of a rig has no steps' record
+run 'a rig whose session has steps' 1 $'refused H2 session.steps\n' 'session.steps: the session of a rig has no steps (line 2, column 105)' record
 with ', []]}' ']}'
-run 'a core without a script' 1 $'refused H2 scripts\n' 'scripts: expected an array for each core, 2 of them' record
+run 'a core without a script' 1 $'refused H2 scripts\n' 'scripts: expected an array for each core, 2 of them (line 3, column 25)' record
 with '"cores": 2' '"cores": 1'
-run 'more scripts than cores' 1 $'refused H2 scripts\n' 'scripts: expected an array for each core, 1 of them' record
+run 'more scripts than cores' 1 $'refused H2 scripts\n' 'scripts: expected an array for each core, 1 of them (line 3, column 25)' record
 with '"priorities": 5' '"priorities": 2'
-run 'a rig with a header outside its limits' 1 $'refused F1\n' 'header: tasks[0].priority has to be below 2' record
+run 'a rig with a header outside its limits' 1 $'refused F1\n' 'header: tasks[0].priority has to be below 2 (line 2, column 39)' record
 with '"limit": 9' '"limit": 1000001'
-run 'a limit above the greatest' 1 $'refused F5 limit\n' 'limit: limit is 1000001, and may be 0 to 1000000' record
+run 'a limit above the greatest' 1 $'refused F5 limit\n' 'limit: limit is 1000001, and may be 0 to 1000000 (line 3, column 11)' record
 with ', []]}' ', [{"do": "tick"}]]}'
-run 'a tick on another core than 0' 1 $'refused F2 scripts[1][0]\n' 'scripts[1][0]: only core 0 has ticks' record
+run 'a tick on another core than 0' 1 $'refused F2 scripts[1][0]\n' 'scripts[1][0]: only core 0 has ticks (line 4, column 134)' record
 head -c 268435457 /dev/zero | tr '\0' ' ' >"$folder/in"
 run 'a rig one byte longer than the longest input' 1 $'refused H3\n' 'the input has more than 268435456 bytes' record
 with '' ''
-run 'a rig in place of a session' 1 $'refused H2 edits\n' 'edits: this member is missing' replay
+run 'a rig in place of a session' 1 $'refused H2 edits\n' 'edits: this member is missing (line 1, column 1)' replay
 
 # ---- help
 
@@ -554,7 +561,7 @@ little 'record with little memory' record
     head -c 40000000 /dev/zero | tr '\0' ' '
     printf ']'
 } >"$folder/in"
-run 'a long input, with memory' 1 $'refused H2 top\n' 'top: expected an object, found an array' replay
+run 'a long input, with memory' 1 $'refused H2 top\n' 'top: expected an object, found an array (line 1, column 1)' replay
 (
     ulimit -v 40000
     exec "$program" replay <"$folder/in" >"$folder/out" 2>"$folder/err"
@@ -591,6 +598,8 @@ run_to() { # NAME WANTED WORD..
 
 # ---- views
 
+session '"core": 0' '"core": 7, "core": 0'
+run 'a trace of a session with a member twice' 0 "$traced" "$core_twice" trace
 session '' ''
 run 'a trace' 0 "$traced" '' trace
 run 'a trace of two places' 0 'place 2, tick 0; core 0 C; core 1 B
@@ -802,7 +811,7 @@ run 'a missing member' 1 '' $'refused H2 format\nformat: ' compare
 head -c 268435457 /dev/zero | tr '\0' ' ' >"$folder/in"
 run 'an input one byte longer than the longest' 1 '' $'refused H3\nthe input has more than 268435456 bytes\n' timeline
 session '"cores": 2' '"cores": 1'
-run 'a header that is outside its limits' 1 '' $'refused F1\nheader: cores is 1, and may be 2 to 32\n' trace
+run 'a header that is outside its limits' 1 '' $'refused F1\nheader: cores is 1, and may be 2 to 32 (line 3, column 12)\n' trace
 session '"core": 0' '"core": 2'
 run 'no such core' 1 '' $'refused F2 steps[0]\nsteps[0]: ' session
 sed 's/"by": "A"}}/"by": "D"}}/' examples/another-call.json >"$folder/in"

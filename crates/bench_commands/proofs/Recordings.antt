@@ -15,8 +15,9 @@ use Rattle.session_text.specs.declared.fault.Why.TheVariants.{NoMemory}
 use Rattle.session_text.specs.Rig.{rig_text}
 use Rattle.bench_types.specs.Limits.{max_input}
 use Rattle.program_io.specs.Hint.{IsRigHintWhere, too_long_line}
-use Rattle.program_io.specs.Outputs.{Told, fine, refused_with}
+use Rattle.program_io.specs.Outputs.{Told, fine, noted, refused_with}
 use Rattle.program_io.specs.Refusal.{IsToldFault, refusal_line, why_text}
+use Rattle.program_io.specs.Twice.{twice_note}
 use Rattle.bench_commands.specs.Answer.{refused}
 use Rattle.bench_commands.specs.Record.{IsAnswerWhere, IsRecorded, IsRecording, IsRecordingOf}
 
@@ -44,10 +45,11 @@ refused_recording input fault (Ok told) (inl read) line memory =
 refused_recording input fault (Ok told) (inr none) line memory = absurd (cc (memory (ap (λ (f : TextFault). f.why) none)))
 
 -- what is told of a text that was read
-pub recording_told : (input text : List ℕ) (rig : RigScript) (told : Told) → rig_text input ≡ Ok rig → IsRecorded rig (record { is_refused = false; text = text }) → told ≡ fine text → IsRecordingOf input (rig_text input) told
-recording_told input text rig told read recorded is =
+pub recording_told : (input line text : List ℕ) (rig : RigScript) (told : Told) → rig_text input ≡ Ok rig → IsRecorded rig (record { is_refused = false; text = text }) → line ≡ twice_note input → told ≡ noted (fine text) line
+    → IsRecordingOf input (rig_text input) told
+recording_told input line text rig told read recorded is_line is =
     subst (λ (r : Result RigScript TextFault). IsRecordingOf input r told) (sym read)
-    (record { output = record { is_refused = false; text = text }; answer = recorded; tells = record { hint = []; is_hint = λ refused. absurd (cc refused); is_told = is } })
+    (record { output = record { is_refused = false; text = text }; answer = recorded; tells = record { hint = []; is_hint = λ refused. absurd (cc refused); is_told = is ∙ ap (noted (fine text)) is_line } })
 
 -- what is told of an input that is not too long
 pub short_recording : {E : Type 0} (input : List ℕ) (result : Result Told E) → nat_lt max_input (length input) ≡ false → IfOk result (λ told. IsRecordingOf input (rig_text input) told) → IfOk result (λ told. IsRecording input told)

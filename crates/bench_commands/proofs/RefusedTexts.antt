@@ -1,5 +1,5 @@
 -- What is told of a document, whether it was read and opened or not.
-use Rattle.std.proofs.Common.{◌≡◌, ◌⊎◌, ℕ, List, [], length, flat_map, Bool, true, false, Result, Ok, Err, IfOk, nat_lt, nat_le, codes, refl, sym, ap, subst, ◌∙◌, arith, inl, inr}
+use Rattle.std.proofs.Common.{◌≡◌, ◌⊎◌, ℕ, List, [], ◌++◌, length, flat_map, Bool, true, false, Result, Ok, Err, IfOk, nat_lt, nat_le, codes, refl, sym, ap, subst, ◌∙◌, arith, inl, inr}
 use Rattle.std.specs.Prelude.{All, IsErr, OnOk, if◌then◌else◌}
 use Rattle.std.proofs.lemmas.Bool.Decides.{nat_tests}
 use Rattle.bench_types.specs.Name.{is_within}
@@ -22,26 +22,44 @@ use Rattle.bench_model.specs.Meeting.{CheckpointedSession, first_kept}
 use Rattle.program_io.specs.Hint.{IsBenchTextHint, too_many_steps_line}
 use Rattle.program_io.specs.Outputs.{Told, fine, noted, refused_with}
 use Rattle.program_io.specs.Refusal.{IsToldFault, refusal_line}
+use Rattle.program_io.specs.Twice.{twice_note, warned}
+use Rattle.program_io.specs.declared.output.OutputStatus.TheVariants.{Failed, Fine}
 use Rattle.bench_commands.specs.declared.execution.Mode.{Mode}
-use Rattle.bench_commands.specs.Answer.{IsToldAnswer, Output, bench_notes, bench_output, notes_of, output_of, output_of_bench, refused, span_of, store_text, told_with}
+use Rattle.bench_commands.specs.Answer.{IsToldAnswer, Output, bench_notes, bench_output, notes_of, output_of, output_of_bench, refused, run_notes, span_of, store_text, told_with}
 use Rattle.document_stores.proofs.Opened.{few_steps, opens}
 
 -- what is told of a text that was not read
 pub refused_told : {E : Type 0} (mode : Mode) (text : Bench → List ℕ) (input : List ℕ) (fault : TextFault) (result : Result Told E) → (bench_text input ≡ Err fault) ⊎ (fault ≡ record { why = NoMemory; path = []; detail = None })
-    → IfOk result (λ told. IsToldFault refused_with input fault told) → (fault.why ≡ NoMemory → IsErr result) → IfOk result (λ told. IsToldAnswer (output_of text (bench_text input)) (notes_of mode (bench_text input)) (IsBenchTextHint input (bench_text input)) told)
+    → IfOk result (λ told. IsToldFault refused_with input fault told) → (fault.why ≡ NoMemory → IsErr result) → IfOk result (λ told. IsToldAnswer (output_of text (bench_text input)) (run_notes mode input) (IsBenchTextHint input (bench_text input)) told)
 refused_told mode text input fault (Err e) reading told memory = tt
 refused_told mode text input fault (Ok told) (inl read) line memory =
-    subst (λ (r : Result Bench TextFault). IsToldAnswer (output_of text r) (notes_of mode r) (IsBenchTextHint input r) told) (sym read)
+    subst (λ (r : Result Bench TextFault). IsToldAnswer (output_of text r) (twice_note input ++ notes_of mode r) (IsBenchTextHint input r) told) (sym read)
     (record { hint = line.hint; is_hint = λ refused. line.is_hint; is_told = line.is_told })
 refused_told mode text input fault (Ok told) (inr none) line memory = absurd (cc (memory (ap (λ (f : TextFault). f.why) none)))
 
+-- lines before the notes of an answer
+warned_answer : (answer : Output) (lines notes hint : List ℕ) → warned lines (told_with answer notes hint) ≡ told_with answer (lines ++ notes) hint
+warned_answer answer lines notes hint = by answer.is_refused
+  where
+    by : (refused : Bool) → warned lines (record { status = if refused then Failed else Fine; text = answer.text; note = if refused then hint else notes })
+        ≡ record { status = if refused then Failed else Fine; text = answer.text; note = if refused then hint else lines ++ notes }
+    by true = refl
+    by false = refl
+
 -- what is told of a text that was read
-pub read_told : {E : Type 0} (mode : Mode) (text : Bench → List ℕ) (input : List ℕ) (bench : Bench) (result : Result Told E) → bench_text input ≡ Ok bench → IfOk result (λ told. told ≡ told_with (output_of_bench text bench) (bench_notes mode bench) too_many_steps_line)
-    → IfOk result (λ told. IsToldAnswer (output_of text (bench_text input)) (notes_of mode (bench_text input)) (IsBenchTextHint input (bench_text input)) told)
-read_told mode text input bench (Err e) read told = tt
-read_told mode text input bench (Ok given) read told =
-    subst (λ (r : Result Bench TextFault). IsToldAnswer (output_of text r) (notes_of mode r) (IsBenchTextHint input r) given) (sym read)
-    (record { hint = too_many_steps_line; is_hint = λ refused. refl; is_told = told })
+pub read_told : {E : Type 0} (mode : Mode) (text : Bench → List ℕ) (input line : List ℕ) (bench : Bench) (told : Told) (result : Result Told E) → bench_text input ≡ Ok bench → line ≡ twice_note input
+    → told ≡ told_with (output_of_bench text bench) (bench_notes mode bench) too_many_steps_line → IfOk result (λ output. output ≡ warned line told)
+    → IfOk result (λ told. IsToldAnswer (output_of text (bench_text input)) (run_notes mode input) (IsBenchTextHint input (bench_text input)) told)
+read_told mode text input line bench told (Err e) read is_line is_told given = tt
+read_told mode text input line bench told (Ok output) read is_line is_told given =
+    subst (λ (r : Result Bench TextFault). IsToldAnswer (output_of text r) (twice_note input ++ notes_of mode r) (IsBenchTextHint input r) output) (sym read)
+    (record {
+      hint = too_many_steps_line;
+      is_hint = λ refused. refl;
+      is_told =
+          given ∙ ap (warned line) is_told ∙ warned_answer (output_of_bench text bench) line (bench_notes mode bench) too_many_steps_line
+          ∙ ap (λ (first : List ℕ). told_with (output_of_bench text bench) (first ++ bench_notes mode bench) too_many_steps_line) is_line;
+    })
 
 -- a session that was checked is not opened only where it has too many steps
 pub too_long_output : (text : Bench → List ℕ) (bench : Bench) (span : ℕ) (why : OpenRefusal) → IsCheckedBench bench → is_within 1 max_span span ≡ true → (open_check bench.header bench.steps span ≡ Ok tt → why ≡ refusal.NoMemory) → why ≡ TooLong

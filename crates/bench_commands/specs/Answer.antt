@@ -24,6 +24,7 @@ use Rattle.program_io.specs.declared.output.OutputStatus.TheVariants.{Failed, Fi
 use Rattle.program_io.specs.Hint.{IsBenchHint}
 use Rattle.program_io.specs.Outputs.{Told}
 use Rattle.program_io.specs.Refusal.{refusal_line, why_text}
+use Rattle.program_io.specs.Twice.{twice_note}
 use Rattle.bench_commands.specs.declared.execution.Mode.{Mode}
 use Rattle.bench_commands.specs.declared.execution.Mode.TheVariants.{Replay, WhatIf}
 use Rattle.bench_commands.specs.Lines.{edit_line, edit_lines, start_line, step_line}
@@ -138,7 +139,11 @@ pub record IsToldAnswer (answer : Output) (notes : List ℕ) (IsHint : List ℕ 
   pub is_hint : answer.is_refused ≡ true → IsHint hint
   pub is_told : told ≡ told_with answer notes hint
 
+-- that a member of the input stands twice, and then by the mode a line for each edit that is refused
+abbrev pub run_notes : Mode → List ℕ → List ℕ
+run_notes mode input = twice_note input ++ notes_of mode (bench_text input)
+
 -- by the mode, what a run tells of an input
 abbrev pub IsRun : Mode → List ℕ → Told → Type 0
 IsRun mode input told =
-    IsToldAnswer (output mode input) (notes_of mode (bench_text input)) (IsBenchHint input) told
+    IsToldAnswer (output mode input) (run_notes mode input) (IsBenchHint input) told

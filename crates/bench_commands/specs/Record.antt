@@ -19,6 +19,7 @@ use Rattle.program_io.specs.Device.{ReadsInput, AppendsPrefix}
 use Rattle.program_io.specs.Endings.{WroteNothing}
 use Rattle.program_io.specs.Hint.{IsRigHint, IsRigTextHint}
 use Rattle.program_io.specs.Outputs.{Told}
+use Rattle.program_io.specs.Twice.{twice_note}
 use Rattle.bench_commands.specs.Answer.{IsToldAnswer, Output, refused}
 
 -- a session that was recorded, and a line feed
@@ -56,13 +57,13 @@ pub record IsRecordingOf (input : List ℕ) (rig : Result RigScript TextFault) (
     : Type 0 where
   pub output : Output
   pub answer : IsAnswerTo rig output
-  pub tells : IsToldAnswer output [] (IsRigTextHint input rig) told
+  pub tells : IsToldAnswer output (twice_note input) (IsRigTextHint input rig) told
 
 -- what a recording tells of an input
 pub record IsRecording (input : List ℕ) (told : Told) : Type 0 where
   pub output : Output
   pub answer : IsAnswer input output
-  pub tells : IsToldAnswer output [] (IsRigHint input) told
+  pub tells : IsToldAnswer output (twice_note input) (IsRigHint input) told
 
 -- the input was read, and its whole answer written
 pub record WroteAnswer (read_old read_new write_old write_new : Option (List ℕ))

@@ -8,7 +8,7 @@ ghost use Rattle.session_text.specs.Bench.{IsCheckedBench, bench_text};
 ghost use Rattle.program_io.specs.Hint.{IsBenchTextHint, too_many_steps_line};
 ghost use Rattle.program_io.specs.Outputs.{refused_with};
 ghost use Rattle.program_io.specs.Refusal.{IsToldFault, refusal_line};
-ghost use Rattle.bench_commands.specs.Answer.{IsRun, IsToldAnswer, bench_notes, bench_output, notes_of, output_of, output_of_bench, told_with};
+ghost use Rattle.bench_commands.specs.Answer.{IsRun, IsToldAnswer, bench_notes, bench_output, output_of, output_of_bench, run_notes, told_with};
 ghost use Rattle.bench_commands.specs.Run.{has_span};
 ghost use Rattle.bench_commands.specs.declared.execution.Mode.TheVariants.{Replay, WhatIf};
 
@@ -17,9 +17,9 @@ use crate::output::{edited_replay, unedited_replay};
 use crate::trials::trial_lines;
 use bench_types::MAX_INPUT;
 use edit_notes::{refused_edits, refused_trials};
-use program_io::{Output, explained, too_long};
+use program_io::{Output, explained, too_long, twice_note, warned};
 use session_store::{OpenRefusal, Store};
-use session_text::{Bench, TextFault, read_bench};
+use session_text::{Bench, Noted, TextFault, read_bench_noted};
 use smp_kernel::Meter;
 use std::alloc::{AllocError, Global};
 use std::thread::Threads;
@@ -191,12 +191,16 @@ fn told_of_text<T: Threads + Sync>(
     requires { has_span mode ≡ true }
     ensures { IfOk result
         (λ told. IsToldAnswer (output_of (bench_output mode) (bench_text input.now))
-        (notes_of mode (bench_text input.now))
+        (run_notes mode input.now)
         (IsBenchTextHint input.now (bench_text input.now)) told) }
 {
-    match read_bench(alloc, input) {
+    match read_bench_noted(alloc, input) {
         Err(fault) => refused_text(alloc, input, fault),
-        Ok(bench) => told_of_bench(rt, host, alloc, bench, mode),
+        Ok(Noted { document, doubled }) => {
+            let line = twice_note(alloc, input, doubled)?;
+            let told = told_of_bench(rt, host, alloc, document, mode)?;
+            warned(told, line)
+        }
     }
 }
 

@@ -10,8 +10,10 @@ use crate::answer::refused_text;
 use crate::execution::Status;
 use bench_types::MAX_INPUT;
 use core_scripts::{Gate, play};
-use program_io::{CountedRead, CountedWrite, Ending, Output, read_input, too_long, write_output};
-use session_text::{RigScript, read_rig};
+use program_io::{
+    CountedRead, CountedWrite, Ending, Output, read_input, too_long, twice_note, write_output,
+};
+use session_text::{Noted, RigScript, read_rig_noted};
 use session_write::write_session;
 use std::alloc::{AllocError, Global};
 use std::sync::Wait;
@@ -47,11 +49,12 @@ fn told_of_text<R: Threads + Wait + Sync, G: Gate>(
 ) -> Result<Output, AllocError>
     ensures { IfOk result (λ told. IsRecordingOf input.now (rig_text input.now) told) }
 {
-    match read_rig(alloc, input) {
+    match read_rig_noted(alloc, input) {
         Err(fault) => refused_text(alloc, input, fault),
-        Ok(rig) => {
-            let text = recorded(rt, host, alloc, &rig, gate)?;
-            Ok(Output::fine(alloc, text))
+        Ok(Noted { document, doubled }) => {
+            let line = twice_note(alloc, input, doubled)?;
+            let text = recorded(rt, host, alloc, &document, gate)?;
+            Ok(Output::fine(alloc, text).noted(line.into_bytes()))
         }
     }
 }

@@ -5,3 +5,4 @@ mod Members
 pub mod Objects
 pub mod Places
 pub mod Ranges
+pub mod Twice

@@ -1,13 +1,16 @@
-ghost use Rattle.std.specs.Prelude.{◌≡◌, true, is_some, Some, None, Err, IfOk};
+ghost use Rattle.std.specs.Prelude.{◌≡◌, true, is_some, option_map, Some, None, Err, IfOk};
 ghost use Rattle.std.specs.Str.{IsUtf8};
+ghost use Rattle.json.specs.Lex.{tokens};
 ghost use Rattle.serde_json.specs.Read.{read};
+ghost use Rattle.json_data.specs.Doubled.{first_doubled, key_of};
 ghost use Rattle.json_data.specs.Reading.{data_at};
 ghost use Rattle.json_data.specs.declared.document.Refused.TheVariants.{NoMemory, NotJson};
 
+use crate::doubled::{Doubled, Passed, passed_value};
 use crate::item::Item;
 use crate::range::are_in_range;
 use json::{Error, Scratch, Tape};
-use std::alloc::Global;
+use std::alloc::{AllocError, Global};
 use thiserror::Error as ErrorText;
 
 /// Why there is no document of a text.
@@ -29,7 +32,7 @@ pub struct Document<'a> {
 }
 
 impl<'a> Document<'a> {
-    ghost use Rattle.json_data.specs.View.{document_view, view};
+    ghost use Rattle.json_data.specs.View.{document_view, tokens_view, view};
 
     /// Reads a text. The scratch is for its strings; one can serve many texts, one after another.
     pub fn parse(
@@ -39,6 +42,7 @@ impl<'a> Document<'a> {
     ) -> Result<Document<'a>, Refused>
         ensures ok { IfOk result
             (λ document. IsUtf8 bytes.now × (read bytes.now ≡ Some (document_view document))) }
+        ensures tokens { IfOk result (λ document. tokens_view document ≡ tokens bytes.now) }
         ensures refused { result ≡ Err NotJson → IsUtf8 bytes.now → read bytes.now ≡ None }
         ensures memory { result ≡ Err NoMemory → IsUtf8 bytes.now }
     {
@@ -54,6 +58,7 @@ impl<'a> Document<'a> {
         scratch: &'a mut Scratch,
     ) -> Result<Document<'a>, Refused>
         ensures ok { IfOk result (λ document. read text.now ≡ Some (document_view document)) }
+        ensures tokens { IfOk result (λ document. tokens_view document ≡ tokens text.now) }
         ensures refused { result ≡ Err NotJson → read text.now ≡ None }
     {
         match Tape::parse(text, scratch, Vec::new(alloc)) {
@@ -74,5 +79,18 @@ impl<'a> Document<'a> {
         ensures { view result ≡ document_view self.now }
     {
         Item::new(self.tape.root())
+    }
+
+    /// The first member, in the order of the text, whose name an earlier member of its object has
+    /// too. It passes each token once.
+    pub fn doubled(&self, alloc: Global) -> Result<Option<Doubled<'a>>, AllocError>
+        ensures { IfOk result
+            (λ found. option_map key_of found ≡ first_doubled (tokens_view self.now)) }
+    {
+        let whole = passed_value(alloc, self.tape.nodes(), 0)?;
+        match whole {
+            Passed::Twice(doubled) => Ok(Some(doubled)),
+            Passed::Next(_) => Ok(None),
+        }
     }
 }

@@ -5,12 +5,15 @@
 #![tactic(auto)]
 
 mod document;
+mod doubled;
 mod item;
 mod items;
 mod object;
 mod range;
+mod seen;
 
 pub use document::{Document, Refused};
+pub use doubled::Doubled;
 pub use item::Item;
 pub use items::Items;
 pub use json::Scratch;

@@ -25,6 +25,7 @@ use Rattle.session_text.specs.declared.nearest.Stray.{Stray}
 use Rattle.session_text.specs.declared.rig.RigScript.{RigScript}
 use Rattle.session_text.specs.Bench.{bench_text}
 use Rattle.session_text.specs.Rig.{rig_text}
+use Rattle.program_io.specs.Placed.{fault_place, flaw_path, place_suffix}
 
 -- ---- H1
 
@@ -41,7 +42,7 @@ pub record IsShortTextHint (input hint : List ℕ) : Type 0 where
   pub place : is_utf8 input ≡ true → read input ≡ None → TellsPlace hint
   pub bytes : is_utf8 input ≡ false → hint ≡ codes "not JSON: not UTF-8\n"
 
--- the most bytes that are read again for the place; a tree of them takes up to 130 times as many
+-- the most bytes that serde_json reads for that place; its tree takes up to 130 times as many
 abbrev pub max_placed : ℕ
 max_placed = 8388608
 
@@ -72,39 +73,45 @@ IsNotJsonHint input hint = IsHintOfMarked (starts_with nat_eq input byte_order_m
 -- ---- F1 of the header
 
 -- a number of the header, and what it may be
-abbrev pub limits_line : List ℕ → ℕ → ℕ → ℕ → List ℕ
-limits_line member n least most =
+abbrev pub limits_text : List ℕ → ℕ → ℕ → ℕ → List ℕ
+limits_text member n least most =
     codes "header: " ++ member ++ codes " is " ++ decimal n ++ codes ", and may be "
-    ++ decimal least ++ codes " to " ++ decimal most ++ codes "\n"
+    ++ decimal least ++ codes " to " ++ decimal most
 
 -- a user task by its place, then what is wrong with it
-abbrev pub task_line : ℕ → List ℕ → List ℕ
-task_line task text = codes "header: tasks[" ++ decimal task ++ codes "]" ++ text ++ codes "\n"
+abbrev pub task_text : ℕ → List ℕ → List ℕ
+task_text task text = codes "header: tasks[" ++ decimal task ++ codes "]" ++ text
 
 -- the same with a number at the end
-abbrev pub task_limit_line : ℕ → List ℕ → ℕ → List ℕ
-task_limit_line task text n =
-    codes "header: tasks[" ++ decimal task ++ codes "]" ++ text ++ decimal n ++ codes "\n"
+abbrev pub task_limit_text : ℕ → List ℕ → ℕ → List ℕ
+task_limit_text task text n = codes "header: tasks[" ++ decimal task ++ codes "]" ++ text ++ decimal n
 
-abbrev pub flaw_line : HeaderFlaw → List ℕ
-flaw_line (Cores n) = limits_line (codes "cores") n min_cores max_cores
-flaw_line (Priorities n) = limits_line (codes "priorities") n 1 max_priorities
-flaw_line (Mutexes n) = limits_line (codes "mutexes") n 0 max_mutexes
-flaw_line (Notes n) = limits_line (codes "notes") n 1 max_notes
-flaw_line (TaskCount n) = limits_line (codes "the number of tasks") n 1 max_tasks
-flaw_line (NoName task) =
-    task_line task
+abbrev pub flaw_text : HeaderFlaw → List ℕ
+flaw_text (Cores n) = limits_text (codes "cores") n min_cores max_cores
+flaw_text (Priorities n) = limits_text (codes "priorities") n 1 max_priorities
+flaw_text (Mutexes n) = limits_text (codes "mutexes") n 0 max_mutexes
+flaw_text (Notes n) = limits_text (codes "notes") n 1 max_notes
+flaw_text (TaskCount n) = limits_text (codes "the number of tasks") n 1 max_tasks
+flaw_text (NoName task) =
+    task_text task
     (codes ".name has to be 1 to 15 characters from ! to ~, and not begin with IDLE")
-flaw_line (Priority task priorities) =
-    task_limit_line task (codes ".priority has to be below ") priorities
-flaw_line (Mask task cores) =
-    task_limit_line task (codes ".mask has to have a bit below bit ") cores
-flaw_line (SharedName task) = task_line task (codes ".name is that of another task too")
+flaw_text (Priority task priorities) =
+    task_limit_text task (codes ".priority has to be below ") priorities
+flaw_text (Mask task cores) =
+    task_limit_text task (codes ".mask has to have a bit below bit ") cores
+flaw_text (SharedName task) = task_text task (codes ".name is that of another task too")
+
+-- with the place of the member at fault, where the session stands at a path
+abbrev pub header_line : List ℕ → List ℕ → HeaderFlaw → List ℕ
+header_line input session flaw =
+    flaw_text flaw ++ place_suffix (fault_place input (flaw_path session flaw)) ++ codes "\n"
 
 -- ---- faults that have a path
 
-abbrev pub line_at : List ℕ → List ℕ → List ℕ
-line_at path meaning = path ++ codes ": " ++ meaning ++ codes "\n"
+-- a path, what is wrong there, and its place in the input
+abbrev pub line_at : List ℕ → List ℕ → List ℕ → List ℕ
+line_at input path meaning =
+    path ++ codes ": " ++ meaning ++ place_suffix (fault_place input path) ++ codes "\n"
 
 -- ---- H2
 
@@ -204,6 +211,16 @@ step_flaw_text (flaws.NewPriority priority priorities) =
     codes "priority " ++ decimal priority ++ codes " has to be below " ++ decimal priorities
 step_flaw_text (flaws.NewMask mask cores) = mask_text mask cores
 
+-- a name that no user task has
+abbrev pub no_name_text : Shown → List ℕ
+no_name_text shown.Long = codes "no user task has that long name"
+no_name_text (shown.Text name) = codes "no user task is named " ++ quoted name
+
+-- the nearest name of a user task, where there is one
+abbrev pub nearest_name_text : Option (List ℕ) → List ℕ
+nearest_name_text None = []
+nearest_name_text (Some name) = codes "; the nearest name is " ++ quoted name
+
 -- ---- what is wrong at a place
 
 abbrev pub shape_text : Detail → List ℕ
@@ -216,15 +233,16 @@ shape_text detail.NoFormat = codes "expected 1 or 2"
 shape_text detail.HasSteps = codes "the session of a rig has no steps"
 shape_text (detail.OnePerCore cores) =
     codes "expected an array for each core, " ++ decimal cores ++ codes " of them"
-shape_text (detail.Header flaw) = codes "this header is not accepted"
+shape_text (detail.Header flaw session) = codes "this header is not accepted"
 shape_text (detail.Step flaw) = step_flaw_text flaw
+shape_text (detail.NoTask name nearest) = no_name_text name ++ nearest_name_text nearest
 shape_text (detail.Limit limit) =
     codes "limit is " ++ decimal limit ++ codes ", and may be 0 to " ++ decimal max_steps
 
 -- F1 of the header has no path
-abbrev pub fault_line : List ℕ → Detail → List ℕ
-fault_line path (detail.Header flaw) = flaw_line flaw
-fault_line path more = line_at path (shape_text more)
+abbrev pub fault_line : List ℕ → List ℕ → Detail → List ℕ
+fault_line input path (detail.Header flaw session) = header_line input session flaw
+fault_line input path more = line_at input path (shape_text more)
 
 -- ---- the line
 
@@ -232,8 +250,8 @@ fault_line path more = line_at path (shape_text more)
 -- is no refusal
 abbrev pub IsFaultHint : List ℕ → Why → List ℕ → Detail → List ℕ → Type 0
 IsFaultHint input NotJson path more hint = IsNotJsonHint input hint
-IsFaultHint input BadShape path more hint = hint ≡ line_at path (shape_text more)
-IsFaultHint input (why.Bench fault) path more hint = hint ≡ fault_line path more
+IsFaultHint input BadShape path more hint = hint ≡ line_at input path (shape_text more)
+IsFaultHint input (why.Bench fault) path more hint = hint ≡ fault_line input path more
 IsFaultHint input NoMemory path more hint = ⊥
 
 -- H3

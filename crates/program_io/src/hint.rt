@@ -2,10 +2,11 @@
 ghost use Rattle.std.specs.Prelude.{◌≡◌, ◌++◌, None, IfOk, IsErr, OnOk, string_bytes, true};
 ghost use Rattle.serde_json.specs.Read.{read};
 ghost use Rattle.bench_types.specs.declared.step_flaw.StepFlaw.TheVariants.{NewPriority};
-ghost use Rattle.session_text.specs.declared.detail.Detail.TheVariants.{Limit, OnePerCore};
+ghost use Rattle.session_text.specs.declared.detail.Detail.TheVariants.{Limit, NoTask, OnePerCore};
 ghost use Rattle.session_text.specs.declared.fault.Why.TheVariants.{NoMemory};
-ghost use Rattle.program_io.specs.Hint.{IsFaultHint, IsNotJsonHint, IsShortTextHint, TellsPlace, expected_text, fault_line, flaw_line, found_text, limits_line, line_at, mask_text, member_text, mutex_text, nearest_text, no_word_text, none_of_text, number_text, quoted, shape_text, step_flaw_text, task_limit_line, task_line, too_long_line, too_many_steps_line, unknown_text, whole_text, word_text, words_text, wrong_text};
+ghost use Rattle.program_io.specs.Hint.{header_line, IsFaultHint, IsNotJsonHint, IsShortTextHint, TellsPlace, expected_text, fault_line, flaw_text, found_text, limits_text, line_at, mask_text, member_text, mutex_text, nearest_name_text, nearest_text, no_name_text, no_word_text, none_of_text, number_text, quoted, shape_text, step_flaw_text, task_limit_text, task_text, too_long_line, too_many_steps_line, unknown_text, whole_text, word_text, words_text, wrong_text};
 
+use crate::placed::{fault_place, flaw_path, push_place};
 use bench_types::{
     HeaderFlaw, MAX_CORES, MAX_INPUT, MAX_MUTEXES, MAX_NOTES, MAX_PRIORITIES, MAX_STEPS, MAX_TASKS,
     MIN_CORES, StepFlaw,
@@ -14,7 +15,7 @@ use serde_json::{Error, Value};
 use session_text::{Detail, Expected, Found, Shown, Stray, TextFault, Why, Words};
 use std::alloc::{AllocError, Global};
 
-/// The most bytes that are read again for the place of a fault: serde_json's tree of them takes up
+/// The most bytes that serde_json reads for the place of what is no JSON: its tree of them takes up
 /// to 130 times as many.
 const MAX_PLACED: usize = 8_388_608;
 
@@ -76,19 +77,19 @@ fn push_limits(
 ) -> Result<(), AllocError>
     ensures { OnOk result
         (string_bytes text.new
-        ≡ string_bytes text.old ++ limits_line member.now number least most) }
+        ≡ string_bytes text.old ++ limits_text member.now number least most) }
 {
     write!(
         text,
-        "header: {member} is {number}, and may be {least} to {most}\n"
+        "header: {member} is {number}, and may be {least} to {most}"
     )
 }
 
 fn push_task(text: &mut String, task: usize, wrong: &str) -> Result<(), AllocError>
     ensures { OnOk result
-        (string_bytes text.new ≡ string_bytes text.old ++ task_line task wrong.now) }
+        (string_bytes text.new ≡ string_bytes text.old ++ task_text task wrong.now) }
 {
-    write!(text, "header: tasks[{task}]{wrong}\n")
+    write!(text, "header: tasks[{task}]{wrong}")
 }
 
 // The same with a number at the end.
@@ -100,13 +101,13 @@ fn push_task_limit(
 ) -> Result<(), AllocError>
     ensures { OnOk result
         (string_bytes text.new
-        ≡ string_bytes text.old ++ task_limit_line task wrong.now number) }
+        ≡ string_bytes text.old ++ task_limit_text task wrong.now number) }
 {
-    write!(text, "header: tasks[{task}]{wrong}{number}\n")
+    write!(text, "header: tasks[{task}]{wrong}{number}")
 }
 
 fn push_flaw(text: &mut String, flaw: HeaderFlaw) -> Result<(), AllocError>
-    ensures { OnOk result (string_bytes text.new ≡ string_bytes text.old ++ flaw_line flaw) }
+    ensures { OnOk result (string_bytes text.new ≡ string_bytes text.old ++ flaw_text flaw) }
 {
     match flaw {
         HeaderFlaw::Cores(n) => push_limits(text, "cores", n as usize, MIN_CORES, MAX_CORES),
@@ -129,11 +130,22 @@ fn push_flaw(text: &mut String, flaw: HeaderFlaw) -> Result<(), AllocError>
     }
 }
 
-fn header_hint(alloc: Global, flaw: HeaderFlaw) -> Result<String, AllocError>
-    ensures { IfOk result (λ hint. string_bytes hint ≡ flaw_line flaw) }
+// F1 of the header of the session at the path.
+fn header_hint(
+    alloc: Global,
+    input: &[u8],
+    session: &str,
+    flaw: HeaderFlaw,
+) -> Result<String, AllocError>
+    ensures { IfOk result
+        (λ hint. string_bytes hint ≡ header_line input.now session.now flaw) }
 {
+    let path = flaw_path(alloc, session, flaw)?;
+    let place = fault_place(alloc, input, path.as_str())?;
     let mut hint = String::new(alloc);
     push_flaw(&mut hint, flaw)?;
+    push_place(&mut hint, place)?;
+    hint.push_str("\n")?;
     Ok(hint)
 }
 
@@ -334,6 +346,42 @@ fn push_step_flaw(text: &mut String, flaw: StepFlaw) -> Result<(), AllocError>
     }
 }
 
+fn push_no_name(text: &mut String, name: &Shown) -> Result<(), AllocError>
+    ensures { OnOk result
+        (string_bytes text.new ≡ string_bytes text.old ++ no_name_text name.now) }
+{
+    match name {
+        Shown::Long => text.push_str("no user task has that long name"),
+        Shown::Text(name) => {
+            text.push_str("no user task is named ")?;
+            push_quoted(text, name.as_str())
+        }
+    }
+}
+
+fn push_nearest_name(text: &mut String, nearest: &Option<Words>) -> Result<(), AllocError>
+    ensures { OnOk result
+        (string_bytes text.new ≡ string_bytes text.old ++ nearest_name_text nearest.now) }
+{
+    match nearest {
+        Some(name) => {
+            text.push_str("; the nearest name is ")?;
+            push_quoted(text, name.as_str())
+        }
+        None => Ok(()),
+    }
+}
+
+// A name that no user task has, and the nearest name.
+fn push_no_task(text: &mut String, name: &Shown, nearest: &Option<Words>) -> Result<(), AllocError>
+    ensures { OnOk result
+        (string_bytes text.new
+        ≡ string_bytes text.old ++ shape_text (NoTask name.now nearest.now)) }
+{
+    push_no_name(text, name)?;
+    push_nearest_name(text, nearest)
+}
+
 fn push_limit(text: &mut String, limit: u32) -> Result<(), AllocError>
     ensures { OnOk result
         (string_bytes text.new ≡ string_bytes text.old ++ shape_text (Limit limit)) }
@@ -354,30 +402,44 @@ fn push_shape(text: &mut String, detail: &Detail) -> Result<(), AllocError>
         Detail::NoFormat => text.push_str("expected 1 or 2"),
         Detail::HasSteps => text.push_str("the session of a rig has no steps"),
         Detail::OnePerCore(cores) => push_per_core(text, *cores),
-        Detail::Header(_) => text.push_str("this header is not accepted"),
+        Detail::Header { .. } => text.push_str("this header is not accepted"),
         Detail::Step(flaw) => push_step_flaw(text, *flaw),
+        Detail::NoTask { name, nearest } => push_no_task(text, name, nearest),
         Detail::Limit(limit) => push_limit(text, *limit),
     }
 }
 
 // What is wrong at the path.
-fn shape_hint(alloc: Global, path: &str, detail: &Detail) -> Result<String, AllocError>
+fn shape_hint(
+    alloc: Global,
+    input: &[u8],
+    path: &str,
+    detail: &Detail,
+) -> Result<String, AllocError>
     ensures { IfOk result
-        (λ hint. string_bytes hint ≡ line_at path.now (shape_text detail.now)) }
+        (λ hint. string_bytes hint ≡ line_at input.now path.now (shape_text detail.now)) }
 {
+    let place = fault_place(alloc, input, path)?;
     let mut hint = String::from_str(alloc, path)?;
     hint.push_str(": ")?;
     push_shape(&mut hint, detail)?;
+    push_place(&mut hint, place)?;
     hint.push_str("\n")?;
     Ok(hint)
 }
 
 // F1 to F5 at the path.
-fn bench_fault_hint(alloc: Global, path: &str, detail: &Detail) -> Result<String, AllocError>
-    ensures { IfOk result (λ hint. string_bytes hint ≡ fault_line path.now detail.now) }
+fn bench_fault_hint(
+    alloc: Global,
+    input: &[u8],
+    path: &str,
+    detail: &Detail,
+) -> Result<String, AllocError>
+    ensures { IfOk result
+        (λ hint. string_bytes hint ≡ fault_line input.now path.now detail.now) }
 {
     match detail {
-        Detail::Header(flaw) => header_hint(alloc, *flaw),
+        Detail::Header { flaw, session } => header_hint(alloc, input, session.as_str(), *flaw),
         Detail::None
         | Detail::Missing
         | Detail::Unknown(_)
@@ -387,12 +449,13 @@ fn bench_fault_hint(alloc: Global, path: &str, detail: &Detail) -> Result<String
         | Detail::HasSteps
         | Detail::OnePerCore(_)
         | Detail::Step(_)
-        | Detail::Limit(_) => shape_hint(alloc, path, detail),
+        | Detail::NoTask { .. }
+        | Detail::Limit(_) => shape_hint(alloc, input, path, detail),
     }
 }
 
-/// What people are told of a text that was not read, a line. Want of memory has none. Only for the
-/// place of what is no JSON is the text read again.
+/// What people are told of a text that was not read, a line. Want of memory has none. The text is
+/// read again for the place of its fault.
 pub fn fault_hint(alloc: Global, input: &[u8], fault: &TextFault) -> Result<String, AllocError>
     ensures line { IfOk result
         (λ hint. IsFaultHint input.now fault.now.why fault.now.path fault.now.detail
@@ -402,8 +465,8 @@ pub fn fault_hint(alloc: Global, input: &[u8], fault: &TextFault) -> Result<Stri
     let path = fault.path.as_str();
     match fault.why {
         Why::NotJson => not_json_hint(alloc, input),
-        Why::BadShape => shape_hint(alloc, path, &fault.detail),
-        Why::Bench(_) => bench_fault_hint(alloc, path, &fault.detail),
+        Why::BadShape => shape_hint(alloc, input, path, &fault.detail),
+        Why::Bench(_) => bench_fault_hint(alloc, input, path, &fault.detail),
         Why::NoMemory => Err(AllocError),
     }
 }

@@ -2,15 +2,18 @@
 #![tactic(auto)]
 
 mod device;
+mod doubled;
 mod ending;
 mod hint;
 mod input;
 mod output;
+mod placed;
 mod prompt;
 mod refusal;
 mod writing;
 
 pub use device::{Counted, CountedRead, CountedWrite};
+pub use doubled::{twice_note, warned};
 pub use ending::{Ending, RunFault, end_process, given_words, show_text, write_output};
 pub use hint::{fault_hint, too_long_hint, too_many_steps_hint};
 pub use input::{InputFault, read_input};

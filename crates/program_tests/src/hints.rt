@@ -2,10 +2,12 @@
 use crate::devices::{Sink, expect, expect_same};
 use bench_commands::carry_out;
 use program_io::{Counted, Ending, Prompting};
+use std::alloc::AllocError;
 use std::cell::Cell;
 use std::io::{self, Read, Write};
 use std::process::Abort;
 use std::sync::Wait;
+use std::test::Fail;
 use std::thread::Threads;
 
 /// How the program ends with the word and this input.
@@ -47,8 +49,34 @@ fn inputs_that_are_no_documents(rt: HostRuntime) {
             &rt,
             word,
             b"[]",
-            "top: expected an object, found an array\n",
+            "top: expected an object, found an array (line 1, column 1)\n",
         );
+    }
+}
+
+/// Documents that name a task which is none, by the word that reads them, and what is told.
+const NO_TASK: &[(&str, &str, &str)] = &[
+    (
+        "replay",
+        "{\"format\":1,\"cores\":2,\"priorities\":5,\"slicing\":false,\"tick\":0,\"mutexes\":0,\"tasks\":[{\"name\":\"logger\",\"priority\":2,\"mask\":3},{\"name\":\"control\",\"priority\":2,\"mask\":3}],\"steps\":[{\"do\":\"yield\",\"core\":0,\"by\":\"contrl\"}]}",
+        "steps[0]: no user task is named \"contrl\"; the nearest name is \"control\"",
+    ),
+    (
+        "whatif",
+        "{\"session\":{\"format\":1,\"cores\":2,\"priorities\":5,\"slicing\":false,\"tick\":0,\"mutexes\":0,\"tasks\":[{\"name\":\"A\",\"priority\":2,\"mask\":3}],\"steps\":[]},\"edits\":[{\"edit\":\"change\",\"task\":\"aaaaaaaaaaaaaaaaaaaaaaaaaaaaaaaaaaaaaaaaaaaaaaaaaaaaaaaaaaaaaaaaa\",\"priority\":1,\"mask\":1}]}",
+        "edits[0]: no user task has that long name",
+    ),
+    (
+        "record",
+        "{\"session\":{\"format\":1,\"cores\":2,\"priorities\":5,\"slicing\":false,\"tick\":0,\"mutexes\":0,\"tasks\":[{\"name\":\"A\",\"priority\":2,\"mask\":3}],\"steps\":[]},\"limit\":1,\"scripts\":[[],[{\"do\":\"preempt_on\",\"to\":\"C\"}]]}",
+        "scripts[1][0]: no user task is named \"C\"; the nearest name is \"A\"",
+    ),
+];
+
+#[test]
+fn names_of_no_task(rt: HostRuntime) {
+    for (word, input, line) in NO_TASK {
+        check_told(&rt, &rt, word, input.as_bytes(), line);
     }
 }
 
@@ -90,6 +118,100 @@ fn faults_of_many_lines(rt: HostRuntime) {
             check_message(&rt, &rt, word, input, message);
         }
     }
+}
+
+/// Texts of many lines that are JSON, and the places of their faults, by hand: the line feeds before
+/// the value that the path names, or before the object that lacks it, and the bytes after the last
+/// of them.
+const MANY_LINES_OF_JSON: &[(&str, &str, &str)] = &[
+    (
+        "replay",
+        "\r\n \t[\"\\\"\"]\n",
+        "top: expected an object, found an array (line 2, column 3)\n",
+    ),
+    (
+        "replay",
+        "{\"edits\": [{\"}\": \"{\"}], \"session\":\n[],\n\"session\": {\"format\"\n:  3}}",
+        "session.format: expected 1 or 2 (line 4, column 4)\n",
+    ),
+    (
+        "record",
+        "{\"limit\": 1,\n\"session\": {\n\"cores\": 2}}",
+        "session.format: this member is missing (line 2, column 12)\n",
+    ),
+    (
+        "replay",
+        "{\"format\":1,\"cores\":2,\"priorities\":2,\"slicing\":true,\"tick\":0,\"mutexes\":0,\n\
+        \"tasks\":[{\"name\":\"\u{e9}\",\"priority\":true}]}",
+        "tasks[0].priority: expected a whole number from 0 to 4294967295, found true or false \
+        (line 2, column 34)\n",
+    ),
+];
+
+#[test]
+fn faults_of_many_lines_of_json(rt: HostRuntime) {
+    for (word, input, message) in MANY_LINES_OF_JSON {
+        check_message(&rt, &rt, word, input, message);
+    }
+}
+
+/// A bench document whose header has these lines, and one task.
+fn bench_with(rt: &HostRuntime, lines: &str, task: &str) -> Result<String, AllocError> {
+    format!(in rt.alloc();
+        "{{\"edits\":[],\"session\":{{\"format\":2,\"slicing\":true,\"tick\":0,\"steps\":[],\n\
+        {lines},\n\"tasks\":[{{\"name\":\"A\",\"priority\":1,\"mask\":2}}{task}]}}}}"
+    )
+}
+
+const GOOD: &str = "\"cores\":2,\"priorities\":2,\n\"mutexes\":0,\"notes\":1";
+
+/// Headers in bench documents, and the places of the members for which they are not accepted.
+const HEADERS: &[(&str, &str, &str)] = &[
+    (
+        "\"cores\":2,\"priorities\":0,\n\"mutexes\":0,\"notes\":1",
+        "",
+        "header: priorities is 0, and may be 1 to 32 (line 2, column 24)\n",
+    ),
+    (
+        "\"cores\":2,\"priorities\":2,\n\"mutexes\":40,\"notes\":1",
+        "",
+        "header: mutexes is 40, and may be 0 to 32 (line 3, column 11)\n",
+    ),
+    (
+        "\"cores\":2,\"priorities\":2,\n\"mutexes\":0,\"notes\":9",
+        "",
+        "header: notes is 9, and may be 1 to 8 (line 3, column 21)\n",
+    ),
+    (
+        GOOD,
+        ",{\"priority\":1,\"mask\":2,\n\"name\":\"\"}",
+        "header: tasks[1].name has to be 1 to 15 characters from ! to ~, and not begin with IDLE \
+        (line 5, column 8)\n",
+    ),
+    (
+        GOOD,
+        ",\n{\"name\":\"B\",\"priority\":2,\"mask\":2}",
+        "header: tasks[1].priority has to be below 2 (line 5, column 24)\n",
+    ),
+    (
+        GOOD,
+        ",\n{\"name\":\"B\",\"priority\":1,\"mask\":4}",
+        "header: tasks[1].mask has to have a bit below bit 2 (line 5, column 33)\n",
+    ),
+    (
+        GOOD,
+        ",\n{\"name\":\"A\",\"priority\":1,\"mask\":2}",
+        "header: tasks[0].name is that of another task too (line 4, column 18)\n",
+    ),
+];
+
+#[test]
+fn headers_of_many_lines(rt: HostRuntime) -> Result<(), Fail> {
+    for (lines, task, message) in HEADERS {
+        let input = bench_with(&rt, lines, task)?;
+        check_message(&rt, &rt, "replay", input.as_str(), message);
+    }
+    Ok(())
 }
 
 /// Runs the program with the word and an empty input, which may be a terminal.

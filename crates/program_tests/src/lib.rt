@@ -9,6 +9,8 @@ mod devices;
 #[cfg(test)]
 mod documents;
 #[cfg(test)]
+mod doubled;
+#[cfg(test)]
 mod examples;
 #[cfg(test)]
 mod faults;

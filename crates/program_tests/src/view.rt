@@ -1,6 +1,7 @@
 //! What a run shows: its trace and its picture, and the command that makes them.
 mod checks;
 mod command_lines;
+mod doubled;
 mod files;
 mod pictures;
 mod processes;

@@ -1,20 +1,18 @@
 -- Tasks are taken over one after another, up to the first whose name is none.
-use Rattle.std.proofs.Common.{◌≡◌, ℕ, Bool, true, false, cond, List, Option, Some, None, Result, Ok, Err, codes, refl, subst}
+use Rattle.std.proofs.Common.{◌≡◌, ◌∙◌, ℕ, Bool, true, false, cond, List, Option, Some, None, Result, Ok, Err, ap, refl, subst, sym}
 use Rattle.std.specs.Prelude.{MatchResult}
+use Rattle.serde_json.specs.Data.{Data}
 use Rattle.bench_types.specs.declared.fault.Fault.{Fault}
 use Rattle.bench_types.specs.declared.fault.Fault.TheVariants.{BadHeader}
 use Rattle.bench_types.specs.declared.flaw.HeaderFlaw.{HeaderFlaw}
 use Rattle.bench_types.specs.declared.header.Header.{Header}
 use Rattle.bench_types.specs.declared.header.TaskArgs.{TaskArgs}
 use Rattle.bench_types.specs.declared.step.Step.{Step}
-use Rattle.bench_types.specs.Step.{settings_of}
-use Rattle.bench_types.specs.StepFlaw.{step_flaw}
 use Rattle.session_text.specs.declared.fault.ReadFault.{ReadFault}
+use Rattle.session_text.specs.declared.fault.TextFault.{TextFault}
 use Rattle.session_text.specs.declared.fault.ReadFault.TheVariants as stop
-use Rattle.session_text.specs.Accepted.{items_accepted}
-use Rattle.session_text.specs.Outcome.{Ends}
-use Rattle.session_text.specs.Path.{member_path}
-use Rattle.session_text.specs.Session.{session_accepted}
+use Rattle.session_text.specs.Outcome.{Ends, StopsAt}
+use Rattle.session_text.specs.Session.{session_accepted, steps_accepted}
 use Rattle.bench_types.specs.Name.{is_name}
 
 abbrev pub name_made : List ℕ → Result (List ℕ) Fault
@@ -51,11 +49,16 @@ pub of_refused : {A E : Type 0} (P : A → Type 0) (Q : E → Type 0) (r : Resul
 of_refused P Q r e is told = subst (λ r. MatchResult r P Q) is told
 
 -- a session is refused for its first step at fault
-pub steps_end : (at : List ℕ) (read : Result Header HeaderFlaw) (header : Header) (steps : List Step) (end : ReadFault) → read ≡ Ok header
-    → Ends end (items_accepted (step_flaw (settings_of header)) (member_path at (codes "steps")) 0 steps) → Ends end (session_accepted at read steps)
+pub steps_end : (at : List ℕ) (d : Data) (read : Result Header HeaderFlaw) (header : Header) (steps : List Step) (end : ReadFault) → read ≡ Ok header
+    → Ends end (steps_accepted header at d steps) → Ends end (session_accepted at d read steps)
 unfolding session_accepted
-steps_end at (Err flaw) header steps end is ends = absurd (cc)
-steps_end at (Ok own) header steps stop.Memory is ends = tt
-steps_end at (Ok own) header steps (stop.Fault fault) is ends =
+steps_end at d (Err flaw) header steps end is ends = absurd (cc)
+steps_end at d (Ok own) header steps stop.Memory is ends = tt
+steps_end at d (Ok own) header steps (stop.Fault fault) is ends =
     let same : own ≡ header = cc in
     rw (same, ends) refl
+
+-- a reading that gives this fault ends where it is stopped at
+pub ends_at : {A : Type 0} {reading : Result A TextFault} {fault : TextFault} (end : ReadFault) → reading ≡ Err fault → StopsAt fault end → Ends end reading
+ends_at stop.Memory is stops = tt
+ends_at (stop.Fault first) is stops = is ∙ ap Err (sym stops)

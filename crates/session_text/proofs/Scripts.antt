@@ -1,5 +1,5 @@
 -- Scripts: one is read for each item of their array, and all have been checked.
-use Rattle.std.proofs.Common.{inl, inr, ◌≡◌, ℕ, suc, ◌+◌, ◌<◌, ◌==◌, true, List, [], ◌∷◌, length, get_or, drop, subst, Result, Ok, Err, refl, ap, ◌∙◌, arith, add-one, drop-cons}
+use Rattle.std.proofs.Common.{inl, inr, ◌≡◌, ℕ, suc, ◌+◌, ◌<◌, ◌==◌, true, List, [], ◌∷◌, length, get_or, drop, subst, Option, Result, Ok, Err, refl, ap, ◌∙◌, arith, add-one, drop-cons}
 use Rattle.std.specs.Prelude.{IfOk}
 use Rattle.std.proofs.lemmas.Bool.{and_parts, cases_lt}
 use Rattle.std.proofs.lemmas.Bool.Decides.{nat_tests}
@@ -9,14 +9,11 @@ use Rattle.session_text.specs.declared.fault.ReadFault.{ReadFault}
 use Rattle.session_text.specs.declared.fault.TextFault.{TextFault}
 use Rattle.bench_types.specs.declared.act.Act.{Act}
 use Rattle.bench_types.specs.declared.header.Header.{Header}
-use Rattle.session_text.specs.Accepted.{items_accepted}
-use Rattle.bench_types.specs.Step.{settings_of}
-use Rattle.bench_types.specs.StepFlaw.{act_flaw}
 use Rattle.session_text.specs.Array.{each_at, list_at}
 use Rattle.session_text.specs.Member.{array_at}
 use Rattle.session_text.specs.Outcome.{◌>>=◌, Gives}
 use Rattle.session_text.specs.Path.{item_path, member_path}
-use Rattle.session_text.specs.Rig.{are_arrays, has_arrays, scripts_accepted}
+use Rattle.session_text.specs.Rig.{are_arrays, has_arrays, script_accepted, scripts_accepted}
 
 -- one more index of a list
 pub each_more : {X : Type 0} (P : ℕ → X → Type 0) (xs : List X) (d : X) (i : ℕ) → ((k : ℕ) → k < i → P k (get_or xs k d)) → P i (get_or xs i d) → (k : ℕ) → k < i + 1 → P k (get_or xs k d)
@@ -53,7 +50,7 @@ one_per_core read at name d cores items all found has is =
     list_length read at name d items all found is ∙ same
 
 -- a script in which nothing is at fault leaves the faults to those after it
-pub script_passed : (header : Header) (at : List ℕ) (scripts : List (List Act)) (core : ℕ) → core < length scripts → items_accepted (act_flaw (settings_of header) core) (item_path at core) 0 (get_or scripts core []) ≡ Ok tt → scripts_accepted header at (core + 1) (drop (core + 1) scripts) ≡ scripts_accepted header at core (drop core scripts)
-script_passed header at scripts core within passed =
+pub script_passed : (header : Header) (at : List ℕ) (array : Option Data) (scripts : List (List Act)) (core : ℕ) → core < length scripts → script_accepted header at array core (get_or scripts core []) ≡ Ok tt → scripts_accepted header at array (core + 1) (drop (core + 1) scripts) ≡ scripts_accepted header at array core (drop core scripts)
+script_passed header at array scripts core within passed =
     let front : drop core scripts ≡ get_or scripts core [] ∷ drop (suc core) scripts = drop-cons scripts core [] within in
     rw (front, passed, add-one) refl

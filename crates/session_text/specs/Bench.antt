@@ -15,7 +15,7 @@ use Rattle.session_text.specs.Accepted.{items_accepted}
 use Rattle.session_text.specs.Array.{list_at}
 use Rattle.session_text.specs.Edit.{edit_at}
 use Rattle.session_text.specs.Member.{object_at, only_at}
-use Rattle.session_text.specs.Names.{known_names}
+use Rattle.session_text.specs.Names.{known_names, user_names}
 use Rattle.session_text.specs.Outcome.{◌>>=◌}
 use Rattle.session_text.specs.Path.{member_path}
 use Rattle.session_text.specs.Session.{document, session_at, session_accepted}
@@ -27,7 +27,7 @@ bench_members = codes "session" ∷ codes "edits" ∷ []
 unfoldable pub unedited_at : List ℕ → Data → Result Bench TextFault
 unedited_at at d = do
   read ← session_at at d
-  held ← session_accepted at read.1 read.2
+  held ← session_accepted at d read.1 read.2
   Ok (record { header = held.0; steps = held.1; edits = [] })
 
 -- the header, accepted or not, of the session that was found as the member `session`, its steps,
@@ -42,23 +42,25 @@ shapes_at at d inner = do
   Ok (read.1, read.2, edits)
 
 -- the first fault of the edits
-unfoldable pub edits_accepted : Header → List ℕ → List Edit → Result ⊤ TextFault
-edits_accepted header at edits =
-    items_accepted (edit_flaw header) (member_path at (codes "edits")) 0 edits
+unfoldable pub edits_accepted : Header → List ℕ → Data → List Edit → Result ⊤ TextFault
+edits_accepted header at d edits =
+    items_accepted (edit_flaw header) (user_names header) (member_path at (codes "edits"))
+    (get (codes "edits") d) 0 edits
 
 -- the faults of the session come before those of the edits
 unfoldable pub bench_accepted :
-    List ℕ → Result Header HeaderFlaw → List Step → List Edit → Result Bench TextFault
-bench_accepted at header steps edits = do
-  held ← session_accepted (member_path at (codes "session")) header steps
-  done ← edits_accepted held.0 at edits
+    List ℕ → Data → Data → Result Header HeaderFlaw → List Step → List Edit
+    → Result Bench TextFault
+bench_accepted at d inner header steps edits = do
+  held ← session_accepted (member_path at (codes "session")) inner header steps
+  done ← edits_accepted held.0 at d edits
   Ok (record { header = held.0; steps = held.1; edits = edits })
 
 -- a session and its edits
 unfoldable pub edited_at : List ℕ → Data → Data → Result Bench TextFault
 edited_at at d inner = do
   read ← shapes_at at d inner
-  bench_accepted at read.0 read.1 read.2
+  bench_accepted at d inner read.0 read.1 read.2
 
 abbrev bench_with : List ℕ → Data → Option Data → Result Bench TextFault
 bench_with at d (Some inner) = edited_at at d inner

@@ -1,5 +1,5 @@
 -- An edit: `edit` says which, and after it stand the members of its kind.
-use Rattle.std.specs.Prelude.{ℕ, List, [], ◌∷◌, codes, bytes_eq, find, Option, option_map, Result, Ok}
+use Rattle.std.specs.Prelude.{ℕ, List, [], ◌∷◌, codes, bytes_eq, find, Option, Some, option_map, Result, Ok}
 use Rattle.serde_json.specs.Data.{Data}
 use Rattle.bench_types.specs.declared.header.Header.{Header}
 use Rattle.bench_types.specs.declared.step.Step.{Step}
@@ -15,7 +15,7 @@ use Rattle.session_text.specs.declared.edit.EditKind.TheVariants.{Insert, Remove
 use Rattle.session_text.specs.Accepted.{item_accepted}
 use Rattle.session_text.specs.Detail.{words_of}
 use Rattle.session_text.specs.Member.{object_at, member_at, number_at, text_at, only_at}
-use Rattle.session_text.specs.Names.{TaskNames, names_of}
+use Rattle.session_text.specs.Names.{TaskNames, names_of, user_names}
 use Rattle.session_text.specs.Nearest.{stray}
 use Rattle.session_text.specs.Outcome.{◌>>=◌, found}
 use Rattle.session_text.specs.Path.{member_path}
@@ -75,11 +75,15 @@ edit_at format names at d = do
   only ← only_at at (edit_members_of which) members
   Ok made
 
--- the edit that a text spells under a header, or its first fault; its step may have an index, as in
--- the second format
+-- an edit under a header, or its first fault; its step may have an index, as in the second format
+unfoldable pub lone_edit_at : Header → List ℕ → Data → Result Edit TextFault
+lone_edit_at header at d = do
+  made ← edit_at Two (names_of header) at d
+  done ← item_accepted (user_names header) at (Some d) (edit_flaw header made)
+  Ok made
+
+-- the edit that a text spells
 unfoldable pub edit_text : Header → List ℕ → Result Edit TextFault
 edit_text header text = do
   d ← document text
-  made ← edit_at Two (names_of header) [] d
-  done ← item_accepted [] (edit_flaw header made)
-  Ok made
+  lone_edit_at header [] d

@@ -11,8 +11,10 @@ pub mod Member
 pub mod Names
 pub mod Nearest
 pub mod Node
+pub mod Noted
 pub mod Outcome
 pub mod Path
 pub mod Rig
 pub mod Session
 pub mod Step
+pub mod UnknownName

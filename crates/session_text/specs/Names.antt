@@ -9,9 +9,12 @@ pub record TaskNames : Type 0 where
   pub cores : ℕ
   pub names : List (List ℕ)
 
+-- the names of the user tasks
+abbrev pub user_names : Header → List (List ℕ)
+user_names header = map (λ task. task.name) header.tasks
+
 abbrev pub names_of : Header → TaskNames
-names_of header =
-    record { cores = header.config.cores; names = map (λ task. task.name) header.tasks }
+names_of header = record { cores = header.config.cores; names = user_names header }
 
 -- no user task has a name
 abbrev pub no_names : TaskNames

@@ -1,9 +1,9 @@
 -- A rig document: a session with no steps, how many entries its recording has at most, and what
 -- each core does.
-use Rattle.std.specs.Prelude.{◌≡◌, ◌≤◌, ℕ, suc, Bool, true, ◌&&◌, ◌==◌, nat_lt, List, [], ◌∷◌, length, get_or, codes, is_some, EachIndex, Result, Ok, Err, if◌then◌else◌, ⊤, All}
+use Rattle.std.specs.Prelude.{◌≡◌, ◌≤◌, ℕ, suc, Bool, true, ◌&&◌, ◌==◌, nat_lt, List, [], ◌∷◌, length, get_or, codes, is_some, EachIndex, Option, Result, Ok, Err, if◌then◌else◌, ⊤, All}
 use Rattle.serde_json.specs.Data.{Data, Items, no_items, item}
 use Rattle.serde_json.specs.Events.{items_len}
-use Rattle.serde_json.specs.Find.{as_array}
+use Rattle.serde_json.specs.Find.{as_array, get}
 use Rattle.bench_types.specs.Act.{IsCheckedAct}
 use Rattle.bench_types.specs.Header.{IsCheckedHeader}
 use Rattle.bench_types.specs.Limits.{max_steps}
@@ -18,13 +18,13 @@ use Rattle.session_text.specs.declared.fault.TextFault.{TextFault}
 use Rattle.session_text.specs.declared.fault.Why.TheVariants.{Bench}
 use Rattle.session_text.specs.declared.format.Format.{Format}
 use Rattle.session_text.specs.declared.rig.RigScript.{RigScript}
-use Rattle.session_text.specs.Accepted.{header_fault, items_accepted}
+use Rattle.session_text.specs.Accepted.{header_fault, item_of, items_accepted}
 use Rattle.session_text.specs.Act.{script_at}
 use Rattle.session_text.specs.Array.{list_at}
 use Rattle.session_text.specs.Format.{format_at}
 use Rattle.session_text.specs.Header.{config_at, header_of}
 use Rattle.session_text.specs.Member.{object_at, member_at, array_at, number_at, only_at}
-use Rattle.session_text.specs.Names.{TaskNames, known_names}
+use Rattle.session_text.specs.Names.{TaskNames, known_names, user_names}
 use Rattle.session_text.specs.Outcome.{◌>>=◌, bad_shape}
 use Rattle.session_text.specs.Path.{item_path, member_path, path_text}
 use Rattle.session_text.specs.Session.{document, session_members}
@@ -101,26 +101,36 @@ limit_accepted at limit =
     })
     else Ok tt
 
--- the first fault of the scripts from a core's on, which stand in the array at a place
-abbrev pub scripts_accepted : Header → List ℕ → ℕ → List (List Act) → Result ⊤ TextFault
-scripts_accepted header at core [] = Ok tt
-scripts_accepted header at core (script ∷ rest) = do
-  done ← items_accepted (act_flaw (settings_of header) core) (item_path at core) 0 script
-  scripts_accepted header at (suc core) rest
+-- the first fault of the script of a core, which stands in the array at a place
+abbrev pub script_accepted :
+    Header → List ℕ → Option Data → ℕ → List Act → Result ⊤ TextFault
+script_accepted header at array core script =
+    items_accepted (act_flaw (settings_of header) core) (user_names header) (item_path at core)
+    (item_of core array) 0 script
 
--- F1 of the header has no place; the fault of the limit comes before those of the scripts
+-- the same of the scripts from a core's on
+abbrev pub scripts_accepted :
+    Header → List ℕ → Option Data → ℕ → List (List Act) → Result ⊤ TextFault
+scripts_accepted header at array core [] = Ok tt
+scripts_accepted header at array core (script ∷ rest) = do
+  done ← script_accepted header at array core script
+  scripts_accepted header at array (suc core) rest
+
+-- F1 of the header comes first; the fault of the limit comes before those of the scripts
 unfoldable pub rig_accepted :
-    List ℕ → Result Header HeaderFlaw → ℕ → List (List Act) → Result RigScript TextFault
-rig_accepted at (Err flaw) limit scripts = Err (header_fault flaw)
-rig_accepted at (Ok header) limit scripts = do
+    List ℕ → Data → Result Header HeaderFlaw → ℕ → List (List Act) → Result RigScript TextFault
+rig_accepted at d (Err flaw) limit scripts =
+    Err (header_fault (member_path at (codes "session")) flaw)
+rig_accepted at d (Ok header) limit scripts = do
   few ← limit_accepted at limit
-  done ← scripts_accepted header (member_path at (codes "scripts")) 0 scripts
+  done ← scripts_accepted header (member_path at (codes "scripts")) (get (codes "scripts") d) 0
+      scripts
   Ok (record { header = header; limit = limit; scripts = scripts })
 
 unfoldable pub rig_at : List ℕ → Data → Result RigScript TextFault
 rig_at at d = do
   read ← rig_shapes_at at d
-  rig_accepted at read.0 read.1 read.2
+  rig_accepted at d read.0 read.1 read.2
 
 -- the rig document that a text spells, or its first fault
 unfoldable pub rig_text : List ℕ → Result RigScript TextFault

@@ -2,6 +2,7 @@
 use Rattle.std.specs.Prelude.{◌≡◌, ◌⊎◌, ℕ, List, [], ◌∷◌, codes, Option, Some, None, Result, Ok, Err, if◌then◌else◌, ⊤}
 use Rattle.std.specs.Str.{is_utf8}
 use Rattle.serde_json.specs.Data.{Data}
+use Rattle.serde_json.specs.Find.{get}
 use Rattle.serde_json.specs.Read.{read}
 use Rattle.bench_types.specs.declared.flaw.HeaderFlaw.{HeaderFlaw}
 use Rattle.bench_types.specs.declared.header.Header.{Header}
@@ -15,7 +16,7 @@ use Rattle.session_text.specs.declared.format.Format.{Format}
 use Rattle.session_text.specs.Format.{format_at, notes_member}
 use Rattle.session_text.specs.Header.{header_at}
 use Rattle.session_text.specs.Member.{object_at, only_at}
-use Rattle.session_text.specs.Names.{known_names}
+use Rattle.session_text.specs.Names.{known_names, user_names}
 use Rattle.session_text.specs.Accepted.{header_fault, items_accepted}
 use Rattle.session_text.specs.Array.{list_at}
 use Rattle.session_text.specs.Outcome.{◌>>=◌}
@@ -46,12 +47,18 @@ session_at at d = do
   only ← only_at at (session_members format) members
   Ok (format, header, steps)
 
--- F1 of the header has no place
+-- the first fault of the steps of the session at a place
+unfoldable pub steps_accepted : Header → List ℕ → Data → List Step → Result ⊤ TextFault
+steps_accepted header at d steps =
+    items_accepted (step_flaw (settings_of header)) (user_names header)
+    (member_path at (codes "steps")) (get (codes "steps") d) 0 steps
+
+-- F1 of the header comes before the faults of the steps
 unfoldable pub session_accepted :
-    List ℕ → Result Header HeaderFlaw → List Step → Result (Header × List Step) TextFault
-session_accepted at (Err flaw) steps = Err (header_fault flaw)
-session_accepted at (Ok header) steps = do
-  done ← items_accepted (step_flaw (settings_of header)) (member_path at (codes "steps")) 0 steps
+    List ℕ → Data → Result Header HeaderFlaw → List Step → Result (Header × List Step) TextFault
+session_accepted at d (Err flaw) steps = Err (header_fault at flaw)
+session_accepted at d (Ok header) steps = do
+  done ← steps_accepted header at d steps
   Ok (header, steps)
 
 -- the header and the steps that a text spells, or its first fault
@@ -59,7 +66,7 @@ unfoldable pub session : List ℕ → Result (Header × List Step) TextFault
 session text = do
   d ← document text
   read ← session_at [] d
-  session_accepted [] read.1 read.2
+  session_accepted [] d read.1 read.2
 
 -- What a call answers: what the reading gives, or that memory ran out.
 abbrev pub Answers : {A B : Type 0} → (A → B) → Result A TextFault → Result B TextFault → Type 0

@@ -5,7 +5,7 @@ ghost use Rattle.session_text.specs.Node.{data_of, place_of};
 ghost use Rattle.session_text.specs.Outcome.{Gives};
 ghost use Rattle.session_text.specs.Step.{members_of_act};
 
-use crate::accepted::Judged;
+use crate::accepted::{HasHeader, Judged};
 use crate::array::{ReadItem, each};
 use crate::call::{call_at, call_members, interrupt_members, note_at};
 use crate::fault::ReadFault;
@@ -99,6 +99,14 @@ impl<'v> ReadItem<'v> for ScriptReader<'_, '_> {
 pub(crate) struct OnCore<'h> {
     pub(crate) header: &'h Header,
     pub(crate) core: u32,
+}
+
+impl HasHeader for OnCore<'_> {
+    ghost header_of = { λ on. on.header.now };
+
+    fn header(&self) -> &Header {
+        self.header
+    }
 }
 
 impl Judged<OnCore<'_>> for Act {

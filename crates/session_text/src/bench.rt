@@ -1,19 +1,21 @@
-ghost use Rattle.std.specs.Prelude.{All, IfOk, OnOk};
+ghost use Rattle.std.specs.Prelude.{◌≡◌, All, IfOk, OnOk};
 ghost use Rattle.std.specs.Result.{ForOk};
+ghost use Rattle.json_data.specs.Doubled.{doubled_in_text};
 ghost use Rattle.json_data.specs.View.{view};
 ghost use Rattle.bench_types.specs.Edit.{IsCheckedEdit};
 ghost use Rattle.bench_types.specs.Header.{IsCheckedHeader};
 ghost use Rattle.session_text.specs.Bench.{bench_accepted, bench_at, bench_text, edited_at, edits_accepted, shapes_at, unedited_at, IsCheckedBench};
 ghost use Rattle.session_text.specs.Node.{data_of, place_of};
+ghost use Rattle.session_text.specs.Noted.{doubled_view};
 ghost use Rattle.session_text.specs.Outcome.{Gives};
-ghost use Rattle.session_text.specs.Path.{path_of};
 ghost use Rattle.session_text.specs.Session.{Answers};
 
-use crate::accepted::items_accepted;
+use crate::accepted::{Source, items_accepted};
 use crate::array::list_at;
 use crate::edit::EditReader;
 use crate::fault::{ReadFault, TextFault};
 use crate::node::Node;
+use crate::noted::{Noted, doubled_member};
 use crate::path::Place;
 use crate::session::{document, known_names, session_accepted, session_at};
 use bench_types::{Edit, Header, HeaderFlaw, Items, Step};
@@ -55,6 +57,37 @@ fn bench_text(alloc: Global, text: &[u8]) -> Result<Bench, ReadFault>
     })
 }
 
+/// The same, with its first member that stands twice.
+pub fn read_bench_noted(alloc: Global, text: &[u8]) -> Result<Noted<Bench>, TextFault>
+    ensures reading { Answers (λ noted. noted.document) result (bench_text text.now) }
+    ensures checked { IfOk result (λ noted. IsCheckedBench noted.document) }
+    ensures doubled { IfOk result
+        (λ noted. doubled_view noted.doubled ≡ doubled_in_text text.now) }
+{
+    Ok(noted_bench(alloc, text)?)
+}
+
+#[tactic(auto, unfolding(crate::specs::Bench::bench_text))]
+fn noted_bench(alloc: Global, text: &[u8]) -> Result<Noted<Bench>, ReadFault>
+    ensures reading { Gives (λ noted. noted.document) result (bench_text text.now) }
+    ensures checked { IfOk result (λ noted. IsCheckedBench noted.document) }
+    ensures doubled { IfOk result
+        (λ noted. doubled_view noted.doubled ≡ doubled_in_text text.now) }
+{
+    let mut scratch = Scratch::new(alloc);
+    let document = document(alloc, text, &mut scratch)?;
+    let bench = bench_at(&Node {
+        alloc,
+        place: &Place::Top,
+        value: &document.root(),
+    })?;
+    let doubled = doubled_member(alloc, &document)?;
+    Ok(Noted {
+        document: bench,
+        doubled,
+    })
+}
+
 fn bench_at(node: &Node<'_, '_>) -> Result<Bench, ReadFault>
     ensures reading { Gives (λ bench. bench) result
         (bench_at (place_of node.now) (data_of node.now)) }
@@ -74,7 +107,7 @@ fn unedited_at(node: &Node<'_, '_>) -> Result<Bench, ReadFault>
     ensures checked { IfOk result IsCheckedBench }
 {
     let (_format, header, steps) = session_at(node)?;
-    let (header, steps) = session_accepted(node.alloc, node.place, header, steps)?;
+    let (header, steps) = session_accepted(node, header, steps)?;
     Ok(Bench {
         header,
         steps: Items::new(steps),
@@ -90,7 +123,7 @@ fn edited_at(node: &Node<'_, '_>, session: &Item<'_, '_>) -> Result<Bench, ReadF
     ensures checked { IfOk result IsCheckedBench }
 {
     let (header, steps, edits) = shapes_at(node, session)?;
-    bench_accepted(node.alloc, node.place, header, steps, edits)
+    bench_accepted(node, session, header, steps, edits)
 }
 
 /// The header, accepted or not, the steps and the edits: shapes alone are judged.
@@ -123,20 +156,25 @@ fn shapes_at(
 /// The bench, or the fault of its session, or else of its first edit at fault.
 #[tactic(auto, unfolding(crate::specs::Bench::bench_accepted))]
 fn bench_accepted(
-    alloc: Global,
-    place: &Place<'_>,
+    node: &Node<'_, '_>,
+    session: &Item<'_, '_>,
     header: Result<Header, HeaderFlaw>,
     steps: Vec<Step>,
     edits: Vec<Edit>,
 ) -> Result<Bench, ReadFault>
     requires { ForOk header IsCheckedHeader }
     ensures reading { Gives (λ bench. bench) result
-        (bench_accepted (path_of place.now) header steps.items edits.items) }
+        (bench_accepted (place_of node.now) (data_of node.now) (view session.now)
+        header steps.items edits.items) }
     ensures checked { IfOk result IsCheckedBench }
 {
-    let inner = Place::Member(place, "session");
-    let (header, steps) = session_accepted(alloc, &inner, header, steps)?;
-    edits_accepted(alloc, place, &header, edits.as_slice())?;
+    let inner = Node {
+        alloc: node.alloc,
+        place: &Place::Member(node.place, "session"),
+        value: session,
+    };
+    let (header, steps) = session_accepted(&inner, header, steps)?;
+    edits_accepted(node, &header, edits.as_slice())?;
     Ok(Bench {
         header,
         steps: Items::new(steps),
@@ -145,15 +183,15 @@ fn bench_accepted(
 }
 
 #[tactic(auto, unfolding(crate::specs::Bench::edits_accepted))]
-fn edits_accepted(
-    alloc: Global,
-    place: &Place<'_>,
-    header: &Header,
-    edits: &[Edit],
-) -> Result<(), ReadFault>
+fn edits_accepted(node: &Node<'_, '_>, header: &Header, edits: &[Edit]) -> Result<(), ReadFault>
     ensures reading { Gives (λ done. done) result
-        (edits_accepted header.now (path_of place.now) edits.now) }
+        (edits_accepted header.now (place_of node.now) (data_of node.now) edits.now) }
     ensures checked { OnOk result (All (IsCheckedEdit header.now) edits.now) }
 {
-    items_accepted(alloc, header, &Place::Member(place, "edits"), edits)
+    let source = Source {
+        alloc: node.alloc,
+        place: &Place::Member(node.place, "edits"),
+        value: node.value.get("edits"),
+    };
+    items_accepted(&source, header, edits)
 }

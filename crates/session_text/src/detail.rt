@@ -3,7 +3,8 @@ ghost use Rattle.std.specs.Prelude.{◌≡◌, ◌++◌, codes, flat_map, map, s
 ghost use Rattle.json_data.specs.View.{view};
 ghost use Rattle.session_text.specs.Detail.{found_of, listed};
 
-use crate::nearest::Stray;
+use crate::nearest::{Shown, Stray};
+use crate::path::Path;
 use bench_types::{HeaderFlaw, StepFlaw};
 use json_data::Item;
 use std::alloc::{AllocError, Global};
@@ -112,10 +113,13 @@ pub enum Detail {
     HasSteps,
     /// The scripts are not so many arrays, one a core.
     OnePerCore(u32),
-    /// The header is not accepted for this.
-    Header(HeaderFlaw),
+    /// The header of the session at the path is not accepted for this.
+    Header { flaw: HeaderFlaw, session: Path },
     /// The step, action or edit is not accepted for this.
     Step(StepFlaw),
+    /// The step, action or edit gives this name, which no user task has; beside it the name of a
+    /// user task that is nearest to it.
+    NoTask { name: Shown, nearest: Option<Words> },
     /// A recording may not have so many entries.
     Limit(u32),
 }

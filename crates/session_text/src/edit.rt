@@ -2,12 +2,12 @@ ghost use Rattle.std.specs.Prelude.{◌≡◌, IfOk, Ok, map};
 ghost use Rattle.bench_types.specs.Edit.{IsCheckedEdit};
 ghost use Rattle.bench_types.specs.Header.{header_check};
 ghost use Rattle.session_text.specs.Detail.{words_of};
-ghost use Rattle.session_text.specs.Edit.{edit_kind_at, edit_kind_of, edit_kinds, edit_members_of, edit_of_kind_at, edit_text, new_step_at};
+ghost use Rattle.session_text.specs.Edit.{edit_kind_at, edit_kind_of, edit_kinds, edit_members_of, edit_of_kind_at, edit_text, lone_edit_at, new_step_at};
 ghost use Rattle.session_text.specs.Node.{data_of, place_of};
 ghost use Rattle.session_text.specs.Outcome.{Gives};
 ghost use Rattle.session_text.specs.Session.{Answers};
 
-use crate::accepted::item_accepted;
+use crate::accepted::item_fault;
 use crate::array::ReadItem;
 use crate::fault::{ReadFault, TextFault};
 use crate::format::Format;
@@ -42,18 +42,32 @@ fn edit_text(alloc: Global, text: &[u8], header: &Header) -> Result<Edit, ReadFa
 {
     let mut scratch = Scratch::new(alloc);
     let document = document(alloc, text, &mut scratch)?;
-    let names = Names::of(alloc, header)?;
+    let node = Node {
+        alloc,
+        place: &Place::Top,
+        value: &document.root(),
+    };
+    lone_edit_at(&node, header)
+}
+
+/// The edit under the header, whose step may have an index.
+#[tactic(auto, unfolding(crate::specs::Edit::lone_edit_at))]
+fn lone_edit_at(node: &Node<'_, '_>, header: &Header) -> Result<Edit, ReadFault>
+    requires { header_check header.now ≡ Ok tt }
+    ensures reading { Gives (λ edit. edit) result
+        (lone_edit_at header.now (place_of node.now) (data_of node.now)) }
+    ensures checked { IfOk result (IsCheckedEdit header.now) }
+{
+    let names = Names::of(node.alloc, header)?;
     let reader = EditReader {
         format: Format::Two,
         names: &names,
     };
-    let edit = reader.read(&Node {
-        alloc,
-        place: &Place::Top,
-        value: &document.root(),
-    })?;
-    item_accepted(alloc, header, &Place::Top, &edit)?;
-    Ok(edit)
+    let edit = reader.read(node)?;
+    match edit.flaw(header) {
+        None => Ok(edit),
+        Some(flaw) => Err(item_fault(node.alloc, header, node.place, Some(node.value), flaw)),
+    }
 }
 
 /// What `edit` says of an edit.

@@ -1,6 +1,6 @@
 //! Why a text is not read, and where.
 ghost use Rattle.std.specs.Prelude.{◌≡◌};
-ghost use Rattle.session_text.specs.declared.fault.ReadFault.TheVariants.{Memory, Fault as Refused};
+ghost use Rattle.session_text.specs.declared.fault.ReadFault.TheVariants.{Memory};
 ghost use Rattle.session_text.specs.Accepted.{header_fault};
 ghost use Rattle.session_text.specs.Outcome.{told, StopsAt};
 ghost use Rattle.session_text.specs.Path.{path_of, path_text};
@@ -71,15 +71,19 @@ impl ReadFault {
         }
     }
 
-    /// F1 of the header, which has no place.
-    pub(crate) fn of_header(flaw: HeaderFlaw) -> ReadFault
-        ensures { result ≡ Refused (header_fault flaw) }
+    /// F1 of the header of the session at the place, or that no memory is left for that path.
+    #[cold]
+    pub(crate) fn of_header(alloc: Global, session: &Place<'_>, flaw: HeaderFlaw) -> ReadFault
+        ensures { StopsAt (header_fault (path_of session.now) flaw) result }
     {
-        ReadFault::Fault(TextFault {
-            why: Why::Bench(Fault::BadHeader),
-            path: Path::empty(),
-            detail: Detail::Header(flaw),
-        })
+        match session.to_path(alloc) {
+            Ok(session) => ReadFault::Fault(TextFault {
+                why: Why::Bench(Fault::BadHeader),
+                path: Path::empty(),
+                detail: Detail::Header { flaw, session },
+            }),
+            Err(_) => ReadFault::Memory,
+        }
     }
 }
 

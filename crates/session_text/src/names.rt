@@ -1,6 +1,6 @@
-ghost use Rattle.std.specs.Prelude.{◌≡◌, IfOk, Ok};
+ghost use Rattle.std.specs.Prelude.{◌≡◌, IfOk, Ok, map};
 ghost use Rattle.bench_types.specs.Header.{header_check};
-ghost use Rattle.session_text.specs.Names.{names_of, no_names, number_of};
+ghost use Rattle.session_text.specs.Names.{names_of, no_names, number_of, user_names};
 ghost use Rattle.session_text.specs.Node.{data_of, place_of};
 ghost use Rattle.session_text.specs.Outcome.{Gives};
 ghost use Rattle.session_text.specs.Step.{task_named_at};
@@ -74,4 +74,16 @@ impl<'a> Names<'a> {
     {
         Ok(self.number_of(node.text(name)?))
     }
+}
+
+/// The names of the user tasks.
+pub(crate) fn user_names(alloc: Global, header: &Header) -> Result<Vec<&str>, AllocError>
+    ensures { IfOk result
+        (λ names. map (λ name. name.now) names.items ≡ user_names header.now) }
+{
+    let mut names = Vec::new(alloc);
+    for task in header.tasks.as_slice() {
+        names.push(task.name.as_str())?;
+    }
+    Ok(names)
 }

@@ -50,10 +50,22 @@ impl Stray {
     {
         Ok(Stray {
             text: Shown::of(alloc, text)?,
-            nearest: kept(alloc, nearest(alloc, text, words)?)?,
+            nearest: told_nearest(alloc, text, words)?,
             words: Words::listed(alloc, words)?,
         })
     }
+}
+
+/// The nearest word to the text, as people are told it.
+pub(crate) fn told_nearest(
+    alloc: Global,
+    text: &str,
+    words: &[&str],
+) -> Result<Option<Words>, AllocError>
+    ensures { IfOk result
+        (λ it. it ≡ nearest text.now (map (λ word. word.now) words.now)) }
+{
+    kept(alloc, nearest(alloc, text, words)?)
 }
 
 fn kept(alloc: Global, word: Option<&str>) -> Result<Option<Words>, AllocError>
@@ -94,11 +106,7 @@ struct Near<'w> {
 /// The word that is nearest to the text, the first of those that are equally near. There is none
 /// where there are no words, and none for a long text.
 #[tactic(auto, unfolding(crate::specs::Nearest::nearest))]
-pub(crate) fn nearest<'w>(
-    alloc: Global,
-    text: &str,
-    words: &[&'w str],
-) -> Result<Option<&'w str>, AllocError>
+fn nearest<'w>(alloc: Global, text: &str, words: &[&'w str]) -> Result<Option<&'w str>, AllocError>
     ensures { IfOk result (λ word. option_map (λ it. it.now) word
         ≡ nearest text.now (map (λ word. word.now) words.now)) }
 {

@@ -1,19 +1,19 @@
-ghost use Rattle.std.specs.Prelude.{◌≡◌, ◌<◌, ◌≤◌, ◌^◌, length, All, IfOk, OnOk};
+ghost use Rattle.std.specs.Prelude.{◌≡◌, ◌<◌, ◌≤◌, ◌^◌, length, option_map, All, IfOk, OnOk};
 ghost use Rattle.std.specs.Result.{ForOk};
-ghost use Rattle.json_data.specs.View.{items_view};
+ghost use Rattle.json_data.specs.Doubled.{doubled_in_text};
+ghost use Rattle.json_data.specs.View.{items_view, view};
 ghost use Rattle.bench_types.specs.Act.{IsCheckedAct};
 ghost use Rattle.bench_types.specs.Header.{IsCheckedHeader};
 ghost use Rattle.bench_types.specs.Limits.{max_steps};
 ghost use Rattle.bench_types.specs.Step.{settings_of};
-ghost use Rattle.bench_types.specs.StepFlaw.{act_flaw};
-ghost use Rattle.session_text.specs.Accepted.{items_accepted};
 ghost use Rattle.session_text.specs.Node.{data_of, place_of};
+ghost use Rattle.session_text.specs.Noted.{doubled_view};
 ghost use Rattle.session_text.specs.Outcome.{Gives};
-ghost use Rattle.session_text.specs.Path.{item_path, path_of};
-ghost use Rattle.session_text.specs.Rig.{has_arrays, limit_accepted, no_steps_at, rig_accepted, rig_at, rig_shapes_at, rig_text, scripts_accepted, scripts_at, stepless_at, AreCheckedScripts, IsCheckedRig};
+ghost use Rattle.session_text.specs.Path.{path_of};
+ghost use Rattle.session_text.specs.Rig.{has_arrays, limit_accepted, no_steps_at, rig_accepted, rig_at, rig_shapes_at, rig_text, script_accepted, scripts_accepted, scripts_at, stepless_at, AreCheckedScripts, IsCheckedRig};
 ghost use Rattle.session_text.specs.Session.{Answers};
 
-use crate::accepted::items_accepted;
+use crate::accepted::{Source, items_accepted};
 use crate::act::{OnCore, ScriptReader};
 use crate::array::list_at;
 use crate::detail::Detail;
@@ -22,6 +22,7 @@ use crate::format::{Format, format_at};
 use crate::header::{config_at, header_of};
 use crate::names::Names;
 use crate::node::Node;
+use crate::noted::{Noted, doubled_member};
 use crate::path::Place;
 use crate::session::{document, known_names, only_members};
 use bench_types::{Act, Fault, Header, HeaderFlaw, Items, MAX_STEPS};
@@ -66,13 +67,44 @@ fn rig_text(alloc: Global, text: &[u8]) -> Result<RigScript, ReadFault>
     })
 }
 
+/// The same, with its first member that stands twice.
+pub fn read_rig_noted(alloc: Global, text: &[u8]) -> Result<Noted<RigScript>, TextFault>
+    ensures reading { Answers (λ noted. noted.document) result (rig_text text.now) }
+    ensures checked { IfOk result (λ noted. IsCheckedRig noted.document) }
+    ensures doubled { IfOk result
+        (λ noted. doubled_view noted.doubled ≡ doubled_in_text text.now) }
+{
+    Ok(noted_rig(alloc, text)?)
+}
+
+#[tactic(auto, unfolding(crate::specs::Rig::rig_text))]
+fn noted_rig(alloc: Global, text: &[u8]) -> Result<Noted<RigScript>, ReadFault>
+    ensures reading { Gives (λ noted. noted.document) result (rig_text text.now) }
+    ensures checked { IfOk result (λ noted. IsCheckedRig noted.document) }
+    ensures doubled { IfOk result
+        (λ noted. doubled_view noted.doubled ≡ doubled_in_text text.now) }
+{
+    let mut scratch = Scratch::new(alloc);
+    let document = document(alloc, text, &mut scratch)?;
+    let rig = rig_at(&Node {
+        alloc,
+        place: &Place::Top,
+        value: &document.root(),
+    })?;
+    let doubled = doubled_member(alloc, &document)?;
+    Ok(Noted {
+        document: rig,
+        doubled,
+    })
+}
+
 #[tactic(auto, unfolding(crate::specs::Rig::rig_at))]
 fn rig_at(node: &Node<'_, '_>) -> Result<RigScript, ReadFault>
     ensures reading { Gives (λ rig. rig) result (rig_at (place_of node.now) (data_of node.now)) }
     ensures checked { IfOk result IsCheckedRig }
 {
     let (header, limit, scripts) = rig_shapes_at(node)?;
-    rig_accepted(node.alloc, node.place, header, limit, scripts)
+    rig_accepted(node, header, limit, scripts)
 }
 
 /// The header, accepted or not, the limit and the scripts: shapes alone are judged.
@@ -165,8 +197,7 @@ fn scripts_at(
 /// action at fault.
 #[tactic(auto, unfolding(crate::specs::Rig::rig_accepted))]
 fn rig_accepted(
-    alloc: Global,
-    place: &Place<'_>,
+    node: &Node<'_, '_>,
     header: Result<Header, HeaderFlaw>,
     limit: u32,
     scripts: Vec<Items<Act>>,
@@ -174,15 +205,22 @@ fn rig_accepted(
     requires valid { ForOk header IsCheckedHeader }
     requires one_per_core { ForOk header (λ it. length scripts.items ≡ it.config.cores) }
     ensures reading { Gives (λ rig. rig) result
-        (rig_accepted (path_of place.now) header limit scripts.items) }
+        (rig_accepted (place_of node.now) (data_of node.now) header limit scripts.items) }
     ensures checked { IfOk result IsCheckedRig }
 {
     match header {
-        Err(flaw) => Err(ReadFault::of_header(flaw)),
+        Err(flaw) => {
+            let session = Place::Member(node.place, "session");
+            Err(ReadFault::of_header(node.alloc, &session, flaw))
+        }
         Ok(header) => {
-            limit_accepted(alloc, place, limit)?;
-            let inner = Place::Member(place, "scripts");
-            scripts_accepted(alloc, &header, &inner, scripts.as_slice())?;
+            limit_accepted(node, limit)?;
+            let source = Source {
+                alloc: node.alloc,
+                place: &Place::Member(node.place, "scripts"),
+                value: node.value.get("scripts"),
+            };
+            scripts_accepted(&source, &header, scripts.as_slice())?;
             Ok(RigScript {
                 header,
                 limit,
@@ -192,50 +230,53 @@ fn rig_accepted(
     }
 }
 
-fn limit_accepted(alloc: Global, place: &Place<'_>, limit: u32) -> Result<(), ReadFault>
-    ensures reading { Gives (λ done. done) result (limit_accepted (path_of place.now) limit) }
+fn limit_accepted(node: &Node<'_, '_>, limit: u32) -> Result<(), ReadFault>
+    ensures reading { Gives (λ done. done) result (limit_accepted (place_of node.now) limit) }
     ensures few { OnOk result (limit ≤ max_steps) }
 {
     if limit > MAX_STEPS {
-        let place = Place::Member(place, "limit");
+        let place = Place::Member(node.place, "limit");
         let why = Why::Bench(Fault::BadArgument);
-        Err(ReadFault::at(alloc, &place, why, Detail::Limit(limit)))
+        Err(ReadFault::at(node.alloc, &place, why, Detail::Limit(limit)))
     } else {
         Ok(())
     }
 }
 
-/// The first fault of the scripts, which stand in the array at the place, if there is one.
+/// The first fault of the scripts that were read there, if there is one.
 fn scripts_accepted(
-    alloc: Global,
+    source: &Source<'_, '_>,
     header: &Header,
-    place: &Place<'_>,
     scripts: &[Items<Act>],
 ) -> Result<(), ReadFault>
     requires { length scripts.now < 2 ^ 32 }
     ensures reading { Gives (λ done. done) result
-        (scripts_accepted header.now (path_of place.now) 0 scripts.now) }
+        (scripts_accepted header.now (path_of source.now.place.now)
+        (option_map view source.now.value) 0 scripts.now) }
     ensures checked { OnOk result (AreCheckedScripts header.now scripts.now) }
 {
     for (core, script) in scripts.iter().enumerate() {
-        script_accepted(alloc, header, place, core as u32, script.as_slice())?;
+        script_accepted(source, header, core as u32, script.as_slice())?;
     }
     Ok(())
 }
 
-/// The first fault of the core's script, which is an item of the array at the place.
+/// The first fault of the core's script, which is an item of those that were read there.
 fn script_accepted(
-    alloc: Global,
+    source: &Source<'_, '_>,
     header: &Header,
-    place: &Place<'_>,
     core: u32,
     script: &[Act],
 ) -> Result<(), ReadFault>
     ensures reading { Gives (λ done. done) result
-        (items_accepted (act_flaw (settings_of header.now) core)
-        (item_path (path_of place.now) core) 0 script.now) }
+        (script_accepted header.now (path_of source.now.place.now)
+        (option_map view source.now.value) core script.now) }
     ensures checked { OnOk result (All (IsCheckedAct (settings_of header.now) core) script.now) }
 {
-    let on = OnCore { header, core };
-    items_accepted(alloc, &on, &Place::Item(place, core as usize), script)
+    let own = Source {
+        alloc: source.alloc,
+        place: &Place::Item(source.place, core as usize),
+        value: source.item(core as usize),
+    };
+    items_accepted(&own, &OnCore { header, core }, script)
 }

@@ -1,22 +1,20 @@
 ghost use Rattle.std.specs.Prelude.{◌≡◌, All, IfOk, Ok, OnOk, codes, map};
 ghost use Rattle.json_data.specs.ObjectView.{members_view};
-ghost use Rattle.json_data.specs.View.{document_view};
+ghost use Rattle.json_data.specs.Doubled.{doubled_in_text, first_doubled};
+ghost use Rattle.json_data.specs.View.{document_view, tokens_view};
 ghost use Rattle.std.specs.Result.{ForOk};
 ghost use Rattle.bench_types.specs.Header.{header_check, IsCheckedHeader};
 ghost use Rattle.bench_types.specs.Session.{IsSession};
 ghost use Rattle.bench_types.specs.Step.{settings_of, IsCheckedStep};
-ghost use Rattle.bench_types.specs.StepFlaw.{step_flaw};
-ghost use Rattle.session_text.specs.Accepted.{items_accepted};
 ghost use Rattle.session_text.specs.Array.{list_at};
 ghost use Rattle.session_text.specs.Member.{only_at};
 ghost use Rattle.session_text.specs.Names.{known_names};
 ghost use Rattle.session_text.specs.Node.{data_of, place_of};
 ghost use Rattle.session_text.specs.Outcome.{Gives};
-ghost use Rattle.session_text.specs.Path.{member_path, path_of};
 ghost use Rattle.session_text.specs.Step.{step_at};
-ghost use Rattle.session_text.specs.Session.{document, session, session_accepted, session_at, session_members, Answers};
+ghost use Rattle.session_text.specs.Session.{document, session, session_accepted, session_at, session_members, steps_accepted, Answers};
 
-use crate::accepted::items_accepted;
+use crate::accepted::{Source, items_accepted};
 use crate::array::list_at;
 use crate::detail::Detail;
 use crate::fault::{ReadFault, TextFault, Why};
@@ -49,12 +47,13 @@ fn session(alloc: Global, text: &[u8]) -> Result<(Header, Vec<Step>), ReadFault>
 {
     let mut scratch = Scratch::new(alloc);
     let document = document(alloc, text, &mut scratch)?;
-    let (_format, header, steps) = session_at(&Node {
+    let node = Node {
         alloc,
         place: &Place::Top,
         value: &document.root(),
-    })?;
-    session_accepted(alloc, &Place::Top, header, steps)
+    };
+    let (_format, header, steps) = session_at(&node)?;
+    session_accepted(&node, header, steps)
 }
 
 /// The value that the bytes spell, or H1.
@@ -63,7 +62,9 @@ pub(crate) fn document<'a>(
     text: &'a [u8],
     scratch: &'a mut Scratch,
 ) -> Result<Document<'a>, ReadFault>
-    ensures { Gives document_view result (document text.now) }
+    ensures reading { Gives document_view result (document text.now) }
+    ensures doubled { IfOk result
+        (λ document. first_doubled (tokens_view document) ≡ doubled_in_text text.now) }
 {
     match Document::parse(alloc, text, scratch) {
         Ok(document) => Ok(document),
@@ -162,39 +163,38 @@ pub(crate) fn session_at(
     Ok((format, header, steps))
 }
 
-/// The first fault of the steps of the session at the place, if there is one.
-fn steps_accepted(
-    alloc: Global,
-    place: &Place<'_>,
-    header: &Header,
-    steps: &[Step],
-) -> Result<(), ReadFault>
+/// The first fault of the steps of the session, if there is one.
+#[tactic(auto, unfolding(crate::specs::Session::steps_accepted))]
+fn steps_accepted(node: &Node<'_, '_>, header: &Header, steps: &[Step]) -> Result<(), ReadFault>
     ensures reading { Gives (λ done. done) result
-        (items_accepted (step_flaw (settings_of header.now))
-        (member_path (path_of place.now) (codes "steps")) 0 steps.now) }
+        (steps_accepted header.now (place_of node.now) (data_of node.now) steps.now) }
     ensures checked { OnOk result (All (IsCheckedStep (settings_of header.now)) steps.now) }
 {
-    items_accepted(alloc, header, &Place::Member(place, "steps"), steps)
+    let source = Source {
+        alloc: node.alloc,
+        place: &Place::Member(node.place, "steps"),
+        value: node.value.get("steps"),
+    };
+    items_accepted(&source, header, steps)
 }
 
 /// The session, or F1 for the flaw of its header, or else of its first step at fault.
 #[tactic(auto, unfolding(crate::specs::Session::session_accepted))]
 pub(crate) fn session_accepted(
-    alloc: Global,
-    place: &Place<'_>,
+    node: &Node<'_, '_>,
     header: Result<Header, HeaderFlaw>,
     steps: Vec<Step>,
 ) -> Result<(Header, Vec<Step>), ReadFault>
     requires { ForOk header IsCheckedHeader }
     ensures reading { Gives (λ read. (read.0, read.1.items)) result
-        (session_accepted (path_of place.now) header steps.items) }
+        (session_accepted (place_of node.now) (data_of node.now) header steps.items) }
     ensures checked { IfOk result
         (λ read. IsSession (record { header = read.0; steps = read.1.items })) }
 {
     match header {
-        Err(flaw) => Err(ReadFault::of_header(flaw)),
+        Err(flaw) => Err(ReadFault::of_header(node.alloc, node.place, flaw)),
         Ok(header) => {
-            steps_accepted(alloc, place, &header, steps.as_slice())?;
+            steps_accepted(node, &header, steps.as_slice())?;
             Ok((header, steps))
         }
     }

@@ -5,6 +5,8 @@ use Rattle.std.specs.List.{list_all, AllByRecursion}
 use Rattle.std.proofs.lemmas.Bool.{and_parts}
 use Rattle.std.proofs.lemmas.Bool.Decides.{nat_tests}
 use Rattle.std.proofs.lemmas.List.Elements.{recursion_from_All}
+use Rattle.serde_json.specs.Data.{Data}
+use Rattle.serde_json.specs.Find.{get}
 use Rattle.serde_json.specs.View.{items_of}
 use Rattle.bench_types.specs.declared.header.Config.{Config}
 use Rattle.bench_types.specs.declared.header.TaskArgs.{TaskArgs}
@@ -32,8 +34,8 @@ use Rattle.session_text.specs.Header.{task_at, config_at, header_at}
 use Rattle.session_text.specs.Member.{number_at, number_or_at, text_at, flag_at, array_at}
 use Rattle.bench_types.proofs.Passes.{has_valid_args, checked_flaw, checked_header, IsWithinLimits}
 use Rattle.bench_types.proofs.StepFlaws.{step_unflawed}
-use Rattle.session_text.specs.Names.{names_of, number_of}
-use Rattle.session_text.specs.Session.{session_at, session_accepted, session}
+use Rattle.session_text.specs.Names.{names_of, number_of, user_names}
+use Rattle.session_text.specs.Session.{session_at, session_accepted, steps_accepted, session}
 use Rattle.session_text.specs.Step.{step_at, kind_at, step_of_kind_at, task_named_at, note_at, wait_at, call_at}
 use Rattle.session_write.specs.Written.{task_data, task_name, step_data, format_for, data_in, session_data, WrittenReadsBack}
 use Rattle.session_write.proofs.Limits.{StepFits, IsCallInPlace, IsNoteThere, IsUserTask, in_place}
@@ -208,23 +210,28 @@ writable header steps h =
     }
 
 -- items of which none is at fault pass their checks
-none_at_fault : {A : Type 0} (flaw_of : A → Option StepFlaw) (at : List ℕ) (index : ℕ) (items : List A) → AllByRecursion (λ item. flaw_of item ≡ None) items → items_accepted flaw_of at index items ≡ Ok tt
-none_at_fault flaw_of at index [] each = refl
-none_at_fault flaw_of at index (item ∷ items) each = rw (each.0, none_at_fault flaw_of at (suc index) items each.1) refl
+none_at_fault : {A : Type 0} (flaw_of : A → Option StepFlaw) (names : List (List ℕ)) (at : List ℕ) (array : Option Data) (index : ℕ) (items : List A) → AllByRecursion (λ item. flaw_of item ≡ None) items → items_accepted flaw_of names at array index items ≡ Ok tt
+none_at_fault flaw_of names at array index [] each = refl
+none_at_fault flaw_of names at array index (item ∷ items) each = rw (each.0, none_at_fault flaw_of names at array (suc index) items each.1) refl
 
-all_accepted : {A : Type 0} (flaw_of : A → Option StepFlaw) (at : List ℕ) (items : List A) → All (λ item. flaw_of item ≡ None) items → items_accepted flaw_of at 0 items ≡ Ok tt
-all_accepted flaw_of at items pass = none_at_fault flaw_of at 0 items (recursion_from_All (λ item. flaw_of item ≡ None) items pass)
+all_accepted : {A : Type 0} (flaw_of : A → Option StepFlaw) (names : List (List ℕ)) (at : List ℕ) (array : Option Data) (items : List A) → All (λ item. flaw_of item ≡ None) items → items_accepted flaw_of names at array 0 items ≡ Ok tt
+all_accepted flaw_of names at array items pass = none_at_fault flaw_of names at array 0 items (recursion_from_All (λ item. flaw_of item ≡ None) items pass)
 
-accepted_read : (header : Header) (steps : List Step) → items_accepted (step_flaw (settings_of header)) (codes "steps") 0 steps ≡ Ok tt → session_accepted [] (Ok header) steps ≡ Ok (header, steps)
+accepted_read : (header : Header) (d : Data) (steps : List Step) → steps_accepted header [] d steps ≡ Ok tt → session_accepted [] d (Ok header) steps ≡ Ok (header, steps)
 unfolding session_accepted
-accepted_read header steps passing = rw passing refl
+accepted_read header d steps passing = rw passing refl
+
+steps_pass : (header : Header) (d : Data) (steps : List Step) → All (λ made. step_flaw (settings_of header) made ≡ None) steps → steps_accepted header [] d steps ≡ Ok tt
+unfolding steps_accepted
+steps_pass header d steps pass = all_accepted (step_flaw (settings_of header)) (user_names header) (codes "steps") (get (codes "steps") d) steps pass
 
 pub written_reads_back : WrittenReadsBack
 unfolding session
 written_reads_back header steps h =
     let writes = writable header steps h in
     let format = format_for header.config in
-    let passing = all_accepted (step_flaw (settings_of header)) (codes "steps") steps (λ k d short. step_unflawed (settings_of header) _ (h.steps k d short).passes) in
+    let d = session_data header steps in
+    let passing = steps_pass header d steps (λ k d short. step_unflawed (settings_of header) _ (h.steps k d short).passes) in
     let valid = checked_flaw header h.header.passes in
-    rw (document-compact_text (session_data header steps) (session_plain header steps writes) (session_depth header steps), data_read format header steps [] (fits_for header) valid writes)
-    (accepted_read header steps passing)
+    rw (document-compact_text d (session_plain header steps writes) (session_depth header steps), data_read format header steps [] (fits_for header) valid writes)
+    (accepted_read header d steps passing)

@@ -21,18 +21,18 @@ pub fn place_of_path(alloc: Global, text: &str, path: &str) -> Result<Option<Tex
     let mut scratch = Scratch::new(alloc);
     let mut reader = Reader::new(text, &mut scratch)?;
     match index_in_whole(&mut reader, path_from_top(path)) {
-        Some(index) => Ok(place_of_token(text, index)),
+        Some(index) => Ok(place_of_token(text.as_bytes(), index)),
         None => Ok(None),
     }
 }
 
 /// Where in a JSON text the token begins that has that index: each bracket, key, string, number and
 /// word is a token. `None` where the text has fewer.
-pub fn place_of_token(text: &str, index: usize) -> Option<TextPlace>
+pub fn place_of_token(text: &[u8], index: usize) -> Option<TextPlace>
     ensures { result ≡ token_place text.now index }
 {
-    match token_start(text.as_bytes(), index) {
-        Some(offset) => Some(place_at(text.as_bytes(), offset)),
+    match token_start(text, index) {
+        Some(offset) => Some(place_at(text, offset)),
         None => None,
     }
 }

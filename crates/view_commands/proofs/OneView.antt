@@ -26,6 +26,7 @@ use Rattle.run_comparisons.proofs.Compared.{neither_too_long}
 use Rattle.run_comparisons.proofs.OneText.{one_list, one_text}
 use Rattle.program_io.specs.Refusal.{IsToldFault, refusal_line, why_text}
 use Rattle.program_io.specs.Hint.{IsFaultHint}
+use Rattle.program_io.specs.Twice.{twice_note}
 use Rattle.program_io.specs.declared.output.OutputStatus.{OutputStatus}
 use Rattle.program_io.specs.declared.output.OutputStatus.TheVariants.{Fine, Failed, Unknown}
 use Rattle.view_commands.specs.declared.request.Command.{Command}
@@ -33,7 +34,7 @@ use Rattle.view_commands.specs.declared.request.Command.TheVariants.{Plain, Sett
 use Rattle.view_commands.specs.declared.request.Job.{Job}
 use Rattle.view_commands.specs.declared.request.SettledView.{SettledView}
 use Rattle.view_commands.specs.declared.request.SettledView.TheVariants as settled
-use Rattle.view_commands.specs.Commands.{is_json, is_json_fault, too_long_input, too_many_steps, IsDone, IsRefusedOr, IsSame, IsTold, IsToldOfBench, IsToldOfText, IsView, ViewIsOne}
+use Rattle.view_commands.specs.Commands.{is_json, is_json_fault, too_long_input, too_many_steps, IsDone, IsRefusedOr, IsSame, IsTold, IsToldOfBench, IsToldOfText, IsView, IsWarned, ViewIsOne}
 use Rattle.view_commands.specs.SettledViews.{told_of_run, IsSettledPicture, IsSettledView, IsToldOfBoth, IsToldOfPair, IsToldOfPictures, IsToldOfSettled}
 use Rattle.program_io.specs.Outputs.{Told, noted, fine}
 use Rattle.view_commands.specs.Refused.{refused_lines}
@@ -119,6 +120,10 @@ one_done job session edits told other one two =
     let judged = one_judged job.strict refusing two.alone one.judged two.judged (subst (λ (t : Told). IsJudged job.strict refusing t one.judged) alone one.is_judged) two.is_judged in
     one.is_noted ∙ ap (with_lines (edit_notes session edits)) judged ∙ sym two.is_noted
 
+one_warned : (lines : List ℕ) (job : Job) (session : Session) (edits : List Edit) (told other : Told) → IsWarned lines job session edits told → IsWarned lines job session edits other → told ≡ other
+one_warned lines job session edits told other one two =
+    one.is_warned ∙ ap (with_lines lines) (one_done job session edits one.done two.done one.is_done two.is_done) ∙ sym two.is_warned
+
 -- ---- by the input
 
 -- what is told in full is the same
@@ -130,11 +135,11 @@ one_or_refused : (test : Bool) (refused : Told) (claim other_claim : Type 0) (in
 one_or_refused true refused claim other_claim input told other both one two = same_told input told other (one ∙ sym two)
 one_or_refused false refused claim other_claim input told other both one two = both one two
 
-one_of_bench : (job : Job) (input : List ℕ) (bench : Bench) (told other : Told) → IsToldOfBench job bench told → IsToldOfBench job bench other → IsSame input told other
-one_of_bench job input bench told other one two =
+one_of_bench : (lines : List ℕ) (job : Job) (input : List ℕ) (bench : Bench) (told other : Told) → IsToldOfBench lines job bench told → IsToldOfBench lines job bench other → IsSame input told other
+one_of_bench lines job input bench told other one two =
     let session : Session = record { header = bench.header; steps = bench.steps } in
-    one_or_refused (nat_lt max_steps (length bench.steps)) too_many_steps (IsDone job session bench.edits told) (IsDone job session bench.edits other) input told other
-    (λ first second. same_told input told other (one_done job session bench.edits told other first second)) one two
+    one_or_refused (nat_lt max_steps (length bench.steps)) too_many_steps (IsWarned lines job session bench.edits told) (IsWarned lines job session bench.edits other) input told other
+    (λ first second. same_told input told other (one_warned lines job session bench.edits told other first second)) one two
 
 -- a text that is JSON has one hint
 one_hint : (input : List ℕ) (why : Why) (path : List ℕ) (more : Detail) (hint other : List ℕ) → is_json_fault why ≡ true → IsFaultHint input why path more hint → IsFaultHint input why path more other → hint ≡ other
@@ -153,7 +158,7 @@ one_of_fault input fault told other read one two = record {
 }
 
 one_of_text : (job : Job) (input : List ℕ) (text : Result Bench TextFault) (told other : Told) → bench_text input ≡ text → IsToldOfText job input text told → IsToldOfText job input text other → IsSame input told other
-one_of_text job input (Ok bench) told other read one two = one_of_bench job input bench told other one two
+one_of_text job input (Ok bench) told other read one two = one_of_bench (twice_note input) job input bench told other one two
 one_of_text job input (Err fault) told other read one two = one_of_fault input fault told other read one two
 
 pub one_view : ViewIsOne

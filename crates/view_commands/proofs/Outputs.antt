@@ -20,7 +20,8 @@ use Rattle.program_io.specs.Refusal.{IsToldFault}
 use Rattle.view_commands.specs.Refused.{refused_lines}
 use Rattle.document_stores.proofs.Opened.{few_steps, opens}
 use Rattle.view_commands.specs.declared.request.Job.{Job}
-use Rattle.view_commands.specs.Commands.{IsDone, IsRefusedOr, IsToldOfBench, IsToldOfText, too_many_steps}
+use Rattle.view_commands.specs.Commands.{IsDone, IsRefusedOr, IsToldOfBench, IsToldOfText, IsWarned, too_many_steps}
+use Rattle.view_commands.specs.Strict.{with_lines}
 use Rattle.program_io.specs.Outputs.{Told}
 
 -- what is told of a text that was not read
@@ -51,18 +52,18 @@ too_long_bench bench span why checked within memory long = go (nat_lt max_steps 
         absurd (cc (memory (opens bench.header bench.steps span checked.is_session within fits), long))
 
 -- what is told of a session that was not opened
-pub not_opened_told : {E : Type 0} (job : Job) (bench : Bench) (why : OpenRefusal) (result : Result Told E) → OnOk result (why ≡ TooLong) → IfOk result (λ told. told ≡ too_many_steps)
-    → (why ≡ TooLong → nat_lt max_steps (length bench.steps) ≡ true) → IfOk result (λ told. IsToldOfBench job bench told)
-not_opened_told job bench why (Err e) long line many = tt
-not_opened_told job bench why (Ok told) long line many =
-    or_refused (nat_lt max_steps (length bench.steps)) too_many_steps (IsDone job (record { header = bench.header; steps = bench.steps }) bench.edits told) told (many long) line
+pub not_opened_told : {E : Type 0} (lines : List ℕ) (job : Job) (bench : Bench) (why : OpenRefusal) (result : Result Told E) → OnOk result (why ≡ TooLong) → IfOk result (λ told. told ≡ too_many_steps)
+    → (why ≡ TooLong → nat_lt max_steps (length bench.steps) ≡ true) → IfOk result (λ told. IsToldOfBench lines job bench told)
+not_opened_told lines job bench why (Err e) long line many = tt
+not_opened_told lines job bench why (Ok told) long line many =
+    or_refused (nat_lt max_steps (length bench.steps)) too_many_steps (IsWarned lines job (record { header = bench.header; steps = bench.steps }) bench.edits told) told (many long) line
 
 -- what is told of a session that was opened
-pub opened_told : {E : Type 0} (job : Job) (bench : Bench) (span : ℕ) (kept : CheckpointedSession) (result : Result Told E) → open_check bench.header bench.steps span ≡ Ok tt → kept ≡ first_kept span (record { header = bench.header; steps = bench.steps })
-    → IfOk result (λ told. IsDone job kept.session bench.edits told) → IfOk result (λ told. IsToldOfBench job bench told)
-opened_told job bench span kept (Err e) accepted same is = tt
-opened_told job bench span kept (Ok told) accepted same is =
+pub opened_told : {E : Type 0} (lines : List ℕ) (job : Job) (bench : Bench) (span : ℕ) (kept : CheckpointedSession) (done : Told) (result : Result Told E) → open_check bench.header bench.steps span ≡ Ok tt
+    → kept ≡ first_kept span (record { header = bench.header; steps = bench.steps }) → IsDone job kept.session bench.edits done → IfOk result (λ told. told ≡ with_lines lines done) → IfOk result (λ told. IsToldOfBench lines job bench told)
+opened_told lines job bench span kept done (Err e) accepted same is warned = tt
+opened_told lines job bench span kept done (Ok told) accepted same is warned =
     let session : Session = record { header = bench.header; steps = bench.steps } in
-    or_claim (nat_lt max_steps (length bench.steps)) too_many_steps (IsDone job session bench.edits told) told
+    or_claim (nat_lt max_steps (length bench.steps)) too_many_steps (IsWarned lines job session bench.edits told) told
     (few_steps bench.header bench.steps span accepted)
-    (subst (λ (k : CheckpointedSession). IsDone job k.session bench.edits told) same is)
+    (record { done = done; is_done = subst (λ (k : CheckpointedSession). IsDone job k.session bench.edits done) same is; is_warned = warned })

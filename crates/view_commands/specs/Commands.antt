@@ -11,6 +11,7 @@ use Rattle.session_text.specs.declared.fault.Why.TheVariants.{NotJson}
 use Rattle.session_text.specs.Bench.{bench_text}
 use Rattle.program_io.specs.Refusal.{IsToldFault}
 use Rattle.program_io.specs.Hint.{too_long_line, too_many_steps_line}
+use Rattle.program_io.specs.Twice.{twice_note}
 use Rattle.view_commands.specs.declared.request.Command.{Command}
 use Rattle.view_commands.specs.declared.request.Command.TheVariants.{Plain, Settled, Report, Check, Advise}
 use Rattle.view_commands.specs.declared.request.Job.{Job}
@@ -40,6 +41,13 @@ pub record IsDone (job : Job) (session : Session) (edits : List Edit) (told : To
   pub is_judged : IsJudged job.strict (IsRefusing job.command session edits) alone judged
   pub is_noted : told ≡ with_lines (edit_notes session edits) judged
 
+-- the same, with these lines before its note
+pub record IsWarned (lines : List ℕ) (job : Job) (session : Session) (edits : List Edit)
+    (told : Told) : Type 0 where
+  pub done : Told
+  pub is_done : IsDone job session edits done
+  pub is_warned : told ≡ with_lines lines done
+
 -- a refusal where the test says so, and else what the claim says
 abbrev pub IsRefusedOr : Bool → Told → Type 0 → Told → Type 0
 IsRefusedOr true refused claim told = told ≡ refused
@@ -53,14 +61,16 @@ too_many_steps = refused_for (codes "J2") too_many_steps_line
 abbrev pub too_long_input : Told
 too_long_input = refused_for (codes "H3") too_long_line
 
--- J2 comes after all other refusals of the document
-abbrev pub IsToldOfBench : Job → Bench → Told → Type 0
-IsToldOfBench job bench told =
+-- J2 comes after all other refusals of the document; what is done begins with lines
+abbrev pub IsToldOfBench : List ℕ → Job → Bench → Told → Type 0
+IsToldOfBench lines job bench told =
     IsRefusedOr (nat_lt max_steps (length bench.steps)) too_many_steps
-    (IsDone job (record { header = bench.header; steps = bench.steps }) bench.edits told) told
+    (IsWarned lines job (record { header = bench.header; steps = bench.steps }) bench.edits told)
+    told
 
+-- the first line says that a member stands twice, where one does
 abbrev pub IsToldOfText : Job → List ℕ → Result Bench TextFault → Told → Type 0
-IsToldOfText job input (Ok bench) told = IsToldOfBench job bench told
+IsToldOfText job input (Ok bench) told = IsToldOfBench (twice_note input) job bench told
 IsToldOfText job input (Err fault) told = IsToldFault refused_lines input fault told
 
 -- what is told of an input; H3 where that is too long

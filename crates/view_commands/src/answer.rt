@@ -1,5 +1,5 @@
 //! What is told of an input.
-ghost use Rattle.std.specs.Prelude.{◌≡◌, All, IfOk, OnOk};
+ghost use Rattle.std.specs.Prelude.{◌≡◌, All, IfOk, OnOk, string_bytes};
 ghost use Rattle.bench_types.specs.Edit.{IsCheckedEdit};
 ghost use Rattle.session_store.specs.declared.fault.OpenRefusal.TheVariants.{TooLong};
 ghost use Rattle.session_text.specs.Bench.{IsCheckedBench, bench_text};
@@ -18,10 +18,10 @@ use crate::settled::told_settled;
 use crate::strict::{judged_strictly, with_lines};
 use bench_types::{Edit, MAX_INPUT, MAX_SPAN};
 use edit_notes::refused_edits;
-use program_io::{Output, explained, too_long};
+use program_io::{Output, explained, too_long, twice_note};
 use run_advice::Progress;
 use session_store::{OpenRefusal, Store};
-use session_text::{Bench, TextFault, read_bench};
+use session_text::{Bench, Noted, TextFault, read_bench_noted};
 use smp_kernel::Meter;
 use std::alloc::{AllocError, Global};
 use std::thread::Threads;
@@ -109,18 +109,19 @@ fn told_of_job<T: Threads + Sync, P: Progress>(
     with_lines(lines, judged)
 }
 
-// What is told of a document that was read. Texts may have any number of steps, so J2 is found
-// here. As few checkpoints are kept as there can be, since each edit is made once.
+// What is told of a document that was read, after these lines. Texts may have any number of steps,
+// so J2 is found here. As few checkpoints are kept as there can be, since each edit is made once.
 fn told_of_bench<T: Threads + Sync, P: Progress>(
     rt: &T,
     host: &HostRuntime,
     progress: &mut P,
     alloc: Global,
+    lines: String,
     bench: Bench,
     job: &Job,
 ) -> Result<Output, AllocError>
     requires { IsCheckedBench bench }
-    ensures { IfOk result (λ told. IsToldOfBench job.now bench told) }
+    ensures { IfOk result (λ told. IsToldOfBench (string_bytes lines) job.now bench told) }
 {
     let Bench {
         header,
@@ -129,16 +130,19 @@ fn told_of_bench<T: Threads + Sync, P: Progress>(
     } = bench;
     let mut meter = Meter::new(host);
     match Store::open(alloc, header, steps.into_vec(), MAX_SPAN, &mut meter) {
-        Ok(mut store) => told_of_job(
-            rt,
-            host,
-            progress,
-            alloc,
-            &mut meter,
-            &mut store,
-            edits.as_slice(),
-            job,
-        ),
+        Ok(mut store) => {
+            let told = told_of_job(
+                rt,
+                host,
+                progress,
+                alloc,
+                &mut meter,
+                &mut store,
+                edits.as_slice(),
+                job,
+            )?;
+            with_lines(lines, told)
+        }
         Err(fault) => not_opened(alloc, fault.why),
     }
 }
@@ -155,9 +159,12 @@ fn told_of_text<T: Threads + Sync, P: Progress>(
     ensures { IfOk result
         (λ told. IsToldOfText job.now input.now (bench_text input.now) told) }
 {
-    match read_bench(alloc, input) {
+    match read_bench_noted(alloc, input) {
         Err(fault) => refused_text(alloc, input, fault),
-        Ok(bench) => told_of_bench(rt, host, progress, alloc, bench, job),
+        Ok(Noted { document, doubled }) => {
+            let line = twice_note(alloc, input, doubled)?;
+            told_of_bench(rt, host, progress, alloc, line, document, job)
+        }
     }
 }
 

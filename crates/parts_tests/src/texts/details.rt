@@ -20,14 +20,14 @@ fn detail_of(alloc: Global, step: &str) -> Result<Detail, Fail> {
 /// The text that is told, the nearest word, and all words.
 type Told = (Option<&'static str>, Option<&'static str>, &'static str);
 
-fn text_of(shown: &Shown) -> Option<&str> {
+pub fn text_of(shown: &Shown) -> Option<&str> {
     match shown {
         Shown::Long => None,
         Shown::Text(text) => Some(text.as_str()),
     }
 }
 
-fn word_of(nearest: &Option<Words>) -> Option<&str> {
+pub fn word_of(nearest: &Option<Words>) -> Option<&str> {
     match nearest {
         Some(word) => Some(word.as_str()),
         None => None,

@@ -38,7 +38,7 @@ fn documents_that_are_refused(rt: HostRuntime) -> Result<(), Fail> {
         (
             "smp_view check --at-most A.run=1",
             "[]",
-            "refused H2 top\ntop: expected an object, found an array\n",
+            "refused H2 top\ntop: expected an object, found an array (line 1, column 1)\n",
         ),
         (
             "smp_view timeline",

@@ -1,10 +1,9 @@
-use Rattle.std.proofs.Common.{codes, subst, arith}
+use Rattle.std.proofs.Common.{subst, arith}
 use Rattle.std.specs.Prelude.{All}
 use Rattle.bench_types.specs.Step.{settings_of, IsCheckedStep}
-use Rattle.bench_types.specs.StepFlaw.{step_flaw}
-use Rattle.session_text.specs.Accepted.{items_accepted}
+use Rattle.session_text.specs.Node.{data_of, place_of}
 use Rattle.session_text.specs.Outcome.{Ends}
-use Rattle.session_text.specs.Path.{member_path, path_of}
+use Rattle.session_text.specs.Session.{steps_accepted}
 use Rattle.session_text.proofs.Accepting.{steps_end}
 use Rattle.session_text.proofs.session.session_accepted.Goals as goal
 
@@ -16,8 +15,9 @@ returns-in_ok-steps_accepted-in-Ok-clause-checked c = record {
 
 pub returns-in_err-steps_accepted-in-Ok-clause-reading : goal.returns-in_err-steps_accepted-in-Ok-clause-reading
 returns-in_err-steps_accepted-in-Ok-clause-reading c =
-    let at = path_of c.args.place.now in
+    let at = place_of c.args.node.now in
+    let d = data_of c.args.node.now in
     let end = c.in_err-steps_accepted-in-Ok.field-0.0 in
-    let first = subst (λ steps. Ends end (items_accepted (step_flaw (settings_of c.in-Ok.header)) (member_path at (codes "steps")) 0 steps)) c.as_slice.ensures.value c.in_err-steps_accepted-in-Ok.ensures.reading in
-    let whole = steps_end at c.args.header c.in-Ok.header c.args.steps.items end c.in-Ok.is first in
+    let first = subst (λ steps. Ends end (steps_accepted c.in-Ok.header at d steps)) c.as_slice.ensures.value c.in_err-steps_accepted-in-Ok.ensures.reading in
+    let whole = steps_end at d c.args.header c.in-Ok.header c.args.steps.items end c.in-Ok.is first in
     grind (arith, whole, c.from_residual.ensures)

@@ -1,4 +1,4 @@
-use Rattle.std.proofs.Common.{rules, ◌≡◌, ◌∙◌, List, Ok, IfOk, refl, sym, ap, subst}
+use Rattle.std.proofs.Common.{rules, string_bytes, ◌≡◌, ◌∙◌, List, Ok, refl, sym, ap, subst}
 use Rattle.std.specs.Prelude.{All}
 use Rattle.bench_types.specs.Edit.{IsCheckedEdit}
 use Rattle.bench_types.specs.declared.edit.Edit.{Edit}
@@ -13,7 +13,7 @@ use Rattle.view_commands.proofs.answer.told_of_bench.Goals as goal
 
 pub returns : goal.returns
 returns g c =
-    not_opened_told c.args.job.now c.args.bench c.in-Err.fault.why c.not_opened.result c.not_opened.ensures.why c.not_opened.ensures.line
+    not_opened_told (string_bytes c.args.lines) c.args.job.now c.args.bench c.in-Err.fault.why c.not_opened.result c.not_opened.ensures.why c.not_opened.ensures.line
     (too_long_bench c.args.bench max_span c.in-Err.fault.why c.requires refl
     (λ passes. ap (λ fault. fault.why) (c.in-Err.ensures.no_memory (subst (λ steps. open_check c.args.bench.header steps max_span ≡ Ok tt) (sym c.into_vec.ensures) passes))))
 
@@ -26,11 +26,11 @@ told_of_job-requires g c =
     checked_kept bench.header c.in-Ok.store bench.edits c.as_slice.result.now (ap (λ (kept : CheckpointedSession). kept.session.header) same) edits c.requires.edits_checked in
     search rules
 
-pub returns-in-Ok : goal.returns-in-Ok
-returns-in-Ok g c =
+pub returns-in_ok-told-in-Ok : goal.returns-in_ok-told-in-Ok
+returns-in_ok-told-in-Ok g c =
     let bench = c.args.bench in
     let accepted = subst (λ steps. open_check bench.header steps max_span ≡ Ok tt) c.into_vec.ensures c.in-Ok.ensures.accepted in
     let same = c.in-Ok.ensures.opened ∙ ap (λ (steps : List Step). first_kept max_span (record { header = bench.header; steps = steps })) c.into_vec.ensures in
     let edits : c.as_slice.result.now ≡ bench.edits = search rules in
-    opened_told c.args.job.now bench max_span c.in-Ok.store c.told_of_job.result accepted same
-    (subst (λ (edits : List Edit). IfOk c.told_of_job.result (λ told. IsDone c.args.job.now c.in-Ok.store.session edits told)) edits c.told_of_job.ensures)
+    opened_told (string_bytes c.args.lines) c.args.job.now bench max_span c.in-Ok.store c.in_ok-told-in-Ok.told c.with_lines.result accepted same
+    (subst (λ (edits : List Edit). IsDone c.args.job.now c.in-Ok.store.session edits c.in_ok-told-in-Ok.told) edits c.in_ok-told-in-Ok.ensures) c.with_lines.ensures

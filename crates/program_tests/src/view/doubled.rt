@@ -1,0 +1,71 @@
+//! Documents in which a member stands twice, whatever is shown of them.
+use crate::processes::args_of;
+use crate::view::processes::{Wanted, check_program};
+use std::alloc::AllocError;
+use std::process::Abort;
+use std::test::Fail;
+use std::thread::Threads;
+
+/// A task has its priority twice, in the second line; the edit has no place.
+const BENCH: &str = "{\"session\": {\"format\": 1, \"cores\": 2, \"priorities\": 5, \
+    \"slicing\": false, \"tick\": 0, \"mutexes\": 0, \"tasks\": [
+{\"name\": \"A\", \"priority\": 9, \"mask\": 3, \"priority\": 2}], \
+    \"steps\": [{\"do\": \"tick\"}]}, \"edits\": [{\"edit\": \"remove\", \"at\": 7}]}";
+
+const TOLD: &str = "the member \"priority\" stands twice, and the last one counts: line 2, column 41
+edit 0 refused J1: the session has 1 steps
+";
+
+/// A member stands twice, and one is missing.
+const REFUSED: &str = "{\"format\": 1, \"format\": 1}";
+
+/// Statuses and notes, where standard output is told what it is without.
+#[test]
+fn statuses(rt: HostRuntime) -> Result<(), Fail> {
+    for (line, document, code, output, errors) in [
+        (
+            "smp_view trace --from 1 --to 1",
+            BENCH,
+            0,
+            "place 1, tick 1; core 0 A; core 1 IDLE1\n",
+            TOLD,
+        ),
+        ("smp_view check --at-least A.run=0", BENCH, 0, "", TOLD),
+        (
+            "smp_view check --strict --at-least A.run=0",
+            BENCH,
+            1,
+            "",
+            TOLD,
+        ),
+        (
+            "smp_view trace",
+            REFUSED,
+            1,
+            "",
+            "refused H2 cores\ncores: this member is missing\n",
+        ),
+    ] {
+        check(&rt, &rt, line, document, code, output, errors)?;
+    }
+    Ok(())
+}
+
+fn check<R: Threads + Abort + Sync>(
+    rt: &R,
+    host: &HostRuntime,
+    line: &str,
+    document: &str,
+    code: u8,
+    output: &str,
+    errors: &str,
+) -> Result<(), AllocError> {
+    let words = Ok(args_of(host.alloc(), line)?);
+    let wanted = Wanted {
+        code,
+        output,
+        errors,
+    };
+    check_program(rt, host, words, document, "", wanted);
+    Ok(())
+}

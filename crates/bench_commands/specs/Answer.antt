@@ -139,7 +139,8 @@ pub record IsToldAnswer (answer : Output) (notes : List ℕ) (IsHint : List ℕ 
   pub is_hint : answer.is_refused ≡ true → IsHint hint
   pub is_told : told ≡ told_with answer notes hint
 
--- that a member of the input stands twice, and then by the mode a line for each edit that is refused
+-- that a member of the input stands twice, and then by the mode a line for each edit that is
+-- refused
 abbrev pub run_notes : Mode → List ℕ → List ℕ
 run_notes mode input = twice_note input ++ notes_of mode (bench_text input)
 

@@ -1,5 +1,6 @@
 pub mod Ended
 mod KnownInput
 mod KnownOutput
+mod PlacesFound
 mod Prompted
 pub mod Told

@@ -120,9 +120,9 @@ fn faults_of_many_lines(rt: HostRuntime) {
     }
 }
 
-/// Texts of many lines that are JSON, and the places of their faults, by hand: the line feeds before
-/// the value that the path names, or before the object that lacks it, and the bytes after the last
-/// of them.
+/// Texts of many lines that are JSON, and the places of their faults, by hand: the line feeds
+/// before the value that the path names, or before the object that lacks it, and the bytes after
+/// the last of them.
 const MANY_LINES_OF_JSON: &[(&str, &str, &str)] = &[
     (
         "replay",

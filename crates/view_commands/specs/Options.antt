@@ -1,13 +1,12 @@
 -- What clap's answers mean: the options of a command, a row for each, and the name of a file.
-use Rattle.std.specs.Prelude.{◌≡◌, ◌&&◌, ◌^◌, ◌-◌, ◌==◌, ℕ, List, [], ◌∷◌, ◌++◌, flat_map, length, map, Bool, true, false, codes, nat_lt, Option, Some, None, IfSome, is_some, option_and_then, unwrap_or, if◌then◌else◌}
+use Rattle.std.specs.Prelude.{◌≡◌, ◌&&◌, ◌^◌, ◌-◌, ◌==◌, ℕ, List, [], ◌∷◌, ◌++◌, flat_map, length, map, Bool, true, false, codes, Option, Some, None, IfSome, is_some, option_and_then, unwrap_or, if◌then◌else◌}
 use Rattle.std.specs.Path.{rsplit_once}
 use Rattle.std.specs.List.{list_all}
 use Rattle.std.specs.Option.{option_map_or}
 use Rattle.std.specs.Str.{bytes_eq}
-use Rattle.std.specs.Str.Parse.{without_leading_plus}
-use Rattle.clap.specs.ValueTests.{is_numeral}
+use Rattle.clap.specs.ValueTests.{is_unsigned_in}
 use Rattle.clap.specs.Words.{Row, Text, all_of, first_of, many_of, one_of}
-use Rattle.command_words.specs.Asking.{is_flag, number_of}
+use Rattle.command_words.specs.Asking.{flag_in, is_flag, number_in, number_of}
 use Rattle.run_advice.specs.declared.change.Family.{Family}
 use Rattle.run_reports.specs.declared.limits.Bound.{Bound}
 use Rattle.run_reports.specs.declared.limits.Bound.TheVariants.{AtMost, AtLeast}
@@ -23,23 +22,19 @@ use Rattle.view_commands.specs.declared.request.View.TheVariants as view
 
 -- digits that write a number below 2^32, with or without a plus sign before them
 abbrev pub is_number : Text → Bool
-is_number text = is_numeral (without_leading_plus text) && nat_lt (number_of text) (2 ^ 32)
+is_number = is_unsigned_in 0 (2 ^ 32 - 1)
 
 -- ---- each option
 
 -- whether the flag is there
 abbrev pub settle_in : List Row → Bool
-settle_in options = option_map_or (bytes_eq (codes "true")) (one_of (codes "settle") options) false
+settle_in = flag_in (codes "settle")
 
 abbrev pub strict_in : List Row → Bool
-strict_in options = option_map_or (bytes_eq (codes "true")) (one_of (codes "strict") options) false
+strict_in = flag_in (codes "strict")
 
 abbrev pub json_in : List Row → Bool
-json_in options = option_map_or (bytes_eq (codes "true")) (one_of (codes "json") options) false
-
--- the number that an option gives, or else this one
-abbrev pub number_in : Text → List Row → ℕ → ℕ
-number_in id options other = option_map_or number_of (one_of id options) other
+json_in = flag_in (codes "json")
 
 -- from the one place to the other; all places, where none is given
 abbrev pub places_in : List Row → Places

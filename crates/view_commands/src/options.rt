@@ -3,7 +3,7 @@ ghost use Rattle.std.specs.Prelude.{◌≡◌, codes, IfOk, IfSome, map, option_
 ghost use Rattle.std.specs.Option.{IsSomeAnd};
 ghost use Rattle.clap.specs.Words.{found_of, rows_of, subcommand_rows_of};
 ghost use Rattle.view_commands.specs.CommandLine.{asked_for, asked_in};
-ghost use Rattle.view_commands.specs.Options.{AreTaken, advice_of, advice_with, check_of, command_of, comparison_of, cores_in, family_in, file_in, json_in, number_in, number_name, picture_of, places_in, report_of, selection_in, settle_in, strict_in, tasks_in, texts_in, trace_of, usual_best, view_of};
+ghost use Rattle.view_commands.specs.Options.{AreTaken, advice_of, advice_with, check_of, command_of, comparison_of, cores_in, family_in, file_in, json_in, number_name, picture_of, places_in, report_of, selection_in, settle_in, strict_in, tasks_in, texts_in, trace_of, usual_best, view_of};
 
 use crate::families::family_of;
 use crate::limits::{are_limits, limits_in};

@@ -1,6 +1,7 @@
 -- What a loop over the steps has filmed so far.
 use Rattle.std.proofs.Common.{◌≡◌, ℕ, zero, suc, ◌+◌, ◌^◌, ◌<◌, ◌≤◌, max, length-append, List, [], ◌∷◌, ◌++◌, length, map, filter, take, drop, get_or, Bool, true, false, refl, subst, sym, ap, ◌∙◌, append_assoc, add-one, arith}
 use Rattle.std.specs.Prelude.{if◌then◌else◌}
+use Rattle.std.proofs.lemmas.List.Sums.{count_by-le-length, length-filter}
 use Rattle.std.proofs.Math.Seq.{drop-cons, take-suc}
 use Rattle.std.specs.Cmp.{first_so}
 use Rattle.std.proofs.lemmas.Bool.{leb-true}
@@ -137,3 +138,7 @@ unfolding looks_of
 looks_counted places header steps few =
     let shown = shown_few places (suc (length steps)) in
     omega (arith, length-map (shown_places places steps) (λ place. look_of (state_at header steps place)))
+
+-- some of some are no more than these
+pub passed_few : {X : Type 0} (test : X → Bool) (xs : List X) → length (filter test xs) ≤ length xs
+passed_few test xs = subst (λ (n : ℕ). n ≤ length xs) (sym (length-filter test xs)) (count_by-le-length test xs)

@@ -1,4 +1,5 @@
 pub mod Filming
+pub mod LinedUp
 pub mod Replayed
 pub mod Rows
 pub mod Tiling

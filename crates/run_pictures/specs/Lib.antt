@@ -8,12 +8,16 @@ pub mod Frame
 pub mod Ink
 pub mod Limits
 pub mod Marks
+pub mod MutexLines
 pub mod Picture
 pub mod Same
 pub mod Shades
+pub mod Shown
+pub mod Signs
 pub mod Spans
 pub mod Stances
 pub mod Stretches
 pub mod TaskBands
 pub mod Theorem
+pub mod TickColumns
 pub mod Waits

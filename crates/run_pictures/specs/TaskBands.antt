@@ -1,5 +1,5 @@
 -- The rows of the tasks.
-use Rattle.std.specs.Prelude.{ℕ, ◌+◌, ◌-◌, ◌*◌, ◌%◌, ◌==◌, List, [], ◌++◌, flat_map, codes, decimal, Option, Some, None, if◌then◌else◌}
+use Rattle.std.specs.Prelude.{ℕ, ◌+◌, ◌-◌, ◌==◌, List, [], ◌++◌, flat_map, codes, decimal, Option, Some, None, if◌then◌else◌}
 use Rattle.bench_types.specs.declared.header.Header.{Header}
 use Rattle.bench_types.specs.Header.{name_of}
 use Rattle.run_views.specs.declared.look.Standing.TheVariants as standing
@@ -112,25 +112,3 @@ task_row header frame y film task =
     ++ flat_map (stance_bar header frame y task film.made)
     (stance_spans frame.first film.looks task)
     ++ flat_map (inherited_bar header frame y task) (priority_spans frame.first film.looks task)
-
-abbrev pub held_words : Header → ℕ → ℕ → ℕ → ℕ → List ℕ
-held_words header mutex first last task =
-    over_text first last ++ codes "mutex " ++ decimal mutex ++ codes " held by "
-    ++ name_of header task
-
--- where the task holds the mutex, in the row of that task
-abbrev pub held_part : Header → Frame → ℕ → ℕ → ℕ → ℕ → Option ℕ → List ℕ
-held_part header frame y mutex first last None = []
-held_part header frame y mutex first last (Some task) =
-    bar_text frame (record {
-      ink = ink.Taken;
-      first = first;
-      last = last;
-      y = y + 28 * (task - header.config.cores) + 21 + 3 * (mutex % 2);
-      height = 3;
-    }) (held_words header mutex first last task)
-
--- a stretch at which a task holds the mutex
-unfoldable pub holder_bar : Header → Frame → ℕ → ℕ → Span (Option ℕ) → List ℕ
-holder_bar header frame y mutex span =
-    held_part header frame y mutex span.first span.last span.value

@@ -19,7 +19,8 @@ pub(crate) enum Ink {
     Due,
     Held,
     Inherited,
-    Taken,
+    /// A mutex that the user task of that index holds.
+    Taken(u32),
     /// Nothing is drawn; it is there to hover over.
     Clear,
 }
@@ -60,7 +61,7 @@ pub(crate) fn push_ink(text: &mut String, ink: Ink) -> Result<(), AllocError>
         Ink::Due => text.push_str("d"),
         Ink::Held => text.push_str("h"),
         Ink::Inherited => text.push_str("u"),
-        Ink::Taken => text.push_str("m"),
+        Ink::Taken(user) => write!(text, "m c{}", user % 8),
         Ink::Clear => text.push_str("z"),
     }
 }

@@ -11,7 +11,7 @@ traces = record { bare = refl; from = refl; between = refl; hyphen_before_zero =
 
 pub views : WorkedViews
 unfolding clap_on_literals asked_in_words
-views = record { session = refl; session_of_file = refl; settle = refl; compare = refl; compare_settled = refl; strict_session = refl; strict_settle = refl; strict_comparison = refl; picture = refl; picture_between = refl; picture_settled = refl }
+views = record { session = refl; session_of_file = refl; settle = refl; compare = refl; compare_settled = refl; strict_session = refl; strict_settle = refl; strict_comparison = refl; picture = refl; picture_between = refl; picture_settled = refl; picture_by_ticks = refl }
 
 pub checks : WorkedChecks
 unfolding clap_on_literals asked_in_words rsplit_once
@@ -31,4 +31,4 @@ versions = record { of_program = refl; by_letter = refl; before_a_command = refl
 
 pub mistakes : WorkedMistakes
 unfolding clap_on_literals asked_in_words
-mistakes = record { no_command = refl; help_as_command = refl; version_of_a_command = refl; unknown_command = refl; option_before_command = refl; unknown_option = refl; no_value = refl; option_as_value = refl; negative_place = refl; place_too_great = refl; core_no_number = refl; two_first_places = refl; two_settles = refl; two_stricts = refl; strict_with_value = refl; settle_with_value = refl; two_files = refl; session_from_place = refl; settled_settle = refl; compared_task = refl; picture_of_core = refl; no_text = refl }
+mistakes = record { no_command = refl; help_as_command = refl; version_of_a_command = refl; unknown_command = refl; option_before_command = refl; unknown_option = refl; no_value = refl; option_as_value = refl; negative_place = refl; place_too_great = refl; core_no_number = refl; two_first_places = refl; two_settles = refl; two_stricts = refl; strict_with_value = refl; settle_with_value = refl; two_files = refl; session_from_place = refl; settled_settle = refl; compared_task = refl; unknown_axis = refl; picture_of_core = refl; no_text = refl }

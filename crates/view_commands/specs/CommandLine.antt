@@ -62,6 +62,10 @@ task_rule = record (option_rule (codes "task")) { action = Some Append }
 abbrev pub core_rule : Rule
 core_rule = record (option_rule (codes "core")) { action = Some Append; parser = Some a_number }
 
+-- the option `--axis`
+abbrev pub axis_rule : Rule
+axis_rule = option_rule (codes "axis")
+
 -- the options `--at-most` and `--at-least`, which may stand several times
 abbrev pub at_most_rule : Rule
 at_most_rule = record (option_rule (codes "at-most")) { action = Some Append }
@@ -112,7 +116,7 @@ compare_app = command_app (codes "compare") (settle_rule ∷ strict_rule ∷ fil
 abbrev pub timeline_app : App
 timeline_app =
     command_app (codes "timeline")
-    (settle_rule ∷ from_rule ∷ to_rule ∷ strict_rule ∷ file_rule ∷ [])
+    (settle_rule ∷ axis_rule ∷ from_rule ∷ to_rule ∷ strict_rule ∷ file_rule ∷ [])
 
 abbrev pub report_app : App
 report_app =

@@ -1,5 +1,5 @@
 -- What clap's answers mean: the options of a command, a row for each, and the name of a file.
-use Rattle.std.specs.Prelude.{◌≡◌, ◌&&◌, ◌^◌, ◌-◌, ◌==◌, ℕ, List, [], ◌∷◌, ◌++◌, flat_map, length, map, Bool, true, false, codes, nat_lt, Option, Some, None, IfSome, is_some, option_and_then, unwrap_or, if◌then◌else◌}
+use Rattle.std.specs.Prelude.{◌≡◌, ◌&&◌, ◌^◌, ◌-◌, ◌==◌, ℕ, List, [], ◌∷◌, ◌++◌, flat_map, length, map, Bool, true, false, codes, nat_lt, Option, Some, None, IfSome, is_some, option_and_then, option_map, unwrap_or, if◌then◌else◌}
 use Rattle.std.specs.Path.{rsplit_once}
 use Rattle.std.specs.List.{list_all}
 use Rattle.std.specs.Option.{option_map_or}
@@ -9,6 +9,9 @@ use Rattle.clap.specs.ValueTests.{is_numeral}
 use Rattle.clap.specs.Words.{Row, Text, all_of, first_of, many_of, one_of}
 use Rattle.command_words.specs.Asking.{is_flag, number_of}
 use Rattle.run_advice.specs.declared.change.Family.{Family}
+use Rattle.run_pictures.specs.declared.frame.Axis.{Axis}
+use Rattle.run_pictures.specs.declared.frame.Axis.TheVariants as by
+use Rattle.run_pictures.specs.declared.picture.Extent.{Extent}
 use Rattle.run_reports.specs.declared.limits.Bound.{Bound}
 use Rattle.run_reports.specs.declared.limits.Bound.TheVariants.{AtMost, AtLeast}
 use Rattle.run_views.specs.declared.places.Places.{Places}
@@ -122,10 +125,25 @@ abbrev pub comparison_of : List Row → Command
 comparison_of options =
     if settle_in options then Settled settled.Compare else Plain view.Compare
 
-abbrev pub picture_of : List Row → Command
-picture_of options =
-    if settle_in options then Settled (settled.Timeline (places_in options))
-    else Plain (view.Timeline (places_in options))
+-- the axis that a word names
+abbrev pub axis_of : Text → Option Axis
+axis_of word =
+    if bytes_eq word (codes "place") then Some by.Places
+    else if bytes_eq word (codes "tick") then Some by.Ticks
+    else None
+
+-- places, where none is named
+abbrev pub axis_in : List Row → Option Axis
+axis_in options = option_map_or axis_of (first_of (codes "axis") options) (Some by.Places)
+
+abbrev pub picture_by : List Row → Axis → Command
+picture_by options axis =
+    let extent : Extent = record { places = places_in options; axis = axis } in
+    if settle_in options then Settled (settled.Timeline extent) else Plain (view.Timeline extent)
+
+-- a picture, if an axis is named
+abbrev pub picture_of : List Row → Option Command
+picture_of options = option_map (picture_by options) (axis_in options)
 
 abbrev pub report_of : List Row → Command
 report_of options = Report (record {
@@ -140,8 +158,7 @@ view_of name options =
     else if bytes_eq name (codes "session") then Plain view.Session
     else if bytes_eq name (codes "settle") then Settled settled.Session
     else if bytes_eq name (codes "compare") then comparison_of options
-    else if bytes_eq name (codes "report") then report_of options
-    else picture_of options
+    else report_of options
 
 -- a check, if there are limits and all are written as such
 abbrev pub check_of : List Row → Option Command
@@ -187,6 +204,7 @@ abbrev pub command_of : Text → List Row → Option Command
 command_of name options =
     if bytes_eq name (codes "check") then check_of options
     else if bytes_eq name (codes "advise") then advice_of options
+    else if bytes_eq name (codes "timeline") then picture_of options
     else Some (view_of name options)
 
 -- ---- what clap takes as a value

@@ -3,7 +3,7 @@ ghost use Rattle.std.specs.Prelude.{◌≡◌, IfOk, IsErr, map, option_map};
 ghost use Rattle.clap.specs.Words.{app_of, kind_of, rule_of};
 ghost use Rattle.clap.specs.declared.error.kind.ErrorKind.TheVariants.{OutOfMemory};
 ghost use Rattle.command_words.specs.Said.{class_in};
-ghost use Rattle.view_commands.specs.CommandLine.{IsTold, advise_app, asked, asked_by, asked_class, asked_in, asked_in_words, at_least_rule, at_most_rule, best_rule, check_app, compare_app, core_rule, file_rule, from_rule, json_rule, judged_rule, less_rule, over_rule, report_app, session_app, settle_app, settle_rule, strict_rule, task_rule, timeline_app, to_rule, trace_app, view_app};
+ghost use Rattle.view_commands.specs.CommandLine.{IsTold, advise_app, asked, asked_by, asked_class, asked_in, asked_in_words, at_least_rule, at_most_rule, axis_rule, best_rule, check_app, compare_app, core_rule, file_rule, from_rule, json_rule, judged_rule, less_rule, over_rule, report_app, session_app, settle_app, settle_rule, strict_rule, task_rule, timeline_app, to_rule, trace_app, view_app};
 
 use crate::options::asked_for;
 use crate::request::Request;
@@ -59,7 +59,9 @@ const COMPARISONS: &str = "With --settle it also says which calls were not made.
 Example: smp_view compare --settle examples/settled/shorter-timeout.json";
 
 // Below the options of a picture.
-const PICTURES: &str = "A picture shows at most 4000 places.
+const PICTURES: &str =
+    "A picture shows at most 4000 places. With --axis tick each tick is ruled, and has as many columns as the
+run with more places in it needs, so that two runs stand tick by tick.
 
 Example: smp_view timeline examples/questions/shared-mutex.json";
 
@@ -154,6 +156,15 @@ fn core_option<'a>(alloc: Global) -> Arg<'a>
         .help("Shows the steps that concern this core; may stand several times")
         .action(ArgAction::Append)
         .value_parser(value_parser!(u32))
+}
+
+fn axis_option<'a>(alloc: Global) -> Arg<'a>
+    ensures { rule_of result ≡ axis_rule }
+{
+    Arg::new(alloc, "axis")
+        .long("axis")
+        .value_name("AXIS")
+        .help("What a column is of: place, also if left out, or tick")
 }
 
 fn at_most_option<'a>(alloc: Global) -> Arg<'a>
@@ -278,6 +289,7 @@ fn timeline_command<'a>(alloc: Global) -> Result<Command<'a>, AllocError>
         .after_help(PICTURES)
         .about("Draws the runs before and after the edits, as an SVG picture")
         .arg(settle_flag(alloc))?
+        .arg(axis_option(alloc))?
         .arg(from_option(alloc))?
         .arg(to_option(alloc))?
         .arg(strict_flag(alloc))?

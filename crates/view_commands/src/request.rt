@@ -1,4 +1,5 @@
 //! What the program may be asked for.
+use run_pictures::Extent;
 use run_views::Places;
 use session_advice::Question;
 use session_reports::{Form, Wanted};
@@ -37,8 +38,8 @@ pub enum View {
     Session,
     /// The run before the edits beside the run after them.
     Compare,
-    /// The picture of the run before the edits and of that after them, at these places.
-    Timeline(Places),
+    /// The picture of the run before the edits and of that after them.
+    Timeline(Extent),
 }
 
 /// What is shown of settled runs.
@@ -50,8 +51,8 @@ pub enum SettledView {
     Session,
     /// The settled run of the session before the edits beside that of the session after them.
     Compare,
-    /// The picture of these runs, at these places.
-    Timeline(Places),
+    /// The picture of these runs.
+    Timeline(Extent),
 }
 
 /// Which report is made of the session's run, and of the run after the edits.

@@ -1,7 +1,8 @@
 //! What a command line asks for.
 
-use run_pictures::MAX_PLACES;
+use run_pictures::{Axis, Extent, MAX_PLACES};
 use run_reports::Bound;
+use run_views::Places;
 use session_advice::Question;
 use session_reports::Form;
 use std::alloc::{AllocError, Global};
@@ -38,6 +39,9 @@ smp_view compare --settle => settled compare
 smp_view timeline => picture 0 4294967295
 smp_view timeline --to 7 --from 3 => picture 3 7
 smp_view timeline --settle => settled picture 0 4294967295
+smp_view timeline --axis place => picture 0 4294967295
+smp_view timeline --axis tick => picture by ticks 0 4294967295
+smp_view timeline --settle --axis=tick --to 7 => settled picture by ticks 0 7
 smp_view timeline --from 3 --settle => settled picture 3 4294967295
 smp_view timeline --settle --to 7 run.json => settled picture 0 7 file run.json
 smp_view report => report table
@@ -142,6 +146,9 @@ smp_view advise --task A --less run --best x => bad
 smp_view advise --task A --task B --less run => bad
 smp_view advise --task A --less run --from 3 => bad
 smp_view timeline -3 => bad
+smp_view timeline --axis core => bad
+smp_view timeline --axis => bad
+smp_view timeline --axis tick --axis tick => bad
 smp_view timeline --task A => bad
 smp_view timeline --settle --core 0 => bad";
 
@@ -289,7 +296,15 @@ fn plain_told(alloc: Global, view: &View) -> Result<String, AllocError> {
         View::Trace(selection) => trace_told(alloc, selection),
         View::Session => String::from_str(alloc, "session"),
         View::Compare => String::from_str(alloc, "compare"),
-        View::Timeline(places) => { format!(in alloc; "picture {} {}", places.from, places.to) }
+        View::Timeline(extent) => picture_told(alloc, *extent),
+    }
+}
+
+fn picture_told(alloc: Global, extent: Extent) -> Result<String, AllocError> {
+    let Places { from, to } = extent.places;
+    match extent.axis {
+        Axis::Places => format!(in alloc; "picture {from} {to}"),
+        Axis::Ticks => format!(in alloc; "picture by ticks {from} {to}"),
     }
 }
 
@@ -298,8 +313,9 @@ fn settled_told(alloc: Global, view: &SettledView) -> Result<String, AllocError>
         SettledView::Trace(selection) => settled_trace_told(alloc, selection),
         SettledView::Session => String::from_str(alloc, "settled"),
         SettledView::Compare => String::from_str(alloc, "settled compare"),
-        SettledView::Timeline(places) => {
-            format!(in alloc; "settled picture {} {}", places.from, places.to)
+        SettledView::Timeline(extent) => {
+            let picture = picture_told(alloc, *extent)?;
+            format!(in alloc; "settled {picture}")
         }
     }
 }

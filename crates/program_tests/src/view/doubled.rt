@@ -13,7 +13,7 @@ const BENCH: &str = "{\"session\": {\"format\": 1, \"cores\": 2, \"priorities\":
     \"steps\": [{\"do\": \"tick\"}]}, \"edits\": [{\"edit\": \"remove\", \"at\": 7}]}";
 
 const TOLD: &str = "the member \"priority\" stands twice, and the last one counts: line 2, column 41
-edit 0 refused J1: the session has 1 steps
+edit 0 refused J1: the session has 1 step
 ";
 
 /// A member stands twice, and one is missing.

@@ -1,5 +1,6 @@
 pub mod Arrays
 pub mod Documents
+pub mod Gathering
 pub mod Least
 mod Members
 pub mod Objects

@@ -1,5 +1,8 @@
 pub mod Doubled
+pub mod Gathered
+pub mod Held
 pub mod ObjectView
+pub mod Opening
 pub mod Passing
 pub mod Reading
 pub mod Seen

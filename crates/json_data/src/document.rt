@@ -1,3 +1,4 @@
+//! A JSON text as serde_json reads it.
 ghost use Rattle.std.specs.Prelude.{◌≡◌, true, is_some, option_map, Some, None, Err, IfOk};
 ghost use Rattle.std.specs.Str.{IsUtf8};
 ghost use Rattle.json.specs.Lex.{tokens};

@@ -32,6 +32,7 @@ pub(crate) enum Passed<'a> {
 
 // Passes the value that begins at the node of that index.
 #[cycle(passing)]
+#[inline(always)]
 pub(crate) fn passed_value<'a>(
     alloc: Global,
     nodes: &[Node<'a>],
@@ -56,6 +57,7 @@ pub(crate) fn passed_value<'a>(
 
 // Passes the items from that index on, and the bracket that closes their array.
 #[cycle(passing)]
+#[inline(never)]
 fn passed_items<'a>(alloc: Global, nodes: &[Node<'a>], at: usize) -> Result<Passed<'a>, AllocError>
     requires { at ≤ length nodes.now }
     ensures passed { (all : json.Items) (rest : List Token)
@@ -79,6 +81,7 @@ fn passed_items<'a>(alloc: Global, nodes: &[Node<'a>], at: usize) -> Result<Pass
 
 // Passes the members from that index on, and the brace that closes their object.
 #[cycle(passing)]
+#[inline(never)]
 fn passed_members<'a>(
     alloc: Global,
     nodes: &[Node<'a>],

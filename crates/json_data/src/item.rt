@@ -1,9 +1,11 @@
+//! A value in a document.
 ghost use Rattle.std.specs.Prelude.{◌≡◌, true, bytes_eq, is_some, map, option_map, option_and_then, Some};
 ghost use Rattle.std.specs.List.{list_any};
 ghost use Rattle.json.specs.Json as json;
 ghost use Rattle.json.specs.Find.{InMembers};
 ghost use Rattle.serde_json.specs.Data.{Members};
 ghost use Rattle.serde_json.specs.Find.{as_array, as_bool, as_null, as_number, as_object, as_str, as_u64, get};
+ghost use Rattle.json_data.specs.Opening.{Opens};
 ghost use Rattle.json_data.specs.Reading.{data_at, data_of, least_unknown, least_unknown_key, lesser_unknown};
 
 use crate::items::Items;
@@ -14,7 +16,7 @@ use json::Element;
 /// A value in a document. Clauses see what serde_json reads there.
 #[derive(Drop)]
 pub struct Item<'t, 'a> {
-    element: Element<'t, 'a>,
+    pub(crate) element: Element<'t, 'a>,
     ghost valid: { is_some (data_at element) ≡ true },
 }
 
@@ -92,6 +94,13 @@ impl<'t, 'a> Item<'t, 'a> {
         }
     }
 
+    /// The members in the order of the text, where this is an object.
+    pub(crate) fn members(&self) -> Option<json::Members<'t, 'a>>
+        ensures { Opens self.now.element result }
+    {
+        self.element.members()
+    }
+
     /// The least name of a member that is none of the names, where this is an object. Names go by
     /// their bytes.
     pub(crate) fn least_unknown(&self, names: &[&str]) -> Option<&'a str>
@@ -119,7 +128,11 @@ fn least_unknown_key<'a>(members: &mut json::Members<'_, 'a>, names: &[&str]) ->
 }
 
 /// The lesser of the key and the least so far; a key that is one of the names counts for nothing.
-fn lesser_unknown<'a>(names: &[&str], key: &'a str, least: Option<&'a str>) -> Option<&'a str>
+pub(crate) fn lesser_unknown<'a>(
+    names: &[&str],
+    key: &'a str,
+    least: Option<&'a str>,
+) -> Option<&'a str>
     ensures { option_map (λ name. name.now) result
         ≡ lesser_unknown (map (λ name. name.now) names.now) key.now
         (option_map (λ name. name.now) least.entry) }
@@ -133,7 +146,7 @@ fn lesser_unknown<'a>(names: &[&str], key: &'a str, least: Option<&'a str>) -> O
     }
 }
 
-fn is_one_of(key: &str, names: &[&str]) -> bool
+pub(crate) fn is_one_of(key: &str, names: &[&str]) -> bool
     ensures { result ≡ list_any (bytes_eq key.now) (map (λ name. name.now) names.now) }
 {
     for name in names {

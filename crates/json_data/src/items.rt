@@ -1,3 +1,4 @@
+//! The items of an array.
 ghost use Rattle.std.specs.Prelude.{◌≡◌, ◌∷◌, true, is_some, MatchOption};
 ghost use Rattle.json.specs.Token.{begin_array};
 ghost use Rattle.serde_json.specs.Data.{no_items, item};

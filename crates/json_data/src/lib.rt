@@ -6,6 +6,7 @@
 
 mod document;
 mod doubled;
+mod gathered;
 mod item;
 mod items;
 mod object;
@@ -14,6 +15,7 @@ mod seen;
 
 pub use document::{Document, Refused};
 pub use doubled::Doubled;
+pub use gathered::{Gathered, Member};
 pub use item::Item;
 pub use items::Items;
 pub use json::Scratch;

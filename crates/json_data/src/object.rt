@@ -1,15 +1,21 @@
+//! The members of an object.
 ghost use Rattle.std.specs.Prelude.{◌≡◌, true, is_some, map, option_map, Some};
+ghost use Rattle.std.specs.Option.{ForSome};
 ghost use Rattle.serde_json.specs.Find.{as_object};
 ghost use Rattle.json_data.specs.Reading.{are_known, least_unknown};
 ghost use Rattle.json_data.specs.View.{view};
 
+use crate::gathered::Gathered;
 use crate::item::Item;
 
 /// The members of an object. Clauses see what serde_json reads there.
 #[derive(Clone, Copy)]
 pub struct Object<'s, 't, 'a> {
-    item: &'s Item<'t, 'a>,
+    pub(crate) item: &'s Item<'t, 'a>,
+    /// The same with its members, where they were gone through.
+    pub(crate) gathered: Option<&'s Gathered<'t, 'a>>,
     ghost valid: { is_some (as_object (view item.now)) ≡ true },
+    ghost same: { ForSome gathered (λ same. same.now ≡ item.now) },
 }
 
 impl<'s, 't, 'a> Object<'s, 't, 'a> {
@@ -19,7 +25,10 @@ impl<'s, 't, 'a> Object<'s, 't, 'a> {
         requires { is_some (as_object (view item.now)) ≡ true }
         ensures { Some (members_view result) ≡ as_object (view item.now) }
     {
-        Object { item }
+        Object {
+            item,
+            gathered: None,
+        }
     }
 
     /// Whether each member has one of the names.
@@ -34,6 +43,9 @@ impl<'s, 't, 'a> Object<'s, 't, 'a> {
         ensures { option_map (λ name. name.now) result
             ≡ least_unknown (map (λ name. name.now) names.now) (members_view self.now) }
     {
-        self.item.least_unknown(names)
+        match self.gathered {
+            Some(gathered) => gathered.least_unknown(names),
+            None => self.item.least_unknown(names),
+        }
     }
 }

@@ -1,3 +1,4 @@
+//! How deep values nest, and which numbers are read.
 ghost use Rattle.std.specs.Prelude.{◌≡◌, ◌<◌, ◌^◌, ◌==◌, true, false, map, is_some, length, option_and_then, slice_index};
 ghost use Rattle.fast_float.specs.Text.{minus};
 ghost use Rattle.json.specs.Tape.{node_token};

@@ -26,12 +26,12 @@ found None at more = Err (bad_shape at more)
 -- A reading stops at this fault, unless memory runs out before.
 abbrev pub StopsAt : TextFault → ReadFault → Type 0
 StopsAt fault Memory = Unit {0}
-StopsAt fault (Fault first) = first ≡ fault
+StopsAt fault (Fault first) = first.value ≡ fault
 
 -- A reading ends in this way, unless memory runs out before.
 abbrev pub Ends : {A : Type 0} → ReadFault → Result A TextFault → Type 0
 Ends Memory reading = Unit {0}
-Ends (Fault fault) reading = reading ≡ Err fault
+Ends (Fault fault) reading = reading ≡ Err fault.value
 
 -- A function returned what the reading gives, unless memory ran out. Its value is seen by `view`.
 abbrev pub Gives : {A B : Type 0} → (A → B) → Result A ReadFault → Result B TextFault → Type 0
@@ -41,4 +41,4 @@ Gives view (Err stop) reading = Ends stop reading
 -- what a caller is told of it
 abbrev pub told : ReadFault → TextFault
 told Memory = record { why = NoMemory; path = []; detail = detail.None }
-told (Fault fault) = fault
+told (Fault fault) = fault.value

@@ -61,6 +61,12 @@ session_accepted at d (Ok header) steps = do
   done ← steps_accepted header at d steps
   Ok (header, steps)
 
+-- the header and the steps of the session at a place
+abbrev pub whole_session : List ℕ → Data → Result (Header × List Step) TextFault
+whole_session at d = do
+  read ← session_at at d
+  session_accepted at d read.1 read.2
+
 -- the header and the steps that a text spells, or its first fault
 unfoldable pub session : List ℕ → Result (Header × List Step) TextFault
 session text = do

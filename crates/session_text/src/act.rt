@@ -32,7 +32,7 @@ fn act_of_kind_at(
     format: Format,
     names: &Names<'_>,
     kind: Kind,
-    node: &Node<'_, '_>,
+    node: &Node<'_, '_, '_>,
 ) -> Result<Act, ReadFault>
     ensures { Gives (λ act. act) result
         (act_of_kind_at format names.now kind (place_of node.now) (data_of node.now)) }
@@ -60,7 +60,7 @@ impl<'v> ReadItem<'v> for ActReader<'_, '_> {
     ghost reading = { λ acts. act_at acts.format acts.names.now };
 
     #[tactic(auto, unfolding(crate::specs::Act::act_at))]
-    fn read(&self, node: &Node<'_, 'v>) -> Result<Act, ReadFault> {
+    fn read(&self, node: &Node<'_, '_, 'v>) -> Result<Act, ReadFault> {
         let members = node.object()?;
         let kind = kind_at(node)?;
         let act = act_of_kind_at(self.format, self.names, kind, node)?;
@@ -84,7 +84,7 @@ impl<'v> ReadItem<'v> for ScriptReader<'_, '_> {
     ghost reading = { λ scripts. script_at scripts.format scripts.names.now };
 
     #[tactic(auto, unfolding(crate::specs::Act::script_at))]
-    fn read(&self, node: &Node<'_, 'v>) -> Result<Items<Act>, ReadFault> {
+    fn read(&self, node: &Node<'_, '_, 'v>) -> Result<Items<Act>, ReadFault> {
         let mut items = node.items()?;
         let acts = ActReader {
             format: self.format,

@@ -1,3 +1,4 @@
+//! What a notification does to a value, as texts write it.
 ghost use Rattle.std.specs.Prelude.{◌≡◌, map};
 ghost use Rattle.bench_types.specs.Step.{IsActionOfWord};
 ghost use Rattle.session_text.specs.Action.{action_at, action_kind_at, action_kind_of, action_kinds, action_number, action_of_kind_at};
@@ -20,7 +21,7 @@ pub(crate) enum ActionKind {
 }
 
 #[tactic(auto, unfolding(crate::specs::Action::action_kind_at))]
-fn action_kind_at(node: &Node<'_, '_>) -> Result<ActionKind, ReadFault>
+fn action_kind_at(node: &Node<'_, '_, '_>) -> Result<ActionKind, ReadFault>
     ensures { Gives (λ kind. kind) result
         (action_kind_at (place_of node.now) (data_of node.now)) }
 {
@@ -50,7 +51,7 @@ impl ActionKind {
 }
 
 #[tactic(auto, unfolding(crate::specs::Action::action_of_kind_at))]
-fn action_of_kind_at(kind: ActionKind, node: &Node<'_, '_>) -> Result<Action, ReadFault>
+fn action_of_kind_at(kind: ActionKind, node: &Node<'_, '_, '_>) -> Result<Action, ReadFault>
     ensures { Gives (λ action. action) result
         (action_of_kind_at kind (place_of node.now) (data_of node.now)) }
 {
@@ -65,7 +66,7 @@ fn action_of_kind_at(kind: ActionKind, node: &Node<'_, '_>) -> Result<Action, Re
 
 /// What a notification does to its task's value.
 #[tactic(auto, unfolding(crate::specs::Action::action_at))]
-pub(crate) fn action_at(node: &Node<'_, '_>) -> Result<Action, ReadFault>
+pub(crate) fn action_at(node: &Node<'_, '_, '_>) -> Result<Action, ReadFault>
     ensures { Gives (λ action. action) result
         (action_at (place_of node.now) (data_of node.now)) }
 {

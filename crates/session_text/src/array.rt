@@ -1,3 +1,4 @@
+//! Arrays of texts, item by item.
 ghost use Rattle.std.specs.Prelude.{◌≡◌};
 ghost use Rattle.json_data.specs.View.{items_view};
 ghost use Rattle.session_text.specs.Array.{each_at, list_at};
@@ -8,7 +9,7 @@ ghost use Rattle.session_text.specs.Path.{path_of};
 use crate::fault::ReadFault;
 use crate::node::Node;
 use crate::path::Place;
-use json_data::Items;
+use json_data::{Gathered, Items};
 use std::alloc::Global;
 
 /// What reads one item of an array.
@@ -23,7 +24,7 @@ pub(crate) trait ReadItem<'v> {
 
     ghost reading: { Self → List ℕ → Data → Result Self.Item TextFault };
 
-    fn read(&self, node: &Node<'_, 'v>) -> Result<Self::Item, ReadFault>
+    fn read(&self, node: &Node<'_, '_, 'v>) -> Result<Self::Item, ReadFault>
         ensures { Gives (λ item. item) result
             (reading self.now (place_of node.now) (data_of node.now)) };
 }
@@ -41,10 +42,11 @@ pub(crate) fn each<'v, R: ReadItem<'v>>(
     let mut read = Vec::new(alloc);
     while let Some(value) = items.next() {
         let place = &Place::Item(place, read.len());
+        let value = &Gathered::of(value);
         read.push(reader.read(&Node {
             alloc,
             place,
-            value: &value,
+            value,
         })?)?;
     }
     Ok(read)
@@ -54,7 +56,7 @@ pub(crate) fn each<'v, R: ReadItem<'v>>(
 #[tactic(auto, unfolding(crate::specs::Array::list_at))]
 pub(crate) fn list_at<'v, R: ReadItem<'v>>(
     reader: &R,
-    node: &Node<'_, 'v>,
+    node: &Node<'_, '_, 'v>,
     name: &str,
 ) -> Result<Vec<R::Item>, ReadFault>
     ensures { Gives (λ items. items.items) result

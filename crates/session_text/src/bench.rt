@@ -1,7 +1,8 @@
-ghost use Rattle.std.specs.Prelude.{◌≡◌, All, IfOk, OnOk};
+//! Bench documents.
+ghost use Rattle.std.specs.Prelude.{◌≡◌, [], All, IfOk, OnOk};
 ghost use Rattle.std.specs.Result.{ForOk};
 ghost use Rattle.json_data.specs.Doubled.{doubled_in_text};
-ghost use Rattle.json_data.specs.View.{view};
+ghost use Rattle.json_data.specs.View.{document_view, view};
 ghost use Rattle.bench_types.specs.Edit.{IsCheckedEdit};
 ghost use Rattle.bench_types.specs.Header.{IsCheckedHeader};
 ghost use Rattle.session_text.specs.Bench.{bench_accepted, bench_at, bench_text, edited_at, edits_accepted, shapes_at, unedited_at, IsCheckedBench};
@@ -19,7 +20,7 @@ use crate::noted::{Noted, doubled_member};
 use crate::path::Place;
 use crate::session::{document, known_names, session_accepted, session_at};
 use bench_types::{Edit, Header, HeaderFlaw, Items, Step};
-use json_data::{Item, Scratch};
+use json_data::{Document, Gathered, Scratch};
 use std::alloc::Global;
 
 /// A session, and edits of it that are to be made in their order.
@@ -50,10 +51,18 @@ fn bench_text(alloc: Global, text: &[u8]) -> Result<Bench, ReadFault>
 {
     let mut scratch = Scratch::new(alloc);
     let document = document(alloc, text, &mut scratch)?;
+    bench_in(alloc, &document)
+}
+
+/// The bench that is the document.
+fn bench_in(alloc: Global, document: &Document<'_>) -> Result<Bench, ReadFault>
+    ensures reading { Gives (λ bench. bench) result (bench_at [] (document_view document.now)) }
+    ensures checked { IfOk result IsCheckedBench }
+{
     bench_at(&Node {
         alloc,
         place: &Place::Top,
-        value: &document.root(),
+        value: &Gathered::of(document.root()),
     })
 }
 
@@ -76,11 +85,7 @@ fn noted_bench(alloc: Global, text: &[u8]) -> Result<Noted<Bench>, ReadFault>
 {
     let mut scratch = Scratch::new(alloc);
     let document = document(alloc, text, &mut scratch)?;
-    let bench = bench_at(&Node {
-        alloc,
-        place: &Place::Top,
-        value: &document.root(),
-    })?;
+    let bench = bench_in(alloc, &document)?;
     let doubled = doubled_member(alloc, &document)?;
     Ok(Noted {
         document: bench,
@@ -88,20 +93,20 @@ fn noted_bench(alloc: Global, text: &[u8]) -> Result<Noted<Bench>, ReadFault>
     })
 }
 
-fn bench_at(node: &Node<'_, '_>) -> Result<Bench, ReadFault>
+fn bench_at(node: &Node<'_, '_, '_>) -> Result<Bench, ReadFault>
     ensures reading { Gives (λ bench. bench) result
         (bench_at (place_of node.now) (data_of node.now)) }
     ensures checked { IfOk result IsCheckedBench }
 {
-    match node.value.get("session") {
-        Some(session) => edited_at(node, &session),
+    match node.value.item().get("session") {
+        Some(session) => edited_at(node, &Gathered::of(session)),
         None => unedited_at(node),
     }
 }
 
 /// The session with no edits.
 #[tactic(auto, unfolding(crate::specs::Bench::unedited_at))]
-fn unedited_at(node: &Node<'_, '_>) -> Result<Bench, ReadFault>
+fn unedited_at(node: &Node<'_, '_, '_>) -> Result<Bench, ReadFault>
     ensures reading { Gives (λ bench. bench) result
         (unedited_at (place_of node.now) (data_of node.now)) }
     ensures checked { IfOk result IsCheckedBench }
@@ -117,7 +122,7 @@ fn unedited_at(node: &Node<'_, '_>) -> Result<Bench, ReadFault>
 
 /// The session, which was found as the member `session`, and its edits.
 #[tactic(auto, unfolding(crate::specs::Bench::edited_at))]
-fn edited_at(node: &Node<'_, '_>, session: &Item<'_, '_>) -> Result<Bench, ReadFault>
+fn edited_at(node: &Node<'_, '_, '_>, session: &Gathered<'_, '_>) -> Result<Bench, ReadFault>
     ensures reading { Gives (λ bench. bench) result
         (edited_at (place_of node.now) (data_of node.now) (view session.now)) }
     ensures checked { IfOk result IsCheckedBench }
@@ -129,8 +134,8 @@ fn edited_at(node: &Node<'_, '_>, session: &Item<'_, '_>) -> Result<Bench, ReadF
 /// The header, accepted or not, the steps and the edits: shapes alone are judged.
 #[tactic(auto, unfolding(crate::specs::Bench::shapes_at))]
 fn shapes_at(
-    node: &Node<'_, '_>,
-    session: &Item<'_, '_>,
+    node: &Node<'_, '_, '_>,
+    session: &Gathered<'_, '_>,
 ) -> Result<(Result<Header, HeaderFlaw>, Vec<Step>, Vec<Edit>), ReadFault>
     ensures reading { Gives (λ read. (read.0, read.1.items, read.2.items)) result
         (shapes_at (place_of node.now) (data_of node.now) (view session.now)) }
@@ -156,8 +161,8 @@ fn shapes_at(
 /// The bench, or the fault of its session, or else of its first edit at fault.
 #[tactic(auto, unfolding(crate::specs::Bench::bench_accepted))]
 fn bench_accepted(
-    node: &Node<'_, '_>,
-    session: &Item<'_, '_>,
+    node: &Node<'_, '_, '_>,
+    session: &Gathered<'_, '_>,
     header: Result<Header, HeaderFlaw>,
     steps: Vec<Step>,
     edits: Vec<Edit>,
@@ -183,7 +188,7 @@ fn bench_accepted(
 }
 
 #[tactic(auto, unfolding(crate::specs::Bench::edits_accepted))]
-fn edits_accepted(node: &Node<'_, '_>, header: &Header, edits: &[Edit]) -> Result<(), ReadFault>
+fn edits_accepted(node: &Node<'_, '_, '_>, header: &Header, edits: &[Edit]) -> Result<(), ReadFault>
     ensures reading { Gives (λ done. done) result
         (edits_accepted header.now (place_of node.now) (data_of node.now) edits.now) }
     ensures checked { OnOk result (All (IsCheckedEdit header.now) edits.now) }
@@ -191,7 +196,7 @@ fn edits_accepted(node: &Node<'_, '_>, header: &Header, edits: &[Edit]) -> Resul
     let source = Source {
         alloc: node.alloc,
         place: &Place::Member(node.place, "edits"),
-        value: node.value.get("edits"),
+        value: node.value.item().get("edits"),
     };
     items_accepted(&source, header, edits)
 }

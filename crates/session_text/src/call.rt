@@ -1,3 +1,4 @@
+//! Calls, as texts write them.
 ghost use Rattle.std.specs.Prelude.{◌≡◌, map};
 ghost use Rattle.bench_types.specs.declared.step.Call.TheVariants as call;
 ghost use Rattle.session_text.specs.Node.{data_of, place_of};
@@ -38,7 +39,7 @@ pub(crate) enum CallKind {
 pub(crate) fn note_at(
     format: Format,
     names: &Names<'_>,
-    node: &Node<'_, '_>,
+    node: &Node<'_, '_, '_>,
 ) -> Result<Note, ReadFault>
     ensures { Gives (λ note. note) result
         (note_at format names.now (place_of node.now) (data_of node.now)) }
@@ -51,7 +52,7 @@ pub(crate) fn note_at(
 }
 
 #[tactic(auto, unfolding(crate::specs::Step::wait_at))]
-fn wait_at(format: Format, node: &Node<'_, '_>) -> Result<Call, ReadFault>
+fn wait_at(format: Format, node: &Node<'_, '_, '_>) -> Result<Call, ReadFault>
     ensures { Gives (λ call. call) result
         (wait_at format (place_of node.now) (data_of node.now)) }
 {
@@ -68,7 +69,7 @@ pub(crate) fn call_at(
     format: Format,
     names: &Names<'_>,
     kind: CallKind,
-    node: &Node<'_, '_>,
+    node: &Node<'_, '_, '_>,
 ) -> Result<Call, ReadFault>
     ensures { Gives (λ call. call) result
         (call_at format names.now kind (place_of node.now) (data_of node.now)) }

@@ -1,6 +1,8 @@
-ghost use Rattle.std.specs.Prelude.{◌≡◌, IfOk, Ok, map};
+//! Edits, as texts write them.
+ghost use Rattle.std.specs.Prelude.{◌≡◌, [], IfOk, Ok, map};
 ghost use Rattle.bench_types.specs.Edit.{IsCheckedEdit};
 ghost use Rattle.bench_types.specs.Header.{header_check};
+ghost use Rattle.json_data.specs.View.{document_view};
 ghost use Rattle.session_text.specs.Detail.{words_of};
 ghost use Rattle.session_text.specs.Edit.{edit_kind_at, edit_kind_of, edit_kinds, edit_members_of, edit_of_kind_at, edit_text, lone_edit_at, new_step_at};
 ghost use Rattle.session_text.specs.Node.{data_of, place_of};
@@ -17,7 +19,7 @@ use crate::path::Place;
 use crate::session::document;
 use crate::step::StepReader;
 use bench_types::{Edit, Header, Step};
-use json_data::Scratch;
+use json_data::{Document, Gathered, Scratch};
 use std::alloc::Global;
 
 /// Reads an edit of a session with this header from a JSON text.
@@ -42,17 +44,27 @@ fn edit_text(alloc: Global, text: &[u8], header: &Header) -> Result<Edit, ReadFa
 {
     let mut scratch = Scratch::new(alloc);
     let document = document(alloc, text, &mut scratch)?;
+    edit_in(alloc, &document, header)
+}
+
+/// The edit that is the document.
+fn edit_in(alloc: Global, document: &Document<'_>, header: &Header) -> Result<Edit, ReadFault>
+    requires { header_check header.now ≡ Ok tt }
+    ensures reading { Gives (λ edit. edit) result
+        (lone_edit_at header.now [] (document_view document.now)) }
+    ensures checked { IfOk result (IsCheckedEdit header.now) }
+{
     let node = Node {
         alloc,
         place: &Place::Top,
-        value: &document.root(),
+        value: &Gathered::of(document.root()),
     };
     lone_edit_at(&node, header)
 }
 
 /// The edit under the header, whose step may have an index.
 #[tactic(auto, unfolding(crate::specs::Edit::lone_edit_at))]
-fn lone_edit_at(node: &Node<'_, '_>, header: &Header) -> Result<Edit, ReadFault>
+fn lone_edit_at(node: &Node<'_, '_, '_>, header: &Header) -> Result<Edit, ReadFault>
     requires { header_check header.now ≡ Ok tt }
     ensures reading { Gives (λ edit. edit) result
         (lone_edit_at header.now (place_of node.now) (data_of node.now)) }
@@ -66,7 +78,10 @@ fn lone_edit_at(node: &Node<'_, '_>, header: &Header) -> Result<Edit, ReadFault>
     let edit = reader.read(node)?;
     match edit.flaw(header) {
         None => Ok(edit),
-        Some(flaw) => Err(item_fault(node.alloc, header, node.place, Some(node.value), flaw)),
+        Some(flaw) => {
+            let value = Some(node.value.item());
+            Err(item_fault(node.alloc, header, node.place, value, flaw))
+        }
     }
 }
 
@@ -111,7 +126,7 @@ impl EditKind {
 }
 
 #[tactic(auto, unfolding(crate::specs::Edit::edit_kind_at))]
-fn edit_kind_at(node: &Node<'_, '_>) -> Result<EditKind, ReadFault>
+fn edit_kind_at(node: &Node<'_, '_, '_>) -> Result<EditKind, ReadFault>
     ensures { Gives (λ kind. kind) result (edit_kind_at (place_of node.now) (data_of node.now)) }
 {
     let word = node.text("edit")?;
@@ -120,7 +135,11 @@ fn edit_kind_at(node: &Node<'_, '_>) -> Result<EditKind, ReadFault>
 
 /// The step that the edit brings.
 #[tactic(auto, unfolding(crate::specs::Edit::new_step_at))]
-fn new_step_at(format: Format, names: &Names<'_>, node: &Node<'_, '_>) -> Result<Step, ReadFault>
+fn new_step_at(
+    format: Format,
+    names: &Names<'_>,
+    node: &Node<'_, '_, '_>,
+) -> Result<Step, ReadFault>
     ensures { Gives (λ step. step) result
         (new_step_at format names.now (place_of node.now) (data_of node.now)) }
 {
@@ -128,7 +147,7 @@ fn new_step_at(format: Format, names: &Names<'_>, node: &Node<'_, '_>) -> Result
     StepReader { format, names }.read(&Node {
         alloc: node.alloc,
         place: &Place::Member(node.place, "step"),
-        value: &step,
+        value: &Gathered::of(step),
     })
 }
 
@@ -137,7 +156,7 @@ fn edit_of_kind_at(
     format: Format,
     names: &Names<'_>,
     kind: EditKind,
-    node: &Node<'_, '_>,
+    node: &Node<'_, '_, '_>,
 ) -> Result<Edit, ReadFault>
     ensures { Gives (λ edit. edit) result
         (edit_of_kind_at format names.now kind (place_of node.now) (data_of node.now)) }
@@ -178,7 +197,7 @@ impl<'v> ReadItem<'v> for EditReader<'_, '_> {
     ghost reading = { λ edits. edit_at edits.format edits.names.now };
 
     #[tactic(auto, unfolding(crate::specs::Edit::edit_at))]
-    fn read(&self, node: &Node<'_, 'v>) -> Result<Edit, ReadFault> {
+    fn read(&self, node: &Node<'_, '_, 'v>) -> Result<Edit, ReadFault> {
         let members = node.object()?;
         let kind = edit_kind_at(node)?;
         let edit = edit_of_kind_at(self.format, self.names, kind, node)?;

@@ -55,10 +55,22 @@ impl StdError for TextFault {}
 #[derive(Debug, Drop)]
 pub(crate) enum ReadFault {
     Memory,
-    Fault(TextFault),
+    /// It lies on the heap, so that what a reading gives is small.
+    Fault(Box<TextFault>),
 }
 
 impl ReadFault {
+    /// The fault, or that no memory is left for it.
+    #[cold]
+    pub(crate) fn of(alloc: Global, fault: TextFault) -> ReadFault
+        ensures { StopsAt fault result }
+    {
+        match Box::new(alloc, fault) {
+            Ok(fault) => ReadFault::Fault(fault),
+            Err(_) => ReadFault::Memory,
+        }
+    }
+
     /// The fault at the place, or that no memory is left for its path.
     #[cold]
     pub(crate) fn at(alloc: Global, place: &Place<'_>, why: Why, detail: Detail) -> ReadFault
@@ -66,7 +78,7 @@ impl ReadFault {
             (record { why = why; path = path_text (path_of place.now); detail = detail }) result }
     {
         match place.to_path(alloc) {
-            Ok(path) => ReadFault::Fault(TextFault { why, path, detail }),
+            Ok(path) => ReadFault::of(alloc, TextFault { why, path, detail }),
             Err(_) => ReadFault::Memory,
         }
     }
@@ -77,11 +89,14 @@ impl ReadFault {
         ensures { StopsAt (header_fault (path_of session.now) flaw) result }
     {
         match session.to_path(alloc) {
-            Ok(session) => ReadFault::Fault(TextFault {
-                why: Why::Bench(Fault::BadHeader),
-                path: Path::empty(),
-                detail: Detail::Header { flaw, session },
-            }),
+            Ok(session) => {
+                let fault = TextFault {
+                    why: Why::Bench(Fault::BadHeader),
+                    path: Path::empty(),
+                    detail: Detail::Header { flaw, session },
+                };
+                ReadFault::of(alloc, fault)
+            }
             Err(_) => ReadFault::Memory,
         }
     }
@@ -97,7 +112,7 @@ impl From<ReadFault> for TextFault {
                 path: Path::empty(),
                 detail: Detail::None,
             },
-            ReadFault::Fault(fault) => fault,
+            ReadFault::Fault(fault) => Box::into_inner(fault),
         }
     }
 }

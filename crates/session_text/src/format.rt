@@ -1,3 +1,4 @@
+//! The formats of sessions.
 ghost use Rattle.std.specs.Prelude.{◌≡◌};
 ghost use Rattle.session_text.specs.Format.{format_at, format_of, index_at, notes_at};
 ghost use Rattle.session_text.specs.Node.{data_of, place_of};
@@ -30,7 +31,7 @@ impl Format {
 }
 
 #[tactic(auto, unfolding(crate::specs::Format::format_at))]
-pub(crate) fn format_at(node: &Node<'_, '_>) -> Result<Format, ReadFault>
+pub(crate) fn format_at(node: &Node<'_, '_, '_>) -> Result<Format, ReadFault>
     ensures { Gives (λ format. format) result
         (format_at (place_of node.now) (data_of node.now)) }
 {
@@ -42,7 +43,7 @@ pub(crate) fn format_at(node: &Node<'_, '_>) -> Result<Format, ReadFault>
 
 /// How many notifications each task has.
 #[tactic(auto, unfolding(crate::specs::Format::notes_at))]
-pub(crate) fn notes_at(format: Format, node: &Node<'_, '_>) -> Result<u32, ReadFault>
+pub(crate) fn notes_at(format: Format, node: &Node<'_, '_, '_>) -> Result<u32, ReadFault>
     ensures { Gives (λ notes. notes) result
         (notes_at format (place_of node.now) (data_of node.now)) }
 {
@@ -54,7 +55,7 @@ pub(crate) fn notes_at(format: Format, node: &Node<'_, '_>) -> Result<u32, ReadF
 
 /// The index of a notification, 0 where it is left out.
 #[tactic(auto, unfolding(crate::specs::Format::index_at))]
-pub(crate) fn index_at(format: Format, node: &Node<'_, '_>) -> Result<u32, ReadFault>
+pub(crate) fn index_at(format: Format, node: &Node<'_, '_, '_>) -> Result<u32, ReadFault>
     ensures { Gives (λ index. index) result
         (index_at format (place_of node.now) (data_of node.now)) }
 {

@@ -49,7 +49,7 @@ impl TaskShape<'_> {
 }
 
 #[tactic(auto, unfolding(crate::specs::Header::config_at))]
-pub(crate) fn config_at(format: Format, node: &Node<'_, '_>) -> Result<Config, ReadFault>
+pub(crate) fn config_at(format: Format, node: &Node<'_, '_, '_>) -> Result<Config, ReadFault>
     ensures { Gives (λ config. config) result
         (config_at format (place_of node.now) (data_of node.now)) }
 {
@@ -72,7 +72,7 @@ impl<'v> ReadItem<'v> for TaskReader {
     ghost reading = { λ _. task_at };
 
     #[tactic(auto, unfolding(crate::specs::Header::task_at))]
-    fn read(&self, node: &Node<'_, 'v>) -> Result<TaskShape<'v>, ReadFault> {
+    fn read(&self, node: &Node<'_, '_, 'v>) -> Result<TaskShape<'v>, ReadFault> {
         let members = node.object()?;
         let name = node.text("name")?;
         let priority = node.number("priority")?;
@@ -141,7 +141,7 @@ fn accepted(
 /// The header with these settings, accepted or not.
 pub(crate) fn header_of(
     config: Config,
-    node: &Node<'_, '_>,
+    node: &Node<'_, '_, '_>,
 ) -> Result<Result<Header, HeaderFlaw>, ReadFault>
     ensures reading { Gives (λ header. header) result
         (header_of config (place_of node.now) (data_of node.now)) }
@@ -156,7 +156,7 @@ pub(crate) fn header_of(
 #[tactic(auto, unfolding(crate::specs::Header::header_at))]
 pub(crate) fn header_at(
     format: Format,
-    node: &Node<'_, '_>,
+    node: &Node<'_, '_, '_>,
 ) -> Result<Result<Header, HeaderFlaw>, ReadFault>
     ensures reading { Gives (λ header. header) result
         (header_at format (place_of node.now) (data_of node.now)) }

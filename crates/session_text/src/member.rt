@@ -1,26 +1,29 @@
+//! The members of objects, each of its kind.
 ghost use Rattle.std.specs.Prelude.{◌≡◌, map};
+ghost use Rattle.json_data.specs.Gathered.{member_view};
 ghost use Rattle.json_data.specs.ObjectView.{members_view};
 ghost use Rattle.json_data.specs.View.{items_view, view};
-ghost use Rattle.session_text.specs.declared.detail.Detail.TheVariants.{Unknown, Wrong};
+ghost use Rattle.session_text.specs.declared.detail.Detail.TheVariants.{Missing, Unknown, Wrong};
 ghost use Rattle.session_text.specs.Detail.{found_of};
 ghost use Rattle.session_text.specs.Member.{array_at, as_u32, flag_at, items_at, member_at, number_at, number_or_at, object_at, only_at, text_at};
 ghost use Rattle.session_text.specs.Nearest.{stray};
 ghost use Rattle.session_text.specs.Node.{data_of, place_of};
 ghost use Rattle.session_text.specs.Outcome.{bad_shape, Gives, StopsAt};
+ghost use Rattle.session_text.specs.Path.{member_path};
 
 use crate::detail::{Detail, Expected, found_of};
 use crate::fault::ReadFault;
 use crate::nearest::Stray;
 use crate::node::Node;
-use json_data::{Item, Items, Object};
+use json_data::{Item, Items, Member, Object};
 
-impl<'p, 'v> Node<'p, 'v> {
+impl<'p, 't, 'v> Node<'p, 't, 'v> {
     /// H2 here, where another value is expected.
     fn bad_value(&self, expected: Expected) -> ReadFault
         ensures { StopsAt
             (bad_shape (place_of self.now) (Wrong expected (found_of (data_of self.now)))) result }
     {
-        let found = found_of(self.value);
+        let found = found_of(self.value.item());
         self.bad_shape(Detail::Wrong { expected, found })
     }
 
@@ -36,7 +39,7 @@ impl<'p, 'v> Node<'p, 'v> {
         }
     }
 
-    pub(crate) fn object(&self) -> Result<Object<'p, 'p, 'v>, ReadFault>
+    pub(crate) fn object(&self) -> Result<Object<'p, 't, 'v>, ReadFault>
         ensures { Gives members_view result
             (object_at (place_of self.now) (data_of self.now)) }
     {
@@ -46,33 +49,55 @@ impl<'p, 'v> Node<'p, 'v> {
         }
     }
 
-    pub(crate) fn items(&self) -> Result<Items<'p, 'v>, ReadFault>
+    pub(crate) fn items(&self) -> Result<Items<'t, 'v>, ReadFault>
         ensures { Gives items_view result
             (items_at (place_of self.now) (data_of self.now)) }
     {
-        match self.value.as_array() {
+        match self.value.item().as_array() {
             Some(items) => Ok(items),
             None => Err(self.bad_value(Expected::Array)),
         }
     }
 
-    pub(crate) fn member(&self, name: &str) -> Result<Item<'p, 'v>, ReadFault>
+    /// H2 at the member, which is missing.
+    fn missing(&self, name: &str) -> ReadFault
+        ensures { StopsAt
+            (bad_shape (member_path (place_of self.now) name.now) Missing) result }
+    {
+        self.bad_member(name, Detail::Missing)
+    }
+
+    /// The member, of which members of its own may be asked.
+    pub(crate) fn member(&self, name: &str) -> Result<Item<'t, 'v>, ReadFault>
         ensures { Gives view result
+            (member_at (place_of self.now) name.now (data_of self.now)) }
+    {
+        match self.value.item().get(name) {
+            Some(value) => Ok(value),
+            None => Err(self.missing(name)),
+        }
+    }
+
+    /// The member as it is held.
+    #[inline(always)]
+    fn held(&self, name: &str) -> Result<Member<'p, 't, 'v>, ReadFault>
+        ensures { Gives member_view result
             (member_at (place_of self.now) name.now (data_of self.now)) }
     {
         match self.value.get(name) {
             Some(value) => Ok(value),
-            None => Err(self.bad_member(name, Detail::Missing)),
+            None => Err(self.missing(name)),
         }
     }
 
+    #[inline(always)]
     #[tactic(auto, unfolding(crate::specs::Member::number_at))]
     pub(crate) fn number(&self, name: &str) -> Result<u32, ReadFault>
         ensures { Gives (λ number. number) result
             (number_at (place_of self.now) name.now (data_of self.now)) }
     {
-        let value = self.member(name)?;
-        self.typed(name, Expected::Number, &value, as_u32(&value))
+        let value = self.held(name)?;
+        self.typed(name, Expected::Number, value.item(), as_u32(value.item()))
     }
 
     /// The number, or the other one where the member is left out.
@@ -82,31 +107,33 @@ impl<'p, 'v> Node<'p, 'v> {
             (number_or_at other (place_of self.now) name.now (data_of self.now)) }
     {
         match self.value.get(name) {
-            Some(value) => self.typed(name, Expected::Number, &value, as_u32(&value)),
+            Some(value) => self.typed(name, Expected::Number, value.item(), as_u32(value.item())),
             None => Ok(other),
         }
     }
 
+    #[inline(always)]
     #[tactic(auto, unfolding(crate::specs::Member::text_at))]
     pub(crate) fn text(&self, name: &str) -> Result<&'v str, ReadFault>
         ensures { Gives (λ text. text.now) result
             (text_at (place_of self.now) name.now (data_of self.now)) }
     {
-        let value = self.member(name)?;
-        self.typed(name, Expected::Text, &value, value.as_str())
+        let value = self.held(name)?;
+        self.typed(name, Expected::Text, value.item(), value.item().as_str())
     }
 
+    #[inline(always)]
     #[tactic(auto, unfolding(crate::specs::Member::flag_at))]
     pub(crate) fn flag(&self, name: &str) -> Result<bool, ReadFault>
         ensures { Gives (λ flag. flag) result
             (flag_at (place_of self.now) name.now (data_of self.now)) }
     {
-        let value = self.member(name)?;
-        self.typed(name, Expected::Flag, &value, value.as_bool())
+        let value = self.held(name)?;
+        self.typed(name, Expected::Flag, value.item(), value.item().as_bool())
     }
 
     #[tactic(auto, unfolding(crate::specs::Member::array_at))]
-    pub(crate) fn array(&self, name: &str) -> Result<Items<'p, 'v>, ReadFault>
+    pub(crate) fn array(&self, name: &str) -> Result<Items<'t, 'v>, ReadFault>
         ensures { Gives items_view result
             (array_at (place_of self.now) name.now (data_of self.now)) }
     {

@@ -1,3 +1,4 @@
+//! The tasks that names stand for.
 ghost use Rattle.std.specs.Prelude.{◌≡◌, IfOk, Ok, map};
 ghost use Rattle.bench_types.specs.Header.{header_check};
 ghost use Rattle.session_text.specs.Names.{names_of, no_names, number_of, user_names};
@@ -68,7 +69,11 @@ impl<'a> Names<'a> {
 
     /// The number of the task that the member names.
     #[tactic(auto, unfolding(crate::specs::Step::task_named_at))]
-    pub(crate) fn task_named_at(&self, node: &Node<'_, '_>, name: &str) -> Result<u32, ReadFault>
+    pub(crate) fn task_named_at(
+        &self,
+        node: &Node<'_, '_, '_>,
+        name: &str,
+    ) -> Result<u32, ReadFault>
         ensures { Gives (λ task. task) result
             (task_named_at self.now (place_of node.now) name.now (data_of node.now)) }
     {

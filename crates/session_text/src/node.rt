@@ -1,3 +1,4 @@
+//! A value of a document with its path.
 ghost use Rattle.std.specs.Prelude.{map};
 ghost use Rattle.json_data.specs.View.{view};
 ghost use Rattle.session_text.specs.declared.detail.Detail.TheVariants.{NoWord};
@@ -12,18 +13,19 @@ use crate::detail::{Detail, Expected, found_of};
 use crate::fault::{ReadFault, Why};
 use crate::nearest::Stray;
 use crate::path::Place;
-use json_data::Item;
+use json_data::{Gathered, Item};
 use std::alloc::Global;
 
-/// A value of a document with its place, and the allocator for what is read of it.
+/// A value of a document, its members gone through once, with its place, and the allocator for what
+/// is read of it.
 #[derive(Clone, Copy)]
-pub(crate) struct Node<'p, 'v> {
+pub(crate) struct Node<'p, 't, 'v> {
     pub(crate) alloc: Global,
     pub(crate) place: &'p Place<'p>,
-    pub(crate) value: &'p Item<'p, 'v>,
+    pub(crate) value: &'p Gathered<'t, 'v>,
 }
 
-impl<'v> Node<'_, 'v> {
+impl<'v> Node<'_, '_, 'v> {
     /// H2 here.
     pub(crate) fn bad_shape(&self, detail: Detail) -> ReadFault
         ensures { StopsAt (bad_shape (place_of self.now) detail) result }

@@ -1,3 +1,4 @@
+//! The path of a value in a document.
 ghost use Rattle.std.specs.Prelude.{◌≡◌, [], IfOk, string_bytes};
 ghost use Rattle.session_text.specs.Path.{path_of, path_text};
 

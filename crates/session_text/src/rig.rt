@@ -1,7 +1,8 @@
-ghost use Rattle.std.specs.Prelude.{◌≡◌, ◌<◌, ◌≤◌, ◌^◌, length, option_map, All, IfOk, OnOk};
+//! Rig documents.
+ghost use Rattle.std.specs.Prelude.{◌≡◌, ◌<◌, ◌≤◌, ◌^◌, [], length, option_map, All, IfOk, OnOk};
 ghost use Rattle.std.specs.Result.{ForOk};
 ghost use Rattle.json_data.specs.Doubled.{doubled_in_text};
-ghost use Rattle.json_data.specs.View.{items_view, view};
+ghost use Rattle.json_data.specs.View.{document_view, items_view, view};
 ghost use Rattle.bench_types.specs.Act.{IsCheckedAct};
 ghost use Rattle.bench_types.specs.Header.{IsCheckedHeader};
 ghost use Rattle.bench_types.specs.Limits.{max_steps};
@@ -26,7 +27,7 @@ use crate::noted::{Noted, doubled_member};
 use crate::path::Place;
 use crate::session::{document, known_names, only_members};
 use bench_types::{Act, Fault, Header, HeaderFlaw, Items, MAX_STEPS};
-use json_data::Scratch;
+use json_data::{Document, Gathered, Scratch};
 use std::alloc::Global;
 
 /// What the cores of a rig do, each in its own thread, once the session has started.
@@ -60,10 +61,18 @@ fn rig_text(alloc: Global, text: &[u8]) -> Result<RigScript, ReadFault>
 {
     let mut scratch = Scratch::new(alloc);
     let document = document(alloc, text, &mut scratch)?;
+    rig_in(alloc, &document)
+}
+
+/// The rig that is the document.
+fn rig_in(alloc: Global, document: &Document<'_>) -> Result<RigScript, ReadFault>
+    ensures reading { Gives (λ rig. rig) result (rig_at [] (document_view document.now)) }
+    ensures checked { IfOk result IsCheckedRig }
+{
     rig_at(&Node {
         alloc,
         place: &Place::Top,
-        value: &document.root(),
+        value: &Gathered::of(document.root()),
     })
 }
 
@@ -86,11 +95,7 @@ fn noted_rig(alloc: Global, text: &[u8]) -> Result<Noted<RigScript>, ReadFault>
 {
     let mut scratch = Scratch::new(alloc);
     let document = document(alloc, text, &mut scratch)?;
-    let rig = rig_at(&Node {
-        alloc,
-        place: &Place::Top,
-        value: &document.root(),
-    })?;
+    let rig = rig_in(alloc, &document)?;
     let doubled = doubled_member(alloc, &document)?;
     Ok(Noted {
         document: rig,
@@ -99,7 +104,7 @@ fn noted_rig(alloc: Global, text: &[u8]) -> Result<Noted<RigScript>, ReadFault>
 }
 
 #[tactic(auto, unfolding(crate::specs::Rig::rig_at))]
-fn rig_at(node: &Node<'_, '_>) -> Result<RigScript, ReadFault>
+fn rig_at(node: &Node<'_, '_, '_>) -> Result<RigScript, ReadFault>
     ensures reading { Gives (λ rig. rig) result (rig_at (place_of node.now) (data_of node.now)) }
     ensures checked { IfOk result IsCheckedRig }
 {
@@ -110,7 +115,7 @@ fn rig_at(node: &Node<'_, '_>) -> Result<RigScript, ReadFault>
 /// The header, accepted or not, the limit and the scripts: shapes alone are judged.
 #[tactic(auto, unfolding(crate::specs::Rig::rig_shapes_at))]
 fn rig_shapes_at(
-    node: &Node<'_, '_>,
+    node: &Node<'_, '_, '_>,
 ) -> Result<(Result<Header, HeaderFlaw>, u32, Vec<Items<Act>>), ReadFault>
     ensures reading { Gives (λ read. (read.0, read.1, read.2.items)) result
         (rig_shapes_at (place_of node.now) (data_of node.now)) }
@@ -122,7 +127,7 @@ fn rig_shapes_at(
     let (format, cores, header) = stepless_at(&Node {
         alloc: node.alloc,
         place: &Place::Member(node.place, "session"),
-        value: &node.member("session")?,
+        value: &Gathered::of(node.member("session")?),
     })?;
     let limit = node.number("limit")?;
     let names = known_names(node.alloc, &header)?;
@@ -135,7 +140,9 @@ fn rig_shapes_at(
 /// The format, the number of cores, and the header, accepted or not, of the session, which has no
 /// steps.
 #[tactic(auto, unfolding(crate::specs::Rig::stepless_at))]
-fn stepless_at(node: &Node<'_, '_>) -> Result<(Format, u32, Result<Header, HeaderFlaw>), ReadFault>
+fn stepless_at(
+    node: &Node<'_, '_, '_>,
+) -> Result<(Format, u32, Result<Header, HeaderFlaw>), ReadFault>
     ensures reading { Gives (λ read. read) result
         (stepless_at (place_of node.now) (data_of node.now)) }
     ensures valid { IfOk result (λ read. IfOk read.2 IsCheckedHeader) }
@@ -152,7 +159,7 @@ fn stepless_at(node: &Node<'_, '_>) -> Result<(Format, u32, Result<Header, Heade
 }
 
 #[tactic(auto, unfolding(crate::specs::Rig::no_steps_at))]
-fn no_steps_at(node: &Node<'_, '_>) -> Result<(), ReadFault>
+fn no_steps_at(node: &Node<'_, '_, '_>) -> Result<(), ReadFault>
     ensures { Gives (λ done. done) result (no_steps_at (place_of node.now) (data_of node.now)) }
 {
     match node.array("steps")?.next() {
@@ -181,7 +188,7 @@ fn scripts_at(
     format: Format,
     cores: u32,
     names: &Names<'_>,
-    node: &Node<'_, '_>,
+    node: &Node<'_, '_, '_>,
 ) -> Result<Vec<Items<Act>>, ReadFault>
     ensures reading { Gives (λ scripts. scripts.items) result
         (scripts_at format cores names.now (place_of node.now) (data_of node.now)) }
@@ -197,7 +204,7 @@ fn scripts_at(
 /// action at fault.
 #[tactic(auto, unfolding(crate::specs::Rig::rig_accepted))]
 fn rig_accepted(
-    node: &Node<'_, '_>,
+    node: &Node<'_, '_, '_>,
     header: Result<Header, HeaderFlaw>,
     limit: u32,
     scripts: Vec<Items<Act>>,
@@ -218,7 +225,7 @@ fn rig_accepted(
             let source = Source {
                 alloc: node.alloc,
                 place: &Place::Member(node.place, "scripts"),
-                value: node.value.get("scripts"),
+                value: node.value.item().get("scripts"),
             };
             scripts_accepted(&source, &header, scripts.as_slice())?;
             Ok(RigScript {
@@ -230,7 +237,7 @@ fn rig_accepted(
     }
 }
 
-fn limit_accepted(node: &Node<'_, '_>, limit: u32) -> Result<(), ReadFault>
+fn limit_accepted(node: &Node<'_, '_, '_>, limit: u32) -> Result<(), ReadFault>
     ensures reading { Gives (λ done. done) result (limit_accepted (place_of node.now) limit) }
     ensures few { OnOk result (limit ≤ max_steps) }
 {

@@ -1,4 +1,5 @@
-ghost use Rattle.std.specs.Prelude.{◌≡◌, All, IfOk, Ok, OnOk, codes, map};
+//! Sessions, as texts write them.
+ghost use Rattle.std.specs.Prelude.{◌≡◌, [], All, IfOk, Ok, OnOk, codes, map};
 ghost use Rattle.json_data.specs.ObjectView.{members_view};
 ghost use Rattle.json_data.specs.Doubled.{doubled_in_text, first_doubled};
 ghost use Rattle.json_data.specs.View.{document_view, tokens_view};
@@ -12,7 +13,7 @@ ghost use Rattle.session_text.specs.Names.{known_names};
 ghost use Rattle.session_text.specs.Node.{data_of, place_of};
 ghost use Rattle.session_text.specs.Outcome.{Gives};
 ghost use Rattle.session_text.specs.Step.{step_at};
-ghost use Rattle.session_text.specs.Session.{document, session, session_accepted, session_at, session_members, steps_accepted, Answers};
+ghost use Rattle.session_text.specs.Session.{document, session, session_accepted, session_at, session_members, steps_accepted, whole_session, Answers};
 
 use crate::accepted::{Source, items_accepted};
 use crate::array::list_at;
@@ -25,7 +26,7 @@ use crate::node::Node;
 use crate::path::{Path, Place};
 use crate::step::StepReader;
 use bench_types::{Header, HeaderFlaw, Step};
-use json_data::{Document, Object, Refused, Scratch};
+use json_data::{Document, Gathered, Object, Refused, Scratch};
 use std::alloc::{AllocError, Global};
 
 /// Reads a session from a JSON text.
@@ -47,13 +48,32 @@ fn session(alloc: Global, text: &[u8]) -> Result<(Header, Vec<Step>), ReadFault>
 {
     let mut scratch = Scratch::new(alloc);
     let document = document(alloc, text, &mut scratch)?;
-    let node = Node {
+    session_in(alloc, &document)
+}
+
+/// The session that is the document.
+fn session_in(alloc: Global, document: &Document<'_>) -> Result<(Header, Vec<Step>), ReadFault>
+    ensures reading { Gives (λ read. (read.0, read.1.items)) result
+        (whole_session [] (document_view document.now)) }
+    ensures checked { IfOk result
+        (λ read. IsSession (record { header = read.0; steps = read.1.items })) }
+{
+    whole_session(&Node {
         alloc,
         place: &Place::Top,
-        value: &document.root(),
-    };
-    let (_format, header, steps) = session_at(&node)?;
-    session_accepted(&node, header, steps)
+        value: &Gathered::of(document.root()),
+    })
+}
+
+/// The session that is the value.
+fn whole_session(node: &Node<'_, '_, '_>) -> Result<(Header, Vec<Step>), ReadFault>
+    ensures reading { Gives (λ read. (read.0, read.1.items)) result
+        (whole_session (place_of node.now) (data_of node.now)) }
+    ensures checked { IfOk result
+        (λ read. IsSession (record { header = read.0; steps = read.1.items })) }
+{
+    let (_format, header, steps) = session_at(node)?;
+    session_accepted(node, header, steps)
 }
 
 /// The value that the bytes spell, or H1.
@@ -69,11 +89,14 @@ pub(crate) fn document<'a>(
     match Document::parse(alloc, text, scratch) {
         Ok(document) => Ok(document),
         Err(Refused::NoMemory) => Err(ReadFault::Memory),
-        Err(Refused::NotJson) => Err(ReadFault::Fault(TextFault {
-            why: Why::NotJson,
-            path: Path::empty(),
-            detail: Detail::None,
-        })),
+        Err(Refused::NotJson) => {
+            let fault = TextFault {
+                why: Why::NotJson,
+                path: Path::empty(),
+                detail: Detail::None,
+            };
+            Err(ReadFault::of(alloc, fault))
+        }
     }
 }
 
@@ -95,7 +118,7 @@ pub(crate) fn known_names(
 fn steps_at(
     format: Format,
     header: &Result<Header, HeaderFlaw>,
-    node: &Node<'_, '_>,
+    node: &Node<'_, '_, '_>,
 ) -> Result<Vec<Step>, ReadFault>
     requires { ForOk header.now IsCheckedHeader }
     ensures { Gives (λ steps. steps.items) result
@@ -137,7 +160,7 @@ fn members_of(format: Format) -> &'static [&'static str]
 /// H2 where the session has an unknown member.
 pub(crate) fn only_members(
     format: Format,
-    node: &Node<'_, '_>,
+    node: &Node<'_, '_, '_>,
     members: &Object<'_, '_, '_>,
 ) -> Result<(), ReadFault>
     ensures { Gives (λ done. done) result
@@ -149,7 +172,7 @@ pub(crate) fn only_members(
 /// The format, the header, accepted or not, and the steps: shapes alone are judged.
 #[tactic(auto, unfolding(crate::specs::Session::session_at))]
 pub(crate) fn session_at(
-    node: &Node<'_, '_>,
+    node: &Node<'_, '_, '_>,
 ) -> Result<(Format, Result<Header, HeaderFlaw>, Vec<Step>), ReadFault>
     ensures reading { Gives (λ read. (read.0, read.1, read.2.items)) result
         (session_at (place_of node.now) (data_of node.now)) }
@@ -165,7 +188,7 @@ pub(crate) fn session_at(
 
 /// The first fault of the steps of the session, if there is one.
 #[tactic(auto, unfolding(crate::specs::Session::steps_accepted))]
-fn steps_accepted(node: &Node<'_, '_>, header: &Header, steps: &[Step]) -> Result<(), ReadFault>
+fn steps_accepted(node: &Node<'_, '_, '_>, header: &Header, steps: &[Step]) -> Result<(), ReadFault>
     ensures reading { Gives (λ done. done) result
         (steps_accepted header.now (place_of node.now) (data_of node.now) steps.now) }
     ensures checked { OnOk result (All (IsCheckedStep (settings_of header.now)) steps.now) }
@@ -173,7 +196,7 @@ fn steps_accepted(node: &Node<'_, '_>, header: &Header, steps: &[Step]) -> Resul
     let source = Source {
         alloc: node.alloc,
         place: &Place::Member(node.place, "steps"),
-        value: node.value.get("steps"),
+        value: node.value.item().get("steps"),
     };
     items_accepted(&source, header, steps)
 }
@@ -181,7 +204,7 @@ fn steps_accepted(node: &Node<'_, '_>, header: &Header, steps: &[Step]) -> Resul
 /// The session, or F1 for the flaw of its header, or else of its first step at fault.
 #[tactic(auto, unfolding(crate::specs::Session::session_accepted))]
 pub(crate) fn session_accepted(
-    node: &Node<'_, '_>,
+    node: &Node<'_, '_, '_>,
     header: Result<Header, HeaderFlaw>,
     steps: Vec<Step>,
 ) -> Result<(Header, Vec<Step>), ReadFault>

@@ -1,3 +1,4 @@
+//! Steps, as texts write them.
 ghost use Rattle.std.specs.Prelude.{◌≡◌, map};
 ghost use Rattle.session_text.specs.Detail.{words_of};
 ghost use Rattle.session_text.specs.Node.{data_of, place_of};
@@ -91,7 +92,7 @@ fn known_members(format: Format, step: &Step) -> &'static [&'static str]
 }
 
 #[tactic(auto, unfolding(crate::specs::Step::kind_at))]
-pub(crate) fn kind_at(node: &Node<'_, '_>) -> Result<Kind, ReadFault>
+pub(crate) fn kind_at(node: &Node<'_, '_, '_>) -> Result<Kind, ReadFault>
     ensures { Gives (λ kind. kind) result (kind_at (place_of node.now) (data_of node.now)) }
 {
     let word = node.text("do")?;
@@ -103,7 +104,7 @@ fn step_of_kind_at(
     format: Format,
     names: &Names<'_>,
     kind: Kind,
-    node: &Node<'_, '_>,
+    node: &Node<'_, '_, '_>,
 ) -> Result<Step, ReadFault>
     ensures { Gives (λ step. step) result
         (step_of_kind_at format names.now kind (place_of node.now) (data_of node.now)) }
@@ -138,7 +139,7 @@ impl<'v> ReadItem<'v> for StepReader<'_, '_> {
     ghost reading = { λ steps. step_at steps.format steps.names.now };
 
     #[tactic(auto, unfolding(crate::specs::Step::step_at))]
-    fn read(&self, node: &Node<'_, 'v>) -> Result<Step, ReadFault> {
+    fn read(&self, node: &Node<'_, '_, 'v>) -> Result<Step, ReadFault> {
         let members = node.object()?;
         let kind = kind_at(node)?;
         let step = step_of_kind_at(self.format, self.names, kind, node)?;

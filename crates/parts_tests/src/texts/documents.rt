@@ -1,6 +1,6 @@
 //! Documents: which texts are some, and what is found in them.
 use crate::expected::{expect_is, expect_same};
-use json_data::{Document, Item, Items, Object, Refused, Scratch};
+use json_data::{Document, Gathered, Item, Items, Object, Refused, Scratch};
 use std::alloc::{AllocError, Global};
 use std::process::Abort;
 use std::test::Fail;
@@ -100,15 +100,51 @@ fn number_at(item: &Item<'_, '_>, name: &str) -> Option<u64> {
     item.get(name)?.as_u64()
 }
 
+const MEMBERS: &str = "{\"b\":1,\"a\":{},\"\\u0062\":2,\"c\":\"x\",\"d\":false}";
+
 #[test]
 fn finds_members(rt: HostRuntime) -> Result<(), Fail> {
-    let text = b"{\"b\":1,\"a\":{},\"\\u0062\":2,\"c\":\"x\",\"d\":false}";
     let mut scratch = Scratch::new(rt.alloc());
-    let document = Document::parse(rt.alloc(), text.as_slice(), &mut scratch)?;
+    let document = Document::parse(rt.alloc(), MEMBERS.as_bytes(), &mut scratch)?;
     let root = document.root();
     check_members(&rt, &root);
     check_values(&rt, &root);
-    check_names(&rt, &root);
+    check_names(&rt, root.as_object());
+    Ok(())
+}
+
+fn held_number(gathered: &Gathered<'_, '_>, name: &str) -> Option<u64> {
+    gathered.get(name)?.item().as_u64()
+}
+
+fn check_held(rt: &impl Abort, gathered: &Gathered<'_, '_>) {
+    expect_same(rt, &held_number(gathered, "b"), &Some(2));
+    expect_same(rt, &held_number(gathered, "a"), &None);
+    expect_is(rt, gathered.get("e").is_none());
+}
+
+#[test]
+fn holds_members(rt: HostRuntime) -> Result<(), Fail> {
+    let mut scratch = Scratch::new(rt.alloc());
+    let document = Document::parse(rt.alloc(), MEMBERS.as_bytes(), &mut scratch)?;
+    let gathered = Gathered::of(document.root());
+    check_held(&rt, &gathered);
+    check_members(&rt, gathered.item());
+    check_names(&rt, gathered.as_object());
+    Ok(())
+}
+
+// More members than are held.
+const MANY: &str = "{\"a\":1,\"b\":1,\"c\":3,\"d\":4,\"e\":5,\"f\":6,\"g\":7,\"h\":8,\"b\":2}";
+
+#[test]
+fn walks_many_members(rt: HostRuntime) -> Result<(), Fail> {
+    let mut scratch = Scratch::new(rt.alloc());
+    let document = Document::parse(rt.alloc(), MANY.as_bytes(), &mut scratch)?;
+    let gathered = Gathered::of(document.root());
+    expect_same(&rt, &held_number(&gathered, "b"), &Some(2));
+    expect_same(&rt, &held_number(&gathered, "h"), &Some(8));
+    expect_same(&rt, &held_number(&gathered, "i"), &None);
     Ok(())
 }
 
@@ -139,8 +175,8 @@ fn check_values(rt: &impl Abort, root: &Item<'_, '_>) {
     }
 }
 
-fn check_names(rt: &impl Abort, root: &Item<'_, '_>) {
-    match root.as_object() {
+fn check_names(rt: &impl Abort, members: Option<Object<'_, '_, '_>>) {
+    match members {
         Some(members) => {
             expect_is(rt, members.has_only(&["a", "b", "c", "d"]));
             expect_is(rt, members.has_only(&["e", "d", "c", "b", "a"]));

@@ -838,6 +838,16 @@ for words in '--from 1' '--to 3999'; do
     compare "a picture of 4,000 places, $words" 0 '</svg>
 ' ''
 done
+"$program" timeline --axis tick --to 3999 <"$folder/in" >"$folder/picture" 2>"$folder/err"
+status=$?
+grep -c "^<path class='g'" "$folder/picture" >"$folder/out"
+compare 'a rule for each tick' 0 $'3997\n' ''
+run 'a page of a place too many' 1 '' "refused range of 4001 places, and a picture shows at most 4000$range
+" page
+"$program" page --to 3999 <"$folder/in" >"$folder/page" 2>"$folder/err"
+status=$?
+grep -c "^<li id='place-" "$folder/page" >"$folder/out"
+compare 'a page of 4,000 places' 0 $'4000\n' ''
 
 # ---- help
 
@@ -855,6 +865,7 @@ Commands:
   report    Prints the numbers of the run, or of the runs before and after the edits
   check     Says whether numbers of the run after the edits keep limits
   advise    Tries changes of the session, and prints those that make a number lowest
+  page      Writes one HTML file of the runs: picture, trace, comparison and report
 
 Options:
   -h, --help     Print help
@@ -955,12 +966,14 @@ Arguments:
 
 Options:
       --settle        Shows settled runs: what a target makes of the calls, ticks and interrupts
+      --axis <AXIS>   What a column is of: place, also if left out, or tick
       --from <PLACE>  The first place that is shown, or 0 if left out
       --to <PLACE>    The last place that is shown, or the last of the run if left out
       --strict        Ends with status 1 where an edit or a step of the run is refused
   -h, --help          Print help
 
-A picture shows at most 4000 places.
+A picture shows at most 4000 places. With --axis tick each tick is ruled, and has as many columns
+as the run with more places in it needs, so that two runs stand tick by tick.
 
 Example: smp_view timeline examples/questions/shared-mutex.json
 '
@@ -1024,6 +1037,26 @@ what it costs the other tasks.
 
 Example: smp_view advise --settle --task control --less blocked.mutex --over priority examples/settled/mutex-events.json
 '
+page_help='Writes one HTML file of the runs: picture, trace, comparison and report
+
+Usage: smp_view page [OPTIONS] [FILE]
+
+Arguments:
+  [FILE]  The file of the document; standard input if it is - or left out
+
+Options:
+      --settle        Shows settled runs: what a target makes of the calls, ticks and interrupts
+      --axis <AXIS>   What a column is of: place, also if left out, or tick
+      --from <PLACE>  The first place that is shown, or 0 if left out
+      --to <PLACE>    The last place that is shown, or the last of the run if left out
+      --strict        Ends with status 1 where an edit or a step of the run is refused
+  -h, --help          Print help
+
+The page has the picture and the trace of the run, with edits the comparison, and the report. It
+needs nothing from elsewhere, and shows at most 4000 places. Its picture is that of `timeline`.
+
+Example: smp_view page examples/questions/shared-mutex.json > page.html
+'
 run '--help' 0 "$view_help" '' --help
 run '-h' 0 "$view_help" '' -h
 run '--help, then more words' 0 "$view_help" '' --help trace
@@ -1040,6 +1073,7 @@ run 'timeline --help' 0 "$timeline_help" '' timeline --help
 run 'report --help' 0 "$report_help" '' report --help
 run 'check --help' 0 "$check_help" '' check --help
 run 'advise --help' 0 "$advise_help" '' advise --help
+run 'page --help' 0 "$page_help" '' page --help
 
 # ---- bad command lines
 
@@ -1087,8 +1121,17 @@ bad_line 'a settled run that is settled' "unexpected argument '--settle' found" 
 bad_line 'a session of two files' "unexpected argument '$first' found" session "$first" "$first"
 bad_line 'a comparison of a task' "unexpected argument '--task' found" compare --task A
 bad_line 'a comparison with an unknown option' "unexpected argument '-x' found" compare -x
+no_axis="error: --axis takes place or tick
+
+For more information, try '--help'.
+"
+run 'a picture along an unknown axis' 2 '' "$no_axis" timeline --axis core
+run 'a page along an unknown axis' 2 '' "$no_axis" page --axis ticks
+bad_line 'an axis without a word' "a value is required for '--axis <AXIS>' but none was supplied" timeline --axis
+bad_line '--axis twice' "the argument '--axis <AXIS>' cannot be used multiple times" timeline --axis tick --axis tick
 bad_line 'a picture of a task' "unexpected argument '--task' found" timeline --task A
 bad_line 'a picture of a core' "unexpected argument '--core' found" timeline --from 3 --core 0
+bad_line 'a page of a task' "unexpected argument '--task' found" page --task A
 bad_line 'a report of a task' "unexpected argument '--task' found" report --task A
 bad_line 'a check without limits' 'check takes limits, each a name and a whole number' check "$first"
 bad_line 'a limit without a number' 'check takes limits, each a name and a whole number' check --at-most A.run
@@ -1116,7 +1159,7 @@ done
 
 # ---- devices that fail
 
-for command in trace session settle compare timeline report 'check --at-least A.run=1' 'advise --task A --less run'; do
+for command in trace session settle compare timeline page report 'check --at-least A.run=1' 'advise --task A --less run'; do
     read -ra words <<<"$command"
     : >"$folder/out"
     "$program" "${words[@]}" </ >"$folder/out" 2>"$folder/err"

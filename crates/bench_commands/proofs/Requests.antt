@@ -1,5 +1,5 @@
 -- How the program ends, by what was asked for.
-use Rattle.std.proofs.Common.{◌≡◌, refl}
+use Rattle.std.proofs.Common.{refl}
 use Rattle.program_io.specs.declared.ending.Ending.{Ending}
 use Rattle.program_io.specs.declared.ending.Ending.TheVariants.{Failed}
 use Rattle.program_io.specs.declared.ending.RunFault.TheVariants.{Memory}

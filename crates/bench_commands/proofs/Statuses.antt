@@ -5,7 +5,6 @@ use Rattle.std.specs.Io.KnownBytes.{Appends}
 use Rattle.program_io.specs.declared.ending.Ending.{Ending}
 use Rattle.program_io.specs.declared.ending.Ending.TheVariants.{BadCommandLine, Failed, Gone, NotOpened, Written}
 use Rattle.program_io.specs.declared.ending.RunFault.TheVariants.{Memory, Read, Write}
-use Rattle.program_io.specs.declared.output.OutputStatus.{OutputStatus}
 use Rattle.program_io.specs.declared.output.OutputStatus.TheVariants as went
 use Rattle.program_io.specs.Device.{AppendsPrefix}
 use Rattle.program_io.specs.Endings.{all_reads_well, all_writes_well, Bytes, EndsTelling}

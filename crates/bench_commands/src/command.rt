@@ -1,15 +1,16 @@
-ghost use Rattle.std.specs.Prelude.{◌≡◌, IfOk, IfSome, IsErr, map, option_map, false, true};
+//! What a command line asks for.
+ghost use Rattle.std.specs.Prelude.{◌≡◌, IfOk, IfSome, map, option_map, false, true};
 ghost use Rattle.std.specs.Option.{IsSomeAnd};
-ghost use Rattle.clap.specs.Words.{app_of, found_of, kind_of, rows_of, rule_of, subcommand_rows_of};
-ghost use Rattle.clap.specs.declared.builder.command.Command.TheViews.{out-Command as fields_of};
-ghost use Rattle.clap.specs.declared.error.kind.ErrorKind.TheVariants.{OutOfMemory};
+ghost use Rattle.clap.specs.Words.{app_of, found_of, rows_of, rule_of, subcommand_rows_of};
+ghost use Rattle.command_words.specs.Answered.{said};
 ghost use Rattle.command_words.specs.Said.{class_in};
-ghost use Rattle.bench_commands.specs.Command.{AreTaken, asked, asked_by, asked_class, asked_in, asked_for, asked_in_words, bench_app, can_run, record_app, replay_app, span_in, span_rule, tally_in, tally_rule, what_if_app};
+ghost use Rattle.command_words.specs.Told.{IsTold};
+ghost use Rattle.bench_commands.specs.Command.{AreTaken, asked, asked_by, asked_in, asked_for, bench_app, can_run, record_app, replay_app, span_in, span_rule, tally_in, tally_rule, what_if_app};
 
 use crate::execution::Mode;
 use bench_types::MAX_SPAN;
-use clap::{Arg, ArgAction, ArgMatches, Command, Error, value_parser};
-use command_words::{Saying, not_text, said_by};
+use clap::{Arg, ArgMatches, Command, value_parser};
+use command_words::{Answer, Saying, answer_of, flag, option, program};
 use std::alloc::{AllocError, Global};
 use std::convert::AsStr;
 
@@ -75,9 +76,7 @@ Example: smp_bench record < examples/rigs/interrupt-driven-driver.json"#;
 fn span_option<'a>(alloc: Global) -> Arg<'a>
     ensures { rule_of result ≡ span_rule }
 {
-    Arg::new(alloc, "span")
-        .long("span")
-        .value_name("STEPS")
+    option(alloc, "span", "STEPS")
         .help("Steps from one checkpoint to the next, 1 to 1000, or 64 if left out")
         .value_parser(value_parser!(u32).range(1..=i64::from(MAX_SPAN)))
 }
@@ -85,83 +84,65 @@ fn span_option<'a>(alloc: Global) -> Arg<'a>
 fn tally_flag<'a>(alloc: Global) -> Arg<'a>
     ensures { rule_of result ≡ tally_rule }
 {
-    Arg::new(alloc, "tally")
-        .long("tally")
-        .help("Prints how each task fared, after the steps")
-        .action(ArgAction::SetTrue)
+    flag(alloc, "tally").help("Prints how each task fared, after the steps")
 }
 
 fn replay_command<'a>(alloc: Global) -> Result<Command<'a>, AllocError>
-    ensures app { IfOk result (λ command. app_of command ≡ replay_app) }
-    ensures local { IfOk result (λ command. (fields_of command).has_globals ≡ false) }
+    ensures { IfOk result (λ command. IsTold command replay_app) }
 {
     Command::new(alloc, "replay")
-        .after_help(REPLAY_DOCUMENTS)
         .about(
             "Replays the session on standard input, and prints the tasks that run after each step",
         )
+        .after_help(REPLAY_DOCUMENTS)
         .arg(span_option(alloc))?
         .arg(tally_flag(alloc))
 }
 
 fn what_if_command<'a>(alloc: Global) -> Result<Command<'a>, AllocError>
-    ensures app { IfOk result (λ command. app_of command ≡ what_if_app) }
-    ensures local { IfOk result (λ command. (fields_of command).has_globals ≡ false) }
+    ensures { IfOk result (λ command. IsTold command what_if_app) }
 {
     Command::new(alloc, "whatif")
-        .after_help(WHAT_IF_DOCUMENTS)
         .about(
             "Tries each edit of the document on standard input alone, and prints what it would change",
         )
+        .after_help(WHAT_IF_DOCUMENTS)
         .arg(span_option(alloc))
 }
 
 fn record_command<'a>(alloc: Global) -> Command<'a>
-    ensures app { app_of result ≡ record_app }
-    ensures local { (fields_of result).has_globals ≡ false }
+    ensures { IsTold result record_app }
 {
     Command::new(alloc, "record")
-        .after_help(RIG_DOCUMENTS)
         .about(
             "Plays the scripts of the rig on standard input, one thread a core, and prints the session",
         )
+        .after_help(RIG_DOCUMENTS)
 }
 
-// The program's commands. Help for one of them is asked for by its `--help`, so `help` is no
-// command.
-fn command<'a>(alloc: Global) -> Result<Command<'a>, AllocError>
-    ensures { IfOk result (λ command. app_of command ≡ bench_app) }
+// The program with its commands.
+fn bench_program<'a>(alloc: Global) -> Result<Command<'a>, AllocError>
+    ensures { IfOk result (λ program. app_of program ≡ bench_app) }
 {
     let replay = replay_command(alloc)?;
     let what_if = what_if_command(alloc)?;
-    let record = record_command(alloc);
-    Command::new(alloc, "smp_bench")
+    program(alloc, "smp_bench")
         .about("Records and replays FreeRTOS SMP scheduling sessions")
         .after_help(DOCUMENTS)
-        .disable_help_subcommand(true)
-        .subcommand_required(true)
         .subcommand(replay)?
         .subcommand(what_if)?
-        .subcommand(record)
+        .subcommand(record_command(alloc))
 }
 
 // What clap says asks for this; there is no version that the program tells.
-fn said(said: Saying) -> Request
+fn said(saying: Saying) -> Request
     ensures span { can_run result ≡ true }
-    ensures asked { asked_in result ≡ asked_class (class_in said) }
+    ensures asked { asked_in result ≡ asked_by (said (class_in saying)) }
 {
-    match said {
+    match saying {
         Saying::Help(text) => Request::Help(text),
         Saying::Version(text) | Saying::Mistake(text) => Request::Bad(text),
     }
-}
-
-fn told(alloc: Global, error: &Error) -> Result<Request, AllocError>
-    ensures span { IfOk result (λ request. can_run request ≡ true) }
-    ensures asked { IfOk result (λ request. asked_in request ≡ asked_by (kind_of error.now)) }
-    ensures memory { kind_of error.now ≡ OutOfMemory → IsErr result }
-{
-    Ok(said(said_by(alloc, error)?))
 }
 
 fn span_in(options: &ArgMatches) -> u32
@@ -199,17 +180,6 @@ fn asked_for(matches: &ArgMatches) -> Request
     })
 }
 
-fn request_in<S: AsStr>(alloc: Global, words: &[S]) -> Result<Request, AllocError>
-    ensures span { IfOk result (λ request. can_run request ≡ true) }
-    ensures asked { IfOk result
-        (λ request. asked_in request ≡ asked_in_words (map S.text words.now)) }
-{
-    match command(alloc)?.try_get_matches_from(words) {
-        Ok(matches) => Ok(asked_for(&matches)),
-        Err(error) => told(alloc, &error),
-    }
-}
-
 /// Reads a command line: its words, the program's name first, or `None` where one of them is no
 /// text. The texts are clap's.
 pub fn request_of<S: AsStr>(alloc: Global, words: Option<&[S]>) -> Result<Request, AllocError>
@@ -217,8 +187,8 @@ pub fn request_of<S: AsStr>(alloc: Global, words: Option<&[S]>) -> Result<Reques
     ensures asked { IfOk result
         (λ request. asked_in request ≡ asked (option_map (λ all. map S.text all.now) words.entry)) }
 {
-    match words {
-        Some(words) => request_in(alloc, words),
-        None => Ok(said(not_text(alloc, &mut command(alloc)?)?)),
+    match answer_of(alloc, bench_program(alloc)?, words)? {
+        Answer::Met(matches) => Ok(asked_for(&matches)),
+        Answer::Said(saying) => Ok(said(saying)),
     }
 }

@@ -1,6 +1,8 @@
+//! Command lines with what they ask for.
 ghost use Rattle.bench_commands.specs.CommandLines.{WorkedHelp, WorkedMistakes, WorkedRecordings, WorkedRuns, WorkedTrials};
 
 /// Command lines with what they ask for. It does nothing: its contract is the laws, one a clause.
+#[tactic(auto, using(crate::proofs::CommandLines::runs, crate::proofs::CommandLines::trials, crate::proofs::CommandLines::recordings, crate::proofs::CommandLines::helps, crate::proofs::CommandLines::mistakes))]
 pub fn examples_of_command_lines()
     // A replay is asked for, with the span and the tallies that were worked out by hand.
     ensures runs { WorkedRuns }

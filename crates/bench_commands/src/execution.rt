@@ -1,14 +1,12 @@
 //! A run over any reader and writer.
 ghost use Rattle.std.specs.Prelude.{◌≡◌, true};
 ghost use Rattle.program_io.specs.Device.{failures_after};
-ghost use Rattle.program_io.specs.Endings.{EndsTelling, all_reads_well, all_writes_well};
+ghost use Rattle.program_io.specs.Endings.{EndsOver, EndsTelling};
 ghost use Rattle.bench_commands.specs.Answer.{IsRun, span_of};
 ghost use Rattle.bench_commands.specs.Run.{Ran, has_span, is_of_run, reads_well, status_of, writes_well};
 
 use crate::answer::told_of;
-use program_io::{
-    CountedRead, CountedWrite, Ending, OutputStatus, RunFault, read_input, write_output,
-};
+use program_io::{CountedRead, CountedWrite, Ending, OutputStatus, RunFault, tell_of_input};
 use std::alloc::Global;
 use std::thread::Threads;
 
@@ -72,17 +70,17 @@ pub(crate) fn end_of_run<T: Threads + Sync, R: CountedRead, W: CountedWrite>(
     mode: &Mode,
 ) -> Ending
     requires { has_span mode.now ≡ true }
-    ensures bytes { EndsTelling (IsRun mode.now) result (R.Read.remaining reader.old)
-        (R.Read.remaining reader.new) (W.Write.contents writer.old) (W.Write.contents writer.new) }
-    ensures reads { R.CountedRead.failures reader.new
-        ≡ failures_after (all_reads_well result) (R.CountedRead.failures reader.old) }
-    ensures writes { W.CountedWrite.failures writer.new
-        ≡ failures_after (all_writes_well result) (W.CountedWrite.failures writer.old) }
+    ensures { EndsOver (EndsTelling (IsRun mode.now)) result (R.seen reader.old)
+        (R.seen reader.new) (W.seen writer.old) (W.seen writer.new) }
 {
-    match read_input(alloc, reader) {
-        Ok(input) => write_output(writer, told_of(rt, host, alloc, &input, *mode)),
-        Err(fault) => Ending::unread(fault),
-    }
+    tell_of_input(
+        alloc,
+        reader,
+        writer,
+        |input|
+            requires { has_span mode.now ≡ true }
+        { told_of(rt, host, alloc, input, *mode) },
+    )
 }
 
 /// Reads the input to its end, or one byte past the most that is a bench document, then writes its
@@ -96,12 +94,12 @@ pub fn run<T: Threads + Sync, R: CountedRead, W: CountedWrite>(
     mode: &Mode,
 ) -> Status
     requires { has_span mode.now ≡ true }
-    ensures bytes { Ran mode.now result (R.Read.remaining reader.old) (R.Read.remaining reader.new)
-        (W.Write.contents writer.old) (W.Write.contents writer.new) }
-    ensures reads { R.CountedRead.failures reader.new
-        ≡ failures_after (reads_well result) (R.CountedRead.failures reader.old) }
-    ensures writes { W.CountedWrite.failures writer.new
-        ≡ failures_after (writes_well result) (W.CountedWrite.failures writer.old) }
+    ensures bytes { Ran mode.now result (R.seen reader.old).bytes (R.seen reader.new).bytes
+        (W.seen writer.old).bytes (W.seen writer.new).bytes }
+    ensures reads { (R.seen reader.new).failures
+        ≡ failures_after (reads_well result) (R.seen reader.old).failures }
+    ensures writes { (W.seen writer.new).failures
+        ≡ failures_after (writes_well result) (W.seen writer.old).failures }
 {
     Status::of(end_of_run(rt, host, alloc, reader, writer, mode))
 }

@@ -1,3 +1,4 @@
+//! The gate that the threads of `record` pass.
 use core_scripts::Gate;
 
 /// A gate that holds nobody up.

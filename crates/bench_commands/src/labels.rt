@@ -1,3 +1,4 @@
+//! The names of tasks as rows show them.
 ghost use Rattle.std.specs.Prelude.{◌≡◌, ◌++◌, ◌<◌, ◌^◌, IfOk, OnOk, string_bytes};
 ghost use Rattle.bench_types.specs.Header.{name_of};
 ghost use Rattle.bench_commands.specs.Lines.{AreLabels};

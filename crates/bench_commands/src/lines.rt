@@ -1,3 +1,4 @@
+//! The lines of a start, a step and an edit.
 ghost use Rattle.std.specs.Prelude.{◌≡◌, ◌++◌, OnOk, codes, decimal, string_bytes};
 ghost use Rattle.bench_types.specs.Header.{name_of};
 ghost use Rattle.bench_commands.specs.Lines.{reply_text, row_text, answer_text, edit_line, AreLabels};

@@ -1,3 +1,4 @@
+//! The output of a replay.
 ghost use Rattle.std.specs.Prelude.{◌≡◌, ◌++◌, ◌<◌, suc, [], length, IfOk, OnOk, string_bytes};
 ghost use Rattle.bench_model.specs.Edits.{after_edits};
 ghost use Rattle.session_store.specs.Outcomes.{answers};

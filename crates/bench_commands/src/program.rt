@@ -1,8 +1,7 @@
 //! The program, from the words of its command line to its end.
-ghost use Rattle.std.specs.Prelude.{◌≡◌, map, option_map, string_bytes};
+ghost use Rattle.std.specs.Prelude.{map, option_map};
 ghost use Rattle.std.specs.Process.{exit_status};
-ghost use Rattle.program_io.specs.Device.{device, failures_after};
-ghost use Rattle.program_io.specs.Endings.{EndsProcess, EndsWith, all_reads_well, all_writes_well};
+ghost use Rattle.program_io.specs.Endings.{EndsOver, EndsProcess, EndsWith};
 ghost use Rattle.bench_commands.specs.Command.{asked};
 ghost use Rattle.bench_commands.specs.Program.{Ends, EndsAsked};
 
@@ -30,13 +29,8 @@ fn end_of_words<T: Threads + Wait + Sync, S: AsStr, R: CountedRead, W: CountedWr
     reader: &mut R,
     writer: &mut W,
 ) -> Ending
-    ensures bytes { EndsAsked (asked (option_map (λ all. map S.text all.now) words.entry)) result
-        (R.Read.remaining reader.old) (R.Read.remaining reader.new) (W.Write.contents writer.old)
-        (W.Write.contents writer.new) }
-    ensures reads { R.CountedRead.failures reader.new
-        ≡ failures_after (all_reads_well result) (R.CountedRead.failures reader.old) }
-    ensures writes { W.CountedWrite.failures writer.new
-        ≡ failures_after (all_writes_well result) (W.CountedWrite.failures writer.old) }
+    ensures { EndsOver (EndsAsked (asked (option_map (λ all. map S.text all.now) words.entry)))
+        result (R.seen reader.old) (R.seen reader.new) (W.seen writer.old) (W.seen writer.new) }
 {
     match request_of(alloc, words) {
         Ok(Request::Run(mode)) => end_of_run(rt, host, alloc, reader, writer, &mode),
@@ -57,13 +51,8 @@ pub fn carry_out<T: Threads + Wait + Sync, S: AsStr, R: CountedRead, W: CountedW
     reader: &mut R,
     writer: &mut W,
 ) -> Ending
-    ensures bytes { Ends (option_map (λ all. map S.text all.now) words.entry) result
-        (R.Read.remaining reader.old) (R.Read.remaining reader.new) (W.Write.contents writer.old)
-        (W.Write.contents writer.new) }
-    ensures reads { R.CountedRead.failures reader.new
-        ≡ failures_after (all_reads_well result) (R.CountedRead.failures reader.old) }
-    ensures writes { W.CountedWrite.failures writer.new
-        ≡ failures_after (all_writes_well result) (W.CountedWrite.failures writer.old) }
+    ensures { EndsOver (Ends (option_map (λ all. map S.text all.now) words.entry)) result
+        (R.seen reader.old) (R.seen reader.new) (W.seen writer.old) (W.seen writer.new) }
 {
     end_of_words(rt, host, alloc, words, reader, writer).gone_as_fault()
 }
@@ -76,17 +65,12 @@ fn ending_of<T: Threads + Wait + Sync, R: CountedRead, W: CountedWrite>(
     reader: &mut R,
     writer: &mut W,
 ) -> Ending
-    ensures bytes { EndsWith Ends words result (R.Read.remaining reader.old)
-        (R.Read.remaining reader.new) (W.Write.contents writer.old) (W.Write.contents writer.new) }
-    ensures reads { R.CountedRead.failures reader.new
-        ≡ failures_after (all_reads_well result) (R.CountedRead.failures reader.old) }
-    ensures writes { W.CountedWrite.failures writer.new
-        ≡ failures_after (all_writes_well result) (W.CountedWrite.failures writer.old) }
+    ensures { EndsOver (EndsWith Ends words) result (R.seen reader.old) (R.seen reader.new)
+        (W.seen writer.old) (W.seen writer.new) }
 {
     let alloc = host.alloc();
     match given_words(alloc, words) {
-        Ok(Some(given)) => carry_out(rt, host, alloc, Some(given.as_slice()), reader, writer),
-        Ok(None) => carry_out(rt, host, alloc, None::<&[String]>, reader, writer),
+        Ok(given) => carry_out(rt, host, alloc, given.as_deref(), reader, writer),
         Err(_) => Ending::Failed(RunFault::Memory),
     }
 }
@@ -105,13 +89,8 @@ pub fn run_program<T: Threads + Wait + Sync, R: CountedRead, W: CountedWrite, E:
     writer: &mut W,
     errors: &mut E,
 ) -> ExitCode
-    ensures { EndsProcess Ends words (exit_status result)
-        (device (R.Read.remaining reader.old) (R.CountedRead.failures reader.old))
-        (device (R.Read.remaining reader.new) (R.CountedRead.failures reader.new))
-        (device (W.Write.contents writer.old) (W.CountedWrite.failures writer.old))
-        (device (W.Write.contents writer.new) (W.CountedWrite.failures writer.new))
-        (device (E.Write.contents errors.old) (E.CountedWrite.failures errors.old))
-        (device (E.Write.contents errors.new) (E.CountedWrite.failures errors.new)) }
+    ensures { EndsProcess Ends words (exit_status result) (R.seen reader.old) (R.seen reader.new)
+        (W.seen writer.old) (W.seen writer.new) (E.seen errors.old) (E.seen errors.new) }
 {
     let ending = ending_of(rt, host, words, reader, writer);
     end_process(errors, &ending)

@@ -2,7 +2,7 @@
 ghost use Rattle.std.specs.Prelude.{◌≡◌, IfOk, false};
 ghost use Rattle.session_text.specs.Rig.{IsCheckedRig, rig_text};
 ghost use Rattle.program_io.specs.Device.{failures_after};
-ghost use Rattle.program_io.specs.Endings.{EndsTelling, all_reads_well, all_writes_well};
+ghost use Rattle.program_io.specs.Endings.{EndsOver, EndsTelling};
 ghost use Rattle.bench_commands.specs.Record.{EndsRecord, IsRecorded, IsRecording, IsRecordingOf};
 ghost use Rattle.bench_commands.specs.Run.{reads_well, writes_well};
 
@@ -10,9 +10,7 @@ use crate::answer::refused_text;
 use crate::execution::Status;
 use bench_types::MAX_INPUT;
 use core_scripts::{Gate, play};
-use program_io::{
-    CountedRead, CountedWrite, Ending, Output, read_input, too_long, twice_note, write_output,
-};
+use program_io::{CountedRead, CountedWrite, Ending, Output, tell_of_input, too_long, twice_note};
 use session_text::{Noted, RigScript, read_rig_noted};
 use session_write::write_session;
 use std::alloc::{AllocError, Global};
@@ -84,17 +82,15 @@ pub(crate) fn end_of_recording<R: Threads + Wait + Sync, I: CountedRead, O: Coun
     writer: &mut O,
     gate: &G,
 ) -> Ending
-    ensures bytes { EndsTelling IsRecording result (I.Read.remaining reader.old)
-        (I.Read.remaining reader.new) (O.Write.contents writer.old) (O.Write.contents writer.new) }
-    ensures reads { I.CountedRead.failures reader.new
-        ≡ failures_after (all_reads_well result) (I.CountedRead.failures reader.old) }
-    ensures writes { O.CountedWrite.failures writer.new
-        ≡ failures_after (all_writes_well result) (O.CountedWrite.failures writer.old) }
+    ensures { EndsOver (EndsTelling IsRecording) result (I.seen reader.old)
+        (I.seen reader.new) (O.seen writer.old) (O.seen writer.new) }
 {
-    match read_input(alloc, reader) {
-        Ok(input) => write_output(writer, told_of(rt, host, alloc, &input, gate)),
-        Err(fault) => Ending::unread(fault),
-    }
+    tell_of_input(
+        alloc,
+        reader,
+        writer,
+        |input| told_of(rt, host, alloc, input, gate),
+    )
 }
 
 /// Reads a rig document to its end, or one byte past the most that it is, plays its scripts, one
@@ -110,12 +106,12 @@ pub fn record<R: Threads + Wait + Sync, I: CountedRead, O: CountedWrite, G: Gate
     writer: &mut O,
     gate: &G,
 ) -> Status
-    ensures bytes { EndsRecord result (I.Read.remaining reader.old)
-        (I.Read.remaining reader.new) (O.Write.contents writer.old) (O.Write.contents writer.new) }
-    ensures reads { I.CountedRead.failures reader.new
-        ≡ failures_after (reads_well result) (I.CountedRead.failures reader.old) }
-    ensures writes { O.CountedWrite.failures writer.new
-        ≡ failures_after (writes_well result) (O.CountedWrite.failures writer.old) }
+    ensures bytes { EndsRecord result (I.seen reader.old).bytes
+        (I.seen reader.new).bytes (O.seen writer.old).bytes (O.seen writer.new).bytes }
+    ensures reads { (I.seen reader.new).failures
+        ≡ failures_after (reads_well result) (I.seen reader.old).failures }
+    ensures writes { (O.seen writer.new).failures
+        ≡ failures_after (writes_well result) (O.seen writer.old).failures }
 {
     Status::of(end_of_recording(rt, host, alloc, reader, writer, gate))
 }

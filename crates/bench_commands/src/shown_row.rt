@@ -1,3 +1,4 @@
+//! A row of current tasks, and its text.
 ghost use Rattle.std.specs.Prelude.{◌≡◌, ◌<◌, suc, length, IfOk, OnOk, string_bytes};
 ghost use Rattle.bench_commands.specs.Lines.{AreLabels, IsShownAt};
 

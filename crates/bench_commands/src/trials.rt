@@ -1,3 +1,4 @@
+//! The output of edits that are each tried alone.
 ghost use Rattle.std.specs.Prelude.{◌≡◌, ◌++◌, Ok, IfOk, OnOk, string_bytes};
 ghost use Rattle.bench_types.specs.declared.edit.Edit.{Edit as Change};
 ghost use Rattle.bench_model.specs.Meeting.{CheckpointedSession};

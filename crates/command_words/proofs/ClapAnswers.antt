@@ -3,6 +3,7 @@
 use Rattle.std.proofs.Common.{◌≡◌, ℕ, zero, suc, ◌+◌, ◌==◌, ◌&&◌, ◌||◌, ◌++◌, Bool, true, false, not, true≢false, List, [], ◌∷◌, length, drop, find, fold, min, Option, Some, None, is_some, if◌then◌else◌, slice_get, nat_lt, codes, encode_utf8, chars, refl, sym, ap, subst, ◌∙◌, inl, inr, bytes_eq, arith}
 use Rattle.std.proofs.lemmas.Bool.Decides.{nat_tests}
 use Rattle.std.specs.Prelude.{⊤, IfSome, option_map}
+use Rattle.std.specs.List.{AllByRecursion}
 use Rattle.std.specs.Option.{IsSomeAnd, option_map_or}
 use Rattle.std.proofs.lemmas.Slice.Eq.{bytes_eq-Decides}
 use Rattle.clap.specs.Lexer.{long_of, short_of}
@@ -26,21 +27,16 @@ use Rattle.command_words.specs.Asking.{class_of}
 
 -- ---- lists of kinds
 
--- each of them is so
-abbrev pub Every : {X : Type 0} → (X → Type 0) → List X → Type 0
-Every P [] = ⊤
-Every P (x ∷ xs) = P x × Every P xs
-
-every_append : {X : Type 0} (P : X → Type 0) (xs ys : List X) → Every P xs → Every P ys → Every P (xs ++ ys)
-every_append P [] ys first others = others
-every_append P (x ∷ xs) ys first others = (first.0, every_append P xs ys first.1 others)
+all_append : {X : Type 0} (P : X → Type 0) (xs ys : List X) → AllByRecursion P xs → AllByRecursion P ys → AllByRecursion P (xs ++ ys)
+all_append P [] ys first others = others
+all_append P (x ∷ xs) ys first others = (first.0, all_append P xs ys first.1 others)
 
 -- all of them ask for what the first does
 abbrev pub AskOne : Kinds → Type 0
 AskOne [] = ⊤
-AskOne (k ∷ ks) = Every (λ l. class_of l ≡ class_of k) ks
+AskOne (k ∷ ks) = AllByRecursion (λ l. class_of l ≡ class_of k) ks
 
-among : (k first : ErrorKind) (kinds : Kinds) → Every (λ l. class_of l ≡ class_of first) kinds → IsAmong k kinds → class_of k ≡ class_of first
+among : (k first : ErrorKind) (kinds : Kinds) → AllByRecursion (λ l. class_of l ≡ class_of first) kinds → IsAmong k kinds → class_of k ≡ class_of first
 among k first [] all is = absurd is
 among k first (x ∷ xs) all (inl same) = ap class_of same ∙ all.0
 among k first (x ∷ xs) all (inr later) = among k first xs all.1 later
@@ -104,7 +100,7 @@ checked a false c = by_test a _ _ (fails _) (by_test c _ _ (fails _) (fine refl)
 unrepeated : (again : Bool) (id : Text) (rows : List Row) → Yields (repeat_fault again id rows) ⊤
 unrepeated again id rows = by_test (has_row id rows && not again) _ _ (fails _) (fine tt)
 
-found_is : {X : Type 0} (P : X → Type 0) (test : X → Bool) (xs : List X) → Every P xs → IfSome (find test xs) P
+found_is : {X : Type 0} (P : X → Type 0) (test : X → Bool) (xs : List X) → AllByRecursion P xs → IfSome (find test xs) P
 found_is P test [] all = tt
 found_is P test (x ∷ xs) all = go (test x) refl (found_is P test xs all.1)
   where
@@ -116,10 +112,10 @@ found_is P test (x ∷ xs) all = go (test x) refl (found_is P test xs all.1)
 
 module _ (Value : Text → Text → Type 0) (Read : Text → Reading → Type 0) where
   abbrev pub RowFits : Row → Type 0
-  RowFits r = Read r.id r.reading × Every (Value r.id) r.values
+  RowFits r = Read r.id r.reading × AllByRecursion (Value r.id) r.values
 
   abbrev pub RowsFit : List Row → Type 0
-  RowsFit rows = Every RowFits rows
+  RowsFit rows = AllByRecursion RowFits rows
 
   -- what the argument's parser takes is so
   pub record RuleFits (a : Rule) : Type 0 where
@@ -133,7 +129,7 @@ module _ (Value : Text → Text → Type 0) (Read : Text → Reading → Type 0)
       go true e = fine (fits.values text e)
       go false e = fails _
 
-  values_yield : (a : Rule) → RuleFits a → (texts : List Text) → Yields (values_fault a texts) (Every (Value a.id) texts)
+  values_yield : (a : Rule) → RuleFits a → (texts : List Text) → Yields (values_fault a texts) (AllByRecursion (Value a.id) texts)
   values_yield a fits [] = fine tt
   values_yield a fits (text ∷ texts) =
       in_turn _ _ (value_yields a fits text) (λ first. mapped _ (values_yield a fits texts) (λ others. (first, others)))
@@ -144,22 +140,22 @@ module _ (Value : Text → Text → Type 0) (Read : Text → Reading → Type 0)
   row_changed id change missing (r ∷ rs) keeps none fit = go (bytes_eq r.id id) refl (row_changed id change missing rs keeps none fit.1)
     where
       go : (is : Bool) → bytes_eq r.id id ≡ is → RowsFit (at_row id change missing rs) → RowsFit (if is then change r ++ rs else r ∷ at_row id change missing rs)
-      go true e rest = every_append RowFits (change r) rs (keeps r ((bytes_eq-Decides r.id id).0 e) fit.0) fit.1
+      go true e rest = all_append RowFits (change r) rs (keeps r ((bytes_eq-Decides r.id id).0 e) fit.0) fit.1
       go false e rest = (fit.0, rest)
 
   dropped : (id : Text) (rows : List Row) → RowsFit rows → RowsFit (without id rows)
   dropped id rows fit = row_changed id (λ _. []) [] rows (λ r e fits. tt) tt fit
 
-  given : (a : Rule) → RuleFits a → (source : ValueSource) (texts : List Text) (rows : List Row) → Every (Value a.id) texts → RowsFit rows → RowsFit (with_values a.id (reading_by a) source texts rows)
+  given : (a : Rule) → RuleFits a → (source : ValueSource) (texts : List Text) (rows : List Row) → AllByRecursion (Value a.id) texts → RowsFit rows → RowsFit (with_values a.id (reading_by a) source texts rows)
   given a fits source texts rows values fit =
       row_changed a.id (more_values source texts) _ rows
-      (λ r e row. ((row.0, every_append (Value r.id) r.values texts row.1 (subst (λ id. Every (Value id) texts) (sym e) values)), tt))
+      (λ r e row. ((row.0, all_append (Value r.id) r.values texts row.1 (subst (λ id. AllByRecursion (Value id) texts) (sym e) values)), tt))
       ((fits.reading, values), tt) fit
 
   counted_once : (a : Rule) → RuleFits a → (source : ValueSource) (n : ℕ) (rows : List Row) → Value a.id (count_text n) → RowsFit rows → RowsFit (with_count a.id (reading_by a) source n rows)
   counted_once a fits source n rows holds fit =
       row_changed a.id (new_count source n) _ rows
-      (λ r e row. ((row.0, every_append (Value r.id) r.values (count_text n ∷ []) row.1 (subst (λ id. Every (Value id) (count_text n ∷ [])) (sym e) (holds, tt))), tt))
+      (λ r e row. ((row.0, all_append (Value r.id) r.values (count_text n ∷ []) row.1 (subst (λ id. AllByRecursion (Value id) (count_text n ∷ [])) (sym e) (holds, tt))), tt))
       ((fits.reading, (holds, tt)), tt) fit
 
   -- ---- one use of an argument
@@ -193,7 +189,7 @@ module _ (Value : Text → Text → Type 0) (Read : Text → Reading → Type 0)
   -- ---- a level: its arguments fit, and `help` is no command of it
 
   pub record ShapeFits (s : Shape) : Type 0 where
-    pub rules : Every RuleFits s.rules
+    pub rules : AllByRecursion RuleFits s.rules
     pub helpless : s.disable_help_subcommand ≡ true
 
   module _ (s : Shape) (all : ShapeFits s) where
@@ -350,7 +346,7 @@ module _ (Value : Text → Text → Type 0) (Read : Text → Reading → Type 0)
             let some : is_empty (text ∷ texts) ≡ false = grind (arith, nat_tests) in
             rw some (in_turn _ _ (no_request (action_of a)) (λ _. mapped _ (values_yield a fits (text ∷ texts)) (λ values. given a fits DefaultValue (text ∷ texts) rows values fit)))
 
-    defaults_yield : (rules : List Rule) → Every RuleFits rules → (rows : List Row) → RowsFit rows → Yields (defaults_fault rows rules) (RowsFit (fold with_default rows rules))
+    defaults_yield : (rules : List Rule) → AllByRecursion RuleFits rules → (rows : List Row) → RowsFit rows → Yields (defaults_fault rows rules) (RowsFit (fold with_default rows rules))
     unfolding defaults_fault
     defaults_yield [] fits rows fit = fine fit
     defaults_yield (a ∷ rules) fits rows fit = in_turn _ _ (default_yields rows a fits.0 fit) (defaults_yield rules fits.1 (with_default rows a))
@@ -367,7 +363,7 @@ module _ (Value : Text → Text → Type 0) (Read : Text → Reading → Type 0)
 
   -- ---- a command with subcommands
 
-  entered_yields : (a : App) → Every ShapeFits a.subs → (stop : Option (Text × List Text)) → Yields (entered_fault a stop) (IfSome (entered a stop) (λ met. RowsFit met.1))
+  entered_yields : (a : App) → AllByRecursion ShapeFits a.subs → (stop : Option (Text × List Text)) → Yields (entered_fault a stop) (IfSome (entered a stop) (λ met. RowsFit met.1))
   entered_yields a fits None = fine tt
   entered_yields a fits (Some p) = go (find (λ s. answers_to p.0 (label_of s)) a.subs) (found_is ShapeFits _ a.subs fits)
     where
@@ -382,7 +378,7 @@ module _ (Value : Text → Text → Type 0) (Read : Text → Reading → Type 0)
   there (Some met) required e fit is = fit
 
   -- a subcommand is met, and its rows fit
-  pub app_yields : (a : App) → ShapeFits a.top → a.top.subcommand_required ≡ true → Every ShapeFits a.subs → (words : List Text)
+  pub app_yields : (a : App) → ShapeFits a.top → a.top.subcommand_required ≡ true → AllByRecursion ShapeFits a.subs → (words : List Text)
       → Yields (built_fault a nothing_held words) (IsSomeAnd (entered a (stop_after a.top.rules (names_of a) words)) (λ met. RowsFit met.1))
   app_yields a top required subs words =
       let stop = stop_after a.top.rules (names_of a) words in
@@ -397,12 +393,12 @@ module _ (Value : Text → Text → Type 0) (Read : Text → Reading → Type 0)
   one_fits id [] fit = tt
   one_fits id (r ∷ rs) fit = go (bytes_eq r.id id) refl (one_fits id rs fit.1)
     where
-      first : (values : List Text) → Every (Value id) values → Read id r.reading → IfSome (option_map (read_as r.reading) (slice_get values 0)) (Reads id)
+      first : (values : List Text) → AllByRecursion (Value id) values → Read id r.reading → IfSome (option_map (read_as r.reading) (slice_get values 0)) (Reads id)
       first [] all read = tt
       first (v ∷ vs) all read = (r.reading, v, read, all.0, refl)
 
       go : (is : Bool) → bytes_eq r.id id ≡ is → IfSome (one_of id rs) (Reads id) → IfSome (one_of id (r ∷ rs)) (Reads id)
       go true e rest =
           let same = (bytes_eq-Decides r.id id).0 e in
-          rw e (first r.values (subst (λ id. Every (Value id) r.values) same fit.0.1) (subst (λ id. Read id r.reading) same fit.0.0))
+          rw e (first r.values (subst (λ id. AllByRecursion (Value id) r.values) same fit.0.1) (subst (λ id. Read id r.reading) same fit.0.0))
       go false e rest = rw e rest

@@ -1,2 +1,6 @@
-pub mod ClapAnswers
+mod ClapAnswers
+pub mod NumberTexts
 pub mod OptionsRead
+pub mod ProgramAnswers
+pub mod Told
+pub mod ValuesTaken

@@ -1,2 +1,5 @@
+pub mod Answered
 pub mod Asking
 pub mod Said
+pub mod Taken
+pub mod Told

@@ -1,6 +1,10 @@
-//! What clap answers to the words of a command line.
+//! What clap is told of a program, and what it answers to the words of a command line.
 #![tactic(auto)]
 
+mod answer;
+mod options;
 mod saying;
 
-pub use saying::{Saying, not_text, said_by};
+pub use answer::{Answer, answer_of};
+pub use options::{flag, option, program};
+pub use saying::Saying;

@@ -20,8 +20,8 @@ pub enum Saying {
     Mistake(String),
 }
 
-/// What clap says by its error. Want of memory is none.
-pub fn said_by(alloc: Global, error: &Error) -> Result<Saying, AllocError>
+// What clap says by its error. Want of memory is none.
+pub(crate) fn said_by(alloc: Global, error: &Error) -> Result<Saying, AllocError>
     ensures class { IfOk result (λ said. class_in said ≡ class_of (kind_of error.now)) }
     ensures memory { kind_of error.now ≡ OutOfMemory → IsErr result }
 {
@@ -33,8 +33,8 @@ pub fn said_by(alloc: Global, error: &Error) -> Result<Saying, AllocError>
     }
 }
 
-/// The refusal of words that are no text, which clap is never given.
-pub fn not_text(alloc: Global, command: &mut Command<'_>) -> Result<Saying, AllocError>
+// The refusal of words that are no text, which clap is never given.
+pub(crate) fn not_text(alloc: Global, command: &mut Command<'_>) -> Result<Saying, AllocError>
     ensures { IfOk result (λ said. class_in said ≡ mistakes) }
 {
     let error = command.error(

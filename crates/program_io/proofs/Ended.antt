@@ -1,5 +1,7 @@
 -- What was read and written when a program ends.
-use Rattle.std.proofs.Common.{◌≡◌, ◌≢◌, ℕ, ◌+◌, List, [], Bool, true, Option, Some, None, Result, Ok, Err, IfOk, map, string_bytes, refl, sym, ap, subst, ◌∙◌, arith}
+use Rattle.std.proofs.Common.{◌≡◌, ◌≢◌, ℕ, ◌+◌, List, [], Bool, true, Bor, Option, Some, None, Result, Ok, Err, IfOk, Vec, map, option_map, string_bytes, refl, sym, ap, subst, ◌∙◌, arith}
+use Rattle.std.specs.Prelude.{String}
+use Rattle.std.specs.declared.alloc.Global.{Global}
 use Rattle.std.specs.IoError.{error_kind}
 use Rattle.std.specs.declared.io.ErrorKind.TheVariants.{InvalidData}
 use Rattle.bench_types.specs.Limits.{max_input}
@@ -9,8 +11,8 @@ use Rattle.program_io.specs.declared.ending.RunFault.TheVariants.{Memory, Read, 
 use Rattle.program_io.specs.declared.input.InputFault.{InputFault}
 use Rattle.program_io.specs.declared.input.InputFault.TheVariants as input
 use Rattle.program_io.specs.declared.output.OutputStatus.TheVariants.{Fine, Failed as Refused, Unknown}
-use Rattle.program_io.specs.Device.{ReadsInput, ReadsSome, reads_on}
-use Rattle.program_io.specs.Endings.{all_reads_well, all_writes_well, AreGiven, Bytes, Ends, EndsBad, EndsHelp, EndsTelling, EndsWith, EndsWriting, Shows, gone_as_fault, unread, Words}
+use Rattle.program_io.specs.Device.{DeviceState, failures_after, ReadsInput, ReadsSome, reads_on}
+use Rattle.program_io.specs.Endings.{Account, all_reads_well, all_writes_well, AreGiven, Bytes, Ends, EndsBad, EndsHelp, EndsOver, EndsTelling, EndsWith, EndsWriting, Shows, gone_as_fault, unread, Words}
 use Rattle.program_io.specs.Outputs.{Told}
 
 -- ---- what a command tells
@@ -46,6 +48,16 @@ module _ (Promises : List ℕ → Told → Type 0) (read_old read_new write_old 
   gone_telling (NotOpened line) ended = ended
   gone_telling Gone ended = ended
   gone_telling (Failed fault) ended = ended
+
+-- where it promises more, it promises this
+pub promises_less : (P Q : List ℕ → Told → Type 0) (ending : Ending) (read_old read_new write_old write_new : Bytes) → ((input : List ℕ) (told : Told) → P input told → Q input told) → EndsTelling P ending read_old read_new write_old write_new → EndsTelling Q ending read_old read_new write_old write_new
+promises_less P Q (Written status note) read_old read_new write_old write_new less all = record { input = all.input; reads = all.reads; told = all.told; promised = less all.input all.told all.promised; is_status = all.is_status; is_note = all.is_note; writes = all.writes }
+promises_less P Q (BadCommandLine text) read_old read_new write_old write_new less ended = absurd ended
+promises_less P Q (NotOpened line) read_old read_new write_old write_new less ended = absurd ended
+promises_less P Q Gone read_old read_new write_old write_new less first = record { input = first.input; reads = first.reads; told = first.told; promised = less first.input first.told first.promised; writes = first.writes }
+promises_less P Q (Failed Memory) read_old read_new write_old write_new less nothing = nothing
+promises_less P Q (Failed Read) read_old read_new write_old write_new less nothing = nothing
+promises_less P Q (Failed Write) read_old read_new write_old write_new less first = record { input = first.input; reads = first.reads; told = first.told; promised = less first.input first.told first.promised; writes = first.writes }
 
 none_read : (bytes : Bytes) → ReadsSome bytes bytes (max_input + 1)
 none_read None = record { bytes = []; consumes = tt; within = omega arith }
@@ -130,7 +142,57 @@ module _ (ends : Ends) (words : Words) (read_old read_new write_old write_new : 
       go (Ok handed) is = subst (λ (given : Option (List (List ℕ))). ends given ending read_old read_new write_old write_new) is ended
       go (Err error) is = (λ same. subst (λ (given : Option (List (List ℕ))). ends given ending read_old read_new write_old write_new) is.1 ended, λ other. absurd (other is.0))
 
+-- the words that it was given are those that are lent of them
+are_lent : (words : Words) (lent : Option (Bor (List (String Global)))) (given : Option (Vec (String Global) Global)) → option_map (λ all. all.now) lent ≡ option_map (λ all. all.items) given
+    → AreGiven words (option_map (λ all. map string_bytes all.items) given) → AreGiven words (option_map (λ all. map string_bytes all.now) lent)
+are_lent words lent given is are = subst (AreGiven words) (go lent given (sym is)) are
+  where
+    go : (lent : Option (Bor (List (String Global)))) (given : Option (Vec (String Global) Global)) → option_map (λ all. all.items) given ≡ option_map (λ all. all.now) lent
+        → option_map (λ all. map string_bytes all.items) given ≡ option_map (λ all. map string_bytes all.now) lent
+    go None None is = refl
+    go None (Some all) is = ap (option_map (map string_bytes)) is
+    go (Some all) None is = ap (option_map (map string_bytes)) is
+    go (Some lent) (Some all) is = ap (option_map (map string_bytes)) is
+
 -- memory was refused before they were known
 pub words_refused : (ends : Ends) (words : Words) (read write : Bytes) → ((given : Option (List (List ℕ))) → ends given (Failed Memory) read read write write) → EndsWith ends words (Failed Memory) read read write write
 words_refused ends (Ok handed) read write law = law (Some (map string_bytes _))
 words_refused ends (Err error) read write law = (λ same. law None, λ other. (refl, (refl, refl)))
+
+-- ---- over a reader and a writer
+
+module _ (read_old read_new write_old write_new : DeviceState) where
+  -- another account of the same end
+  pub over_also : (account also : Account) (ending : Ending) → (account ending read_old.bytes read_new.bytes write_old.bytes write_new.bytes → also ending read_old.bytes read_new.bytes write_old.bytes write_new.bytes)
+      → EndsOver account ending read_old read_new write_old write_new → EndsOver also ending read_old read_new write_old write_new
+  over_also account also ending so over = record { bytes = so over.bytes; reads = over.reads; writes = over.writes }
+
+  -- where the reader of the output has gone, it is a write that failed
+  pub gone_over : (account also : Account) (ending : Ending) → (account ending read_old.bytes read_new.bytes write_old.bytes write_new.bytes → also (gone_as_fault ending) read_old.bytes read_new.bytes write_old.bytes write_new.bytes)
+      → EndsOver account ending read_old read_new write_old write_new → EndsOver also (gone_as_fault ending) read_old read_new write_old write_new
+  gone_over account also ending so over = record {
+    bytes = so over.bytes;
+    reads = over.reads ∙ sym (ap (λ well. failures_after well read_old.failures) (gone_reads ending));
+    writes = over.writes ∙ sym (ap (λ well. failures_after well write_old.failures) (gone_writes ending));
+  }
+
+  -- it is told by the words of the process, which are those that are lent of them
+  pub words_over : (ends : Ends) (words : Words) (lent : Option (Bor (List (String Global)))) (given : Option (Vec (String Global) Global)) (ending : Ending) → option_map (λ all. all.now) lent ≡ option_map (λ all. all.items) given
+      → AreGiven words (option_map (λ all. map string_bytes all.items) given) → EndsOver (ends (option_map (λ all. map string_bytes all.now) lent)) ending read_old read_new write_old write_new
+      → EndsOver (EndsWith ends words) ending read_old read_new write_old write_new
+  words_over ends words lent given ending same are over =
+      let told = option_map (λ all. map string_bytes all.now) lent in
+      over_also (ends told) (EndsWith ends words) ending (words_ended ends words read_old.bytes read_new.bytes write_old.bytes write_new.bytes told ending (are_lent words lent given same are)) over
+
+-- memory was refused before anything was read or written
+pub refused_over : (account : Account) (read write : DeviceState) → account (Failed Memory) read.bytes read.bytes write.bytes write.bytes → EndsOver account (Failed Memory) read read write write
+refused_over account read write so = record { bytes = so; reads = refl; writes = refl }
+
+-- a text was shown
+pub shown_over : (text : List ℕ) (ending : Ending) (read write_old write_new : DeviceState) → Shows text ending write_old.bytes write_new.bytes → all_reads_well ending ≡ true → write_new.failures ≡ failures_after (all_writes_well ending) write_old.failures
+    → EndsOver EndsHelp ending read read write_old write_new
+shown_over text ending read write_old write_new shows reads writes = record {
+  bytes = help_ended text ending read.bytes write_old.bytes write_new.bytes shows;
+  reads = sym (ap (λ well. failures_after well read.failures) reads);
+  writes = writes;
+}

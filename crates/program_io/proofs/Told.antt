@@ -29,3 +29,8 @@ bytes_told input (Ok hint) none told = record {
   place = λ is. absurd (none (IsUtf8-from_is_utf8 input is));
   bytes = λ is. told;
 }
+
+-- what is shown of each value that a result may be holds where it is one
+pub where_ok : {A E : Type 0} {P : A → Type 0} (result : Result A E) → ((a : A) → result ≡ Ok a → P a) → IfOk result P
+where_ok (Ok a) shown = shown a refl
+where_ok (Err e) shown = tt

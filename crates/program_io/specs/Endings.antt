@@ -88,6 +88,17 @@ gone_as_fault (Failed fault) = Failed fault
 abbrev pub Bytes : Type 0
 Bytes = Option (List ℕ)
 
+-- what is told of an end: how a program ends, and what was read and written then
+abbrev pub Account : Type 1
+Account = Ending → Bytes → Bytes → Bytes → Bytes → Type 0
+
+-- it is so over a reader and a writer, and the read or the write that failed is counted
+pub record EndsOver (account : Account) (ending : Ending)
+    (read_old read_new write_old write_new : DeviceState) : Type 0 where
+  pub bytes : account ending read_old.bytes read_new.bytes write_old.bytes write_new.bytes
+  pub reads : read_new.failures ≡ failures_after (all_reads_well ending) read_old.failures
+  pub writes : write_new.failures ≡ failures_after (all_writes_well ending) write_old.failures
+
 -- neither read nor written
 abbrev pub Untouched : Bytes → Bytes → Bytes → Bytes → Type 0
 Untouched read_old read_new write_old write_new = (read_new ≡ read_old) × (write_new ≡ write_old)
@@ -128,8 +139,7 @@ pub record WroteFirst (Promises : List ℕ → Told → Type 0)
   pub writes : AppendsPrefix write_old write_new told.text
 
 -- by how a command ends, what was read and written, where it promises this of an input
-abbrev pub EndsTelling :
-    (List ℕ → Told → Type 0) → Ending → Bytes → Bytes → Bytes → Bytes → Type 0
+abbrev pub EndsTelling : (List ℕ → Told → Type 0) → Account
 EndsTelling Promises (Written status note) read_old read_new write_old write_new =
     WroteAll Promises read_old read_new write_old write_new status note.items
 EndsTelling Promises Gone read_old read_new write_old write_new =
@@ -151,14 +161,14 @@ Shows text (Failed Write) old new = AppendsPrefix old new text
 Shows text _ old new = ⊥
 
 -- some text was shown, and nothing read; or memory was refused before
-abbrev pub EndsHelp : Ending → Bytes → Bytes → Bytes → Bytes → Type 0
+abbrev pub EndsHelp : Account
 EndsHelp (Failed Memory) read_old read_new write_old write_new =
     Untouched read_old read_new write_old write_new
 EndsHelp ending read_old read_new write_old write_new =
     (read_new ≡ read_old) × ((text : List ℕ) × Shows text ending write_old write_new)
 
 -- a bad command line, or memory was refused before that was known
-abbrev pub EndsBad : Ending → Bytes → Bytes → Bytes → Bytes → Type 0
+abbrev pub EndsBad : Account
 EndsBad (BadCommandLine text) read_old read_new write_old write_new =
     Untouched read_old read_new write_old write_new
 EndsBad (Failed Memory) read_old read_new write_old write_new =
@@ -177,19 +187,19 @@ abbrev pub AreGiven : Words → Option (List (List ℕ)) → Type 0
 AreGiven (Ok words) given = given ≡ Some (map string_bytes (into_iter_items words))
 AreGiven (Err error) given = (error_kind error ≡ InvalidData) × (given ≡ None)
 
--- by the words that are given, how a program ends, and what was read and written then
+-- by the words that are given, what is told of the end
 abbrev pub Ends : Type 1
-Ends = Option (List (List ℕ)) → Ending → Bytes → Bytes → Bytes → Bytes → Type 0
+Ends = Option (List (List ℕ)) → Account
 
 -- by the kind of the system's error
-abbrev pub EndsWithout : Ends → ErrorKind → Ending → Bytes → Bytes → Bytes → Bytes → Type 0
+abbrev pub EndsWithout : Ends → ErrorKind → Account
 EndsWithout ends kind ending read_old read_new write_old write_new =
     (kind ≡ InvalidData → ends None ending read_old read_new write_old write_new)
     × (kind ≢ InvalidData
     → (ending ≡ Failed Memory) × Untouched read_old read_new write_old write_new)
 
 -- by the words of the process
-abbrev pub EndsWith : Ends → Words → Ending → Bytes → Bytes → Bytes → Bytes → Type 0
+abbrev pub EndsWith : Ends → Words → Account
 EndsWith ends (Ok words) ending = ends (Some (map string_bytes (into_iter_items words))) ending
 EndsWith ends (Err error) ending = EndsWithout ends (error_kind error) ending
 
@@ -199,8 +209,5 @@ pub record EndsProcess (ends : Ends) (words : Words) (code : ℕ)
     (read_old read_new write_old write_new error_old error_new : DeviceState) : Type 0 where
   pub ending : Ending
   pub status : code ≡ exit_code ending
-  pub ended : EndsWith ends words ending read_old.bytes read_new.bytes write_old.bytes
-      write_new.bytes
-  pub reads : read_new.failures ≡ failures_after (all_reads_well ending) read_old.failures
-  pub writes : write_new.failures ≡ failures_after (all_writes_well ending) write_old.failures
+  pub ended : EndsOver (EndsWith ends words) ending read_old read_new write_old write_new
   pub tells : WritesText (message ending) error_old error_new

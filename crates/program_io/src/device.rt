@@ -1,41 +1,50 @@
-ghost use Rattle.std.specs.Prelude.{◌≡◌, ℕ, ◌+◌, ◌-◌, ◌^◌, min, length, is_ok};
+//! Readers and writers that count what failed.
+ghost use Rattle.std.specs.Prelude.{◌≡◌, ◌+◌, ◌-◌, ◌^◌, min, length, is_ok, refl};
 ghost use Rattle.std.specs.Io.{ReadsAtMost, WritesAtMost};
 ghost use Rattle.std.specs.Io.KnownBytes.{ReadConsumes, WriteAppends};
-ghost use Rattle.program_io.specs.Device.{failures_after, took_some};
+ghost use Rattle.program_io.specs.Device.{DeviceState, device, failures_after, took_some};
 
 use std::io;
 use std::io::{Read, Write};
 
 /// A reader that counts the reads that failed.
 pub trait CountedRead: Read {
-    ghost failures: { Self → ℕ };
+    // What is seen of it: what reads will give, where that is known, and how many reads failed.
+    ghost seen: { Self → DeviceState };
 
     /// How many reads failed, at most `u64::MAX`.
     fn failures(&self) -> u64
-        ensures { result ≡ failures self.now };
+        ensures { result ≡ (seen self.now).failures };
 
     /// One read of the device, which is counted where it fails, interrupted ones too.
     fn read_counted(&mut self, buf: &mut [u8]) -> io::Result<usize>
         ensures bound { ReadsAtMost result buf.new }
-        ensures bytes { ReadConsumes (Self.remaining self.old)
-            (Self.remaining self.new) result buf.new }
-        ensures count { failures self.new ≡ failures_after (is_ok result) (failures self.old) };
+        ensures bytes { ReadConsumes (seen self.old).bytes (seen self.new).bytes result buf.new }
+        ensures count { (seen self.new).failures
+            ≡ failures_after (is_ok result) (seen self.old).failures };
+
+    // The bytes are those of any reader.
+    ghost is_seen: { (it : Self) → (seen it).bytes ≡ Self.remaining it };
 }
 
 /// A writer that counts the writes that failed. A write that took no byte is one.
 pub trait CountedWrite: Write {
-    ghost failures: { Self → ℕ };
+    // What is seen of it: what it holds, where that is known, and how many writes failed.
+    ghost seen: { Self → DeviceState };
 
     /// How many writes failed, at most `u64::MAX`.
     fn failures(&self) -> u64
-        ensures { result ≡ failures self.now };
+        ensures { result ≡ (seen self.now).failures };
 
     /// One write to the device, which is counted where it fails, interrupted ones too.
     fn write_counted(&mut self, buf: &[u8]) -> io::Result<usize>
         ensures bound { WritesAtMost result buf.now }
-        ensures bytes { WriteAppends (Self.contents self.old)
-            (Self.contents self.new) result buf.now }
-        ensures count { failures self.new ≡ failures_after (took_some result) (failures self.old) };
+        ensures bytes { WriteAppends (seen self.old).bytes (seen self.new).bytes result buf.now }
+        ensures count { (seen self.new).failures
+            ≡ failures_after (took_some result) (seen self.old).failures };
+
+    // The bytes are those of any writer.
+    ghost is_seen: { (it : Self) → (seen it).bytes ≡ Self.contents it };
 }
 
 /// A device with its count of failures, at first 0.
@@ -79,7 +88,9 @@ impl<D: Read> Read for Counted<D> {
 }
 
 impl<D: Read> CountedRead for Counted<D> {
-    ghost failures = { λ device. device.failures };
+    ghost seen = { λ it. device (D.remaining it.device) it.failures };
+
+    ghost is_seen = { λ it. refl };
 
     fn failures(&self) -> u64 {
         self.count()
@@ -112,7 +123,9 @@ impl<D: Write> Write for Counted<D> {
 }
 
 impl<D: Write> CountedWrite for Counted<D> {
-    ghost failures = { λ device. device.failures };
+    ghost seen = { λ it. device (D.contents it.device) it.failures };
+
+    ghost is_seen = { λ it. refl };
 
     fn failures(&self) -> u64 {
         self.count()

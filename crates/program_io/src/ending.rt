@@ -1,7 +1,7 @@
 //! How a program ends.
 ghost use Rattle.std.specs.Prelude.{◌≡◌, IfOk, map, option_map, string_bytes, true};
 ghost use Rattle.std.specs.Process.{exit_status};
-ghost use Rattle.program_io.specs.Device.{WritesText, device, failures_after};
+ghost use Rattle.program_io.specs.Device.{WritesText, failures_after};
 ghost use Rattle.program_io.specs.Endings.{AreGiven, EndsWriting, Shows, all_reads_well, all_writes_well, exit_code, gone_as_fault, message, unread, unwritten};
 
 use crate::device::CountedWrite;
@@ -105,11 +105,11 @@ fn unwritten(fault: WriteFault) -> Ending
 
 /// Writes an output, if memory was not refused for it.
 pub fn write_output<W: CountedWrite>(writer: &mut W, output: Result<Output, AllocError>) -> Ending
-    ensures bytes { EndsWriting output result (W.Write.contents writer.old)
-        (W.Write.contents writer.new) }
+    ensures bytes { EndsWriting output result (W.seen writer.old).bytes
+        (W.seen writer.new).bytes }
     ensures reads { all_reads_well result ≡ true }
-    ensures writes { W.CountedWrite.failures writer.new
-        ≡ failures_after (all_writes_well result) (W.CountedWrite.failures writer.old) }
+    ensures writes { (W.seen writer.new).failures
+        ≡ failures_after (all_writes_well result) (W.seen writer.old).failures }
 {
     let Ok(output) = output else {
         return Ending::Failed(RunFault::Memory);
@@ -122,11 +122,11 @@ pub fn write_output<W: CountedWrite>(writer: &mut W, output: Result<Output, Allo
 
 /// Shows a text of help, or of the version.
 pub fn show_text<W: CountedWrite>(alloc: Global, writer: &mut W, text: &str) -> Ending
-    ensures bytes { Shows text.now result (W.Write.contents writer.old)
-        (W.Write.contents writer.new) }
+    ensures bytes { Shows text.now result (W.seen writer.old).bytes
+        (W.seen writer.new).bytes }
     ensures reads { all_reads_well result ≡ true }
-    ensures writes { W.CountedWrite.failures writer.new
-        ≡ failures_after (all_writes_well result) (W.CountedWrite.failures writer.old) }
+    ensures writes { (W.seen writer.new).failures
+        ≡ failures_after (all_writes_well result) (W.seen writer.old).failures }
 {
     match write_text(writer, text.as_bytes()) {
         Ok(()) => Ending::Written(OutputStatus::Fine, Vec::new(alloc)),
@@ -154,9 +154,7 @@ pub fn given_words(
 /// tells.
 pub fn end_process<E: CountedWrite>(errors: &mut E, ending: &Ending) -> ExitCode
     ensures status { exit_status result ≡ exit_code ending.now }
-    ensures tells { WritesText (message ending.now)
-        (device (E.Write.contents errors.old) (E.CountedWrite.failures errors.old))
-        (device (E.Write.contents errors.new) (E.CountedWrite.failures errors.new)) }
+    ensures tells { WritesText (message ending.now) (E.seen errors.old) (E.seen errors.new) }
 {
     let _ = write_text(errors, ending.message());
     ExitCode::from(ending.code())

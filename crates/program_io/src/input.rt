@@ -1,3 +1,4 @@
+//! The input, read to its end.
 ghost use Rattle.std.specs.Prelude.{◌≡◌, ◌+◌, ◌<◌, ◌≤◌, [], length, IfOk, OnOk};
 ghost use Rattle.bench_types.specs.Limits.{max_input};
 ghost use Rattle.program_io.specs.Device.{failures_after, reads_on, ReadsInput, ReadsOn, ReadsSome};
@@ -47,11 +48,11 @@ fn read_on<R: CountedRead>(
     requires wanted { 0 < most }
     requires room { most ≤ length chunk.old }
     ensures read { IfOk result
-        (ReadsOn (R.Read.remaining reader.old)
-        (R.Read.remaining reader.new) most input.old.items input.new.items) }
-    ensures some { ReadsSome (R.Read.remaining reader.old) (R.Read.remaining reader.new) most }
-    ensures failures { R.CountedRead.failures reader.new
-        ≡ failures_after (reads_on result) (R.CountedRead.failures reader.old) }
+        (ReadsOn (R.seen reader.old).bytes
+        (R.seen reader.new).bytes most input.old.items input.new.items) }
+    ensures some { ReadsSome (R.seen reader.old).bytes (R.seen reader.new).bytes most }
+    ensures failures { (R.seen reader.new).failures
+        ≡ failures_after (reads_on result) (R.seen reader.old).failures }
 {
     let part = &mut chunk[..most];
     match reader.read_counted(part) {
@@ -72,11 +73,11 @@ fn read_all<R: CountedRead>(
     requires room { length chunk.old ≡ CHUNK }
     requires empty { input.old.items ≡ [] }
     ensures input { OnOk result
-        (ReadsInput (R.Read.remaining reader.old) (R.Read.remaining reader.new) input.new.items) }
-    ensures some { ReadsSome (R.Read.remaining reader.old) (R.Read.remaining reader.new)
+        (ReadsInput (R.seen reader.old).bytes (R.seen reader.new).bytes input.new.items) }
+    ensures some { ReadsSome (R.seen reader.old).bytes (R.seen reader.new).bytes
         (max_input + 1) }
-    ensures failures { R.CountedRead.failures reader.new
-        ≡ failures_after (reads_on result) (R.CountedRead.failures reader.old) }
+    ensures failures { (R.seen reader.new).failures
+        ≡ failures_after (reads_on result) (R.seen reader.old).failures }
 {
     while input.len() <= MAX_INPUT {
         let most = CHUNK.min(MAX_INPUT + 1 - input.len());
@@ -90,12 +91,12 @@ fn read_all<R: CountedRead>(
 /// Reads to the end of the input, or one byte past the most that is a session.
 pub fn read_input<R: CountedRead>(alloc: Global, reader: &mut R) -> Result<Vec<u8>, InputFault>
     ensures input { IfOk result
-        (λ input. ReadsInput (R.Read.remaining reader.old)
-        (R.Read.remaining reader.new) input.items) }
-    ensures some { ReadsSome (R.Read.remaining reader.old) (R.Read.remaining reader.new)
+        (λ input. ReadsInput (R.seen reader.old).bytes
+        (R.seen reader.new).bytes input.items) }
+    ensures some { ReadsSome (R.seen reader.old).bytes (R.seen reader.new).bytes
         (max_input + 1) }
-    ensures failures { R.CountedRead.failures reader.new
-        ≡ failures_after (reads_on result) (R.CountedRead.failures reader.old) }
+    ensures failures { (R.seen reader.new).failures
+        ≡ failures_after (reads_on result) (R.seen reader.old).failures }
 {
     let mut chunk = room_for(alloc, CHUNK)?;
     let mut input = Vec::new(alloc);

@@ -10,6 +10,7 @@ mod output;
 mod placed;
 mod prompt;
 mod refusal;
+mod telling;
 mod writing;
 
 pub use device::{Counted, CountedRead, CountedWrite};
@@ -20,4 +21,5 @@ pub use input::{InputFault, read_input};
 pub use output::{Output, OutputStatus};
 pub use prompt::Prompting;
 pub use refusal::{Refusal, explained, push_spaced, refusal_line, too_long, too_many_steps};
+pub use telling::tell_of_input;
 pub use writing::{WriteFault, write_text};

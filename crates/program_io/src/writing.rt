@@ -30,11 +30,11 @@ fn fault_of(error: &io::Error) -> WriteFault
 /// Writes the whole text, or a prefix of it where a write fails.
 pub fn write_text<W: CountedWrite>(writer: &mut W, text: &[u8]) -> Result<(), WriteFault>
     ensures whole { OnOk result
-        (Appends (W.Write.contents writer.old) (W.Write.contents writer.new) text.now) }
+        (Appends (W.seen writer.old).bytes (W.seen writer.new).bytes text.now) }
     ensures prefix { OnErr result
-        (AppendsPrefix (W.Write.contents writer.old) (W.Write.contents writer.new) text.now) }
-    ensures failures { W.CountedWrite.failures writer.new
-        ≡ failures_after (is_ok result) (W.CountedWrite.failures writer.old) }
+        (AppendsPrefix (W.seen writer.old).bytes (W.seen writer.new).bytes text.now) }
+    ensures failures { (W.seen writer.new).failures
+        ≡ failures_after (is_ok result) (W.seen writer.old).failures }
 {
     let mut written = 0;
     while written < text.len() {

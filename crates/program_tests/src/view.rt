@@ -3,6 +3,7 @@ mod checks;
 mod command_lines;
 mod doubled;
 mod files;
+mod pages;
 mod pictures;
 mod processes;
 mod reports;

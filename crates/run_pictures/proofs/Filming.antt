@@ -1,10 +1,11 @@
 -- What a loop over the steps has filmed so far.
-use Rattle.std.proofs.Common.{◌≡◌, ℕ, zero, suc, ◌+◌, ◌^◌, ◌<◌, ◌≤◌, max, length-append, List, [], ◌∷◌, ◌++◌, length, map, filter, take, drop, get_or, Bool, true, false, refl, subst, sym, ap, ◌∙◌, append_assoc, add-one, arith}
+use Rattle.std.proofs.Common.{◌≡◌, ℕ, zero, suc, ◌+◌, ◌^◌, ◌<◌, ◌≤◌, max, length-append, List, [], ◌∷◌, ◌++◌, length, filter, drop, get_or, Bool, true, false, refl, subst, sym, ap, ◌∙◌, append_assoc, add-one, arith}
 use Rattle.std.specs.Prelude.{if◌then◌else◌}
-use Rattle.std.proofs.Math.Seq.{drop-cons, take-suc}
+use Rattle.std.proofs.lemmas.List.Sums.{count_by-le-length, length-filter}
+use Rattle.std.proofs.Math.Seq.{drop-cons}
 use Rattle.std.specs.Cmp.{first_so}
 use Rattle.std.proofs.lemmas.Bool.{leb-true}
-use Rattle.std.proofs.lemmas.List.{append-nil, drop_all, length-map, map-append}
+use Rattle.std.proofs.lemmas.List.{append-nil, drop_all, length-map}
 use Rattle.list_orders.specs.Search.{numbers}
 use Rattle.list_orders.proofs.Stamped.{numbers_more}
 use Rattle.bench_types.specs.declared.header.Header.{Header}
@@ -19,40 +20,16 @@ use Rattle.run_views.specs.declared.look.Look.{Look}
 use Rattle.run_views.specs.declared.places.Places.{Places}
 use Rattle.run_views.specs.Looks.{look_of}
 use Rattle.run_views.specs.Trace.{shows}
+use Rattle.run_views.proofs.States.{made_of, made_of_more, next_state, shown_few}
 use Rattle.run_pictures.specs.declared.film.Made.{Made}
 use Rattle.run_pictures.specs.Film.{IsFilmed, looks_of, made_from, shown_look, shown_places}
 
 -- what is seen at the shown ones of the first places
 abbrev pub seen : Places → Header → List Step → ℕ → List Look
-seen places header steps count = map (λ place. look_of (state_at header steps place)) (filter (shows places) (numbers count))
-
-shown_one : {X : Type 0} (b : Bool) (f : ℕ → X) (place : ℕ) → map f (if b then place ∷ [] else []) ≡ (if b then f place ∷ [] else [])
-shown_one true f place = refl
-shown_one false f place = refl
-
-filter_more : (p : ℕ → Bool) (xs : List ℕ) (x : ℕ) → filter p (xs ++ x ∷ []) ≡ filter p xs ++ (if p x then x ∷ [] else [])
-filter_more p [] x = refl
-filter_more p (y ∷ xs) x = at (p y) (filter_more p xs x)
-  where
-    at : (b : Bool) → filter p (xs ++ x ∷ []) ≡ filter p xs ++ (if p x then x ∷ [] else []) → (if b then y ∷ filter p (xs ++ x ∷ []) else filter p (xs ++ x ∷ [])) ≡ (if b then y ∷ filter p xs else filter p xs) ++ (if p x then x ∷ [] else [])
-    at true rest = ap (λ ys. y ∷ ys) rest
-    at false rest = rest
+seen places header steps count = made_of (shows places) (λ place. look_of (state_at header steps place)) count
 
 pub seen_more : (places : Places) (header : Header) (steps : List Step) (place : ℕ) → seen places header steps (place + 1) ≡ seen places header steps place ++ shown_look places place (look_of (state_at header steps place))
-seen_more places header steps place =
-    let f = λ (place : ℕ). look_of (state_at header steps place) in
-    ap (λ ns. map f (filter (shows places) ns)) (numbers_more place)
-    ∙ ap (map f) (filter_more (shows places) (numbers place) place)
-    ∙ map-append f (filter (shows places) (numbers place)) (if shows places place then place ∷ [] else [])
-    ∙ ap (λ ls. seen places header steps place ++ ls) (shown_one (shows places place) f place)
-
-after_more : (table : Table) (steps : List Step) (step : Step) → state_after table (steps ++ step ∷ []) ≡ (step_of step (state_after table steps)).1
-after_more table [] step = refl
-after_more table (one ∷ steps) step = after_more (step_of one table).1 steps step
-
-pub next_state : (header : Header) (steps : List Step) (place : ℕ) (d : Step) → place < length steps → state_at header steps (suc place) ≡ (step_of (get_or steps place d) (state_at header steps place)).1
-unfolding state_at
-next_state header steps place d early = ap (state_after (start header)) (take-suc steps place d early) ∙ after_more (start header) (take place steps) (get_or steps place d)
+seen_more places header steps place = made_of_more (shows places) (λ place. look_of (state_at header steps place)) place
 
 pub record FilmsSoFar (places : Places) (header : Header) (first : View) (steps : List Step) (looks_old looks : List Look) (made_old made : List Made) (kernel : View) (place : ℕ) : Type 0 where
   pub stands : StandsFor kernel (state_at header steps place)
@@ -114,18 +91,6 @@ all_filmed {places} {header} {first} {steps} {looks_old} {looks} {made_old} {mad
       made = sym (append-nil made) ∙ ap (λ ss. made ++ made_from now ss) (sym none) ∙ were.made_so;
     }
 
-within_few : (from count : ℕ) (b : Bool) (xs : List ℕ) → (b ≡ true → from ≤ count) → from + length xs ≤ max from count → from + length (xs ++ (if b then count ∷ [] else [])) ≤ max from (count + 1)
-within_few from count true xs shown were = let early : from ≤ count = shown refl in omega (arith, length-append xs (count ∷ []))
-within_few from count false xs shown were = let same : length (xs ++ []) ≡ length xs = ap length (append-nil xs) in omega arith
-
--- as many places are shown as there are from the first on
-shown_few : (places : Places) (count : ℕ) → places.from + length (filter (shows places) (numbers count)) ≤ max places.from count
-shown_few places zero = omega arith
-shown_few places (suc count) =
-    subst (λ n. places.from + length (filter (shows places) (numbers n)) ≤ max places.from n) (add-one count)
-    (subst (λ ns. places.from + length ns ≤ max places.from (count + 1)) (sym (ap (filter (shows places)) (numbers_more count) ∙ filter_more (shows places) (numbers count) count))
-    (within_few places.from count (shows places count) (filter (shows places) (numbers count)) (λ e. leb-true _ _ (first_so _ _ e)) (shown_few places count)))
-
 pub looks_few : (places : Places) (header : Header) (steps : List Step) → places.from < 2 ^ 32 → length steps + 1 < 2 ^ 32 → places.from + length (looks_of places header steps) ≤ 2 ^ 32
 unfolding looks_of
 looks_few places header steps from few =
@@ -137,3 +102,7 @@ unfolding looks_of
 looks_counted places header steps few =
     let shown = shown_few places (suc (length steps)) in
     omega (arith, length-map (shown_places places steps) (λ place. look_of (state_at header steps place)))
+
+-- some of some are no more than these
+pub passed_few : {X : Type 0} (test : X → Bool) (xs : List X) → length (filter test xs) ≤ length xs
+passed_few test xs = subst (λ (n : ℕ). n ≤ length xs) (sym (length-filter test xs)) (count_by-le-length test xs)

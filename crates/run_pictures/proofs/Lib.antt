@@ -1,6 +1,8 @@
+pub mod Escaping
 pub mod Filming
 pub mod Hindered
 pub mod Hindering
+pub mod LinedUp
 pub mod Replayed
 pub mod Rows
 pub mod Seen

@@ -1,12 +1,16 @@
 -- What a picture shows is what the replay has.
-use Rattle.std.proofs.Common.{◌≡◌, ℕ, ◌+◌, ◌<◌, List, [], ◌∷◌, length, map, Bool, refl, subst, sym, ap}
-use Rattle.std.specs.Prelude.{All, Decides, nat_eq}
+use Rattle.std.proofs.Common.{◌≡◌, ℕ, zero, suc, ◌+◌, ◌<◌, List, [], ◌∷◌, ◌++◌, filter, length, map, Bool, refl, subst, sym, ap, ◌∙◌, add-one, arith}
+use Rattle.std.specs.Prelude.{All, Decides, is_some, nat_eq, if◌then◌else◌}
+use Rattle.std.specs.List.{list_any}
 use Rattle.bench_types.specs.declared.header.Header.{Header}
 use Rattle.bench_types.specs.declared.kernel_data.CoreLook.{CoreLook}
 use Rattle.bench_types.specs.declared.kernel_data.Settings.{Settings}
 use Rattle.bench_types.specs.declared.step.Step.{Step}
 use Rattle.bench_types.specs.Header.{IsCheckedHeader}
 use Rattle.bench_types.specs.Step.{settings_of, IsCheckedStep}
+use Rattle.list_orders.specs.Search.{numbers}
+use Rattle.list_orders.proofs.Filters.{list_any-map}
+use Rattle.list_orders.proofs.Stamped.{numbers_more}
 use Rattle.bench_model.specs.Control.{current, task_at}
 use Rattle.bench_model.specs.SameTest.{are_same_bools, are_same_holds, are_same_options}
 use Rattle.bench_model.specs.Session.{state_at}
@@ -17,6 +21,7 @@ use Rattle.run_views.specs.declared.places.Places.{Places}
 use Rattle.run_views.specs.Changes.{are_same_numbers}
 use Rattle.run_views.specs.Looks.{look_of}
 use Rattle.run_pictures.specs.Film.{looks_of, shown_places}
+use Rattle.run_pictures.specs.MutexLines.{taken_mutexes}
 use Rattle.run_pictures.specs.Poses.{pose_in, pose_of, pose_spans}
 use Rattle.run_pictures.specs.Preemption.{preempt_in, preempt_spans}
 use Rattle.run_pictures.specs.Same.{are_same_dues, are_same_poses, are_same_priorities, are_same_stances, are_same_terms}
@@ -25,7 +30,8 @@ use Rattle.run_pictures.specs.Spans.{current_in, current_spans, due_in, due_span
 use Rattle.run_pictures.specs.Stances.{stance_in, stance_of}
 use Rattle.run_pictures.specs.Stretches.{stretches, Tiles}
 use Rattle.run_pictures.specs.TaskNames.{terms_in, terms_spans}
-use Rattle.run_pictures.specs.Theorem.{currents_of, due_at, dues_of, holders_of, holds_of, poses_of, preempts_of, priorities_at, priorities_of, stances_of, terms_at, terms_of, ticks_of, IsTiled}
+use Rattle.run_pictures.specs.Theorem.{currents_of, due_at, dues_of, holders_of, holds_of, poses_of, preempts_of, priorities_at, priorities_of, stances_of, taken_of, terms_at, terms_of, ticks_of, IsTiled}
+use Rattle.run_views.proofs.States.{filter_more}
 use Rattle.run_pictures.proofs.Seen.{core_seen, hold_seen, holder_seen, kept_settings, pose_seen, preempt_seen, priorities_seen, sound_state, stance_seen, terms_seen, tick_seen}
 use Rattle.run_pictures.proofs.Tiling.{tiled}
 use Rattle.run_pictures.proofs.Waiting.{told_last}
@@ -34,6 +40,17 @@ use Rattle.run_pictures.proofs.Waiting.{told_last}
 seen_in : {X : Type 0} (in_look : Look → X) (of_table : Table → X) (states : ℕ → Table) → ((place : ℕ) → in_look (look_of (states place)) ≡ of_table (states place)) → (ns : List ℕ) → map in_look (map (λ place. look_of (states place)) ns) ≡ map (λ place. of_table (states place)) ns
 seen_in in_look of_table states at [] = refl
 seen_in in_look of_table states at (n ∷ ns) = λ i. at n i ∷ seen_in in_look of_table states at ns i
+
+filter_last : (p : ℕ → Bool) (n : ℕ) → filter p (numbers (suc n)) ≡ filter p (numbers n) ++ (if p n then n ∷ [] else [])
+filter_last p n = ap (λ k. filter p (numbers k)) (sym (add-one n)) ∙ ap (filter p) (numbers_more n) ∙ filter_more p (numbers n) n
+
+-- two tests that agree at the first numbers keep the same of them
+filter_so : (p q : ℕ → Bool) (n : ℕ) → ((k : ℕ) → k < n → p k ≡ q k) → filter p (numbers n) ≡ filter q (numbers n)
+filter_so p q zero each = refl
+filter_so p q (suc n) each =
+    filter_last p n
+    ∙ (λ i. filter_so p q n (λ k below. each k (omega (arith, below))) i ++ (if each n (omega arith) i then n ∷ [] else []))
+    ∙ sym (filter_last q n)
 
 module _ (places : Places) (header : Header) (steps : List Step) (is : IsCheckedHeader header) (checked : All (IsCheckedStep (settings_of header)) steps) where
   core_within : (place core : ℕ) → core < header.config.cores → core < (state_at header steps place).settings.cores
@@ -111,6 +128,15 @@ module _ (places : Places) (header : Header) (steps : List Step) (is : IsChecked
       seen_tiled are_same_numbers holders_told (holder_in mutex) (λ table. holder_at table.holders mutex)
       (λ place. holder_seen (state_at header steps place) mutex (mutex_within place mutex few))
 
+  -- a mutex is held in the looks where it is held in the replay
+  taken_told : taken_mutexes header (looks_of places header steps) ≡ taken_of places header steps
+  unfolding looks_of
+  taken_told =
+      filter_so _ _ header.config.mutexes
+      (λ mutex few. sym (list_any-map is_some (holder_in mutex) (looks_of places header steps))
+      ∙ ap (list_any is_some) (seen_in (holder_in mutex) (λ table. holder_at table.holders mutex) (state_at header steps)
+      (λ place. holder_seen (state_at header steps place) mutex (mutex_within place mutex few)) (shown_places places steps)))
+
   ticks_tiled : Tiles places.from (ticks_of places header steps) (tick_spans places.from (looks_of places header steps))
   unfolding tick_spans
   ticks_tiled = seen_tiled nat_eq numbers_told tick_in (λ table. tick_count table.orders) (λ place. tick_seen (state_at header steps place))
@@ -126,6 +152,7 @@ module _ (places : Places) (header : Header) (steps : List Step) (is : IsChecked
     dues = due_tiled;
     holds = hold_tiled;
     holders = holder_tiled;
+    taken = taken_told;
     ticks = ticks_tiled;
     waits = told_last places header steps;
   }

@@ -3,6 +3,8 @@ use Rattle.std.specs.Prelude.{ℕ, ◌+◌, ◌%◌, ◌==◌, List, [], ◌++�
 use Rattle.list_orders.specs.Search.{numbers}
 use Rattle.run_views.specs.declared.look.Look.{Look}
 use Rattle.run_pictures.specs.declared.bar.Letters.TheVariants.{Dark}
+use Rattle.run_pictures.specs.declared.frame.Axis.{Axis}
+use Rattle.run_pictures.specs.declared.frame.Axis.TheVariants.{Places, Ticks}
 use Rattle.run_pictures.specs.declared.frame.Frame.{Frame}
 use Rattle.run_pictures.specs.declared.span.Span.{Span}
 use Rattle.run_pictures.specs.Bar.{bar_text, label_text, name_text, over_text}
@@ -29,6 +31,21 @@ tick_bar frame y span =
       height = 14;
     }) (over_text span.first span.last ++ codes "tick " ++ decimal span.value)
     ++ label_text frame Dark span.first span.last (y + 11) (decimal span.value)
+
+-- a thin line through all rows, where a tick begins
+unfoldable pub tick_rule : Frame → ℕ → ℕ → Span ℕ → List ℕ
+tick_rule frame top bottom span =
+    codes "<path class='g' d='M" ++ decimal (x_of frame span.first) ++ codes " " ++ decimal top
+    ++ codes "V" ++ decimal bottom ++ codes "'/>\n"
+
+abbrev pub rules_by : Axis → Frame → ℕ → ℕ → List Look → List ℕ
+rules_by Places frame top bottom looks = []
+rules_by Ticks frame top bottom looks =
+    flat_map (tick_rule frame top bottom) (tick_spans frame.first looks)
+
+-- each tick is ruled, where the columns stand for ticks
+unfoldable pub tick_rules : Frame → ℕ → ℕ → List Look → List ℕ
+tick_rules frame top bottom looks = rules_by frame.axis frame top bottom looks
 
 unfoldable pub axis_row : Frame → ℕ → List Look → List ℕ
 axis_row frame y looks =

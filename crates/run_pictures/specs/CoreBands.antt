@@ -27,10 +27,10 @@ current_bar header frame y core span =
       ink = task_ink header.config.cores span.value;
       first = span.first;
       last = span.last;
-      y = y;
+      y = y + 10;
       height = 24;
     }) (core_words header core span)
-    ++ label_text frame Dark span.first span.last (y + 16) (name_of header span.value)
+    ++ label_text frame Dark span.first span.last (y + 27) (name_of header span.value)
 
 abbrev pub due_words : ℕ → Span Due → List ℕ
 due_words core span =
@@ -45,7 +45,7 @@ due_bar frame y core span =
       ink = ink.Due;
       first = span.first;
       last = span.last;
-      y = y;
+      y = y + 10;
       height = 4;
     }) (due_words core span)
     else []
@@ -60,7 +60,7 @@ hold_part frame y first last (Some hold) =
       ink = ink.Held;
       first = first;
       last = last;
-      y = y + 20;
+      y = y + 30;
       height = 4;
     }) (hold_words first last hold)
 
@@ -68,10 +68,10 @@ hold_part frame y first last (Some hold) =
 unfoldable pub hold_bar : Frame → ℕ → Span (Option Hold) → List ℕ
 hold_bar frame y span = hold_part frame y span.first span.last span.value
 
--- the row of a core
+-- the row of a core: a strip for marks, and below it a bar, with lines at its top and its foot
 unfoldable pub core_row : Header → Frame → ℕ → List Look → ℕ → List ℕ
 core_row header frame y looks core =
-    name_text (y + 16) (codes "core " ++ decimal core)
+    name_text (y + 27) (codes "core " ++ decimal core)
     ++ flat_map (current_bar header frame y core) (current_spans frame.first looks core)
     ++ flat_map (due_bar frame y core) (due_spans frame.first looks core)
     ++ flat_map (hold_bar frame y) (hold_spans frame.first looks core)

@@ -1,19 +1,21 @@
 -- Where the places stand in a picture. Lengths are in pixels.
 use Rattle.std.specs.Prelude.{ℕ, suc, ◌+◌, ◌-◌, ◌*◌, List, nat_le, slice_get, unwrap_or, if◌then◌else◌}
 use Rattle.run_pictures.specs.declared.frame.Scale.{Scale}
-use Rattle.run_pictures.specs.declared.frame.Scale.TheVariants.{Widest, Wide, Middle, Narrow, Narrowest}
+use Rattle.run_pictures.specs.declared.frame.Scale.TheVariants.{Broad, Widest, Wide, Middle, Narrow, Narrowest}
 use Rattle.run_pictures.specs.declared.frame.Frame.{Frame}
 
 -- the scale at which so many columns are drawn
 abbrev pub scale_for : ℕ → Scale
 scale_for columns =
-    if nat_le columns 20 then Widest
+    if nat_le columns 8 then Broad
+    else (if nat_le columns 20 then Widest
     else (if nat_le columns 60 then Wide
     else (if nat_le columns 150 then Middle
-    else (if nat_le columns 600 then Narrow else Narrowest)))
+    else (if nat_le columns 600 then Narrow else Narrowest))))
 
 -- the width of so many columns
 abbrev pub pixels : Scale → ℕ → ℕ
+pixels Broad columns = 80 * columns
 pixels Widest columns = 40 * columns
 pixels Wide columns = 24 * columns
 pixels Middle columns = 12 * columns
@@ -22,8 +24,9 @@ pixels Narrowest columns = 2 * columns
 
 -- from one place that is numbered to the next
 abbrev pub every : Scale → ℕ
+every Broad = 1
 every Widest = 1
-every Wide = 1
+every Wide = 2
 every Middle = 5
 every Narrow = 10
 every Narrowest = 50

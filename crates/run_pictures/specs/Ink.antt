@@ -22,5 +22,5 @@ ink_text Due = codes "d"
 ink_text Held = codes "h"
 ink_text Inherited = codes "u"
 ink_text Off = codes "p"
-ink_text Taken = codes "m"
+ink_text (Taken user) = codes "m c" ++ decimal (user % 8)
 ink_text Clear = codes "z"

@@ -1,6 +1,7 @@
 -- What the steps are: each is told at its place of the axis, and an interrupt or a refusal is
--- marked in the row of its core.
+-- marked above the bar of its core.
 use Rattle.std.specs.Prelude.{ℕ, ◌+◌, ◌-◌, ◌*◌, ◌/◌, List, [], ◌++◌, flat_map, codes, decimal, Option, Some, None, slice_get, if◌then◌else◌}
+use Rattle.std.specs.Option.{option_and_then}
 use Rattle.bench_types.specs.declared.header.Header.{Header}
 use Rattle.bench_types.specs.declared.reply.Reply.{Reply}
 use Rattle.bench_types.specs.declared.step.Step.{Step}
@@ -10,6 +11,7 @@ use Rattle.run_views.specs.ReplyWords.{reply_words}
 use Rattle.run_views.specs.StepWords.{step_text}
 use Rattle.run_pictures.specs.declared.film.Made.{Made}
 use Rattle.run_pictures.specs.declared.frame.Frame.{Frame}
+use Rattle.run_pictures.specs.declared.frame.TheConstants.{CORE_ROW}
 use Rattle.run_pictures.specs.declared.ink.Ink.TheVariants as ink
 use Rattle.run_pictures.specs.declared.marks.Mark.{Mark}
 use Rattle.run_pictures.specs.declared.marks.Mark.TheVariants.{Refused, Interrupt}
@@ -34,7 +36,7 @@ step_words header place step reply =
 
 abbrev pub path_text : Mark → ℕ → ℕ → List ℕ
 path_text Refused x y =
-    codes "<path class='x' d='M" ++ decimal x ++ codes " " ++ decimal (y + 8)
+    codes "<path class='x' d='M" ++ decimal x ++ codes " " ++ decimal y
     ++ codes "l8 8m0-8l-8 8'><title>"
 path_text Interrupt x y =
     codes "<path class='n' d='M" ++ decimal x ++ codes " " ++ decimal y
@@ -52,7 +54,7 @@ abbrev pub mark_in : Frame → ℕ → ℕ → List ℕ → Option Mark → List
 mark_in frame y place words None = []
 mark_in frame y place words (Some mark) = mark_text frame y place mark words
 
--- the step of a place, told there and marked in the row of its core
+-- the step of a place, told there and marked above the bar of its core
 unfoldable pub step_cell : Header → Frame → ℕ → ℕ → Made → List ℕ
 step_cell header frame top place made =
     let words = step_words header place made.step made.reply in
@@ -63,11 +65,15 @@ step_cell header frame top place made =
       y = top;
       height = 14;
     }) words
-    ++ mark_in frame (top + 36 + 28 * core_of made.step) place words (mark_of made)
+    ++ mark_in frame (top + 36 + CORE_ROW * core_of made.step) place words (mark_of made)
 
 abbrev pub step_part : Header → Frame → ℕ → ℕ → Option Made → List ℕ
 step_part header frame top place None = []
 step_part header frame top place (Some made) = step_cell header frame top place made
+
+-- what is marked at the place
+abbrev pub mark_at : List Made → ℕ → Option Mark
+mark_at made place = option_and_then mark_of (slice_get made place)
 
 -- the step that is made at the place, if there is one
 abbrev pub step_at : Header → Frame → ℕ → List Made → ℕ → List ℕ

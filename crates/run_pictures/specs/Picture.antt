@@ -1,5 +1,5 @@
 -- The picture of a run, or of two runs one above the other.
-use Rattle.std.specs.Prelude.{◌≡◌, ◌<◌, ◌≤◌, ℕ, suc, ◌+◌, ◌-◌, ◌*◌, List, [], ◌++◌, flat_map, length, min, max, codes, decimal, MatchResult, Result, String, string_bytes}
+use Rattle.std.specs.Prelude.{◌≡◌, ◌<◌, ◌≤◌, ℕ, suc, ◌+◌, ◌-◌, ◌*◌, ◌/◌, List, [], ◌++◌, flat_map, length, min, max, codes, decimal, MatchResult, Result, String, string_bytes}
 use Rattle.std.specs.declared.alloc.Global.{Global}
 use Rattle.bench_types.specs.declared.header.Header.{Header}
 use Rattle.bench_types.specs.declared.step.Step.{Step}
@@ -7,97 +7,145 @@ use Rattle.list_orders.specs.Search.{numbers}
 use Rattle.run_views.specs.declared.look.Look.{Look}
 use Rattle.run_views.specs.declared.places.Places.{Places}
 use Rattle.run_pictures.specs.declared.film.Film.{Film}
+use Rattle.run_pictures.specs.declared.frame.Axis.{Axis}
 use Rattle.run_pictures.specs.declared.frame.Frame.{Frame}
 use Rattle.run_pictures.specs.declared.frame.Scale.{Scale}
+use Rattle.run_pictures.specs.declared.frame.TheConstants.{CORE_ROW, MUTEX_ROW, TASK_ROW}
 use Rattle.run_pictures.specs.declared.picture.TooLong.{TooLong}
-use Rattle.run_pictures.specs.declared.style.TheConstants.{LEGEND, OPENING, STYLE}
-use Rattle.run_pictures.specs.Axis.{axis_row}
+use Rattle.run_pictures.specs.declared.signs.Sign.{Sign}
+use Rattle.run_pictures.specs.declared.style.TheConstants.{OPENING, STYLE}
+use Rattle.run_pictures.specs.Axis.{axis_row, tick_rules}
 use Rattle.run_pictures.specs.CoreBands.{core_row}
 use Rattle.run_pictures.specs.Film.{film}
 use Rattle.run_pictures.specs.Drawn.{Drawn}
 use Rattle.run_pictures.specs.Frame.{column_of, pixels, scale_for}
 use Rattle.run_pictures.specs.Limits.{max_places}
 use Rattle.run_pictures.specs.Marks.{step_at}
+use Rattle.run_pictures.specs.MutexLines.{taken_mutexes, taken_rows}
 use Rattle.run_pictures.specs.Poses.{detail_for}
-use Rattle.run_pictures.specs.Spans.{holder_spans}
-use Rattle.run_pictures.specs.TaskBands.{holder_bar, task_row}
+use Rattle.run_pictures.specs.Shown.{Shown}
+use Rattle.run_pictures.specs.Signs.{entries_text, legend_height, signs_of, signs_of_both}
+use Rattle.run_pictures.specs.TaskBands.{task_row}
 
 -- how many places are shown of a session of so many steps
 abbrev pub shown_count : Places → ℕ → ℕ
 shown_count places steps = suc (min places.to steps) - places.from
 
 -- of a run whose places stand at their numbers
-abbrev pub frame_for : Places → ℕ → Frame
-frame_for places count = record {
+abbrev pub frame_for : Places → Axis → ℕ → Frame
+frame_for places axis count = record {
   first = places.from;
   scale = scale_for count;
   left = places.from;
   columns = [];
+  axis = axis;
 }
 
+-- as wide as so many columns, between the names and the last label
 abbrev pub width_of : Scale → ℕ → ℕ
-width_of scale count = max (162 + pixels scale count) 860
+width_of scale count = max (200 + pixels scale count) 860
 
-abbrev pub size_text : ℕ → ℕ → List ℕ
+-- how narrow a picture of that width may become, so that its letters can be read
+abbrev pub least_width : ℕ → ℕ
+least_width width = width * 3 / 4
+
+-- as wide as the page, but no narrower than so many pixels
+unfoldable pub least_text : ℕ → List ℕ
+least_text least =
+    codes " width='100%' style='min-width:" ++ decimal least ++ codes "px;height:auto'"
+
+-- of so many pixels in its own measure
+unfoldable pub width_text : ℕ → List ℕ
+width_text width = codes " viewBox='0 0 " ++ decimal width
+
+unfoldable pub height_text : ℕ → List ℕ
+height_text height = codes " " ++ decimal height ++ codes "'>\n"
+
+unfoldable pub size_text : ℕ → ℕ → List ℕ
 size_text width height =
-    codes " width='" ++ decimal width ++ codes "' height='" ++ decimal height
-    ++ codes "' viewBox='0 0 " ++ decimal width ++ codes " " ++ decimal height ++ codes "'>\n"
+    least_text (least_width width) ++ width_text width ++ height_text height
 
 -- the picture opens, of so many pixels, with its colours and its ground
 unfoldable pub opening_text : ℕ → ℕ → List ℕ
 opening_text width height = OPENING.now ++ size_text width height ++ STYLE.now
 
--- what the colours mean, and the end
-unfoldable pub legend_text : ℕ → List ℕ
-legend_text y =
-    codes "<g transform='translate(8," ++ decimal y ++ codes ")'>\n" ++ LEGEND.now
-    ++ codes "</g>\n</svg>\n"
+-- what the signs mean, and the end
+unfoldable pub legend_text : ℕ → List Sign → List ℕ
+legend_text y signs = entries_text y signs ++ codes "</svg>\n"
 
 abbrev pub heading_text : ℕ → List ℕ → List ℕ
 heading_text y heading =
     codes "<text class='k' x='8' y='" ++ decimal y ++ codes "'>" ++ heading ++ codes "</text>\n"
 
--- a run of a header takes so many pixels from top to bottom
-abbrev pub panel_height : Header → ℕ
-panel_height header = 50 + 28 * header.config.cores + 28 * length header.tasks
+-- the rows of tasks begin so many pixels below the top of a run
+abbrev pub tasks_down : Header → ℕ
+tasks_down header = 44 + CORE_ROW * header.config.cores
+
+abbrev pub mutexes_down : Header → ℕ
+mutexes_down header = tasks_down header + TASK_ROW * length header.tasks
+
+-- a run takes so many pixels from top to bottom
+abbrev pub panel_height : Header → List Look → ℕ
+panel_height header looks =
+    mutexes_down header + MUTEX_ROW * length (taken_mutexes header looks)
 
 abbrev pub core_rows : Header → Frame → ℕ → List Look → List ℕ
 core_rows header frame y looks =
-    flat_map (λ core. core_row header frame (y + 28 * core) looks core)
+    flat_map (λ core. core_row header frame (y + CORE_ROW * core) looks core)
     (numbers header.config.cores)
 
 -- of the user tasks
 abbrev pub task_rows : Header → Frame → ℕ → Film → List ℕ
 task_rows header frame y film =
     let detail = detail_for header frame.first film.looks in
-    flat_map
-    (λ user. task_row header frame (y + 28 * user) film detail (header.config.cores + user))
+    flat_map (λ user. task_row header frame (y + TASK_ROW * user) film detail
+    (header.config.cores + user))
     (numbers (length header.tasks))
 
--- where tasks hold mutexes, in the rows of these tasks
-abbrev pub mutex_bars : Header → Frame → ℕ → List Look → List ℕ
-mutex_bars header frame y looks =
-    flat_map (λ mutex. flat_map (holder_bar header frame y mutex)
-    (holder_spans frame.first looks mutex))
-    (numbers header.config.mutexes)
+-- the rows of a run, from the top on
+unfoldable pub bands_text : Shown → ℕ → List ℕ
+bands_text shown top =
+    let header = shown.header in
+    let frame = shown.frame in
+    let looks = shown.film.looks in
+    axis_row frame top looks ++ core_rows header frame (top + 36) looks
+    ++ task_rows header frame (top + tasks_down header) shown.film
+    ++ taken_rows header frame (top + mutexes_down header) looks
+
+-- what its steps are, and where its ticks begin
+unfoldable pub marks_text : Shown → ℕ → List ℕ
+marks_text shown top =
+    let header = shown.header in
+    let frame = shown.frame in
+    let looks = shown.film.looks in
+    flat_map (λ k. step_at header frame top shown.film.made (frame.first + k))
+    (numbers (length looks))
+    ++ tick_rules frame top (top + panel_height header looks) looks
 
 -- a run, from the top on
-unfoldable pub panel_text : Header → Frame → ℕ → Film → List ℕ
-panel_text header frame top film =
-    let tasks_top = top + 40 + 28 * header.config.cores in
-    axis_row frame top film.looks ++ core_rows header frame (top + 36) film.looks
-    ++ task_rows header frame tasks_top film ++ mutex_bars header frame tasks_top film.looks
-    ++ flat_map (λ k. step_at header frame top film.made (frame.first + k))
-    (numbers (length film.looks))
+unfoldable pub panel_text : Shown → ℕ → List ℕ
+panel_text shown top = bands_text shown top ++ marks_text shown top
+
+-- a run whose places stand at their numbers
+abbrev pub shown_of : Places → Axis → Header → List Step → Shown
+shown_of places axis header steps = record {
+  header = header;
+  frame = frame_for places axis (shown_count places (length steps));
+  film = film places header steps;
+}
+
+-- the picture of a run that is so many columns wide
+unfoldable pub drawn_run : ℕ → Shown → List ℕ
+drawn_run count shown =
+    let height = panel_height shown.header shown.film.looks in
+    let signs = signs_of shown in
+    opening_text (width_of shown.frame.scale count) (height + legend_height (length signs) + 20)
+    ++ panel_text shown 4 ++ legend_text (height + 16) signs
 
 -- the picture of one run
-unfoldable pub picture_text : Places → Header → List Step → List ℕ
-picture_text places header steps =
-    let count = shown_count places (length steps) in
-    let frame = frame_for places count in
-    let height = panel_height header in
-    opening_text (width_of frame.scale count) (height + 28)
-    ++ panel_text header frame 4 (film places header steps) ++ legend_text (height + 6)
+unfoldable pub picture_text : Places → Axis → Header → List Step → List ℕ
+picture_text places axis header steps =
+    drawn_run (shown_count places (length steps)) (shown_of places axis header steps)
 
 -- the first column that is shown of two runs on one axis
 abbrev pub left_of : Places → Drawn → Drawn → ℕ
@@ -114,37 +162,49 @@ count_of_both places before after =
     max (end_of places before) (end_of places after) - left_of places before after
 
 -- a run whose first column is the one of both
-abbrev pub frame_of : Places → Scale → ℕ → Drawn → Frame
-frame_of places scale left run = record {
+abbrev pub frame_of : Places → Axis → Scale → ℕ → Drawn → Frame
+frame_of places axis scale left run = record {
   first = places.from;
   scale = scale;
   left = left;
   columns = run.columns;
+  axis = axis;
+}
+
+abbrev pub shown_at : Places → Axis → Scale → ℕ → Drawn → Shown
+shown_at places axis scale left run = record {
+  header = run.header;
+  frame = frame_of places axis scale left run;
+  film = film places run.header run.steps;
 }
 
 -- a run below its heading
-unfoldable pub headed_text : Places → Drawn → Scale → ℕ → ℕ → List ℕ → List ℕ
-headed_text places run scale left top heading =
-    heading_text (top + 12) heading
-    ++ panel_text run.header (frame_of places scale left run) (top + 18)
-    (film places run.header run.steps)
+unfoldable pub headed_text : ℕ → List ℕ → Shown → List ℕ
+headed_text top heading shown = heading_text (top + 12) heading ++ panel_text shown (top + 18)
 
 -- the two runs, of which the upper takes so many pixels from top to bottom
-unfoldable pub both_text : Places → Drawn → Drawn → Scale → ℕ → List ℕ
-both_text places before after scale height =
-    let left = left_of places before after in
-    headed_text places before scale left 4 (codes "before the edits")
-    ++ headed_text places after scale left (height + 22) (codes "after the edits")
+unfoldable pub both_text : Shown → Shown → ℕ → List ℕ
+both_text before after height =
+    headed_text 4 (codes "before the edits") before
+    ++ headed_text (height + 32) (codes "after the edits") after
+
+-- the picture of two runs that are so many columns wide
+unfoldable pub drawn_runs : ℕ → Shown → Shown → List ℕ
+drawn_runs count before after =
+    let height = panel_height before.header before.film.looks in
+    let whole = height + panel_height after.header after.film.looks in
+    let signs = signs_of_both before after in
+    opening_text (width_of before.frame.scale count) (whole + legend_height (length signs) + 66)
+    ++ both_text before after height ++ legend_text (whole + 62) signs
 
 -- the picture of a run before the edits and of that after them
-unfoldable pub pictures_text : Places → Drawn → Drawn → List ℕ
-pictures_text places before after =
+unfoldable pub pictures_text : Places → Axis → Drawn → Drawn → List ℕ
+pictures_text places axis before after =
     let count = count_of_both places before after in
     let scale = scale_for count in
-    let height = panel_height before.header in
-    let whole = height + panel_height after.header in
-    opening_text (width_of scale count) (whole + 64)
-    ++ both_text places before after scale height ++ legend_text (whole + 42)
+    let left = left_of places before after in
+    drawn_runs count (shown_at places axis scale left before)
+    (shown_at places axis scale left after)
 
 -- a picture of so many columns, or that these are too many
 abbrev pub Answers : ℕ → List ℕ → Result (String Global) TooLong → Type 0

@@ -1,5 +1,5 @@
 -- How tasks stand, and what is in their way.
-use Rattle.std.specs.Prelude.{ℕ, ◌+◌, ◌-◌, List, [], filter, length, map, sum_by, Bool, true, false, nat_le, slice_get, if◌then◌else◌}
+use Rattle.std.specs.Prelude.{ℕ, ◌+◌, ◌-◌, ◌*◌, List, [], filter, length, map, sum_by, Bool, true, false, nat_le, nat_lt, slice_get, if◌then◌else◌}
 use Rattle.std.specs.Option.{option_map_or}
 use Rattle.bench_types.specs.declared.header.Header.{Header}
 use Rattle.bench_model.specs.Table.{Table}
@@ -12,7 +12,7 @@ use Rattle.run_pictures.specs.declared.span.Span.{Span}
 use Rattle.run_pictures.specs.declared.stance.Stance.{Stance}
 use Rattle.run_pictures.specs.declared.stance.Stance.TheVariants.{Runs, Ready, Blocked}
 use Rattle.run_pictures.specs.Hindrances.{hindrances_in, hindrances_of}
-use Rattle.run_pictures.specs.Limits.{max_pieces}
+use Rattle.run_pictures.specs.Limits.{max_found, max_pieces}
 use Rattle.run_pictures.specs.Same.{are_same_poses}
 use Rattle.run_pictures.specs.Spans.{stance_spans}
 use Rattle.run_pictures.specs.Stances.{stance_in, stance_of}
@@ -67,8 +67,18 @@ pieces_of header first looks =
     sum_by (λ user. count_ready (pose_spans first looks (header.config.cores + user)))
     (numbers (length header.tasks))
 
--- What is in the way of ready tasks is told of each place, or, where that takes too many stretches,
--- of the first place of each stretch at which a task is ready.
+-- as far as there are not too many
+abbrev pub detail_by_pieces : Header → ℕ → List Look → Detail
+detail_by_pieces header first looks =
+    if nat_le (pieces_of header first looks) max_pieces then EachPlace else FirstPlace
+
+-- how many hindrances there may be at all places
+abbrev pub most_found : Header → List Look → ℕ
+most_found header looks = length looks * (length header.tasks * header.config.cores)
+
+-- What is in the way of ready tasks is told of each place, or, where that takes too many hindrances
+-- or stretches, of the first place of each stretch at which a task is ready.
 abbrev pub detail_for : Header → ℕ → List Look → Detail
 detail_for header first looks =
-    if nat_le (pieces_of header first looks) max_pieces then EachPlace else FirstPlace
+    if nat_lt max_found (most_found header looks) then FirstPlace
+    else detail_by_pieces header first looks

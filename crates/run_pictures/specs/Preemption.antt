@@ -27,7 +27,7 @@ off_bar header frame y task span =
       first = span.first;
       last = span.last;
       y = y;
-      height = 2;
+      height = 3;
     }) (over_text span.first span.last ++ name_of header task ++ codes " preemption off")
 
 unfoldable pub off_bars : Header → Frame → ℕ → List Look → ℕ → List ℕ

@@ -1,5 +1,5 @@
 -- The rows of the tasks.
-use Rattle.std.specs.Prelude.{ℕ, ◌+◌, ◌-◌, ◌*◌, ◌%◌, ◌==◌, List, [], ◌++◌, flat_map, codes, decimal, Option, Some, None, if◌then◌else◌}
+use Rattle.std.specs.Prelude.{ℕ, ◌+◌, ◌-◌, ◌==◌, List, [], ◌++◌, flat_map, codes, decimal, Option, Some, None, if◌then◌else◌}
 use Rattle.bench_types.specs.declared.header.Header.{Header}
 use Rattle.bench_types.specs.Header.{name_of}
 use Rattle.run_views.specs.declared.look.Standing.TheVariants as standing
@@ -52,9 +52,9 @@ stance_ink user (Blocked wake) = ink.Waits
 
 -- how far below the top of its row the bar begins
 abbrev pub stance_down : Stance → ℕ
-stance_down (Runs core) = 2
-stance_down Ready = 6
-stance_down (Blocked wake) = 8
+stance_down (Runs core) = 4
+stance_down Ready = 8
+stance_down (Blocked wake) = 15
 
 abbrev pub stance_height : Stance → ℕ
 stance_height (Runs core) = 16
@@ -74,11 +74,11 @@ stance_shape user y span = record {
 unfoldable pub blocked_label : Frame → ℕ → ℕ → ℕ → Option Wait → List ℕ
 blocked_label frame y first last None = []
 blocked_label frame y first last (Some wait) =
-    label_text frame Small first last (y + 6) (wait_name wait)
+    label_text frame Small first last (y + 12) (wait_name wait)
 
 abbrev pub label_of : Frame → ℕ → ℕ → ℕ → Option Wait → Stance → List ℕ
 label_of frame y first last wait (Runs core) =
-    label_text frame Dark first last (y + 14) (codes "core " ++ decimal core)
+    label_text frame Dark first last (y + 16) (codes "core " ++ decimal core)
 label_of frame y first last wait Ready = []
 label_of frame y first last wait (Blocked wake) = blocked_label frame y first last wait
 
@@ -117,7 +117,7 @@ inherited_bar header frame y task span =
       ink = ink.Inherited;
       first = span.first;
       last = span.last;
-      y = y + 18;
+      y = y + 20;
       height = 3;
     }) (inherited_words header task span)
 
@@ -129,25 +129,3 @@ task_row header frame y film detail task =
     (told_spans detail frame.first film.looks task)
     ++ flat_map (inherited_bar header frame y task) (priority_spans frame.first film.looks task)
     ++ off_bars header frame y film.looks task
-
-abbrev pub held_words : Header → ℕ → ℕ → ℕ → ℕ → List ℕ
-held_words header mutex first last task =
-    over_text first last ++ codes "mutex " ++ decimal mutex ++ codes " held by "
-    ++ name_of header task
-
--- where the task holds the mutex, in the row of that task
-abbrev pub held_part : Header → Frame → ℕ → ℕ → ℕ → ℕ → Option ℕ → List ℕ
-held_part header frame y mutex first last None = []
-held_part header frame y mutex first last (Some task) =
-    bar_text frame (record {
-      ink = ink.Taken;
-      first = first;
-      last = last;
-      y = y + 28 * (task - header.config.cores) + 21 + 3 * (mutex % 2);
-      height = 3;
-    }) (held_words header mutex first last task)
-
--- a stretch at which a task holds the mutex
-unfoldable pub holder_bar : Header → Frame → ℕ → ℕ → Span (Option ℕ) → List ℕ
-holder_bar header frame y mutex span =
-    held_part header frame y mutex span.first span.last span.value

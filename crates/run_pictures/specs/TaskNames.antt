@@ -66,5 +66,5 @@ terms_line header y task (span ∷ spans) =
 -- the name of the task's row, and below it its base priority and its mask
 unfoldable pub task_name : Header → ℕ → ℕ → List Look → ℕ → List ℕ
 task_name header first y looks task =
-    name_text (y + 14) (name_of header task)
-    ++ terms_line header (y + 25) task (terms_spans first looks task)
+    name_text (y + 16) (name_of header task)
+    ++ terms_line header (y + 32) task (terms_spans first looks task)

@@ -1,5 +1,7 @@
 -- What a picture shows is what the replay has.
-use Rattle.std.specs.Prelude.{ℕ, ◌+◌, ◌<◌, List, length, map, Bool, Option}
+use Rattle.std.specs.Prelude.{◌≡◌, ℕ, ◌+◌, ◌<◌, List, filter, length, map, Bool, Option, is_some}
+use Rattle.std.specs.List.{list_any}
+use Rattle.list_orders.specs.Search.{numbers}
 use Rattle.bench_types.specs.declared.header.Header.{Header}
 use Rattle.bench_types.specs.declared.kernel_data.Hold.{Hold}
 use Rattle.bench_types.specs.declared.step.Step.{Step}
@@ -14,6 +16,7 @@ use Rattle.run_pictures.specs.declared.shown.Priorities.{Priorities}
 use Rattle.run_pictures.specs.declared.stance.Stance.{Stance}
 use Rattle.run_pictures.specs.declared.task_names.Terms.{Terms}
 use Rattle.run_pictures.specs.Film.{film, looks_of, shown_places}
+use Rattle.run_pictures.specs.MutexLines.{taken_mutexes}
 use Rattle.run_pictures.specs.Poses.{pose_of, pose_spans}
 use Rattle.run_pictures.specs.Preemption.{preempt_spans}
 use Rattle.run_pictures.specs.Spans.{current_spans, due_spans, hold_spans, holder_spans, own_hold, priority_spans, stance_spans, tick_spans}
@@ -92,8 +95,15 @@ holders_of places header steps mutex =
     map (λ place. holder_at (state_at header steps place).holders mutex)
     (shown_places places steps)
 
--- the spans that are drawn tile what the replay has at the places that are shown, and a task is
--- told to wait for what it began to wait for last in the replay
+-- the mutexes that a task holds at some of these places
+abbrev pub taken_of : Places → Header → List Step → List ℕ
+taken_of places header steps =
+    filter (λ mutex. list_any is_some (holders_of places header steps mutex))
+    (numbers header.config.mutexes)
+
+-- the spans that are drawn tile what the replay has at the places that are shown, a mutex has a row
+-- where a task holds it at one of these, and a task is told to wait for what it began to wait for
+-- last in the replay
 pub record IsTiled (places : Places) (header : Header) (steps : List Step) : Type 0 where
   pub cores : (core : ℕ) → core < header.config.cores
       → Tiles places.from (currents_of places header steps core)
@@ -122,6 +132,7 @@ pub record IsTiled (places : Places) (header : Header) (steps : List Step) : Typ
   pub holders : (mutex : ℕ) → mutex < header.config.mutexes
       → Tiles places.from (holders_of places header steps mutex)
       (holder_spans places.from (looks_of places header steps) mutex)
+  pub taken : taken_mutexes header (looks_of places header steps) ≡ taken_of places header steps
   pub ticks : Tiles places.from (ticks_of places header steps)
       (tick_spans places.from (looks_of places header steps))
   pub waits : (task : ℕ) (place : ℕ)

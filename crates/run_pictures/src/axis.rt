@@ -1,11 +1,11 @@
 //! The axis: the places by their numbers, and the tick count at each.
 ghost use Rattle.std.specs.Prelude.{◌≡◌, ◌++◌, ◌+◌, ◌<◌, ◌≤◌, ◌^◌, IfOk, OnOk, flat_map, length, map, string_bytes};
 ghost use Rattle.list_orders.specs.Search.{numbers};
-ghost use Rattle.run_pictures.specs.Axis.{axis_row, place_label, tick_bar};
+ghost use Rattle.run_pictures.specs.Axis.{axis_row, place_label, tick_bar, tick_rule, tick_rules};
 ghost use Rattle.run_pictures.specs.Spans.{tick_in, tick_spans};
 
 use crate::bar::{Bar, Letters, push_bar, push_label, push_name, push_over};
-use crate::frame::Frame;
+use crate::frame::{Axis, Frame};
 use crate::ink::tick_ink;
 use crate::span::{Span, stretches};
 use run_views::Look;
@@ -105,6 +105,63 @@ fn push_ticks(
         push_tick(alloc, text, frame, y, *span)?;
     }
     Ok(())
+}
+
+// A thin line through all rows, where a tick begins.
+#[tactic(auto, unfolding(crate::specs::Axis::tick_rule))]
+fn push_rule(
+    text: &mut String,
+    frame: &Frame,
+    top: u64,
+    bottom: u64,
+    span: Span<u32>,
+) -> Result<(), AllocError>
+    ensures { OnOk result
+        (string_bytes text.new ≡ string_bytes text.old ++ tick_rule frame.now top bottom span) }
+{
+    let x = frame.x_of(span.first);
+    write!(text, "<path class='g' d='M{x} {top}V{bottom}'/>\n")
+}
+
+fn push_rules_of(
+    text: &mut String,
+    frame: &Frame,
+    top: u64,
+    bottom: u64,
+    spans: &[Span<u32>],
+) -> Result<(), AllocError>
+    ensures { OnOk result
+        (string_bytes text.new
+        ≡ string_bytes text.old ++ flat_map (tick_rule frame.now top bottom) spans.now) }
+{
+    for span in spans {
+        push_rule(text, frame, top, bottom, *span)?;
+    }
+    Ok(())
+}
+
+/// Rules each tick, where the columns stand for ticks.
+#[tactic(auto, unfolding(crate::specs::Axis::tick_rules))]
+pub(crate) fn push_rules(
+    alloc: Global,
+    text: &mut String,
+    frame: &Frame,
+    top: u64,
+    bottom: u64,
+    looks: &[Look],
+) -> Result<(), AllocError>
+    requires { frame.now.first + length looks.now ≤ 2 ^ 32 }
+    ensures { OnOk result
+        (string_bytes text.new
+        ≡ string_bytes text.old ++ tick_rules frame.now top bottom looks.now) }
+{
+    match frame.axis {
+        Axis::Places => Ok(()),
+        Axis::Ticks => {
+            let spans = tick_spans(alloc, frame.first, looks)?;
+            push_rules_of(text, frame, top, bottom, spans.as_slice())
+        }
+    }
 }
 
 /// Writes the axis.

@@ -92,8 +92,9 @@ pub(crate) fn push_origin(
     write!(text, "<text class='{class}' x='{x}' y='{y}'>")
 }
 
+/// Writes words from where they begin on.
 #[tactic(auto, unfolding(crate::specs::Bar::word_text))]
-fn push_word(
+pub(crate) fn push_word(
     text: &mut String,
     letters: Letters,
     x: u64,

@@ -143,7 +143,7 @@ fn push_current(
         ink: task_ink(header.config.cores, span.value),
         first: span.first,
         last: span.last,
-        y,
+        y: y + 10,
         height: 24,
     };
     push_bar(text, frame, bar, words.as_str())?;
@@ -155,7 +155,7 @@ fn push_current(
         Letters::Dark,
         span.first,
         span.last,
-        y + 16,
+        y + 27,
         name.as_str(),
     )
 }
@@ -170,6 +170,7 @@ fn push_due(
     core: u32,
     span: Span<Due>,
 ) -> Result<(), AllocError>
+    requires { y < 2 ^ 40 }
     ensures { OnOk result
         (string_bytes text.new ≡ string_bytes text.old ++ due_bar frame.now y core span) }
 {
@@ -185,7 +186,7 @@ fn push_due(
         ink: Ink::Due,
         first: span.first,
         last: span.last,
-        y,
+        y: y + 10,
         height: 4,
     };
     push_bar(text, frame, bar, words.as_str())
@@ -215,7 +216,7 @@ fn push_held(
         ink: Ink::Held,
         first: span.first,
         last: span.last,
-        y: y + 20,
+        y: y + 30,
         height: 4,
     };
     push_bar(text, frame, bar, words.as_str())
@@ -249,6 +250,7 @@ fn push_dues(
     core: u32,
     spans: &[Span<Due>],
 ) -> Result<(), AllocError>
+    requires { y < 2 ^ 40 }
     ensures { OnOk result
         (string_bytes text.new
         ≡ string_bytes text.old ++ flat_map (due_bar frame.now y core) spans.now) }
@@ -296,7 +298,7 @@ pub(crate) fn push_core_row(
 {
     let mut name = String::new(alloc);
     write!(name, "core {core}")?;
-    push_name(text, y + 16, name.as_str())?;
+    push_name(text, y + 27, name.as_str())?;
     let currents = current_spans(alloc, frame.first, looks, core)?;
     push_currents(alloc, text, header, frame, y, core, currents.as_slice())?;
     let dues = due_spans(alloc, frame.first, looks, core)?;

@@ -4,9 +4,28 @@ ghost use Rattle.run_pictures.specs.Frame.{column_of, every, pixels, scale_for, 
 
 use bench_types::Items;
 
+/// How far below the row of one core that of the next stands.
+pub(crate) const CORE_ROW: u64 = 38;
+
+/// How far below the row of one task that of the next stands.
+pub(crate) const TASK_ROW: u64 = 36;
+
+/// How far below the row of one mutex that of the next stands.
+pub(crate) const MUTEX_ROW: u64 = 18;
+
+/// What the columns of a picture stand for.
+#[derive(Clone, Copy, Debug, PartialEq, Eq)]
+pub enum Axis {
+    /// Places, one after another.
+    Places,
+    /// Ticks, each with as many columns as it needs, and ruled.
+    Ticks,
+}
+
 /// How wide a column is drawn.
 #[derive(Clone, Copy, Debug, PartialEq, Eq)]
 pub(crate) enum Scale {
+    Broad,
     Widest,
     Wide,
     Middle,
@@ -24,13 +43,16 @@ pub(crate) struct Frame {
     pub(crate) left: u64,
     /// The column at which each place begins.
     pub(crate) columns: Items<u32>,
+    pub(crate) axis: Axis,
 }
 
 /// The scale at which so many columns are drawn.
 pub(crate) fn scale_for(columns: u64) -> Scale
     ensures { result ≡ scale_for columns }
 {
-    if columns <= 20 {
+    if columns <= 8 {
+        Scale::Broad
+    } else if columns <= 20 {
         Scale::Widest
     } else if columns <= 60 {
         Scale::Wide
@@ -48,9 +70,10 @@ impl Scale {
     pub(crate) fn pixels(self, columns: u64) -> u64
         requires { columns ≤ 2 ^ 32 }
         ensures value { result ≡ pixels self columns }
-        ensures few { result ≤ 40 * 2 ^ 32 }
+        ensures few { result ≤ 80 * 2 ^ 32 }
     {
         match self {
+            Scale::Broad => 80 * columns,
             Scale::Widest => 40 * columns,
             Scale::Wide => 24 * columns,
             Scale::Middle => 12 * columns,
@@ -65,7 +88,8 @@ impl Scale {
         ensures some { 1 ≤ result }
     {
         match self {
-            Scale::Widest | Scale::Wide => 1,
+            Scale::Broad | Scale::Widest => 1,
+            Scale::Wide => 2,
             Scale::Middle => 5,
             Scale::Narrow => 10,
             Scale::Narrowest => 50,

@@ -21,7 +21,8 @@ pub(crate) enum Ink {
     Inherited,
     /// Preemption is off.
     Off,
-    Taken,
+    /// A mutex that the user task of that index holds.
+    Taken(u32),
     /// Nothing is drawn; it is there to hover over.
     Clear,
 }
@@ -63,7 +64,7 @@ pub(crate) fn push_ink(text: &mut String, ink: Ink) -> Result<(), AllocError>
         Ink::Held => text.push_str("h"),
         Ink::Inherited => text.push_str("u"),
         Ink::Off => text.push_str("p"),
-        Ink::Taken => text.push_str("m"),
+        Ink::Taken(user) => write!(text, "m c{}", user % 8),
         Ink::Clear => text.push_str("z"),
     }
 }

@@ -3,6 +3,7 @@
 
 mod axis;
 mod bar;
+mod by_ticks;
 mod core_bands;
 mod escape;
 mod film;
@@ -12,10 +13,13 @@ mod hindrance_words;
 mod ink;
 mod laws;
 mod marks;
+mod mutex_lines;
+mod panel;
 mod picture;
 mod pose;
 mod preemption;
 mod shown;
+mod signs;
 mod span;
 mod stance;
 mod style;
@@ -23,10 +27,13 @@ mod task_bands;
 mod task_names;
 mod waits;
 
+pub use by_ticks::{TickColumns, tick_columns};
+pub use escape::{law_of_escapes, push_escaped, push_escaped_bytes};
 pub use film::{Film, Made};
+pub use frame::Axis;
 pub use hindrance::{Hindrance, Obstacle};
 pub use laws::law_of_hindrances;
-pub use picture::{MAX_PLACES, Run, TooLong, law_of_places, timeline, timelines};
+pub use picture::{Extent, MAX_PLACES, Run, TooLong, law_of_places, timeline, timelines};
 pub use pose::Pose;
 pub use span::{Shade, Span, stretches};
 pub use stance::Stance;

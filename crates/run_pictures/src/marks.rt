@@ -1,13 +1,13 @@
 //! What the steps are: each is told at its place of the axis, and an interrupt or a refusal is
-//! marked in the row of its core.
+//! marked above the bar of its core.
 ghost use Rattle.std.specs.Prelude.{◌≡◌, ◌++◌, ◌+◌, ◌<◌, ◌≤◌, ◌^◌, OnOk, flat_map, string_bytes};
 ghost use Rattle.list_orders.specs.Search.{numbers};
-ghost use Rattle.run_pictures.specs.Marks.{mark_in, mark_of, mark_text, middle, path_text, step_at, step_cell, step_words};
+ghost use Rattle.run_pictures.specs.Marks.{mark_at, mark_in, mark_of, mark_text, middle, path_text, step_at, step_cell, step_words};
 
 use crate::Made;
 use crate::bar::{Bar, push_bar};
 use crate::escape::push_escaped;
-use crate::frame::Frame;
+use crate::frame::{CORE_ROW, Frame};
 use crate::ink::Ink;
 use crate::waits::is_refused;
 use bench_types::{Header, Reply, Step};
@@ -33,6 +33,16 @@ fn mark_of(made: Made) -> Option<Mark>
     }
 }
 
+/// What is marked at the place.
+pub(crate) fn mark_at(made: &[Made], place: u32) -> Option<Mark>
+    ensures { result ≡ mark_at made.now place }
+{
+    match made.get(place as usize) {
+        Some(made) => mark_of(*made),
+        None => None,
+    }
+}
+
 fn push_step_words(
     words: &mut String,
     header: &Header,
@@ -51,15 +61,11 @@ fn push_step_words(
 }
 
 fn push_path(text: &mut String, mark: Mark, x: u64, y: u64) -> Result<(), AllocError>
-    requires { y < 2 ^ 40 }
     ensures { OnOk result
         (string_bytes text.new ≡ string_bytes text.old ++ path_text mark x y) }
 {
     match mark {
-        Mark::Refused => {
-            let y = y + 8;
-            write!(text, "<path class='x' d='M{x} {y}l8 8m0-8l-8 8'><title>")
-        }
+        Mark::Refused => write!(text, "<path class='x' d='M{x} {y}l8 8m0-8l-8 8'><title>"),
         Mark::Interrupt => write!(text, "<path class='n' d='M{x} {y}h8l-4 7z'><title>"),
     }
 }
@@ -80,7 +86,6 @@ fn push_mark(
     mark: Mark,
     words: &str,
 ) -> Result<(), AllocError>
-    requires { y < 2 ^ 40 }
     ensures { OnOk result
         (string_bytes text.new
         ≡ string_bytes text.old ++ mark_text frame.now y place mark words.now) }
@@ -98,7 +103,6 @@ fn push_marked(
     mark: Option<Mark>,
     words: &str,
 ) -> Result<(), AllocError>
-    requires { y < 2 ^ 40 }
     ensures { OnOk result
         (string_bytes text.new
         ≡ string_bytes text.old ++ mark_in frame.now y place words.now mark) }
@@ -109,7 +113,7 @@ fn push_marked(
     }
 }
 
-// The step of a place, told there and marked in the row of its core.
+// The step of a place, told there and marked above the bar of its core.
 #[tactic(auto, unfolding(crate::specs::Marks::step_cell))]
 fn push_cell(
     alloc: Global,
@@ -135,7 +139,7 @@ fn push_cell(
         height: 14,
     };
     push_bar(text, frame, bar, words.as_str())?;
-    let y = top + 36 + 28 * made.step.core() as u64;
+    let y = top + 36 + CORE_ROW * made.step.core() as u64;
     push_marked(text, frame, y, place, mark_of(made), words.as_str())
 }
 

@@ -2,22 +2,26 @@
 ghost use Rattle.std.specs.Prelude.{◌≡◌, ℕ, ◌++◌, ◌+◌, ◌*◌, ◌<◌, ◌≤◌, ◌^◌, All, IfOk, OnOk, flat_map, length, map, min, string_bytes};
 ghost use Rattle.list_orders.specs.Search.{numbers};
 ghost use Rattle.bench_types.specs.Header.{IsCheckedHeader};
-ghost use Rattle.bench_types.specs.Limits.{max_tasks};
+ghost use Rattle.bench_types.specs.Limits.{max_cores, max_tasks};
 ghost use Rattle.bench_types.specs.Step.{settings_of, IsCheckedStep};
 ghost use Rattle.run_pictures.specs.CoreBands.{core_row};
 ghost use Rattle.run_pictures.specs.Limits.{max_places};
 ghost use Rattle.run_pictures.specs.Drawn.{drawn, IsDrawable};
-ghost use Rattle.run_pictures.specs.Picture.{both_text, core_rows, count_of_both, end_of, frame_for, frame_of, headed_text, heading_text, left_of, legend_text, opening_text, panel_height, mutex_bars, panel_text, picture_text, pictures_text, shown_count, size_text, task_rows, width_of, Answers};
+ghost use Rattle.run_pictures.specs.Picture.{bands_text, both_text, core_rows, count_of_both, drawn_run, drawn_runs, end_of, frame_for, frame_of, headed_text, heading_text, height_text, least_width, least_text, left_of, legend_text, marks_text, mutexes_down, opening_text, panel_height, panel_text, picture_text, pictures_text, shown_at, shown_count, shown_of, size_text, task_rows, tasks_down, width_of, width_text, Answers};
+ghost use Rattle.run_pictures.specs.Shown.{shown, IsNumbered};
 ghost use Rattle.run_pictures.specs.Theorem.{IsTiled};
 
-use crate::axis::push_axis;
+use crate::axis::{push_axis, push_rules};
 use crate::core_bands::push_core_row;
 use crate::film::Film;
-use crate::frame::{Frame, Scale, column_of, scale_for};
+use crate::frame::{Axis, CORE_ROW, Frame, MUTEX_ROW, Scale, TASK_ROW, column_of, scale_for};
 use crate::marks::push_steps;
+use crate::mutex_lines::{push_taken_rows, taken_mutexes};
+use crate::panel::Panel;
 use crate::pose::detail_for;
-use crate::style::{LEGEND, OPENING, STYLE};
-use crate::task_bands::{push_mutex, push_task_row};
+use crate::signs::{Sign, legend_height, push_entries, signs_of, signs_of_both};
+use crate::style::{OPENING, STYLE};
+use crate::task_bands::push_task_row;
 use bench_types::{Header, Items, Step};
 use run_views::{Look, Places};
 use smp_kernel::Meter;
@@ -30,6 +34,13 @@ pub const MAX_PLACES: u64 = 4000;
 pub fn law_of_places()
     ensures { MAX_PLACES ≡ max_places }
 {}
+
+/// What a picture shows of a run, and by which axis.
+#[derive(Clone, Copy, Debug, PartialEq, Eq)]
+pub struct Extent {
+    pub places: Places,
+    pub axis: Axis,
+}
 
 /// A picture would show so many places.
 #[derive(Clone, Copy, Debug, PartialEq, Eq)]
@@ -47,44 +58,98 @@ fn shown_count(places: Places, steps: usize) -> u64
 }
 
 // The frame of a run whose places stand at their numbers.
-fn frame_for(alloc: Global, places: Places, count: u64) -> Frame
-    ensures { result ≡ frame_for places count }
+fn frame_for(alloc: Global, places: Places, axis: Axis, count: u64) -> Frame
+    ensures { result ≡ frame_for places axis count }
 {
     Frame {
         first: places.from,
         scale: scale_for(count),
         left: u64::from(places.from),
         columns: Items::new(Vec::new(alloc)),
+        axis,
     }
 }
 
-fn panel_height(header: &Header) -> u64
-    requires { length header.now.tasks ≤ max_tasks }
-    ensures value { result ≡ panel_height header.now }
-    ensures few { result < 2 ^ 37 }
+// How far below the top of a run the rows of its tasks begin.
+fn tasks_down(header: &Header) -> u64
+    requires { header.now.config.cores ≤ max_cores }
+    ensures value { result ≡ tasks_down header.now }
+    ensures few { result < 2 ^ 20 }
 {
-    50 + 28 * u64::from(header.config.cores) + 28 * header.tasks.as_slice().len() as u64
+    44 + CORE_ROW * u64::from(header.config.cores)
+}
+
+fn mutexes_down(header: &Header) -> u64
+    requires cores { header.now.config.cores ≤ max_cores }
+    requires tasks { length header.now.tasks ≤ max_tasks }
+    ensures value { result ≡ mutexes_down header.now }
+    ensures few { result < 2 ^ 30 }
+{
+    tasks_down(header) + TASK_ROW * header.tasks.as_slice().len() as u64
+}
+
+fn panel_height(alloc: Global, header: &Header, looks: &[Look]) -> Result<u64, AllocError>
+    requires cores { header.now.config.cores ≤ max_cores }
+    requires tasks { length header.now.tasks ≤ max_tasks }
+    ensures value { IfOk result (λ height. height ≡ panel_height header.now looks.now) }
+    ensures few { IfOk result (λ height. height < 2 ^ 37) }
+{
+    let mutexes = taken_mutexes(alloc, header, looks)?;
+    Ok(mutexes_down(header) + MUTEX_ROW * mutexes.len() as u64)
 }
 
 fn width_of(scale: Scale, count: u64) -> u64
     requires { count ≤ 2 ^ 32 }
     ensures { result ≡ width_of scale count }
 {
-    (162 + scale.pixels(count)).max(860)
+    (200 + scale.pixels(count)).max(860)
 }
 
-fn push_size(text: &mut String, width: u64, height: u64) -> Result<(), AllocError>
-    ensures { OnOk result
-        (string_bytes text.new ≡ string_bytes text.old ++ size_text width height) }
+fn least_width(width: u64) -> u64
+    requires { width < 2 ^ 40 }
+    ensures { result ≡ least_width width }
+{
+    width * 3 / 4
+}
+
+#[tactic(auto, unfolding(crate::specs::Picture::least_text))]
+fn push_least(text: &mut String, least: u64) -> Result<(), AllocError>
+    ensures { OnOk result (string_bytes text.new ≡ string_bytes text.old ++ least_text least) }
 {
     write!(
         text,
-        " width='{width}' height='{height}' viewBox='0 0 {width} {height}'>\n"
+        " width='100%' style='min-width:{least}px;height:auto'"
     )
+}
+
+#[tactic(auto, unfolding(crate::specs::Picture::width_text))]
+fn push_width(text: &mut String, width: u64) -> Result<(), AllocError>
+    ensures { OnOk result (string_bytes text.new ≡ string_bytes text.old ++ width_text width) }
+{
+    write!(text, " viewBox='0 0 {width}")
+}
+
+#[tactic(auto, unfolding(crate::specs::Picture::height_text))]
+fn push_height(text: &mut String, height: u64) -> Result<(), AllocError>
+    ensures { OnOk result (string_bytes text.new ≡ string_bytes text.old ++ height_text height) }
+{
+    write!(text, " {height}'>\n")
+}
+
+#[tactic(auto, unfolding(crate::specs::Picture::size_text))]
+fn push_size(text: &mut String, width: u64, height: u64) -> Result<(), AllocError>
+    requires { width < 2 ^ 40 }
+    ensures { OnOk result
+        (string_bytes text.new ≡ string_bytes text.old ++ size_text width height) }
+{
+    push_least(text, least_width(width))?;
+    push_width(text, width)?;
+    push_height(text, height)
 }
 
 #[tactic(auto, unfolding(crate::specs::Picture::opening_text))]
 fn push_opening(text: &mut String, width: u64, height: u64) -> Result<(), AllocError>
+    requires { width < 2 ^ 40 }
     ensures { OnOk result
         (string_bytes text.new ≡ string_bytes text.old ++ opening_text width height) }
 {
@@ -94,12 +159,14 @@ fn push_opening(text: &mut String, width: u64, height: u64) -> Result<(), AllocE
 }
 
 #[tactic(auto, unfolding(crate::specs::Picture::legend_text))]
-fn push_legend(text: &mut String, y: u64) -> Result<(), AllocError>
-    ensures { OnOk result (string_bytes text.new ≡ string_bytes text.old ++ legend_text y) }
+fn push_legend(text: &mut String, y: u64, signs: &[Sign]) -> Result<(), AllocError>
+    requires y { y < 2 ^ 40 }
+    requires few { length signs.now < 2 ^ 32 }
+    ensures { OnOk result
+        (string_bytes text.new ≡ string_bytes text.old ++ legend_text y signs.now) }
 {
-    write!(text, "<g transform='translate(8,{y})'>\n")?;
-    text.push_str(LEGEND)?;
-    text.push_str("</g>\n</svg>\n")
+    push_entries(text, y, signs)?;
+    text.push_str("</svg>\n")
 }
 
 fn push_heading(text: &mut String, y: u64, heading: &str) -> Result<(), AllocError>
@@ -129,7 +196,7 @@ fn push_cores(
             text,
             header,
             frame,
-            y + 28 * core as u64,
+            y + CORE_ROW * core as u64,
             looks,
             core,
         )?;
@@ -148,7 +215,9 @@ fn push_tasks(
 ) -> Result<(), AllocError>
     requires y { y < 2 ^ 39 }
     requires few { frame.now.first + length film.now.looks ≤ 2 ^ 32 }
-    requires tasks { header.now.config.cores + length header.now.tasks < 2 ^ 32 }
+    requires looks { length film.now.looks < 2 ^ 32 }
+    requires cores { header.now.config.cores ≤ max_cores }
+    requires tasks { length header.now.tasks ≤ max_tasks }
     ensures { OnOk result
         (string_bytes text.new
         ≡ string_bytes text.old ++ task_rows header.now frame.now y film.now) }
@@ -156,7 +225,7 @@ fn push_tasks(
     let cores = header.config.cores;
     let detail = detail_for(alloc, header, frame.first, film.looks.as_slice())?;
     for user in 0..header.tasks.as_slice().len() as u32 {
-        let below = y + 28 * user as u64;
+        let below = y + TASK_ROW * user as u64;
         push_task_row(
             alloc,
             text,
@@ -171,60 +240,97 @@ fn push_tasks(
     Ok(())
 }
 
-// Where tasks hold mutexes.
-fn push_mutexes(
-    alloc: Global,
-    text: &mut String,
-    header: &Header,
-    frame: &Frame,
-    y: u64,
-    looks: &[Look],
-) -> Result<(), AllocError>
-    requires y { y < 2 ^ 39 }
-    requires few { frame.now.first + length looks.now ≤ 2 ^ 32 }
-    ensures { OnOk result
-        (string_bytes text.new
-        ≡ string_bytes text.old ++ mutex_bars header.now frame.now y looks.now) }
-{
-    for mutex in 0..header.config.mutexes {
-        push_mutex(alloc, text, header, frame, y, looks, mutex)?;
-    }
-    Ok(())
-}
-
 // The rows of one run, from the top on.
-#[tactic(auto, unfolding(crate::specs::Picture::panel_text))]
-fn push_rows(
+#[tactic(auto, unfolding(crate::specs::Picture::bands_text))]
+fn push_bands(
     alloc: Global,
     text: &mut String,
-    header: &Header,
-    frame: &Frame,
+    panel: &Panel<'_>,
     top: u64,
-    film: &Film,
 ) -> Result<(), AllocError>
     requires top { top < 2 ^ 38 }
-    requires few { frame.now.first + length film.now.looks ≤ 2 ^ 32 }
-    requires some { length film.now.looks < 2 ^ 32 }
-    requires tasks { header.now.config.cores + length header.now.tasks < 2 ^ 32 }
+    requires numbered { IsNumbered (shown panel.now) }
     ensures { OnOk result
-        (string_bytes text.new
-        ≡ string_bytes text.old ++ panel_text header.now frame.now top film.now) }
+        (string_bytes text.new ≡ string_bytes text.old ++ bands_text (shown panel.now) top) }
 {
-    let looks = film.looks.as_slice();
-    let tasks_top = top + 40 + 28 * header.config.cores as u64;
+    let header = panel.header;
+    let frame = &panel.frame;
+    let looks = panel.film.looks.as_slice();
     push_axis(alloc, text, frame, top, looks)?;
     push_cores(alloc, text, header, frame, top + 36, looks)?;
-    push_tasks(alloc, text, header, frame, tasks_top, film)?;
-    push_mutexes(alloc, text, header, frame, tasks_top, looks)?;
+    push_tasks(
+        alloc,
+        text,
+        header,
+        frame,
+        top + tasks_down(header),
+        &panel.film,
+    )?;
+    let down = top + mutexes_down(header);
+    push_taken_rows(alloc, text, header, frame, down, looks)
+}
+
+// What the steps of one run are, and where its ticks begin.
+#[tactic(auto, unfolding(crate::specs::Picture::marks_text))]
+fn push_marks(
+    alloc: Global,
+    text: &mut String,
+    panel: &Panel<'_>,
+    top: u64,
+) -> Result<(), AllocError>
+    requires top { top < 2 ^ 38 }
+    requires numbered { IsNumbered (shown panel.now) }
+    ensures { OnOk result
+        (string_bytes text.new ≡ string_bytes text.old ++ marks_text (shown panel.now) top) }
+{
+    let header = panel.header;
+    let frame = &panel.frame;
+    let looks = panel.film.looks.as_slice();
     push_steps(
         alloc,
         text,
         header,
         frame,
         top,
-        film.made.as_slice(),
+        panel.film.made.as_slice(),
         looks.len() as u32,
-    )
+    )?;
+    let bottom = top + panel_height(alloc, header, looks)?;
+    push_rules(alloc, text, frame, top, bottom, looks)
+}
+
+// One run, from the top on.
+#[tactic(auto, unfolding(crate::specs::Picture::panel_text))]
+fn push_panel(
+    alloc: Global,
+    text: &mut String,
+    panel: &Panel<'_>,
+    top: u64,
+) -> Result<(), AllocError>
+    requires top { top < 2 ^ 38 }
+    requires numbered { IsNumbered (shown panel.now) }
+    ensures { OnOk result
+        (string_bytes text.new ≡ string_bytes text.old ++ panel_text (shown panel.now) top) }
+{
+    push_bands(alloc, text, panel, top)?;
+    push_marks(alloc, text, panel, top)
+}
+
+// The picture of a run that is so many columns wide.
+#[tactic(auto, unfolding(crate::specs::Picture::drawn_run))]
+fn draw_panel(alloc: Global, panel: &Panel<'_>, count: u64) -> Result<String, AllocError>
+    requires numbered { IsNumbered (shown panel.now) }
+    requires count { count ≤ 2 ^ 32 }
+    ensures { IfOk result (λ text. string_bytes text ≡ drawn_run count (shown panel.now)) }
+{
+    let height = panel_height(alloc, panel.header, panel.film.looks.as_slice())?;
+    let signs = signs_of(alloc, panel)?;
+    let width = width_of(panel.frame.scale, count);
+    let mut text = String::new(alloc);
+    push_opening(&mut text, width, height + legend_height(signs.len()) + 20)?;
+    push_panel(alloc, &mut text, panel, 4)?;
+    push_legend(&mut text, height + 16, signs.as_slice())?;
+    Ok(text)
 }
 
 #[tactic(auto, unfolding(crate::specs::Picture::picture_text))]
@@ -232,6 +338,7 @@ fn draw_run(
     alloc: Global,
     meter: &mut Meter,
     places: Places,
+    axis: Axis,
     header: &Header,
     steps: &[Step],
     count: u64,
@@ -241,16 +348,16 @@ fn draw_run(
     requires few { length steps.now + 1 < 2 ^ 32 }
     requires count { count ≡ shown_count places (length steps.now) }
     ensures { IfOk result
-        (λ text. string_bytes text ≡ picture_text places header.now steps.now) }
+        (λ text. string_bytes text ≡ picture_text places axis header.now steps.now) }
 {
-    let frame = frame_for(alloc, places, count);
-    let height = panel_height(header);
+    let frame = frame_for(alloc, places, axis, count);
     let film = Film::of_run(alloc, meter, places, header, steps)?;
-    let mut text = String::new(alloc);
-    push_opening(&mut text, width_of(frame.scale, count), height + 28)?;
-    push_rows(alloc, &mut text, header, &frame, 4, &film)?;
-    push_legend(&mut text, height + 6)?;
-    Ok(text)
+    let panel = Panel {
+        header,
+        frame,
+        film,
+    };
+    draw_panel(alloc, &panel, count)
 }
 
 /// The picture of a checked session's run, at the places that are shown. `TooLong` where these are
@@ -258,23 +365,24 @@ fn draw_run(
 pub fn timeline(
     alloc: Global,
     meter: &mut Meter,
-    places: Places,
+    extent: Extent,
     header: &Header,
     steps: &[Step],
 ) -> Result<Result<String, TooLong>, AllocError>
     requires header { IsCheckedHeader header.now }
     requires steps { All (IsCheckedStep (settings_of header.now)) steps.now }
     requires few { length steps.now + 1 < 2 ^ 32 }
-    ensures picture { IfOk result (Answers (shown_count places (length steps.now))
-        (picture_text places header.now steps.now)) }
+    ensures picture { IfOk result (Answers (shown_count extent.places (length steps.now))
+        (picture_text extent.places extent.axis header.now steps.now)) }
     // The spans that are drawn tile what the replay has.
-    ensures tiled { IsTiled places header.now steps.now }
+    ensures tiled { IsTiled extent.places header.now steps.now }
 {
+    let Extent { places, axis } = extent;
     let count = shown_count(places, steps.len());
     if count > MAX_PLACES {
         return Ok(Err(TooLong { places: count }));
     }
-    let text = draw_run(alloc, meter, places, header, steps, count)?;
+    let text = draw_run(alloc, meter, places, axis, header, steps, count)?;
     Ok(Ok(text))
 }
 
@@ -316,11 +424,12 @@ fn count_of_both(places: Places, before: &Run<'_>, after: &Run<'_>) -> u64
 fn frame_of(
     alloc: Global,
     places: Places,
+    axis: Axis,
     scale: Scale,
     left: u64,
     run: &Run<'_>,
 ) -> Result<Frame, AllocError>
-    ensures { IfOk result (λ frame. frame ≡ frame_of places scale left (drawn run.now)) }
+    ensures { IfOk result (λ frame. frame ≡ frame_of places axis scale left (drawn run.now)) }
 {
     let mut columns = Vec::with_capacity(alloc, run.columns.len())?;
     columns.extend_from_slice(run.columns)?;
@@ -329,6 +438,32 @@ fn frame_of(
         scale,
         left,
         columns: Items::new(columns),
+        axis,
+    })
+}
+
+// The run as it is drawn at these places.
+fn panel_of<'a>(
+    alloc: Global,
+    meter: &mut Meter,
+    places: Places,
+    axis: Axis,
+    scale: Scale,
+    left: u64,
+    run: &Run<'a>,
+) -> Result<Panel<'a>, AllocError>
+    requires { IsDrawable (drawn run.now) }
+    ensures panel { IfOk result
+        (λ panel. shown panel ≡ shown_at places axis scale left (drawn run.now)) }
+    ensures numbered { IfOk result (λ panel. IsNumbered (shown panel)) }
+{
+    let header = run.header;
+    let frame = frame_of(alloc, places, axis, scale, left, run)?;
+    let film = Film::of_run(alloc, meter, places, header, run.steps)?;
+    Ok(Panel {
+        header,
+        frame,
+        film,
     })
 }
 
@@ -336,54 +471,65 @@ fn frame_of(
 #[tactic(auto, unfolding(crate::specs::Picture::headed_text))]
 fn push_headed(
     alloc: Global,
-    meter: &mut Meter,
     text: &mut String,
-    places: Places,
-    run: &Run<'_>,
-    scale: Scale,
-    left: u64,
     top: u64,
     heading: &str,
+    panel: &Panel<'_>,
 ) -> Result<(), AllocError>
-    requires run { IsDrawable (drawn run.now) }
     requires top { top + 18 < 2 ^ 38 }
+    requires numbered { IsNumbered (shown panel.now) }
     ensures { OnOk result
         (string_bytes text.new
-        ≡ string_bytes text.old
-        ++ headed_text places (drawn run.now) scale left top heading.now) }
+        ≡ string_bytes text.old ++ headed_text top heading.now (shown panel.now)) }
 {
-    let film = Film::of_run(alloc, meter, places, run.header, run.steps)?;
-    let frame = frame_of(alloc, places, scale, left, run)?;
     push_heading(text, top + 12, heading)?;
-    push_rows(alloc, text, run.header, &frame, top + 18, &film)
+    push_panel(alloc, text, panel, top + 18)
 }
 
 // The two runs, the one above the other.
 #[tactic(auto, unfolding(crate::specs::Picture::both_text))]
 fn push_both(
     alloc: Global,
-    meter: &mut Meter,
     text: &mut String,
-    places: Places,
-    before: &Run<'_>,
-    after: &Run<'_>,
-    scale: Scale,
+    before: &Panel<'_>,
+    after: &Panel<'_>,
     height: u64,
 ) -> Result<(), AllocError>
-    requires before { IsDrawable (drawn before.now) }
-    requires after { IsDrawable (drawn after.now) }
+    requires before { IsNumbered (shown before.now) }
+    requires after { IsNumbered (shown after.now) }
     requires height { height < 2 ^ 37 }
     ensures { OnOk result
         (string_bytes text.new
-        ≡ string_bytes text.old
-        ++ both_text places (drawn before.now) (drawn after.now) scale height) }
+        ≡ string_bytes text.old ++ both_text (shown before.now) (shown after.now) height) }
 {
-    let left = left_of(places, before, after);
-    let upper = "before the edits";
-    push_headed(alloc, meter, text, places, before, scale, left, 4, upper)?;
-    let lower = "after the edits";
-    let top = height + 22;
-    push_headed(alloc, meter, text, places, after, scale, left, top, lower)
+    push_headed(alloc, text, 4, "before the edits", before)?;
+    push_headed(alloc, text, height + 32, "after the edits", after)
+}
+
+// The picture of two runs that are so many columns wide.
+#[tactic(auto, unfolding(crate::specs::Picture::drawn_runs))]
+fn draw_panels(
+    alloc: Global,
+    before: &Panel<'_>,
+    after: &Panel<'_>,
+    count: u64,
+) -> Result<String, AllocError>
+    requires before { IsNumbered (shown before.now) }
+    requires after { IsNumbered (shown after.now) }
+    requires count { count ≤ 2 ^ 32 }
+    ensures { IfOk result
+        (λ text. string_bytes text ≡ drawn_runs count (shown before.now) (shown after.now)) }
+{
+    let height = panel_height(alloc, before.header, before.film.looks.as_slice())?;
+    let lower = panel_height(alloc, after.header, after.film.looks.as_slice())?;
+    let whole = height + lower;
+    let signs = signs_of_both(alloc, before, after)?;
+    let width = width_of(before.frame.scale, count);
+    let mut text = String::new(alloc);
+    push_opening(&mut text, width, whole + legend_height(signs.len()) + 66)?;
+    push_both(alloc, &mut text, before, after, height)?;
+    push_legend(&mut text, whole + 62, signs.as_slice())?;
+    Ok(text)
 }
 
 #[tactic(auto, unfolding(crate::specs::Picture::pictures_text))]
@@ -391,6 +537,7 @@ fn draw_runs(
     alloc: Global,
     meter: &mut Meter,
     places: Places,
+    axis: Axis,
     before: &Run<'_>,
     after: &Run<'_>,
     count: u64,
@@ -401,18 +548,13 @@ fn draw_runs(
     requires few { count ≤ 2 ^ 32 }
     ensures { IfOk result
         (λ text. string_bytes text
-        ≡ pictures_text places (drawn before.now) (drawn after.now)) }
+        ≡ pictures_text places axis (drawn before.now) (drawn after.now)) }
 {
     let scale = scale_for(count);
-    let height = panel_height(before.header);
-    let whole = height + panel_height(after.header);
-    let mut text = String::new(alloc);
-    push_opening(&mut text, width_of(scale, count), whole + 64)?;
-    push_both(
-        alloc, meter, &mut text, places, before, after, scale, height,
-    )?;
-    push_legend(&mut text, whole + 42)?;
-    Ok(text)
+    let left = left_of(places, before, after);
+    let upper = panel_of(alloc, meter, places, axis, scale, left, before)?;
+    let lower = panel_of(alloc, meter, places, axis, scale, left, after)?;
+    draw_panels(alloc, &upper, &lower, count)
 }
 
 /// The picture of two runs, the one above the other on one axis: before edits and after them.
@@ -421,23 +563,24 @@ fn draw_runs(
 pub fn timelines(
     alloc: Global,
     meter: &mut Meter,
-    places: Places,
+    extent: Extent,
     before: &Run<'_>,
     after: &Run<'_>,
 ) -> Result<Result<String, TooLong>, AllocError>
     requires before { IsDrawable (drawn before.now) }
     requires after { IsDrawable (drawn after.now) }
     ensures picture { IfOk result
-        (Answers (count_of_both places (drawn before.now) (drawn after.now))
-        (pictures_text places (drawn before.now) (drawn after.now))) }
+        (Answers (count_of_both extent.places (drawn before.now) (drawn after.now))
+        (pictures_text extent.places extent.axis (drawn before.now) (drawn after.now))) }
     // The spans that are drawn tile what each replay has.
-    ensures tiled { IsTiled places before.now.header.now before.now.steps.now
-        × IsTiled places after.now.header.now after.now.steps.now }
+    ensures tiled { IsTiled extent.places before.now.header.now before.now.steps.now
+        × IsTiled extent.places after.now.header.now after.now.steps.now }
 {
+    let Extent { places, axis } = extent;
     let count = count_of_both(places, before, after);
     if count > MAX_PLACES {
         return Ok(Err(TooLong { places: count }));
     }
-    let text = draw_runs(alloc, meter, places, before, after, count)?;
+    let text = draw_runs(alloc, meter, places, axis, before, after, count)?;
     Ok(Ok(text))
 }

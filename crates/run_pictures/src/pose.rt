@@ -1,6 +1,7 @@
 //! How a task stands at a place, and what is in its way there.
 ghost use Rattle.std.specs.Prelude.{◌≡◌, ◌+◌, ◌<◌, ◌≤◌, ◌^◌, IfOk, length, map};
-ghost use Rattle.run_pictures.specs.Poses.{count_ready, detail_for, opening, openings, pose_in, pose_spans, stands_ready, told_spans};
+ghost use Rattle.bench_types.specs.Limits.{max_cores, max_tasks};
+ghost use Rattle.run_pictures.specs.Poses.{count_ready, detail_by_pieces, detail_for, most_found, opening, openings, pose_in, pose_spans, stands_ready, told_spans};
 ghost use Rattle.run_pictures.specs.Same.{are_same_poses};
 
 use crate::hindrance::{Hindrance, are_same_lists, hindrances_in};
@@ -11,7 +12,10 @@ use run_views::Look;
 use std::alloc::{AllocError, Global};
 
 /// How many stretches of ready tasks are told apart by what is in the way, at most.
-const MAX_PIECES: usize = 16_384;
+const MAX_PIECES: usize = 4_096;
+
+/// How many hindrances are looked for, at most: at each core, of each user task at each place.
+const MAX_FOUND: u64 = 2_097_152;
 
 /// How a task stands at a place, and what is in its way there.
 #[derive(Debug, Drop)]
@@ -137,7 +141,8 @@ pub(crate) fn told_spans(
     }
 }
 
-fn stands_ready(stance: Stance) -> bool
+/// Whether a task stands ready, and on no core.
+pub(crate) fn stands_ready(stance: Stance) -> bool
     ensures { result ≡ stands_ready stance }
 {
     match stance {
@@ -166,8 +171,8 @@ fn count_pieces(alloc: Global, first: u32, looks: &[Look], task: u32) -> Result<
     Ok(count_ready(spans.as_slice()))
 }
 
-/// What is told of the ready tasks of the looks.
-pub(crate) fn detail_for(
+// What is told, as far as there are not too many stretches.
+fn detail_by_pieces(
     alloc: Global,
     header: &Header,
     first: u32,
@@ -175,7 +180,7 @@ pub(crate) fn detail_for(
 ) -> Result<Detail, AllocError>
     requires few { first + length looks.now ≤ 2 ^ 32 }
     requires tasks { header.now.config.cores + length header.now.tasks < 2 ^ 32 }
-    ensures { IfOk result (λ detail. detail ≡ detail_for header.now first looks.now) }
+    ensures { IfOk result (λ detail. detail ≡ detail_by_pieces header.now first looks.now) }
 {
     let mut pieces = 0;
     for user in 0..header.tasks.as_slice().len() as u32 {
@@ -186,4 +191,34 @@ pub(crate) fn detail_for(
         pieces += count;
     }
     Ok(Detail::EachPlace)
+}
+
+// How many hindrances there may be at all places.
+fn most_found(header: &Header, looks: &[Look]) -> u64
+    requires cores { header.now.config.cores ≤ max_cores }
+    requires tasks { length header.now.tasks ≤ max_tasks }
+    requires looks { length looks.now < 2 ^ 32 }
+    ensures { result ≡ most_found header.now looks.now }
+{
+    let sites = header.tasks.as_slice().len() as u64 * u64::from(header.config.cores);
+    looks.len() as u64 * sites
+}
+
+/// What is told of the ready tasks of the looks.
+pub(crate) fn detail_for(
+    alloc: Global,
+    header: &Header,
+    first: u32,
+    looks: &[Look],
+) -> Result<Detail, AllocError>
+    requires few { first + length looks.now ≤ 2 ^ 32 }
+    requires cores { header.now.config.cores ≤ max_cores }
+    requires tasks { length header.now.tasks ≤ max_tasks }
+    requires looks { length looks.now < 2 ^ 32 }
+    ensures { IfOk result (λ detail. detail ≡ detail_for header.now first looks.now) }
+{
+    if most_found(header, looks) > MAX_FOUND {
+        return Ok(Detail::FirstPlace);
+    }
+    detail_by_pieces(alloc, header, first, looks)
 }

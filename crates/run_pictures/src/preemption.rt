@@ -61,7 +61,7 @@ fn push_off(
         first: span.first,
         last: span.last,
         y,
-        height: 2,
+        height: 3,
     };
     push_bar(text, frame, bar, words.as_str())
 }

@@ -4,36 +4,24 @@
 pub(crate) const OPENING: &str = "<svg xmlns='http://www.w3.org/2000/svg'";
 
 /// What stands on white, the eight colours of tasks, on which dark words are read, what is drawn
-/// otherwise on black, and the ground.
+/// otherwise on black, the dashes of a line, and the ground.
 pub(crate) const STYLE: &str = "\
-<style>text{font:12px monospace;fill:#222}.s{font-size:10px;fill:#667}\
-.b{fill:#fff}.l{fill:#111;pointer-events:none}.k{font-weight:bold}\
-.t{fill:#bcc5cf}.v{fill:#9aa6b2}.i{fill:#c6cad0}.w{fill:#7d8793}\
-.d{fill:#c62828}.h{fill:#5e35b1}.u{fill:#ad1f8f}.m{fill:#1b6e43}.p{fill:#222}\
-.x{fill:none;stroke:#d3122a;stroke-width:2}.n{fill:#1530c0;stroke:#fff}\
+<style>text{font:12px monospace;fill:#222}.s{font-size:10px;fill:#5a6270}\
+.b{fill:#fff}.l{fill:#000;pointer-events:none}.k{font-weight:bold}\
+.t{fill:#c9d0d8}.v{fill:#9aa6b2}.i{fill:#c6cad0}.w{fill:#7d8793}\
+.d{fill:#8e0000}.h{fill:#2b1a8f}.u{fill:#b0148e}.p{fill:url(#p)}.e{fill:#7a4b00}\
+.x{fill:none;stroke:#c4001f;stroke-width:2}.n{fill:#1530c0}\
+.g{stroke:#5a6270;stroke-opacity:.6;stroke-dasharray:2 3;pointer-events:none}\
 .z{fill:transparent}.r{fill-opacity:.4}
 .i,.c0,.c1,.c2,.c3,.c4,.c5,.c6,.c7{stroke:#000;stroke-opacity:.4;stroke-width:.5}
-.c0{fill:#e8a33d}.c1{fill:#6cb6eb}.c2{fill:#4fbf8f}.c3{fill:#dccb45}\
-.c4{fill:#9aa8f5}.c5{fill:#f0875c}.c6{fill:#dd98c6}.c7{fill:#86cfcf}
+.c0{fill:#3ba394}.c1{fill:#ffee7e}.c2{fill:#e2577d}.c3{fill:#d1aaff}
+.c4{fill:#cda65a}.c5{fill:#b5eac0}.c6{fill:#8e75d9}.c7{fill:#817f19}
+.m{stroke:#1b6e43;stroke-opacity:1;stroke-width:2}
 @media(prefers-color-scheme:dark){text{fill:#dde1e6}.s{fill:#a3acb6}\
-.b{fill:#14171b}.l{fill:#111}.t{fill:#8b96a3}.v{fill:#717d8a}.i{fill:#7b838d}\
-.w{fill:#8d98a5}.u{fill:#f472d0}.m{fill:#5fd39a}.p{fill:#dde1e6}}</style>
+.b{fill:#14171b}.l{fill:#000}.t{fill:#a9b3be}.v{fill:#7f8b98}\
+.w{fill:#7b8896}.u{fill:#ff8ade}.e{fill:#f0b45a}.m{stroke:#5fd39a}\
+.g{stroke:#a3acb6}.x{stroke:#ff6b7a}.n{fill:#8fa8ff}}</style>
+<pattern id='p' width='7' height='9' patternUnits='userSpaceOnUse'>\
+<rect class='e' width='4' height='9'/></pattern>
 <rect class='b' width='100%' height='100%'/>
-";
-
-/// What the colours mean.
-pub(crate) const LEGEND: &str = "\
-<rect class='c1' width='14' height='14'/><text class='s' x='18' y='11'>running</text>\
-<rect class='r c1' x='74' y='4' width='14' height='7'/><text class='s' x='92' y='11'>ready</text>\
-<rect class='w' x='136' y='5' width='14' height='4'/><text class='s' x='154' y='11'>blocked</text>\
-<rect class='d' x='210' y='5' width='14' height='4'/>\
-<text class='s' x='228' y='11'>core due to switch</text>\
-<rect class='h' x='350' y='5' width='14' height='4'/>\
-<text class='s' x='368' y='11'>kernel held</text>\
-<rect class='u' x='448' y='5' width='14' height='4'/>\
-<text class='s' x='466' y='11'>priority inherited</text>\
-<rect class='m' x='588' y='5' width='14' height='4'/>\
-<text class='s' x='606' y='11'>mutex held</text>\
-<path class='n' d='M680 3h8l-4 7z'/><text class='s' x='692' y='11'>interrupt</text>\
-<path class='x' d='M760 3l8 8m0-8l-8 8'/><text class='s' x='774' y='11'>refused</text>
 ";

@@ -1,9 +1,8 @@
-//! The bands of the tasks: where each runs, is ready or is blocked, where it inherits a priority,
-//! and the mutexes that it holds.
+//! The bands of the tasks: where each runs, is ready or is blocked, and where it inherits a
+//! priority.
 ghost use Rattle.std.specs.Prelude.{◌≡◌, ◌++◌, ◌+◌, ◌<◌, ◌≤◌, ◌^◌, IfOk, OnOk, flat_map, length, map, string_bytes};
-ghost use Rattle.list_orders.specs.Search.{numbers};
-ghost use Rattle.run_pictures.specs.Spans.{holder_in, holder_spans, priorities_in, priority_spans};
-ghost use Rattle.run_pictures.specs.TaskBands.{blocked_label, holder_bar, inherited_bar, pose_bar, pose_words, reason_text, stance_label, stance_shape, stance_span, stance_text, stance_words, task_row, wait_name};
+ghost use Rattle.run_pictures.specs.Spans.{priorities_in, priority_spans};
+ghost use Rattle.run_pictures.specs.TaskBands.{blocked_label, inherited_bar, pose_bar, pose_words, reason_text, stance_label, stance_shape, stance_span, stance_text, stance_words, task_row, wait_name};
 
 use crate::bar::{Bar, Letters, push_bar, push_label, push_over};
 use crate::frame::Frame;
@@ -40,24 +39,6 @@ fn priorities(alloc: Global, looks: &[Look], task: u32) -> Result<Vec<Priorities
         .collect(alloc)
 }
 
-fn holder_in(look: &Look, mutex: u32) -> Option<u32>
-    ensures { result ≡ holder_in mutex look.now }
-{
-    match look.holders.as_slice().get(mutex as usize) {
-        Some(holder) => *holder,
-        None => None,
-    }
-}
-
-fn holders(alloc: Global, looks: &[Look], mutex: u32) -> Result<Vec<Option<u32>>, AllocError>
-    ensures { IfOk result (λ values. values.items ≡ map (holder_in mutex) looks.now) }
-{
-    looks
-        .iter()
-        .map(|look| holder_in(look, mutex))
-        .collect(alloc)
-}
-
 #[tactic(auto, unfolding(crate::specs::Spans::priority_spans))]
 fn priority_spans(
     alloc: Global,
@@ -69,20 +50,6 @@ fn priority_spans(
     ensures { IfOk result (λ spans. spans.items ≡ priority_spans first looks.now task) }
 {
     let values = priorities(alloc, looks, task)?;
-    stretches(alloc, first, values)
-}
-
-#[tactic(auto, unfolding(crate::specs::Spans::holder_spans))]
-fn holder_spans(
-    alloc: Global,
-    first: u32,
-    looks: &[Look],
-    mutex: u32,
-) -> Result<Vec<Span<Option<u32>>>, AllocError>
-    requires { first + length looks.now ≤ 2 ^ 32 }
-    ensures { IfOk result (λ spans. spans.items ≡ holder_spans first looks.now mutex) }
-{
-    let values = holders(alloc, looks, mutex)?;
     stretches(alloc, first, values)
 }
 
@@ -143,9 +110,9 @@ fn stance_shape(user: u32, y: u64, span: Span<Stance>) -> Bar
     ensures { result ≡ stance_shape user y span }
 {
     let (ink, down, height) = match span.value {
-        Stance::Runs { .. } => (Ink::Runs(user), 2, 16),
-        Stance::Ready => (Ink::Ready(user), 6, 8),
-        Stance::Blocked { .. } => (Ink::Waits, 8, 4),
+        Stance::Runs { .. } => (Ink::Runs(user), 4, 16),
+        Stance::Ready => (Ink::Ready(user), 8, 8),
+        Stance::Blocked { .. } => (Ink::Waits, 15, 4),
     };
     Bar {
         ink,
@@ -182,7 +149,7 @@ fn push_blocked_label(
         Letters::Small,
         first,
         last,
-        y + 6,
+        y + 12,
         name.as_str(),
     )
 }
@@ -210,7 +177,7 @@ fn push_stance_label(
                 Letters::Dark,
                 span.first,
                 span.last,
-                y + 14,
+                y + 16,
                 name.as_str(),
             )
         }
@@ -329,7 +296,7 @@ fn push_inherited(
         ink: Ink::Inherited,
         first: span.first,
         last: span.last,
-        y: y + 18,
+        y: y + 20,
         height: 3,
     };
     push_bar(text, frame, bar, words.as_str())
@@ -382,80 +349,4 @@ pub(crate) fn push_task_row(
     let priorities = priority_spans(alloc, frame.first, looks, task)?;
     push_inheritances(alloc, text, header, frame, y, task, priorities.as_slice())?;
     push_offs(alloc, text, header, frame, y, looks, task)
-}
-
-// A stretch at which a task holds the mutex, in the row of that task.
-#[tactic(auto, unfolding(crate::specs::TaskBands::holder_bar))]
-fn push_holder(
-    alloc: Global,
-    text: &mut String,
-    header: &Header,
-    frame: &Frame,
-    y: u64,
-    mutex: u32,
-    span: Span<Option<u32>>,
-) -> Result<(), AllocError>
-    requires { y < 2 ^ 39 }
-    ensures { OnOk result
-        (string_bytes text.new
-        ≡ string_bytes text.old ++ holder_bar header.now frame.now y mutex span) }
-{
-    let Some(task) = span.value else {
-        return Ok(());
-    };
-    let mut words = String::new(alloc);
-    push_over(&mut words, span.first, span.last)?;
-    write!(words, "mutex {mutex} held by ")?;
-    header.push_name(&mut words, task)?;
-    let user = task.saturating_sub(header.config.cores);
-    let bar = Bar {
-        ink: Ink::Taken,
-        first: span.first,
-        last: span.last,
-        y: y + 28 * user as u64 + 21 + 3 * (mutex % 2) as u64,
-        height: 3,
-    };
-    push_bar(text, frame, bar, words.as_str())
-}
-
-fn push_holders(
-    alloc: Global,
-    text: &mut String,
-    header: &Header,
-    frame: &Frame,
-    y: u64,
-    mutex: u32,
-    spans: &[Span<Option<u32>>],
-) -> Result<(), AllocError>
-    requires { y < 2 ^ 39 }
-    ensures { OnOk result
-        (string_bytes text.new
-        ≡ string_bytes text.old ++ flat_map (holder_bar header.now frame.now y mutex) spans.now) }
-{
-    for span in spans {
-        push_holder(alloc, text, header, frame, y, mutex, *span)?;
-    }
-    Ok(())
-}
-
-/// Writes where tasks hold the mutex.
-pub(crate) fn push_mutex(
-    alloc: Global,
-    text: &mut String,
-    header: &Header,
-    frame: &Frame,
-    y: u64,
-    looks: &[Look],
-    mutex: u32,
-) -> Result<(), AllocError>
-    requires y { y < 2 ^ 39 }
-    requires few { frame.now.first + length looks.now ≤ 2 ^ 32 }
-    ensures { OnOk result
-        (string_bytes text.new
-        ≡ string_bytes text.old
-        ++ flat_map (holder_bar header.now frame.now y mutex)
-        (holder_spans frame.now.first looks.now mutex)) }
-{
-    let spans = holder_spans(alloc, frame.first, looks, mutex)?;
-    push_holders(alloc, text, header, frame, y, mutex, spans.as_slice())
 }

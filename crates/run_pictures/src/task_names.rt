@@ -197,7 +197,7 @@ pub(crate) fn push_task_name(
 {
     let mut name = String::new(alloc);
     header.push_name(&mut name, task)?;
-    push_name(text, y + 14, name.as_str())?;
+    push_name(text, y + 16, name.as_str())?;
     let spans = terms_spans(alloc, first, looks, task)?;
-    push_terms_line(alloc, text, header, y + 25, task, spans.as_slice())
+    push_terms_line(alloc, text, header, y + 32, task, spans.as_slice())
 }

@@ -1,7 +1,9 @@
 pub mod Each
 pub mod Leading
+pub mod PlaceTexts
 pub mod Refusing
 pub mod Runs
 pub mod Shown
+pub mod States
 pub mod Telling
 pub mod Tests

@@ -2,6 +2,7 @@ pub mod ChangeWords
 pub mod Changes
 pub mod Interest
 pub mod Looks
+pub mod PlaceTexts
 pub mod RefusedSteps
 pub mod ReplyWords
 pub mod StepWords

@@ -1,3 +1,4 @@
+//! What a step changed.
 ghost use Rattle.std.specs.Prelude.{◌≡◌, ◌==◌, ◌+◌, ◌++◌, ◌<◌, ◌^◌, All, IfOk, OnOk, length, map};
 ghost use Rattle.bench_model.specs.SameTest.{are_same_options, are_same_holds};
 ghost use Rattle.run_views.specs.Changes.{applied, changes, changes_each, core_changes, further_changes, mutex_changes, note_changes, schedule_changes, call_changes, task_changes, unless, HasSameShape, IsNumbered, TellsOf};

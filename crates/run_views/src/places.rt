@@ -1,3 +1,4 @@
+//! Which places are shown.
 ghost use Rattle.std.specs.Prelude.{◌≡◌};
 ghost use Rattle.run_views.specs.Trace.{shows};
 

@@ -1,3 +1,4 @@
+//! The lines of a trace.
 ghost use Rattle.std.specs.Prelude.{◌≡◌, ◌++◌, ◌+◌, ◌<◌, ◌^◌, All, IfOk, OnOk, flat_map, length, string_bytes};
 ghost use Rattle.bench_types.specs.Header.{IsCheckedHeader};
 ghost use Rattle.bench_types.specs.Step.{settings_of, IsCheckedStep};
@@ -64,7 +65,7 @@ fn push_open_hold(text: &mut String, hold: Option<Hold>) -> Result<(), AllocErro
 }
 
 #[tactic(auto, unfolding(crate::specs::Trace::place_line))]
-fn push_place_line(
+pub(crate) fn push_place_line(
     text: &mut String,
     header: &Header,
     place: u32,
@@ -143,7 +144,7 @@ fn push_step_lines(
 
 // The lines of a step between two places that are to be shown.
 #[tactic(auto, unfolding(crate::specs::Trace::step_part))]
-fn push_told_step(
+pub(crate) fn push_told_step(
     text: &mut String,
     places: Places,
     header: &Header,

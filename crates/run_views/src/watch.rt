@@ -1,3 +1,4 @@
+//! A kernel that is looked at after each step.
 ghost use Rattle.std.specs.Prelude.{◌≡◌, IfOk, OnOk, Ok};
 ghost use Rattle.bench_types.specs.Step.{settings_of, step_check};
 ghost use Rattle.bench_model.specs.Equal.{StandsFor};

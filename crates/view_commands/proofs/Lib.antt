@@ -1,6 +1,7 @@
 mod BothTold
 mod CommandLine
 mod CommandLines
+mod ComparedParts
 mod EditsKept
 mod Judged
 mod LastSign
@@ -12,6 +13,7 @@ mod OneCheck
 mod OneReport
 mod OneView
 mod Outputs
+mod PagesTold
 mod Pictures
 mod PicturesTold
 mod ReportsTold

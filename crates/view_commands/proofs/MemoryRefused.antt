@@ -9,7 +9,7 @@ use Rattle.view_commands.specs.Commands.{IsView}
 use Rattle.view_commands.specs.ViewProgram.{EndsAsked, Files}
 
 -- whatever was asked for
-pub refused_first : (asked : Asked) (files : Files) (read write : Bytes) → EndsAsked asked (Failed Memory) files read read write write
+pub refused_first : (asked : Asked) (files : Files) (read write : Bytes) → EndsAsked asked files (Failed Memory) read read write write
 refused_first (a_view job (Some name)) files read write = inr (tt, (refl, refl))
 refused_first (a_view job None) files read write = nothing_told (IsView job) read write
 refused_first help files read write = (refl, refl)

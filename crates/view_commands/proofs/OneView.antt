@@ -1,5 +1,5 @@
 -- One thing alone is told of each input.
-use Rattle.std.proofs.Common.{◌≡◌, ℕ, List, [], ◌∷◌, ◌++◌, length, Bool, true, false, Result, Ok, Err, nat_lt, inl, inr, refl, ap, ap₂, sym, subst, ◌∙◌}
+use Rattle.std.proofs.Common.{◌≡◌, ℕ, List, [], ◌∷◌, ◌++◌, length, Bool, true, false, Option, Some, Result, Ok, Err, nat_lt, inl, inr, refl, ap, ap₂, sym, subst, ◌∙◌}
 use Rattle.bench_types.specs.declared.edit.Edit.{Edit}
 use Rattle.bench_types.specs.declared.header.Header.{Header}
 use Rattle.bench_types.specs.declared.step.Step.{Step}
@@ -15,11 +15,9 @@ use Rattle.session_text.specs.declared.fault.Why.TheVariants as why
 use Rattle.session_text.specs.Bench.{bench_text}
 use Rattle.settled_runs.specs.declared.waiting_call.WaitingCall.{WaitingCall}
 use Rattle.settled_runs.proofs.Settlings.{settled_run_is_one}
-use Rattle.run_views.specs.declared.places.Places.{Places}
-use Rattle.run_comparisons.specs.declared.columns.Side.TheVariants.{Before, After}
+use Rattle.run_pictures.specs.declared.picture.Extent.{Extent}
 use Rattle.run_comparisons.specs.declared.rows.Row.{Row}
-use Rattle.run_comparisons.specs.Columns.{columns_of}
-use Rattle.run_comparisons.specs.Settled.{left_lines}
+use Rattle.run_comparisons.specs.Settled.{left_lines, with_steps}
 use Rattle.run_comparisons.specs.Shared.{shared_events}
 use Rattle.run_comparisons.specs.SideBySide.{first_places, AreSettledRows}
 use Rattle.run_comparisons.proofs.Compared.{neither_too_long}
@@ -30,12 +28,14 @@ use Rattle.program_io.specs.Twice.{twice_note}
 use Rattle.program_io.specs.declared.output.OutputStatus.{OutputStatus}
 use Rattle.program_io.specs.declared.output.OutputStatus.TheVariants.{Fine, Failed, Unknown}
 use Rattle.view_commands.specs.declared.request.Command.{Command}
-use Rattle.view_commands.specs.declared.request.Command.TheVariants.{Plain, Settled, Report, Check, Advise}
+use Rattle.view_commands.specs.declared.request.Command.TheVariants.{Plain, Settled, Report, Check, Advise, Page}
 use Rattle.view_commands.specs.declared.request.Job.{Job}
+use Rattle.view_commands.specs.declared.request.PageView.{PageView}
 use Rattle.view_commands.specs.declared.request.SettledView.{SettledView}
 use Rattle.view_commands.specs.declared.request.SettledView.TheVariants as settled
 use Rattle.view_commands.specs.Commands.{is_json, is_json_fault, too_long_input, too_many_steps, IsDone, IsRefusedOr, IsSame, IsTold, IsToldOfBench, IsToldOfText, IsView, IsWarned, ViewIsOne}
-use Rattle.view_commands.specs.SettledViews.{told_of_run, IsSettledPicture, IsSettledView, IsToldOfBoth, IsToldOfPair, IsToldOfPictures, IsToldOfSettled}
+use Rattle.view_commands.specs.PageViews.{as_table, page_told, IsCompared, IsComparison, IsPage, IsPictured, IsRun}
+use Rattle.view_commands.specs.SettledViews.{columns_after, columns_before, told_of_run, IsSettledPicture, IsSettledView, IsToldOfBoth, IsToldOfPair, IsToldOfPictures, IsToldOfSettled}
 use Rattle.program_io.specs.Outputs.{Told, noted, fine}
 use Rattle.view_commands.specs.Refused.{refused_lines}
 use Rattle.view_commands.specs.Strict.{with_lines, IsJudged, IsRefusing, IsStrict}
@@ -57,40 +57,75 @@ one_of_both session edits told other (inr one) (inl two) = absurd (two.room one.
 one_of_both session edits told other (inr one) (inr two) = one.1 ∙ sym two.1
 
 -- what is told of a picture of these runs
-abbrev told_of_runs : Places → Header → Header → List Step → List Step → List Row → List WaitingCall → List WaitingCall → Told
-told_of_runs places header edited run later rows left rest =
-    noted (picture_of_runs places (record { header = header; steps = run; columns = columns_of Before rows }) (record { header = edited; steps = later; columns = columns_of After rows })) (left_lines header edited left rest)
+abbrev told_of_runs : Extent → Header → Header → List Step → List Step → List Row → List WaitingCall → List WaitingCall → Told
+told_of_runs extent header edited run later rows left rest =
+    noted (picture_of_runs extent (record { header = header; steps = run; columns = columns_before extent.axis run later rows }) (record { header = edited; steps = later; columns = columns_after extent.axis run later rows })) (left_lines header edited left rest)
 
-one_of_pairs : (places : Places) (session : Session) (edits : List Edit) (told other : Told) → IsToldOfPair places session edits told → IsToldOfPair places session edits other → told ≡ other
-one_of_pairs places session edits told other one two =
+one_of_pairs : (extent : Extent) (session : Session) (edits : List Edit) (told other : Told) → IsToldOfPair extent session edits told → IsToldOfPair extent session edits other → told ≡ other
+one_of_pairs extent session edits told other one two =
     let edited = after_edits session edits in
     let first = settled_run_is_one session.header session.steps one.pair.before.run.items two.pair.before.run.items one.pair.before.left.items two.pair.before.left.items one.settled.before two.settled.before in
     let second = settled_run_is_one edited.header edited.steps one.pair.after.run.items two.pair.after.run.items one.pair.after.left.items two.pair.after.left.items one.settled.after two.settled.after in
     let aligned = subst (λ (run : List Step). AreSettledRows session edits one.pair.before.run.items run two.pair.rows.items) (sym second.0)
     (subst (λ (run : List Step). AreSettledRows session edits run two.pair.after.run.items two.pair.rows.items) (sym first.0) two.settled.rows) in
     let rows = one_list one.pair.before.run.items one.pair.after.run.items (shared_events session edits one.pair.before.run.items one.pair.after.run.items) first_places one.pair.rows.items two.pair.rows.items one.settled.rows aligned in
-    let of_runs = told_of_runs places session.header edited.header in
+    let of_runs = told_of_runs extent session.header edited.header in
     one.is_told
     ∙ ap₂ (λ (run later : List Step). of_runs run later one.pair.rows.items one.pair.before.left.items one.pair.after.left.items) first.0 second.0
     ∙ ap (λ (shown : List Row). of_runs two.pair.before.run.items two.pair.after.run.items shown one.pair.before.left.items one.pair.after.left.items) rows
     ∙ ap₂ (λ (left rest : List WaitingCall). of_runs two.pair.before.run.items two.pair.after.run.items two.pair.rows.items left rest) first.1 second.1
     ∙ sym two.is_told
 
-one_of_pictures : (places : Places) (session : Session) (edits : List Edit) (told other : Told) → IsToldOfPictures places session edits told → IsToldOfPictures places session edits other → told ≡ other
-one_of_pictures places session edits told other (inl one) (inl two) = one_of_pairs places session edits told other one two
-one_of_pictures places session edits told other (inl one) (inr two) = absurd (neither_too_long session edits one.pair one.settled two.0)
-one_of_pictures places session edits told other (inr one) (inl two) = absurd (neither_too_long session edits two.pair two.settled one.0)
-one_of_pictures places session edits told other (inr one) (inr two) = one.1 ∙ sym two.1
+one_of_pictures : (extent : Extent) (session : Session) (edits : List Edit) (told other : Told) → IsToldOfPictures extent session edits told → IsToldOfPictures extent session edits other → told ≡ other
+one_of_pictures extent session edits told other (inl one) (inl two) = one_of_pairs extent session edits told other one two
+one_of_pictures extent session edits told other (inl one) (inr two) = absurd (neither_too_long session edits one.pair one.settled two.0)
+one_of_pictures extent session edits told other (inr one) (inl two) = absurd (neither_too_long session edits two.pair two.settled one.0)
+one_of_pictures extent session edits told other (inr one) (inr two) = one.1 ∙ sym two.1
 
-one_picture : (places : Places) (session : Session) (edits : List Edit) (told other : Told) → IsSettledPicture places session edits told → IsSettledPicture places session edits other → told ≡ other
-one_picture places session [] told other one two = one_of_run (picture_of_run places) session told other one two
-one_picture places session (edit ∷ edits) told other one two = one_of_pictures places session (edit ∷ edits) told other one two
+one_picture : (extent : Extent) (session : Session) (edits : List Edit) (told other : Told) → IsSettledPicture extent session edits told → IsSettledPicture extent session edits other → told ≡ other
+one_picture extent session [] told other one two = one_of_run (picture_of_run extent) session told other one two
+one_picture extent session (edit ∷ edits) told other one two = one_of_pictures extent session (edit ∷ edits) told other one two
 
 one_settled : (view : SettledView) (session : Session) (edits : List Edit) (told other : Told) → IsSettledView view session edits told → IsSettledView view session edits other → told ≡ other
 one_settled (settled.Trace selected) session edits told other one two = one_of_run (trace_output selected) (after_edits session edits) told other one two
 one_settled settled.Session session edits told other one two = one_of_run (λ run. fine (document_of run)) (after_edits session edits) told other one two
 one_settled settled.Compare session edits told other one two = one_of_both session edits told other one two
-one_settled (settled.Timeline places) session edits told other one two = one_picture places session edits told other one two
+one_settled (settled.Timeline extent) session edits told other one two = one_picture extent session edits told other one two
+
+-- ---- the parts of a page
+
+one_pictured : (settled : Bool) (extent : Extent) (session : Session) (edits : List Edit) (told other : Told) → IsPictured settled extent session edits told → IsPictured settled extent session edits other → told ≡ other
+one_pictured false extent session edits told other one two = one ∙ sym two
+one_pictured true extent session edits told other one two = one_picture extent session edits told other one two
+
+one_comparison : (settled : Bool) (session : Session) (edits : List Edit) (told other : Told) → IsComparison settled session edits told → IsComparison settled session edits other → told ≡ other
+one_comparison false session edits told other one two = one ∙ sym two
+one_comparison true session edits told other one two = one_of_both session edits told other one two
+
+one_compared : (settled : Bool) (session : Session) (edits : List Edit) (part other : Option Told) → IsCompared settled session edits part → IsCompared settled session edits other → part ≡ other
+one_compared settled session [] part other one two = one ∙ sym two
+one_compared settled session (edit ∷ edits) part other one two =
+    one.is ∙ ap (λ (told : Told). Some told) (one_comparison settled session (edit ∷ edits) one.told two.told one.is_told two.is_told) ∙ sym two.is
+
+one_run : (settled : Bool) (session : Session) (run other : List Step) → IsRun settled session run → IsRun settled session other → run ≡ other
+one_run false session run other one two = one ∙ sym two
+one_run true session run other one two = (settled_run_is_one session.header session.steps run other one.0 two.0 one.1 two.1).0
+
+-- what is told of a page of these parts
+abbrev page_by : PageView → Session → Told → Option Told → Told → List Step → Told
+page_by view session picture comparison report run = page_told view (record { picture = picture; comparison = comparison; report = report }) (with_steps session run)
+
+one_page : (view : PageView) (session : Session) (edits : List Edit) (told other : Told) → IsPage view session edits told → IsPage view session edits other → told ≡ other
+one_page view session edits told other one two =
+    let edited = after_edits session edits in
+    let picture = one_pictured view.settled view.extent session edits one.drawn.picture two.drawn.picture one.are.picture two.are.picture in
+    let comparison = one_compared view.settled session edits one.drawn.comparison two.drawn.comparison one.are.comparison two.are.comparison in
+    let report = one_report (as_table view.settled) session edits one.drawn.report two.drawn.report one.are.report two.are.report in
+    let run = one_run view.settled edited one.page.run two.page.run one.page.is_run two.page.is_run in
+    one.page.is_told
+    ∙ ap₂ (λ (p : Told) (c : Option Told). page_by view edited p c one.drawn.report one.page.run) picture comparison
+    ∙ ap₂ (λ (r : Told) (steps : List Step). page_by view edited two.drawn.picture two.drawn.comparison r steps) report run
+    ∙ sym two.page.is_told
 
 one_told : (command : Command) (session : Session) (edits : List Edit) (told other : Told) → IsTold command session edits told → IsTold command session edits other → told ≡ other
 one_told (Plain view) session edits told other one two = one ∙ sym two
@@ -98,6 +133,7 @@ one_told (Settled view) session edits told other one two = one_settled view sess
 one_told (Report view) session edits told other one two = one_report view session edits told other one two
 one_told (Check view) session edits told other one two = one_check view (after_edits session edits) told other one two
 one_told (Advise question) session edits told other one two = one_advice question (after_edits session edits) told other one two
+one_told (Page view) session edits told other one two = one_page view session edits told other one two
 
 -- ---- judged
 

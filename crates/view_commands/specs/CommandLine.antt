@@ -1,13 +1,13 @@
 -- What a command line asks for: what clap is told, and what it answers.
-use Rattle.std.specs.Prelude.{◌≡◌, List, [], ◌∷◌, fold, Bool, true, false, codes, Option, Some, None, pos}
-use Rattle.clap.specs.Words.{App, Kinds, Row, Rule, Text, app_of, fault_of, new_app, new_rule, subcommand_of, with_rule, with_subcommand}
-use Rattle.clap.specs.declared.builder.action.ArgAction.TheVariants.{Append, SetTrue}
-use Rattle.clap.specs.declared.builder.command.Command.{Command as ClapCommand}
-use Rattle.clap.specs.declared.builder.command.Command.TheViews.{out-Command as fields_of}
+use Rattle.std.specs.Prelude.{List, [], ◌∷◌, Bool, true, codes, Option, Some, None, pos}
+use Rattle.clap.specs.Simple.{on_top}
+use Rattle.clap.specs.Words.{App, Row, Rule, Text, new_rule}
+use Rattle.clap.specs.declared.builder.action.ArgAction.TheVariants.{Append}
 use Rattle.clap.specs.declared.builder.value_parser.ValueParser.{ValueParser}
 use Rattle.clap.specs.declared.builder.value_parser.ValueParser.TheVariants.{Signed}
-use Rattle.clap.specs.declared.error.kind.ErrorKind.{ErrorKind}
-use Rattle.command_words.specs.Asking.{Class, class_of, helps, mistakes, versions}
+use Rattle.command_words.specs.Answered.{Answered, answered, met, said}
+use Rattle.command_words.specs.Asking.{helps, mistakes, versions}
+use Rattle.command_words.specs.Told.{command_app, flag_rule, option_rule, program_app, with_commands}
 use Rattle.view_commands.specs.Options.{command_of, file_in, strict_in}
 use Rattle.view_commands.specs.declared.request.Command.{Command}
 use Rattle.view_commands.specs.declared.request.Job.{Job}
@@ -24,28 +24,19 @@ pub data Asked : Type 0 where
 
 -- ---- what clap is told
 
--- the flag `--settle`
+-- the flags `--settle`, `--strict` and `--json`
 abbrev pub settle_rule : Rule
-settle_rule =
-    record (new_rule (codes "settle")) { long = Some (codes "settle"); action = Some SetTrue }
+settle_rule = flag_rule (codes "settle")
 
--- the flag `--strict`
 abbrev pub strict_rule : Rule
-strict_rule =
-    record (new_rule (codes "strict")) { long = Some (codes "strict"); action = Some SetTrue }
+strict_rule = flag_rule (codes "strict")
 
--- the flag `--json`
 abbrev pub json_rule : Rule
-json_rule =
-    record (new_rule (codes "json")) { long = Some (codes "json"); action = Some SetTrue }
+json_rule = flag_rule (codes "json")
 
 -- a number below 2^32
 abbrev pub a_number : ValueParser
 a_number = Signed (pos 0) (pos 4294967295)
-
--- an option of this name, whose value help has a name for
-abbrev pub option_rule : Text → Rule
-option_rule name = record (new_rule name) { long = Some name; value_names = 1 }
 
 -- the options `--from` and `--to`, each a number
 abbrev pub from_rule : Rule
@@ -61,6 +52,10 @@ task_rule = record (option_rule (codes "task")) { action = Some Append }
 -- the option `--core`, a number, which may stand several times
 abbrev pub core_rule : Rule
 core_rule = record (option_rule (codes "core")) { action = Some Append; parser = Some a_number }
+
+-- the option `--axis`
+abbrev pub axis_rule : Rule
+axis_rule = option_rule (codes "axis")
 
 -- the options `--at-most` and `--at-least`, which may stand several times
 abbrev pub at_most_rule : Rule
@@ -91,10 +86,7 @@ best_rule = record (option_rule (codes "best")) { parser = Some a_number }
 abbrev pub file_rule : Rule
 file_rule = record (new_rule (codes "file")) { value_names = 1 }
 
--- the command of this name, with these options
-abbrev pub command_app : Text → List Rule → App
-command_app name rules = fold with_rule (new_app name) rules
-
+-- the commands, with their options
 abbrev pub trace_app : App
 trace_app =
     command_app (codes "trace")
@@ -112,7 +104,12 @@ compare_app = command_app (codes "compare") (settle_rule ∷ strict_rule ∷ fil
 abbrev pub timeline_app : App
 timeline_app =
     command_app (codes "timeline")
-    (settle_rule ∷ from_rule ∷ to_rule ∷ strict_rule ∷ file_rule ∷ [])
+    (settle_rule ∷ axis_rule ∷ from_rule ∷ to_rule ∷ strict_rule ∷ file_rule ∷ [])
+
+abbrev pub page_app : App
+page_app =
+    command_app (codes "page")
+    (settle_rule ∷ axis_rule ∷ from_rule ∷ to_rule ∷ strict_rule ∷ file_rule ∷ [])
 
 abbrev pub report_app : App
 report_app =
@@ -128,29 +125,15 @@ advise_app =
     command_app (codes "advise")
     (settle_rule ∷ judged_rule ∷ less_rule ∷ over_rule ∷ best_rule ∷ strict_rule ∷ file_rule ∷ [])
 
--- the program, which has a version and wants a command, and of which `help` is none
-abbrev pub program_app : App
-program_app = record (new_app (codes "smp_view")) {
-  top = record (new_app (codes "smp_view")).top {
-    has_version = true;
-    disable_help_subcommand = true;
-    subcommand_required = true;
-  };
-}
+-- the program with its version and its commands
+abbrev pub versioned_app : App
+versioned_app = on_top (λ shape. record shape { has_version = true }) (program_app (codes "smp_view"))
 
--- the commands
-abbrev pub commands : List App
-commands =
-    trace_app ∷ session_app ∷ settle_app ∷ compare_app ∷ timeline_app ∷ report_app
-    ∷ check_app ∷ advise_app ∷ []
-
--- the program with its commands
 abbrev pub view_app : App
-view_app = fold (λ program command. with_subcommand program command.top) program_app commands
-
--- clap is told this of a command, none of whose options is one of other commands as well
-abbrev pub IsTold : ClapCommand → App → Type 0
-IsTold command app = (app_of command ≡ app) × ((fields_of command).has_globals ≡ false)
+view_app =
+    with_commands versioned_app
+    (trace_app ∷ session_app ∷ settle_app ∷ compare_app ∷ timeline_app ∷ report_app
+    ∷ check_app ∷ advise_app ∷ page_app ∷ [])
 
 -- ---- what it answers
 
@@ -165,30 +148,17 @@ abbrev pub asked_for : Text → List Row → Asked
 asked_for name options =
     asked_with (command_of name options) (strict_in options) (file_in options)
 
--- by what clap's error says
-abbrev pub asked_class : Class → Asked
-asked_class helps = help
-asked_class versions = version
-asked_class mistakes = a_mistake
+-- by what clap answers
+abbrev pub asked_by : Answered → Asked
+asked_by (said helps) = help
+asked_by (said versions) = version
+asked_by (said mistakes) = a_mistake
+asked_by (met name options) = asked_for name options
 
--- by the kind of an error, of which `--help` and `--version` make one too
-abbrev pub asked_by : ErrorKind → Asked
-asked_by kind = asked_class (class_of kind)
-
--- by the kinds that clap's error may have, which all ask for the same, or else by what it met
-abbrev pub asked_of : Kinds → Option (Text × List Row) → Asked
-asked_of (kind ∷ kinds) met = asked_by kind
-asked_of [] None = a_mistake
-asked_of [] (Some met) = asked_for met.0 met.1
-
--- the words of a command line, the program's name first
-unfoldable pub asked_in_words : List Text → Asked
-asked_in_words words = asked_of (fault_of view_app words) (subcommand_of view_app words)
-
--- the same; none where one of the words is no text
+-- what the words of a command line ask for, the program's name first; none where one of them is no
+-- text
 abbrev pub asked : Option (List Text) → Asked
-asked (Some words) = asked_in_words words
-asked None = a_mistake
+asked words = asked_by (answered view_app words)
 
 -- ---- what a request asks for
 

@@ -3,10 +3,12 @@ use Rattle.std.specs.Prelude.{◌≡◌, ℕ, List, [], ◌∷◌, Bool, true, f
 use Rattle.clap.specs.Words.{Text}
 use Rattle.run_advice.specs.declared.change.Family.{Family}
 use Rattle.run_reports.specs.declared.limits.Bound.TheVariants.{AtMost, AtLeast}
+use Rattle.run_pictures.specs.declared.frame.Axis.TheVariants as by
+use Rattle.run_pictures.specs.declared.picture.Extent.{Extent}
 use Rattle.run_views.specs.declared.places.Places.{Places}
 use Rattle.session_reports.specs.Asked as limit
 use Rattle.view_commands.specs.declared.request.Command.{Command}
-use Rattle.view_commands.specs.declared.request.Command.TheVariants.{Plain, Settled, Check, Advise}
+use Rattle.view_commands.specs.declared.request.Command.TheVariants.{Plain, Settled, Check, Advise, Page}
 use Rattle.view_commands.specs.declared.request.SettledView.TheVariants as settled
 use Rattle.view_commands.specs.declared.request.View.TheVariants as view
 use Rattle.view_commands.specs.CommandLine.{Asked, a_view, help, version, a_mistake, asked}
@@ -25,6 +27,12 @@ asked_after words = asked (Some (codes "smp_view" ∷ words))
 
 abbrev pub places : ℕ → ℕ → Places
 places from to = record { from = from; to = to }
+
+abbrev pub by_places : ℕ → ℕ → Extent
+by_places from to = record { places = places from to; axis = by.Places }
+
+abbrev pub by_ticks : ℕ → ℕ → Extent
+by_ticks from to = record { places = places from to; axis = by.Ticks }
 
 -- the last place, where none is given
 abbrev pub most : ℕ
@@ -92,13 +100,26 @@ pub record WorkedViews : Type 0 where
       asked_after (codes "compare" ∷ codes "--strict" ∷ codes "--settle" ∷ [])
       ≡ a_strict (Settled settled.Compare) None
   pub picture :
-      asked_after (codes "timeline" ∷ []) ≡ a_lenient (Plain (view.Timeline (places 0 most))) None
+      asked_after (codes "timeline" ∷ []) ≡ a_lenient (Plain (view.Timeline (by_places 0 most))) None
   pub picture_between :
       asked_after (codes "timeline" ∷ codes "--from" ∷ codes "3" ∷ codes "--to" ∷ codes "7" ∷ [])
-      ≡ a_lenient (Plain (view.Timeline (places 3 7))) None
+      ≡ a_lenient (Plain (view.Timeline (by_places 3 7))) None
   pub picture_settled :
       asked_after (codes "timeline" ∷ codes "--to" ∷ codes "7" ∷ codes "--settle" ∷ [])
-      ≡ a_lenient (Settled (settled.Timeline (places 0 7))) None
+      ≡ a_lenient (Settled (settled.Timeline (by_places 0 7))) None
+  pub picture_by_ticks :
+      asked_after (codes "timeline" ∷ codes "--axis" ∷ codes "tick" ∷ [])
+      ≡ a_lenient (Plain (view.Timeline (by_ticks 0 most))) None
+  pub page :
+      asked_after (codes "page" ∷ codes "--from" ∷ codes "3" ∷ codes "run.json" ∷ [])
+      ≡ a_lenient (Page (record { settled = false; extent = by_places 3 most }))
+      (Some (codes "run.json"))
+  pub page_settled :
+      asked_after (codes "page" ∷ codes "--settle" ∷ codes "--to=7" ∷ [])
+      ≡ a_lenient (Page (record { settled = true; extent = by_places 0 7 })) None
+  pub page_by_ticks :
+      asked_after (codes "page" ∷ codes "--axis=tick" ∷ [])
+      ≡ a_lenient (Page (record { settled = false; extent = by_ticks 0 most })) None
 
 -- the value of this name may be at most so much, or at least so much
 abbrev pub at_most : Text → ℕ → limit.Asked
@@ -163,6 +184,7 @@ pub record WorkedHelp : Type 0 where
   pub of_settle : asked_after (codes "settle" ∷ codes "--help" ∷ []) ≡ help
   pub of_compare : asked_after (codes "compare" ∷ codes "-h" ∷ []) ≡ help
   pub of_timeline : asked_after (codes "timeline" ∷ codes "--help" ∷ []) ≡ help
+  pub of_page : asked_after (codes "page" ∷ codes "--help" ∷ []) ≡ help
 
 pub record WorkedVersions : Type 0 where
   pub of_program : asked_after (codes "--version" ∷ []) ≡ version
@@ -197,5 +219,10 @@ pub record WorkedMistakes : Type 0 where
       asked_after (codes "session" ∷ codes "--from" ∷ codes "3" ∷ []) ≡ a_mistake
   pub settled_settle : asked_after (codes "settle" ∷ codes "--settle" ∷ []) ≡ a_mistake
   pub compared_task : asked_after (codes "compare" ∷ codes "--task" ∷ codes "A" ∷ []) ≡ a_mistake
+  pub page_of_task : asked_after (codes "page" ∷ codes "--task" ∷ codes "A" ∷ []) ≡ a_mistake
+  pub unknown_axis :
+      asked_after (codes "timeline" ∷ codes "--axis" ∷ codes "core" ∷ []) ≡ a_mistake
+  pub unknown_axis_of_page :
+      asked_after (codes "page" ∷ codes "--axis" ∷ codes "core" ∷ []) ≡ a_mistake
   pub picture_of_core : asked_after (codes "timeline" ∷ codes "--core" ∷ codes "0" ∷ []) ≡ a_mistake
   pub no_text : asked None ≡ a_mistake

@@ -13,10 +13,11 @@ use Rattle.program_io.specs.Refusal.{IsToldFault}
 use Rattle.program_io.specs.Hint.{too_long_line, too_many_steps_line}
 use Rattle.program_io.specs.Twice.{twice_note}
 use Rattle.view_commands.specs.declared.request.Command.{Command}
-use Rattle.view_commands.specs.declared.request.Command.TheVariants.{Plain, Settled, Report, Check, Advise}
+use Rattle.view_commands.specs.declared.request.Command.TheVariants.{Plain, Settled, Report, Check, Advise, Page}
 use Rattle.view_commands.specs.declared.request.Job.{Job}
 use Rattle.view_commands.specs.AdviceViews.{IsAdviceView}
 use Rattle.view_commands.specs.CheckViews.{IsCheckView}
+use Rattle.view_commands.specs.PageViews.{IsPage}
 use Rattle.view_commands.specs.ReportViews.{IsReported}
 use Rattle.view_commands.specs.SettledViews.{IsSettledView}
 use Rattle.program_io.specs.Outputs.{Told}
@@ -31,6 +32,7 @@ IsTold (Settled view) session edits told = IsSettledView view session edits told
 IsTold (Report view) session edits told = IsReported view session edits told
 IsTold (Check view) session edits told = IsCheckView view session edits told
 IsTold (Advise question) session edits told = IsAdviceView question session edits told
+IsTold (Page view) session edits told = IsPage view session edits told
 
 -- What a job tells: what its command does, judged, and before that note a line for each edit that
 -- is refused.

@@ -6,6 +6,7 @@ pub mod Commands
 pub mod Families
 pub mod Interests
 pub mod Options
+pub mod PageViews
 pub mod Progress
 pub mod Refused
 pub mod ReportViews

@@ -1,14 +1,16 @@
 -- What clap's answers mean: the options of a command, a row for each, and the name of a file.
-use Rattle.std.specs.Prelude.{◌≡◌, ◌&&◌, ◌^◌, ◌-◌, ◌==◌, ℕ, List, [], ◌∷◌, ◌++◌, flat_map, length, map, Bool, true, false, codes, nat_lt, Option, Some, None, IfSome, is_some, option_and_then, unwrap_or, if◌then◌else◌}
+use Rattle.std.specs.Prelude.{◌≡◌, ◌&&◌, ◌^◌, ◌-◌, ◌==◌, ℕ, List, [], ◌∷◌, ◌++◌, flat_map, length, map, Bool, true, false, codes, Option, Some, None, IfSome, is_some, option_and_then, option_map, unwrap_or, if◌then◌else◌}
 use Rattle.std.specs.Path.{rsplit_once}
 use Rattle.std.specs.List.{list_all}
 use Rattle.std.specs.Option.{option_map_or}
 use Rattle.std.specs.Str.{bytes_eq}
-use Rattle.std.specs.Str.Parse.{without_leading_plus}
-use Rattle.clap.specs.ValueTests.{is_numeral}
+use Rattle.clap.specs.ValueTests.{is_unsigned_in}
 use Rattle.clap.specs.Words.{Row, Text, all_of, first_of, many_of, one_of}
-use Rattle.command_words.specs.Asking.{is_flag, number_of}
+use Rattle.command_words.specs.Asking.{flag_in, is_flag, number_in, number_of}
 use Rattle.run_advice.specs.declared.change.Family.{Family}
+use Rattle.run_pictures.specs.declared.frame.Axis.{Axis}
+use Rattle.run_pictures.specs.declared.frame.Axis.TheVariants as by
+use Rattle.run_pictures.specs.declared.picture.Extent.{Extent}
 use Rattle.run_reports.specs.declared.limits.Bound.{Bound}
 use Rattle.run_reports.specs.declared.limits.Bound.TheVariants.{AtMost, AtLeast}
 use Rattle.run_views.specs.declared.places.Places.{Places}
@@ -17,29 +19,25 @@ use Rattle.session_reports.specs.declared.report.Form.TheVariants.{Json, Table}
 use Rattle.view_commands.specs.Families.{family_of}
 use Rattle.view_commands.specs.Selected.{Selected}
 use Rattle.view_commands.specs.declared.request.Command.{Command}
-use Rattle.view_commands.specs.declared.request.Command.TheVariants.{Plain, Settled, Report, Check, Advise}
+use Rattle.view_commands.specs.declared.request.Command.TheVariants.{Plain, Settled, Report, Check, Advise, Page}
 use Rattle.view_commands.specs.declared.request.SettledView.TheVariants as settled
 use Rattle.view_commands.specs.declared.request.View.TheVariants as view
 
 -- digits that write a number below 2^32, with or without a plus sign before them
 abbrev pub is_number : Text → Bool
-is_number text = is_numeral (without_leading_plus text) && nat_lt (number_of text) (2 ^ 32)
+is_number = is_unsigned_in 0 (2 ^ 32 - 1)
 
 -- ---- each option
 
 -- whether the flag is there
 abbrev pub settle_in : List Row → Bool
-settle_in options = option_map_or (bytes_eq (codes "true")) (one_of (codes "settle") options) false
+settle_in = flag_in (codes "settle")
 
 abbrev pub strict_in : List Row → Bool
-strict_in options = option_map_or (bytes_eq (codes "true")) (one_of (codes "strict") options) false
+strict_in = flag_in (codes "strict")
 
 abbrev pub json_in : List Row → Bool
-json_in options = option_map_or (bytes_eq (codes "true")) (one_of (codes "json") options) false
-
--- the number that an option gives, or else this one
-abbrev pub number_in : Text → List Row → ℕ → ℕ
-number_in id options other = option_map_or number_of (one_of id options) other
+json_in = flag_in (codes "json")
 
 -- from the one place to the other; all places, where none is given
 abbrev pub places_in : List Row → Places
@@ -122,10 +120,39 @@ abbrev pub comparison_of : List Row → Command
 comparison_of options =
     if settle_in options then Settled settled.Compare else Plain view.Compare
 
-abbrev pub picture_of : List Row → Command
-picture_of options =
-    if settle_in options then Settled (settled.Timeline (places_in options))
-    else Plain (view.Timeline (places_in options))
+-- the axis that a word names
+abbrev pub axis_of : Text → Option Axis
+axis_of word =
+    if bytes_eq word (codes "place") then Some by.Places
+    else if bytes_eq word (codes "tick") then Some by.Ticks
+    else None
+
+-- places, where none is named
+abbrev pub axis_in : List Row → Option Axis
+axis_in options = option_map_or axis_of (first_of (codes "axis") options) (Some by.Places)
+
+-- the places that are drawn, along this axis
+abbrev pub extent_by : List Row → Axis → Extent
+extent_by options axis = record { places = places_in options; axis = axis }
+
+abbrev pub picture_by : List Row → Axis → Command
+picture_by options axis =
+    let extent = extent_by options axis in
+    if settle_in options then Settled (settled.Timeline extent) else Plain (view.Timeline extent)
+
+-- a picture, if an axis is named
+abbrev pub picture_of : List Row → Option Command
+picture_of options = option_map (picture_by options) (axis_in options)
+
+abbrev pub page_by : List Row → Axis → Command
+page_by options axis = Page (record {
+  settled = settle_in options;
+  extent = extent_by options axis;
+})
+
+-- a page, if an axis is named
+abbrev pub page_of : List Row → Option Command
+page_of options = option_map (page_by options) (axis_in options)
 
 abbrev pub report_of : List Row → Command
 report_of options = Report (record {
@@ -140,8 +167,7 @@ view_of name options =
     else if bytes_eq name (codes "session") then Plain view.Session
     else if bytes_eq name (codes "settle") then Settled settled.Session
     else if bytes_eq name (codes "compare") then comparison_of options
-    else if bytes_eq name (codes "report") then report_of options
-    else picture_of options
+    else report_of options
 
 -- a check, if there are limits and all are written as such
 abbrev pub check_of : List Row → Option Command
@@ -187,6 +213,8 @@ abbrev pub command_of : Text → List Row → Option Command
 command_of name options =
     if bytes_eq name (codes "check") then check_of options
     else if bytes_eq name (codes "advise") then advice_of options
+    else if bytes_eq name (codes "timeline") then picture_of options
+    else if bytes_eq name (codes "page") then page_of options
     else Some (view_of name options)
 
 -- ---- what clap takes as a value

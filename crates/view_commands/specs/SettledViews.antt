@@ -1,5 +1,5 @@
 -- What is told of the settled run of a session and of edits of it.
-use Rattle.std.specs.Prelude.{◌≡◌, ◌⊎◌, ◌<◌, ℕ, ◌+◌, ◌^◌, List, [], ◌∷◌, ◌++◌, ◌==◌, length, codes, decimal, nat_lt, if◌then◌else◌}
+use Rattle.std.specs.Prelude.{◌≡◌, ◌⊎◌, ◌<◌, ◌≤◌, ℕ, ◌+◌, ◌^◌, List, [], ◌∷◌, ◌++◌, ◌==◌, length, codes, decimal, nat_lt, if◌then◌else◌}
 use Rattle.bench_types.specs.declared.edit.Edit.{Edit}
 use Rattle.bench_types.specs.declared.header.Header.{Header}
 use Rattle.bench_types.specs.declared.step.Step.{Step}
@@ -9,9 +9,13 @@ use Rattle.bench_model.specs.Edits.{after_edits}
 use Rattle.settled_runs.specs.declared.waiting_call.WaitingCall.{WaitingCall}
 use Rattle.settled_runs.specs.Settled.{IsSettled}
 use Rattle.settling.specs.Notes.{left_text}
-use Rattle.run_views.specs.declared.places.Places.{Places}
+use Rattle.run_pictures.specs.declared.frame.Axis.{Axis}
+use Rattle.run_pictures.specs.declared.frame.Axis.TheVariants as by
+use Rattle.run_pictures.specs.declared.picture.Extent.{Extent}
 use Rattle.run_pictures.specs.Drawn.{Drawn, IsDrawable}
+use Rattle.run_pictures.specs.TickColumns.{tick_columns}
 use Rattle.run_comparisons.specs.declared.columns.Side.TheVariants.{Before, After}
+use Rattle.run_comparisons.specs.declared.rows.Row.{Row}
 use Rattle.run_comparisons.specs.declared.settled.SettledPair.{SettledPair}
 use Rattle.run_comparisons.specs.Columns.{columns_of}
 use Rattle.run_comparisons.specs.Settled.{left_lines, IsComparisonTooLong, IsSettledComparison, IsSettledPair}
@@ -64,56 +68,67 @@ IsToldOfBoth session edits told =
     IsToldOfRuns session edits told
     ⊎ (IsComparisonTooLong session edits × (told ≡ too_long))
 
--- the runs of a pair, where each row has a column
-abbrev pub drawn_before : Header → SettledPair → Drawn
-drawn_before header pair = record {
+-- where the places of one of two runs stand: in the columns of their rows, or by the ticks of both
+abbrev pub columns_before : Axis → List Step → List Step → List Row → List ℕ
+columns_before by.Places before after rows = columns_of Before rows
+columns_before by.Ticks before after rows = tick_columns before after before
+
+abbrev pub columns_after : Axis → List Step → List Step → List Row → List ℕ
+columns_after by.Places before after rows = columns_of After rows
+columns_after by.Ticks before after rows = tick_columns before after after
+
+abbrev pub drawn_before : Axis → Header → SettledPair → Drawn
+drawn_before axis header pair = record {
   header = header;
   steps = pair.before.run.items;
-  columns = columns_of Before pair.rows.items;
+  columns = columns_before axis pair.before.run.items pair.after.run.items pair.rows.items;
 }
 
-abbrev pub drawn_after : Header → SettledPair → Drawn
-drawn_after header pair = record {
+abbrev pub drawn_after : Axis → Header → SettledPair → Drawn
+drawn_after axis header pair = record {
   header = header;
   steps = pair.after.run.items;
-  columns = columns_of After pair.rows.items;
+  columns = columns_after axis pair.before.run.items pair.after.run.items pair.rows.items;
 }
 
-abbrev pub picture_of_pair : Places → Header → Header → SettledPair → Told
-picture_of_pair places header edited pair =
-    picture_of_runs places (drawn_before header pair) (drawn_after edited pair)
+abbrev pub picture_of_pair : Extent → Header → Header → SettledPair → Told
+picture_of_pair extent header edited pair =
+    picture_of_runs extent (drawn_before extent.axis header pair)
+    (drawn_after extent.axis edited pair)
 
 -- the calls of either run that were not made
 abbrev pub pair_note : Header → Header → SettledPair → List ℕ
 pair_note header edited pair = left_lines header edited pair.before.left.items pair.after.left.items
 
 -- the pair can be drawn
-pub record IsDrawnPair (header edited : Header) (pair : SettledPair) : Type 0 where
-  pub before : IsDrawable (drawn_before header pair)
-  pub after : IsDrawable (drawn_after edited pair)
+pub record IsDrawnPair (axis : Axis) (header edited : Header) (pair : SettledPair) : Type 0 where
+  pub before : IsDrawable (drawn_before axis header pair)
+  pub after : IsDrawable (drawn_after axis edited pair)
   pub few : length pair.rows.items + 1 < 2 ^ 32
+  pub few_before : length pair.before.run.items ≤ max_steps
+  pub few_after : length pair.after.run.items ≤ max_steps
 
 -- told is a picture of both settled runs
-pub record IsToldOfPair (places : Places) (session : Session) (edits : List Edit) (told : Told) :
+pub record IsToldOfPair (extent : Extent) (session : Session) (edits : List Edit) (told : Told) :
     Type 0 where
   pub pair : SettledPair
   pub settled : IsSettledPair session edits pair
   pub is_told : told
-      ≡ noted (picture_of_pair places session.header (after_edits session edits).header pair)
+      ≡ noted (picture_of_pair extent session.header (after_edits session edits).header pair)
       (pair_note session.header (after_edits session edits).header pair)
 
 -- what is told of both; J2 where one of them has more steps than a session may have
-abbrev pub IsToldOfPictures : Places → Session → List Edit → Told → Type 0
-IsToldOfPictures places session edits told =
-    IsToldOfPair places session edits told
+abbrev pub IsToldOfPictures : Extent → Session → List Edit → Told → Type 0
+IsToldOfPictures extent session edits told =
+    IsToldOfPair extent session edits told
     ⊎ (IsComparisonTooLong session edits × (told ≡ too_long))
 
 -- the picture of the settled run, and with edits that of the settled run after them below it
-abbrev pub IsSettledPicture : Places → Session → List Edit → Told → Type 0
-IsSettledPicture places session [] told =
-    IsToldOfSettled (picture_of_run places) session told
-IsSettledPicture places session (edit ∷ edits) told =
-    IsToldOfPictures places session (edit ∷ edits) told
+abbrev pub IsSettledPicture : Extent → Session → List Edit → Told → Type 0
+IsSettledPicture extent session [] told =
+    IsToldOfSettled (picture_of_run extent) session told
+IsSettledPicture extent session (edit ∷ edits) told =
+    IsToldOfPictures extent session (edit ∷ edits) told
 
 -- By the view, what is told of a session and of edits of it. They are made one after another, and
 -- those that are refused are passed over.
@@ -123,5 +138,5 @@ IsSettledView (settled.Trace selected) session edits told =
 IsSettledView settled.Session session edits told =
     IsToldOfSettled (λ run. fine (document_of run)) (after_edits session edits) told
 IsSettledView settled.Compare session edits told = IsToldOfBoth session edits told
-IsSettledView (settled.Timeline places) session edits told =
-    IsSettledPicture places session edits told
+IsSettledView (settled.Timeline extent) session edits told =
+    IsSettledPicture extent session edits told

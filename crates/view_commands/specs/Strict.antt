@@ -7,7 +7,7 @@ use Rattle.program_io.specs.declared.output.OutputStatus.{OutputStatus}
 use Rattle.program_io.specs.declared.output.OutputStatus.TheVariants.{Fine, Failed, Unknown}
 use Rattle.program_io.specs.Outputs.{Told}
 use Rattle.view_commands.specs.declared.request.Command.{Command}
-use Rattle.view_commands.specs.declared.request.Command.TheVariants.{Plain, Settled, Report, Check, Advise}
+use Rattle.view_commands.specs.declared.request.Command.TheVariants.{Plain, Settled, Report, Check, Advise, Page}
 
 -- the command shows settled runs
 abbrev pub is_settled : Command → Bool
@@ -16,6 +16,7 @@ is_settled (Settled view) = true
 is_settled (Report view) = view.settled
 is_settled (Check view) = view.settled
 is_settled (Advise question) = question.settled
+is_settled (Page view) = view.settled
 
 -- The same is told. Its status fails exactly where it was fine and something is refused.
 abbrev pub IsStrict : Type 0 → OutputStatus → Told → Told → Type 0

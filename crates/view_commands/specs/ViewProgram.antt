@@ -3,7 +3,7 @@ use Rattle.std.specs.Prelude.{◌≡◌, ◌⊎◌, ℕ, List, ◌++◌, Option,
 use Rattle.program_io.specs.declared.ending.Ending.{Ending}
 use Rattle.program_io.specs.declared.ending.Ending.TheVariants.{Failed, NotOpened}
 use Rattle.program_io.specs.declared.ending.RunFault.TheVariants.{Memory}
-use Rattle.program_io.specs.Endings.{Bytes, EndsBad, EndsHelp, EndsTelling, Untouched}
+use Rattle.program_io.specs.Endings.{Account, Bytes, EndsBad, EndsHelp, EndsTelling, Untouched}
 use Rattle.view_commands.specs.declared.request.Job.{Job}
 use Rattle.view_commands.specs.CommandLine.{Asked, a_view, help, version, a_mistake, asked}
 use Rattle.view_commands.specs.Commands.{IsView}
@@ -24,26 +24,19 @@ IsNotOpened name ending = ⊥
 
 -- A view of the file of a name: once that was opened, it is what was read. Before that nothing was
 -- read or written.
-abbrev pub EndsFile : Job → List ℕ → Ending → Bytes → Bytes → Bytes → Bytes → Bytes → Type 0
-EndsFile job name ending file read_old read_new write_old write_new =
+abbrev pub EndsFile : Job → List ℕ → Bytes → Account
+EndsFile job name file ending read_old read_new write_old write_new =
     EndsTelling (IsView job) ending file read_new write_old write_new
     ⊎ (IsNotOpened name ending × Untouched read_old read_new write_old write_new)
 
--- by what was asked, how the program ends, and what was read and written then
-abbrev pub EndsAsked : Asked → Ending → Files → Bytes → Bytes → Bytes → Bytes → Type 0
-EndsAsked (a_view job (Some name)) ending files read_old read_new write_old write_new =
-    EndsFile job name ending (files name) read_old read_new write_old write_new
-EndsAsked (a_view job None) ending files read_old read_new write_old write_new =
-    EndsTelling (IsView job) ending read_old read_new write_old write_new
-EndsAsked help ending files read_old read_new write_old write_new =
-    EndsHelp ending read_old read_new write_old write_new
-EndsAsked version ending files read_old read_new write_old write_new =
-    EndsHelp ending read_old read_new write_old write_new
-EndsAsked a_mistake ending files read_old read_new write_old write_new =
-    EndsBad ending read_old read_new write_old write_new
+-- by what was asked, what is told of the end
+abbrev pub EndsAsked : Asked → Files → Account
+EndsAsked (a_view job (Some name)) files = EndsFile job name (files name)
+EndsAsked (a_view job None) files = EndsTelling (IsView job)
+EndsAsked help files = EndsHelp
+EndsAsked version files = EndsHelp
+EndsAsked a_mistake files = EndsBad
 
 -- by the words of the command line; none where one of them is no text
-abbrev pub Ends :
-    Files → Option (List (List ℕ)) → Ending → Bytes → Bytes → Bytes → Bytes → Type 0
-Ends files words ending read_old read_new write_old write_new =
-    EndsAsked (asked words) ending files read_old read_new write_old write_new
+abbrev pub Ends : Files → Option (List (List ℕ)) → Account
+Ends files words = EndsAsked (asked words) files

@@ -1,16 +1,20 @@
 -- What is shown of a session and of edits of it.
 use Rattle.std.specs.Prelude.{ℕ, List, [], ◌++◌, ◌==◌, length, codes, decimal, false, true, nat_lt, Option, Some, None, if◌then◌else◌, slice_index_or, string_bytes, Result, Ok, Err, String}
 use Rattle.bench_types.specs.declared.edit.Edit.{Edit}
+use Rattle.bench_types.specs.declared.step.Step.{Step}
 use Rattle.bench_types.specs.Session.{Session}
 use Rattle.bench_model.specs.Edits.{after_edits}
 use Rattle.session_write.specs.Written.{written}
 use Rattle.run_views.specs.Trace.{trace_text}
 use Rattle.std.specs.declared.alloc.Global.{Global}
+use Rattle.run_pictures.specs.declared.frame.Axis.{Axis}
+use Rattle.run_pictures.specs.declared.frame.Axis.TheVariants as by
+use Rattle.run_pictures.specs.declared.picture.Extent.{Extent}
 use Rattle.run_pictures.specs.declared.picture.TooLong.{TooLong}
-use Rattle.run_views.specs.declared.places.Places.{Places}
 use Rattle.run_pictures.specs.Drawn.{Drawn}
 use Rattle.run_pictures.specs.Limits.{max_places}
 use Rattle.run_pictures.specs.Picture.{count_of_both, picture_text, pictures_text, shown_count}
+use Rattle.run_pictures.specs.TickColumns.{tick_columns}
 use Rattle.run_comparisons.specs.Comparison.{compare_text}
 use Rattle.program_io.specs.Outputs.{Told, fine, refusal}
 use Rattle.view_commands.specs.declared.request.View.{View}
@@ -65,29 +69,40 @@ abbrev pub picture_or : ℕ → List ℕ → Told
 picture_or count picture =
     if nat_lt max_places count then refused_long count else fine picture
 
-abbrev pub picture_of_run : Places → Session → Told
-picture_of_run places session =
-    picture_or (shown_count places (length session.steps))
-    (picture_text places session.header session.steps)
+abbrev pub picture_of_run : Extent → Session → Told
+picture_of_run extent session =
+    picture_or (shown_count extent.places (length session.steps))
+    (picture_text extent.places extent.axis session.header session.steps)
 
 -- a picture of two runs
-abbrev pub picture_of_runs : Places → Drawn → Drawn → Told
-picture_of_runs places before after =
-    picture_or (count_of_both places before after) (pictures_text places before after)
+abbrev pub picture_of_runs : Extent → Drawn → Drawn → Told
+picture_of_runs extent before after =
+    picture_or (count_of_both extent.places before after)
+    (pictures_text extent.places extent.axis before after)
 
--- the run of a session, each place at the column of its number
-abbrev pub by_number : Session → Drawn
-by_number session = record { header = session.header; steps = session.steps; columns = [] }
+-- where the places of one of two runs stand: at their numbers, or by the ticks of both
+abbrev pub columns_by : Axis → List Step → List Step → List Step → List ℕ
+columns_by by.Places before after run = []
+columns_by by.Ticks before after run = tick_columns before after run
 
-abbrev pub picture_of_both : Places → Session → Session → Told
-picture_of_both places session edited =
-    picture_of_runs places (by_number session) (by_number edited)
+-- the run of a session as it is drawn beside another one
+abbrev pub drawn_by : Axis → List Step → List Step → Session → Drawn
+drawn_by axis before after session = record {
+  header = session.header;
+  steps = session.steps;
+  columns = columns_by axis before after session.steps;
+}
+
+abbrev pub picture_of_both : Extent → Session → Session → Told
+picture_of_both extent session edited =
+    picture_of_runs extent (drawn_by extent.axis session.steps edited.steps session)
+    (drawn_by extent.axis session.steps edited.steps edited)
 
 -- the picture of the run, and with edits that of the run after them below it
-abbrev pub picture_of : Places → Session → List Edit → Told
-picture_of places session edits =
-    if length edits == 0 then picture_of_run places session
-    else picture_of_both places session (after_edits session edits)
+abbrev pub picture_of : Extent → Session → List Edit → Told
+picture_of extent session edits =
+    if length edits == 0 then picture_of_run extent session
+    else picture_of_both extent session (after_edits session edits)
 
 -- By the view, what is shown of a session and of edits of it. They are made one after another,
 -- and those that are refused are passed over.
@@ -95,4 +110,4 @@ abbrev pub shown : View → Session → List Edit → Told
 shown (view.Trace selected) session edits = trace_output selected (after_edits session edits)
 shown view.Session session edits = fine (document_of (after_edits session edits))
 shown view.Compare session edits = fine (compare_text session edits)
-shown (view.Timeline places) session edits = picture_of places session edits
+shown (view.Timeline extent) session edits = picture_of extent session edits

@@ -12,6 +12,7 @@ ghost use Rattle.view_commands.specs.Strict.{IsJudged, IsRefusing};
 use crate::advice::told_advice;
 use crate::checks::told_check;
 use crate::edited::{second, shown};
+use crate::pages::told_page;
 use crate::reports::told_report;
 use crate::request::{Command, Job};
 use crate::settled::told_settled;
@@ -59,6 +60,7 @@ fn told_of_store<T: Threads + Sync, P: Progress>(
         Command::Settled(view) => told_settled(alloc, meter, store, edits, view),
         Command::Report(view) => told_report(alloc, meter, store, edits, *view),
         Command::Check(view) => told_check(alloc, meter, store, edits, view),
+        Command::Page(view) => told_page(alloc, meter, store, edits, *view),
         Command::Advise(question) => {
             told_advice(rt, host, alloc, meter, progress, store, edits, question)
         }

@@ -1,14 +1,15 @@
 //! What a command line asks for.
-ghost use Rattle.std.specs.Prelude.{◌≡◌, IfOk, IsErr, map, option_map};
-ghost use Rattle.clap.specs.Words.{app_of, kind_of, rule_of};
-ghost use Rattle.clap.specs.declared.error.kind.ErrorKind.TheVariants.{OutOfMemory};
+ghost use Rattle.std.specs.Prelude.{◌≡◌, IfOk, map, option_map};
+ghost use Rattle.clap.specs.Words.{app_of, rule_of};
+ghost use Rattle.command_words.specs.Answered.{said};
 ghost use Rattle.command_words.specs.Said.{class_in};
-ghost use Rattle.view_commands.specs.CommandLine.{IsTold, advise_app, asked, asked_by, asked_class, asked_in, asked_in_words, at_least_rule, at_most_rule, best_rule, check_app, compare_app, core_rule, file_rule, from_rule, json_rule, judged_rule, less_rule, over_rule, report_app, session_app, settle_app, settle_rule, strict_rule, task_rule, timeline_app, to_rule, trace_app, view_app};
+ghost use Rattle.command_words.specs.Told.{IsTold};
+ghost use Rattle.view_commands.specs.CommandLine.{advise_app, asked, asked_by, asked_in, at_least_rule, at_most_rule, axis_rule, best_rule, check_app, compare_app, core_rule, file_rule, from_rule, json_rule, judged_rule, less_rule, over_rule, page_app, report_app, session_app, settle_app, settle_rule, strict_rule, task_rule, timeline_app, to_rule, trace_app, view_app};
 
 use crate::options::asked_for;
 use crate::request::Request;
-use clap::{Arg, ArgAction, Command, Error, value_parser};
-use command_words::{Saying, not_text, said_by};
+use clap::{Arg, ArgAction, Command, value_parser};
+use command_words::{Answer, Saying, answer_of, flag, option, program};
 use std::alloc::{AllocError, Global};
 use std::convert::AsStr;
 
@@ -59,9 +60,18 @@ const COMPARISONS: &str = "With --settle it also says which calls were not made.
 Example: smp_view compare --settle examples/settled/shorter-timeout.json";
 
 // Below the options of a picture.
-const PICTURES: &str = "A picture shows at most 4000 places.
+const PICTURES: &str =
+    "A picture shows at most 4000 places. With --axis tick each tick is ruled, and has as many columns
+as the run with more places in it needs, so that two runs stand tick by tick.
 
 Example: smp_view timeline examples/questions/shared-mutex.json";
+
+// Below the options of a page.
+const PAGES: &str =
+    "The page has the picture and the trace of the run, with edits the comparison, and the report. It
+needs nothing from elsewhere, and shows at most 4000 places. Its picture is that of `timeline`.
+
+Example: smp_view page examples/questions/shared-mutex.json > page.html";
 
 // Below the options of a report.
 const REPORTS: &str =
@@ -91,36 +101,27 @@ Example: smp_view advise --settle --task control --less blocked.mutex --over pri
 fn settle_flag<'a>(alloc: Global) -> Arg<'a>
     ensures { rule_of result ≡ settle_rule }
 {
-    Arg::new(alloc, "settle")
-        .long("settle")
-        .help("Shows settled runs: what a target makes of the calls, ticks and interrupts")
-        .action(ArgAction::SetTrue)
+    flag(alloc, "settle").help(
+        "Shows settled runs: what a target makes of the calls, ticks and interrupts",
+    )
 }
 
 fn strict_flag<'a>(alloc: Global) -> Arg<'a>
     ensures { rule_of result ≡ strict_rule }
 {
-    Arg::new(alloc, "strict")
-        .long("strict")
-        .help("Ends with status 1 where an edit or a step of the run is refused")
-        .action(ArgAction::SetTrue)
+    flag(alloc, "strict").help("Ends with status 1 where an edit or a step of the run is refused")
 }
 
 fn json_flag<'a>(alloc: Global) -> Arg<'a>
     ensures { rule_of result ≡ json_rule }
 {
-    Arg::new(alloc, "json")
-        .long("json")
-        .help("Prints one JSON object")
-        .action(ArgAction::SetTrue)
+    flag(alloc, "json").help("Prints one JSON object")
 }
 
 fn from_option<'a>(alloc: Global) -> Arg<'a>
     ensures { rule_of result ≡ from_rule }
 {
-    Arg::new(alloc, "from")
-        .long("from")
-        .value_name("PLACE")
+    option(alloc, "from", "PLACE")
         .help("The first place that is shown, or 0 if left out")
         .value_parser(value_parser!(u32))
 }
@@ -128,9 +129,7 @@ fn from_option<'a>(alloc: Global) -> Arg<'a>
 fn to_option<'a>(alloc: Global) -> Arg<'a>
     ensures { rule_of result ≡ to_rule }
 {
-    Arg::new(alloc, "to")
-        .long("to")
-        .value_name("PLACE")
+    option(alloc, "to", "PLACE")
         .help("The last place that is shown, or the last of the run if left out")
         .value_parser(value_parser!(u32))
 }
@@ -138,9 +137,7 @@ fn to_option<'a>(alloc: Global) -> Arg<'a>
 fn task_option<'a>(alloc: Global) -> Arg<'a>
     ensures { rule_of result ≡ task_rule }
 {
-    Arg::new(alloc, "task")
-        .long("task")
-        .value_name("NAME")
+    option(alloc, "task", "NAME")
         .help("Shows the steps that concern this task; may stand several times")
         .action(ArgAction::Append)
 }
@@ -148,20 +145,22 @@ fn task_option<'a>(alloc: Global) -> Arg<'a>
 fn core_option<'a>(alloc: Global) -> Arg<'a>
     ensures { rule_of result ≡ core_rule }
 {
-    Arg::new(alloc, "core")
-        .long("core")
-        .value_name("CORE")
+    option(alloc, "core", "CORE")
         .help("Shows the steps that concern this core; may stand several times")
         .action(ArgAction::Append)
         .value_parser(value_parser!(u32))
 }
 
+fn axis_option<'a>(alloc: Global) -> Arg<'a>
+    ensures { rule_of result ≡ axis_rule }
+{
+    option(alloc, "axis", "AXIS").help("What a column is of: place, also if left out, or tick")
+}
+
 fn at_most_option<'a>(alloc: Global) -> Arg<'a>
     ensures { rule_of result ≡ at_most_rule }
 {
-    Arg::new(alloc, "at-most")
-        .long("at-most")
-        .value_name("NAME=N")
+    option(alloc, "at-most", "NAME=N")
         .help("The number of this name is to be N or less; may stand several times")
         .action(ArgAction::Append)
 }
@@ -169,9 +168,7 @@ fn at_most_option<'a>(alloc: Global) -> Arg<'a>
 fn at_least_option<'a>(alloc: Global) -> Arg<'a>
     ensures { rule_of result ≡ at_least_rule }
 {
-    Arg::new(alloc, "at-least")
-        .long("at-least")
-        .value_name("NAME=N")
+    option(alloc, "at-least", "NAME=N")
         .help("The number of this name is to be N or more; may stand several times")
         .action(ArgAction::Append)
 }
@@ -189,9 +186,7 @@ fn judged_option<'a>(alloc: Global) -> Arg<'a>
 fn less_option<'a>(alloc: Global) -> Arg<'a>
     ensures { rule_of result ≡ less_rule }
 {
-    Arg::new(alloc, "less")
-        .long("less")
-        .value_name("NUMBER")
+    option(alloc, "less", "NUMBER")
         .help("The number of the task, as `report` names it: blocked.mutex, ready.longest, ..")
         .required(true)
 }
@@ -199,20 +194,15 @@ fn less_option<'a>(alloc: Global) -> Arg<'a>
 fn over_option<'a>(alloc: Global) -> Arg<'a>
     ensures { rule_of result ≡ over_rule }
 {
-    Arg::new(alloc, "over")
-        .long("over")
-        .value_name("CHANGES")
-        .help(
-            "Which changes are tried, with commas between them, or priority,mask,order if left out",
-        )
+    option(alloc, "over", "CHANGES").help(
+        "Which changes are tried, with commas between them, or priority,mask,order if left out",
+    )
 }
 
 fn best_option<'a>(alloc: Global) -> Arg<'a>
     ensures { rule_of result ≡ best_rule }
 {
-    Arg::new(alloc, "best")
-        .long("best")
-        .value_name("COUNT")
+    option(alloc, "best", "COUNT")
         .help("How many of the best are printed, or 10 if left out")
         .value_parser(value_parser!(u32))
 }
@@ -278,6 +268,21 @@ fn timeline_command<'a>(alloc: Global) -> Result<Command<'a>, AllocError>
         .after_help(PICTURES)
         .about("Draws the runs before and after the edits, as an SVG picture")
         .arg(settle_flag(alloc))?
+        .arg(axis_option(alloc))?
+        .arg(from_option(alloc))?
+        .arg(to_option(alloc))?
+        .arg(strict_flag(alloc))?
+        .arg(file_argument(alloc))
+}
+
+fn page_command<'a>(alloc: Global) -> Result<Command<'a>, AllocError>
+    ensures { IfOk result (λ command. IsTold command page_app) }
+{
+    Command::new(alloc, "page")
+        .after_help(PAGES)
+        .about("Writes one HTML file of the runs: picture, trace, comparison and report")
+        .arg(settle_flag(alloc))?
+        .arg(axis_option(alloc))?
         .arg(from_option(alloc))?
         .arg(to_option(alloc))?
         .arg(strict_flag(alloc))?
@@ -324,8 +329,7 @@ fn advise_command<'a>(alloc: Global) -> Result<Command<'a>, AllocError>
         .arg(file_argument(alloc))
 }
 
-// The program with its commands. Help for one of them is asked for by its `--help`, so `help` is
-// no command.
+// The program with its commands.
 fn program_command<'a>(alloc: Global) -> Result<Command<'a>, AllocError>
     ensures { IfOk result (λ command. app_of command ≡ view_app) }
 {
@@ -337,12 +341,11 @@ fn program_command<'a>(alloc: Global) -> Result<Command<'a>, AllocError>
     let report = report_command(alloc)?;
     let check = check_command(alloc)?;
     let advise = advise_command(alloc)?;
-    Command::new(alloc, "smp_view")
+    let page = page_command(alloc)?;
+    program(alloc, "smp_view")
         .version(VERSION)
         .about("Shows what a run of a scheduling session does, and why")
         .after_help(DOCUMENTS)
-        .disable_help_subcommand(true)
-        .subcommand_required(true)
         .subcommand(trace)?
         .subcommand(session)?
         .subcommand(settle)?
@@ -350,34 +353,18 @@ fn program_command<'a>(alloc: Global) -> Result<Command<'a>, AllocError>
         .subcommand(timeline)?
         .subcommand(report)?
         .subcommand(check)?
-        .subcommand(advise)
+        .subcommand(advise)?
+        .subcommand(page)
 }
 
 // What clap says asks for this.
-fn said(said: Saying) -> Request
-    ensures { asked_in result ≡ asked_class (class_in said) }
+fn said(saying: Saying) -> Request
+    ensures { asked_in result ≡ asked_by (said (class_in saying)) }
 {
-    match said {
+    match saying {
         Saying::Help(text) => Request::Help(text),
         Saying::Version(text) => Request::Version(text),
         Saying::Mistake(text) => Request::Bad(text),
-    }
-}
-
-fn told(alloc: Global, error: &Error) -> Result<Request, AllocError>
-    ensures asked { IfOk result (λ request. asked_in request ≡ asked_by (kind_of error.now)) }
-    ensures memory { kind_of error.now ≡ OutOfMemory → IsErr result }
-{
-    Ok(said(said_by(alloc, error)?))
-}
-
-fn request_in<S: AsStr>(alloc: Global, words: &[S]) -> Result<Request, AllocError>
-    ensures { IfOk result
-        (λ request. asked_in request ≡ asked_in_words (map S.text words.now)) }
-{
-    match program_command(alloc)?.try_get_matches_from(words) {
-        Ok(matches) => asked_for(alloc, &matches),
-        Err(error) => told(alloc, &error),
     }
 }
 
@@ -387,8 +374,8 @@ pub fn request_of<S: AsStr>(alloc: Global, words: Option<&[S]>) -> Result<Reques
     ensures { IfOk result
         (λ request. asked_in request ≡ asked (option_map (λ all. map S.text all.now) words.entry)) }
 {
-    match words {
-        Some(words) => request_in(alloc, words),
-        None => Ok(said(not_text(alloc, &mut program_command(alloc)?)?)),
+    match answer_of(alloc, program_command(alloc)?, words)? {
+        Answer::Met(matches) => asked_for(alloc, &matches),
+        Answer::Said(saying) => Ok(said(saying)),
     }
 }

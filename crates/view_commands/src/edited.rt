@@ -7,17 +7,17 @@ ghost use Rattle.bench_types.specs.Session.{IsSession};
 ghost use Rattle.bench_types.specs.Step.{settings_of, IsCheckedStep};
 ghost use Rattle.run_comparisons.specs.Comparison.{compare_text};
 ghost use Rattle.run_pictures.specs.Limits.{max_places};
-ghost use Rattle.view_commands.specs.Views.{answer_output, document_of, most_places, picture_of, picture_of_both, picture_of_run, refused_long, refused_core, refused_task, shown, trace_of, trace_output};
+ghost use Rattle.view_commands.specs.Views.{answer_output, columns_by, document_of, most_places, picture_of, picture_of_both, picture_of_run, refused_long, refused_core, refused_task, shown, trace_of, trace_output};
 ghost use Rattle.program_io.specs.Outputs.{fine};
 
 use crate::interest::{interest_of, unknown_core, unknown_task};
 use crate::{Selection, View};
-use bench_types::{Edit, Header, MAX_SPAN, Step};
+use bench_types::{Edit, Header, Items, MAX_SPAN, Step};
 use document_stores::answer_to_edit;
 use program_io::Output;
 use run_comparisons::{compare, steps_of};
-use run_pictures::{Run, TooLong, timeline, timelines};
-use run_views::{Places, trace};
+use run_pictures::{Axis, Extent, Run, TickColumns, TooLong, tick_columns, timeline, timelines};
+use run_views::trace;
 use session_store::Store;
 use session_write::write_session;
 use smp_kernel::Meter;
@@ -156,8 +156,8 @@ pub(crate) fn second(alloc: Global, meter: &mut Meter, store: &Store) -> Result<
     }
 }
 
-// The run of the session beside the run after the edits.
-fn comparison_of(
+/// The run of the session beside the run after the edits.
+pub(crate) fn comparison_of(
     alloc: Global,
     meter: &mut Meter,
     store: &mut Store,
@@ -203,13 +203,36 @@ fn picture_of_run(
     alloc: Global,
     meter: &mut Meter,
     store: &Store,
-    places: Places,
+    extent: Extent,
 ) -> Result<Output, AllocError>
-    ensures { IfOk result (λ shown. shown ≡ picture_of_run places store.now.session) }
+    ensures { IfOk result (λ shown. shown ≡ picture_of_run extent store.now.session) }
 {
     let steps = steps_of(alloc, store)?;
-    let answer = timeline(alloc, meter, places, store.header(), steps.as_slice())?;
+    let answer = timeline(alloc, meter, extent, store.header(), steps.as_slice())?;
     answer_output(alloc, answer)
+}
+
+// Where the places of two runs stand: at their numbers, or by the ticks of both.
+fn columns_by(
+    alloc: Global,
+    axis: Axis,
+    before: &[Step],
+    after: &[Step],
+) -> Result<TickColumns, AllocError>
+    requires before { length before.now ≤ max_steps }
+    requires after { length after.now ≤ max_steps }
+    ensures before { IfOk result
+        (λ columns. columns.before ≡ columns_by axis before.now after.now before.now) }
+    ensures after { IfOk result
+        (λ columns. columns.after ≡ columns_by axis before.now after.now after.now) }
+{
+    match axis {
+        Axis::Places => Ok(TickColumns {
+            before: Items::new(Vec::new(alloc)),
+            after: Items::new(Vec::new(alloc)),
+        }),
+        Axis::Ticks => tick_columns(alloc, before, after),
+    }
 }
 
 // The runs of a session before edits, and of the store after them.
@@ -219,47 +242,50 @@ fn picture_of_both(
     header: &Header,
     steps: &[Step],
     store: &Store,
-    places: Places,
+    extent: Extent,
 ) -> Result<Output, AllocError>
     requires header { IsCheckedHeader header.now }
     requires steps { All (IsCheckedStep (settings_of header.now)) steps.now }
-    requires few { length steps.now + 1 < 2 ^ 32 }
+    requires few { length steps.now ≤ max_steps }
     ensures { IfOk result (λ shown. shown
-        ≡ picture_of_both places (record { header = header.now; steps = steps.now })
+        ≡ picture_of_both extent (record { header = header.now; steps = steps.now })
         store.now.session) }
 {
     let later = steps_of(alloc, store)?;
+    let edited = later.as_slice();
+    let columns = columns_by(alloc, extent.axis, steps, edited)?;
     let before = Run {
         header,
         steps,
-        columns: &[],
+        columns: columns.before.as_slice(),
     };
     let after = Run {
         header: store.header(),
-        steps: later.as_slice(),
-        columns: &[],
+        steps: edited,
+        columns: columns.after.as_slice(),
     };
-    let answer = timelines(alloc, meter, places, &before, &after)?;
+    let answer = timelines(alloc, meter, extent, &before, &after)?;
     answer_output(alloc, answer)
 }
 
-fn picture_of(
+/// The picture of the run, and with edits that of the run after them below it.
+pub(crate) fn picture_of(
     alloc: Global,
     meter: &mut Meter,
     store: &mut Store,
     edits: &[Edit],
-    places: Places,
+    extent: Extent,
 ) -> Result<Output, AllocError>
     ensures { IfOk result
-        (λ shown. shown ≡ picture_of places store.old.session edits.now) }
+        (λ shown. shown ≡ picture_of extent store.old.session edits.now) }
 {
     if edits.len() == 0 {
-        return picture_of_run(alloc, meter, store, places);
+        return picture_of_run(alloc, meter, store, extent);
     }
     let header = store.header().copy(alloc)?;
     let steps = steps_of(alloc, store)?;
     make_edits(alloc, meter, store, edits)?;
-    picture_of_both(alloc, meter, &header, steps.as_slice(), store, places)
+    picture_of_both(alloc, meter, &header, steps.as_slice(), store, extent)
 }
 
 /// What the view shows of the session and its edits; those that are refused are passed over.
@@ -285,6 +311,6 @@ pub(crate) fn shown(
             let text = comparison_of(alloc, meter, store, edits)?;
             Ok(Output::fine(alloc, text))
         }
-        View::Timeline(places) => picture_of(alloc, meter, store, edits, *places),
+        View::Timeline(extent) => picture_of(alloc, meter, store, edits, *extent),
     }
 }

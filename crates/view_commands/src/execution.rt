@@ -1,12 +1,10 @@
 //! A view of a document, over any reader and writer.
-ghost use Rattle.std.specs.Prelude.{◌≡◌};
-ghost use Rattle.program_io.specs.Device.{failures_after};
-ghost use Rattle.program_io.specs.Endings.{EndsTelling, all_reads_well, all_writes_well};
+ghost use Rattle.program_io.specs.Endings.{EndsOver, EndsTelling};
 ghost use Rattle.view_commands.specs.Commands.{IsView};
 
 use crate::Job;
 use crate::answer::told_of;
-use program_io::{CountedRead, CountedWrite, Ending, read_input, write_output};
+use program_io::{CountedRead, CountedWrite, Ending, tell_of_input};
 use run_advice::Progress;
 use std::alloc::Global;
 use std::thread::Threads;
@@ -23,15 +21,10 @@ pub fn run<T: Threads + Sync, P: Progress, R: CountedRead, W: CountedWrite>(
     writer: &mut W,
     job: &Job,
 ) -> Ending
-    ensures bytes { EndsTelling (IsView job.now) result (R.Read.remaining reader.old)
-        (R.Read.remaining reader.new) (W.Write.contents writer.old) (W.Write.contents writer.new) }
-    ensures reads { R.CountedRead.failures reader.new
-        ≡ failures_after (all_reads_well result) (R.CountedRead.failures reader.old) }
-    ensures writes { W.CountedWrite.failures writer.new
-        ≡ failures_after (all_writes_well result) (W.CountedWrite.failures writer.old) }
+    ensures { EndsOver (EndsTelling (IsView job.now)) result (R.seen reader.old) (R.seen reader.new)
+        (W.seen writer.old) (W.seen writer.new) }
 {
-    match read_input(alloc, reader) {
-        Ok(input) => { write_output(writer, told_of(rt, host, progress, alloc, &input, job)) }
-        Err(fault) => Ending::unread(fault),
-    }
+    tell_of_input(alloc, reader, writer, |input| {
+        told_of(rt, host, progress, alloc, input, job)
+    })
 }

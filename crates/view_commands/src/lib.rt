@@ -12,6 +12,7 @@ mod families;
 mod interest;
 mod limits;
 mod options;
+mod pages;
 mod program;
 mod progress;
 mod reports;
@@ -29,6 +30,6 @@ pub use execution::run;
 pub use program::{carry_out, run_program};
 pub use progress::Telling;
 pub use request::{
-    CheckView, Command, FileName, Job, ReportView, Request, Selection, SettledView, View,
+    CheckView, Command, FileName, Job, PageView, ReportView, Request, Selection, SettledView, View,
 };
 pub use source::{DocumentSource, Folder, Source};

@@ -2,16 +2,18 @@
 ghost use Rattle.std.specs.Prelude.{◌≡◌, codes, IfOk, IfSome, map, option_map, string_bytes};
 ghost use Rattle.std.specs.Option.{IsSomeAnd};
 ghost use Rattle.clap.specs.Words.{found_of, rows_of, subcommand_rows_of};
+ghost use Rattle.command_words.specs.Asking.{number_in};
 ghost use Rattle.view_commands.specs.CommandLine.{asked_for, asked_in};
-ghost use Rattle.view_commands.specs.Options.{AreTaken, advice_of, advice_with, check_of, command_of, comparison_of, cores_in, family_in, file_in, json_in, number_in, number_name, picture_of, places_in, report_of, selection_in, settle_in, strict_in, tasks_in, texts_in, trace_of, usual_best, view_of};
+ghost use Rattle.view_commands.specs.Options.{AreTaken, advice_of, advice_with, axis_in, axis_of, check_of, command_of, comparison_of, cores_in, extent_by, family_in, file_in, json_in, number_name, page_by, page_of, picture_by, picture_of, places_in, report_of, selection_in, settle_in, strict_in, tasks_in, texts_in, trace_of, usual_best, view_of};
 
 use crate::families::family_of;
 use crate::limits::{are_limits, limits_in};
 use crate::request::{
-    CheckView, Command, FileName, Job, ReportView, Request, Selection, SettledView, View,
+    CheckView, Command, FileName, Job, PageView, ReportView, Request, Selection, SettledView, View,
 };
 use clap::ArgMatches;
 use run_advice::Family;
+use run_pictures::{Axis, Extent};
 use run_views::Places;
 use session_advice::Question;
 use session_reports::Form;
@@ -26,6 +28,12 @@ For more information, try '--help'.
 
 // What is told where a word names no changes.
 const NO_FAMILIES: &str = "error: --over takes priority, mask and order, with commas between them
+
+For more information, try '--help'.
+";
+
+// What is told where a word names no axis.
+const NO_AXIS: &str = "error: --axis takes place or tick
 
 For more information, try '--help'.
 ";
@@ -171,15 +179,76 @@ fn comparison_of(options: &ArgMatches) -> Command
     Command::Plain(View::Compare)
 }
 
-fn picture_of(options: &ArgMatches) -> Command
+fn axis_of(word: &str) -> Option<Axis>
+    ensures { result ≡ axis_of word.now }
+{
+    if word == "place" {
+        return Some(Axis::Places);
+    }
+    if word == "tick" {
+        return Some(Axis::Ticks);
+    }
+    None
+}
+
+fn axis_in(options: &ArgMatches) -> Option<Axis>
+    ensures { result ≡ axis_in (rows_of (found_of options.now)) }
+{
+    match options.get_str("axis") {
+        Some(word) => axis_of(word),
+        None => Some(Axis::Places),
+    }
+}
+
+fn extent_by(options: &ArgMatches, axis: Axis) -> Extent
+    requires { AreTaken (rows_of (found_of options.now)) }
+    ensures { result ≡ extent_by (rows_of (found_of options.now)) axis }
+{
+    let places = places_in(options);
+    Extent { places, axis }
+}
+
+fn picture_by(options: &ArgMatches, axis: Axis) -> Command
+    requires { AreTaken (rows_of (found_of options.now)) }
+    ensures { result ≡ picture_by (rows_of (found_of options.now)) axis }
+{
+    let extent = extent_by(options, axis);
+    if settle_in(options) {
+        return Command::Settled(SettledView::Timeline(extent));
+    }
+    Command::Plain(View::Timeline(extent))
+}
+
+// A picture, if an axis is named.
+fn picture_of(options: &ArgMatches) -> Option<Command>
     requires { AreTaken (rows_of (found_of options.now)) }
     ensures { result ≡ picture_of (rows_of (found_of options.now)) }
 {
-    let places = places_in(options);
-    if settle_in(options) {
-        return Command::Settled(SettledView::Timeline(places));
+    match axis_in(options) {
+        Some(axis) => Some(picture_by(options, axis)),
+        None => None,
     }
-    Command::Plain(View::Timeline(places))
+}
+
+fn page_by(options: &ArgMatches, axis: Axis) -> Command
+    requires { AreTaken (rows_of (found_of options.now)) }
+    ensures { result ≡ page_by (rows_of (found_of options.now)) axis }
+{
+    Command::Page(PageView {
+        settled: settle_in(options),
+        extent: extent_by(options, axis),
+    })
+}
+
+// A page, if an axis is named.
+fn page_of(options: &ArgMatches) -> Option<Command>
+    requires { AreTaken (rows_of (found_of options.now)) }
+    ensures { result ≡ page_of (rows_of (found_of options.now)) }
+{
+    match axis_in(options) {
+        Some(axis) => Some(page_by(options, axis)),
+        None => None,
+    }
 }
 
 fn report_of(options: &ArgMatches) -> Command
@@ -289,6 +358,12 @@ fn command_of(
     if name == "advise" {
         return advice_of(alloc, options);
     }
+    if name == "timeline" {
+        return Ok(picture_of(options));
+    }
+    if name == "page" {
+        return Ok(page_of(options));
+    }
     Ok(Some(view_of(alloc, name, options)?))
 }
 
@@ -310,16 +385,15 @@ fn view_of(alloc: Global, name: &str, options: &ArgMatches) -> Result<Command, A
     if name == "compare" {
         return Ok(comparison_of(options));
     }
-    if name == "report" {
-        return Ok(report_of(options));
-    }
-    Ok(picture_of(options))
+    Ok(report_of(options))
 }
 
 // What is told of a command that lacks what clap does not ask for.
 fn lacking(name: &str) -> &'static str {
     if name == "check" {
         NO_LIMITS
+    } else if name == "timeline" || name == "page" {
+        NO_AXIS
     } else {
         NO_FAMILIES
     }

@@ -1,8 +1,7 @@
 //! The program, from the words of its command line to its end.
 ghost use Rattle.std.specs.Prelude.{◌≡◌, IfOk, map, option_map, string_bytes};
 ghost use Rattle.std.specs.Process.{exit_status};
-ghost use Rattle.program_io.specs.Device.{device, failures_after};
-ghost use Rattle.program_io.specs.Endings.{EndsProcess, EndsWith, all_reads_well, all_writes_well};
+ghost use Rattle.program_io.specs.Endings.{EndsOver, EndsProcess, EndsWith};
 ghost use Rattle.view_commands.specs.CommandLine.{a_view, asked_in};
 ghost use Rattle.view_commands.specs.ViewProgram.{Ends, EndsAsked, EndsFile, open_line};
 
@@ -37,13 +36,8 @@ fn show_file<T: Threads + Sync, P: Progress, R: Source, W: CountedWrite>(
     reader: &mut R,
     writer: &mut W,
 ) -> Ending
-    ensures bytes { EndsFile job.now name.now result (R.Source.file reader.old name.now)
-        (R.Read.remaining reader.old) (R.Read.remaining reader.new) (W.Write.contents writer.old)
-        (W.Write.contents writer.new) }
-    ensures reads { R.CountedRead.failures reader.new
-        ≡ failures_after (all_reads_well result) (R.CountedRead.failures reader.old) }
-    ensures writes { W.CountedWrite.failures writer.new
-        ≡ failures_after (all_writes_well result) (W.CountedWrite.failures writer.old) }
+    ensures { EndsOver (EndsFile job.now name.now (R.Source.file reader.old name.now)) result
+        (R.seen reader.old) (R.seen reader.new) (W.seen writer.old) (W.seen writer.new) }
 {
     let Ok(line) = open_line(alloc, name) else {
         return Ending::Failed(RunFault::Memory);
@@ -65,13 +59,8 @@ fn show_document<T: Threads + Sync, P: Progress, R: Source, W: CountedWrite>(
     reader: &mut R,
     writer: &mut W,
 ) -> Ending
-    ensures bytes { EndsAsked (a_view job.now file) result (R.Source.file reader.old)
-        (R.Read.remaining reader.old) (R.Read.remaining reader.new) (W.Write.contents writer.old)
-        (W.Write.contents writer.new) }
-    ensures reads { R.CountedRead.failures reader.new
-        ≡ failures_after (all_reads_well result) (R.CountedRead.failures reader.old) }
-    ensures writes { W.CountedWrite.failures writer.new
-        ≡ failures_after (all_writes_well result) (W.CountedWrite.failures writer.old) }
+    ensures { EndsOver (EndsAsked (a_view job.now file) (R.Source.file reader.old)) result
+        (R.seen reader.old) (R.seen reader.new) (W.seen writer.old) (W.seen writer.new) }
 {
     match file {
         Some(name) => show_file(
@@ -99,13 +88,8 @@ pub fn carry_out<T: Threads + Sync, P: Progress, R: Source, W: CountedWrite>(
     reader: &mut R,
     writer: &mut W,
 ) -> Ending
-    ensures bytes { EndsAsked (asked_in request) result (R.Source.file reader.old)
-        (R.Read.remaining reader.old) (R.Read.remaining reader.new) (W.Write.contents writer.old)
-        (W.Write.contents writer.new) }
-    ensures reads { R.CountedRead.failures reader.new
-        ≡ failures_after (all_reads_well result) (R.CountedRead.failures reader.old) }
-    ensures writes { W.CountedWrite.failures writer.new
-        ≡ failures_after (all_writes_well result) (W.CountedWrite.failures writer.old) }
+    ensures { EndsOver (EndsAsked (asked_in request) (R.Source.file reader.old)) result
+        (R.seen reader.old) (R.seen reader.new) (W.seen writer.old) (W.seen writer.new) }
 {
     match request {
         Request::Show(job, file) => {
@@ -126,13 +110,9 @@ fn end_of_words<T: Threads + Sync, P: Progress, S: AsStr, R: Source, W: CountedW
     reader: &mut R,
     writer: &mut W,
 ) -> Ending
-    ensures bytes { Ends (R.Source.file reader.old)
-        (option_map (λ all. map S.text all.now) words.entry) result (R.Read.remaining reader.old)
-        (R.Read.remaining reader.new) (W.Write.contents writer.old) (W.Write.contents writer.new) }
-    ensures reads { R.CountedRead.failures reader.new
-        ≡ failures_after (all_reads_well result) (R.CountedRead.failures reader.old) }
-    ensures writes { W.CountedWrite.failures writer.new
-        ≡ failures_after (all_writes_well result) (W.CountedWrite.failures writer.old) }
+    ensures { EndsOver
+        (Ends (R.Source.file reader.old) (option_map (λ all. map S.text all.now) words.entry))
+        result (R.seen reader.old) (R.seen reader.new) (W.seen writer.old) (W.seen writer.new) }
 {
     match request_of(host.alloc(), words) {
         Ok(request) => carry_out(rt, host, progress, host.alloc(), request, reader, writer),
@@ -149,17 +129,11 @@ fn ending_of<T: Threads + Sync, P: Progress, R: Source, W: CountedWrite>(
     reader: &mut R,
     writer: &mut W,
 ) -> Ending
-    ensures bytes { EndsWith (Ends (R.Source.file reader.old)) words result
-        (R.Read.remaining reader.old) (R.Read.remaining reader.new) (W.Write.contents writer.old)
-        (W.Write.contents writer.new) }
-    ensures reads { R.CountedRead.failures reader.new
-        ≡ failures_after (all_reads_well result) (R.CountedRead.failures reader.old) }
-    ensures writes { W.CountedWrite.failures writer.new
-        ≡ failures_after (all_writes_well result) (W.CountedWrite.failures writer.old) }
+    ensures { EndsOver (EndsWith (Ends (R.Source.file reader.old)) words) result
+        (R.seen reader.old) (R.seen reader.new) (W.seen writer.old) (W.seen writer.new) }
 {
     match given_words(host.alloc(), words) {
-        Ok(Some(given)) => end_of_words(rt, host, progress, Some(given.as_slice()), reader, writer),
-        Ok(None) => end_of_words(rt, host, progress, None::<&[String]>, reader, writer),
+        Ok(given) => end_of_words(rt, host, progress, given.as_deref(), reader, writer),
         Err(_) => Ending::Failed(RunFault::Memory),
     }
 }
@@ -181,12 +155,8 @@ pub fn run_program<T: Threads + Sync, P: Progress, R: Source, W: CountedWrite, E
     errors: &mut E,
 ) -> ExitCode
     ensures { EndsProcess (Ends (R.Source.file reader.old)) words (exit_status result)
-        (device (R.Read.remaining reader.old) (R.CountedRead.failures reader.old))
-        (device (R.Read.remaining reader.new) (R.CountedRead.failures reader.new))
-        (device (W.Write.contents writer.old) (W.CountedWrite.failures writer.old))
-        (device (W.Write.contents writer.new) (W.CountedWrite.failures writer.new))
-        (device (E.Write.contents errors.old) (E.CountedWrite.failures errors.old))
-        (device (E.Write.contents errors.new) (E.CountedWrite.failures errors.new)) }
+        (R.seen reader.old) (R.seen reader.new) (W.seen writer.old) (W.seen writer.new)
+        (E.seen errors.old) (E.seen errors.new) }
 {
     let ending = ending_of(rt, host, progress, words, reader, writer);
     end_process(errors, &ending)

@@ -1,4 +1,5 @@
 //! What the program may be asked for.
+use run_pictures::Extent;
 use run_views::Places;
 use session_advice::Question;
 use session_reports::{Form, Wanted};
@@ -37,8 +38,8 @@ pub enum View {
     Session,
     /// The run before the edits beside the run after them.
     Compare,
-    /// The picture of the run before the edits and of that after them, at these places.
-    Timeline(Places),
+    /// The picture of the run before the edits and of that after them.
+    Timeline(Extent),
 }
 
 /// What is shown of settled runs.
@@ -50,8 +51,8 @@ pub enum SettledView {
     Session,
     /// The settled run of the session before the edits beside that of the session after them.
     Compare,
-    /// The picture of these runs, at these places.
-    Timeline(Places),
+    /// The picture of these runs.
+    Timeline(Extent),
 }
 
 /// Which report is made of the session's run, and of the run after the edits.
@@ -78,6 +79,15 @@ impl Model for CheckView {
     ghost view = { λ it. record { settled = it.settled; limits = it.limits.items } };
 }
 
+/// What a page shows of the session's run, and of the run after the edits.
+#[derive(Clone, Copy, Debug, PartialEq, Eq)]
+pub struct PageView {
+    /// Whether the runs are settled.
+    pub settled: bool,
+    /// The places, and the axis of the picture.
+    pub extent: Extent,
+}
+
 /// What is to be shown of a document.
 #[derive(Drop)]
 pub enum Command {
@@ -91,6 +101,8 @@ pub enum Command {
     Check(CheckView),
     /// Which changes make a number of its run lower.
     Advise(Question),
+    /// A page with the picture, the trace, the comparison and the report.
+    Page(PageView),
 }
 
 impl Command {
@@ -107,6 +119,7 @@ impl Command {
             Command::Report(view) => view.settled,
             Command::Check(view) => view.settled,
             Command::Advise(question) => question.settled,
+            Command::Page(view) => view.settled,
         }
     }
 }

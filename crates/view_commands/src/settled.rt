@@ -15,8 +15,7 @@ use crate::{Selection, SettledView};
 use bench_types::{Edit, EditFault, Header, MAX_STEPS, Step};
 use program_io::{Output, Refusal};
 use run_comparisons::{compare_settled, steps_of};
-use run_pictures::timeline;
-use run_views::Places;
+use run_pictures::{Extent, timeline};
 use session_store::Store;
 use settled_runs::WaitingCall;
 use settling::{SettleFault, Settled, push_left, settle};
@@ -164,8 +163,8 @@ fn document_told(alloc: Global, meter: &mut Meter, store: &Store) -> Result<Outp
     settled_document(alloc, meter, store.header(), steps.as_slice())
 }
 
-// The settled runs of the session and of the session after the edits, beside each other.
-fn comparison_told(
+/// The settled runs of the session and of the session after the edits, beside each other.
+pub(crate) fn comparison_told(
     alloc: Global,
     meter: &mut Meter,
     store: &mut Store,
@@ -185,7 +184,7 @@ fn picture_of_run(
     meter: &mut Meter,
     header: &Header,
     settled: &Settled,
-    places: Places,
+    extent: Extent,
 ) -> Result<Output, AllocError>
     requires session { IsSession (record {
       header = header.now;
@@ -195,11 +194,11 @@ fn picture_of_run(
     ensures { IfOk result
         (λ told. told
         ≡ noted
-        (picture_of_run places
+        (picture_of_run extent
         (record { header = header.now; steps = settled.now.run.items }))
         (note_of header.now settled.now.left.items)) }
 {
-    let answer = timeline(alloc, meter, places, header, settled.run.as_slice())?;
+    let answer = timeline(alloc, meter, extent, header, settled.run.as_slice())?;
     let shown = answer_output(alloc, answer)?;
     with_left(alloc, header, settled.left.as_slice(), shown)
 }
@@ -209,15 +208,15 @@ fn settled_picture(
     meter: &mut Meter,
     header: &Header,
     steps: &[Step],
-    places: Places,
+    extent: Extent,
 ) -> Result<Output, AllocError>
     requires { IsSession (record { header = header.now; steps = steps.now }) }
     ensures { IfOk result
-        (λ told. IsToldOfSettled (picture_of_run places)
+        (λ told. IsToldOfSettled (picture_of_run extent)
         (record { header = header.now; steps = steps.now }) told) }
 {
     match settle(alloc, header, steps, meter) {
-        Ok(settled) => picture_of_run(alloc, meter, header, &settled, places),
+        Ok(settled) => picture_of_run(alloc, meter, header, &settled, extent),
         Err(fault) => not_settled(alloc, fault),
     }
 }
@@ -227,29 +226,29 @@ fn picture_told(
     alloc: Global,
     meter: &mut Meter,
     store: &Store,
-    places: Places,
+    extent: Extent,
 ) -> Result<Output, AllocError>
     ensures { IfOk result
-        (λ told. IsToldOfSettled (picture_of_run places) store.now.session told) }
+        (λ told. IsToldOfSettled (picture_of_run extent) store.now.session told) }
 {
     let steps = steps_of(alloc, store)?;
-    settled_picture(alloc, meter, store.header(), steps.as_slice(), places)
+    settled_picture(alloc, meter, store.header(), steps.as_slice(), extent)
 }
 
-// The picture of the settled run, and with edits that of the settled run after them below it.
-fn pictured(
+/// The picture of the settled run, and with edits that of the settled run after them below it.
+pub(crate) fn pictured(
     alloc: Global,
     meter: &mut Meter,
     store: &mut Store,
     edits: &[Edit],
-    places: Places,
+    extent: Extent,
 ) -> Result<Output, AllocError>
-    ensures { IfOk result (λ told. IsSettledPicture places store.old.session edits.now told) }
+    ensures { IfOk result (λ told. IsSettledPicture extent store.old.session edits.now told) }
 {
     if edits.len() == 0 {
-        return picture_told(alloc, meter, store, places);
+        return picture_told(alloc, meter, store, extent);
     }
-    pictures_told(alloc, meter, store, edits, places)
+    pictures_told(alloc, meter, store, edits, extent)
 }
 
 /// What the view tells of the session and its edits, settled; those that are refused are passed
@@ -274,6 +273,6 @@ pub(crate) fn told_settled(
             document_told(alloc, meter, store)
         }
         SettledView::Compare => comparison_told(alloc, meter, store, edits),
-        SettledView::Timeline(places) => pictured(alloc, meter, store, edits, *places),
+        SettledView::Timeline(extent) => pictured(alloc, meter, store, edits, *extent),
     }
 }

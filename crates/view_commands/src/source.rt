@@ -1,8 +1,8 @@
 //! Where documents are read from.
-ghost use Rattle.std.specs.Prelude.{◌≡◌, ℕ, List, Option, None, IfOk, OnErr, OnOk, is_ok};
+ghost use Rattle.std.specs.Prelude.{◌≡◌, ℕ, List, Option, None, IfOk, OnErr, OnOk, is_ok, refl};
 ghost use Rattle.std.specs.Io.{ReadsAtMost};
 ghost use Rattle.std.specs.Io.KnownBytes.{ReadConsumes};
-ghost use Rattle.program_io.specs.Device.{failures_after};
+ghost use Rattle.program_io.specs.Device.{device, failures_after};
 ghost use Rattle.view_commands.specs.Source.{remaining_of};
 
 use program_io::CountedRead;
@@ -18,10 +18,10 @@ pub trait Source: CountedRead {
     /// From here on the file of this name is read, from its first byte on. Where it can't be
     /// opened, which is counted as a read that failed, all stays as it was.
     fn open(&mut self, name: &str) -> io::Result<()>
-        ensures ok { OnOk result (Self.remaining self.new ≡ file self.old name.now) }
-        ensures err { OnErr result (Self.remaining self.new ≡ Self.remaining self.old) }
-        ensures count { Self.failures self.new
-            ≡ failures_after (is_ok result) (Self.failures self.old) };
+        ensures ok { OnOk result ((Self.seen self.new).bytes ≡ file self.old name.now) }
+        ensures err { OnErr result ((Self.seen self.new).bytes ≡ (Self.seen self.old).bytes) }
+        ensures count { (Self.seen self.new).failures
+            ≡ failures_after (is_ok result) (Self.seen self.old).failures };
 }
 
 /// Where files are opened, each by its name.
@@ -112,7 +112,9 @@ impl<S: Read + Drop, D: Folder> Read for DocumentSource<'_, S, D> {
 }
 
 impl<S: Read + Drop, D: Folder> CountedRead for DocumentSource<'_, S, D> {
-    ghost failures = { λ source. source.failures };
+    ghost seen = { λ it. device (remaining_of S.remaining D.File.remaining it.device) it.failures };
+
+    ghost is_seen = { λ it. refl };
 
     fn failures(&self) -> u64 {
         self.count()

@@ -1,14 +1,15 @@
 //! What a command line asks for.
 
-use run_pictures::MAX_PLACES;
+use run_pictures::{Axis, Extent, MAX_PLACES};
 use run_reports::Bound;
+use run_views::Places;
 use session_advice::Question;
 use session_reports::Form;
 use std::alloc::{AllocError, Global};
 use std::process::Abort;
 use std::test::Fail;
 use view_commands::{
-    CheckView, Command, FileName, Job, ReportView, Request, Selection, SettledView, View,
+    CheckView, Command, FileName, Job, PageView, ReportView, Request, Selection, SettledView, View,
     request_of,
 };
 
@@ -38,8 +39,15 @@ smp_view compare --settle => settled compare
 smp_view timeline => picture 0 4294967295
 smp_view timeline --to 7 --from 3 => picture 3 7
 smp_view timeline --settle => settled picture 0 4294967295
+smp_view timeline --axis place => picture 0 4294967295
+smp_view timeline --axis tick => picture by ticks 0 4294967295
+smp_view timeline --settle --axis=tick --to 7 => settled picture by ticks 0 7
 smp_view timeline --from 3 --settle => settled picture 3 4294967295
 smp_view timeline --settle --to 7 run.json => settled picture 0 7 file run.json
+smp_view page => page 0 4294967295
+smp_view page --settle --to 7 run.json => settled page 0 7 file run.json
+smp_view page --strict --from 3 => strict page 3 4294967295
+smp_view page --axis tick --settle => settled page by ticks 0 4294967295
 smp_view report => report table
 smp_view report --json => report object
 smp_view report --settle => report settled table
@@ -142,8 +150,13 @@ smp_view advise --task A --less run --best x => bad
 smp_view advise --task A --task B --less run => bad
 smp_view advise --task A --less run --from 3 => bad
 smp_view timeline -3 => bad
+smp_view timeline --axis core => bad
+smp_view timeline --axis => bad
+smp_view timeline --axis tick --axis tick => bad
 smp_view timeline --task A => bad
-smp_view timeline --settle --core 0 => bad";
+smp_view timeline --settle --core 0 => bad
+smp_view page --axis core => bad
+smp_view page --task A => bad";
 
 #[test]
 fn command_lines(rt: HostRuntime) -> Result<(), Fail> {
@@ -161,13 +174,15 @@ fn words_that_are_no_text(rt: HostRuntime) -> Result<(), Fail> {
     Ok(())
 }
 
-/// The help of a picture says how many places it shows at most.
+/// The help of a picture and that of a page say how many places they show at most.
 #[test]
 fn most_places_in_help(rt: HostRuntime) -> Result<(), Fail> {
-    let words = ["smp_view", "timeline", "--help"];
-    let request = request_of(rt.alloc(), Some(words.as_slice()))?;
-    let most = format!(in rt.alloc(); " {MAX_PLACES} places")?;
-    expect_part(&rt, text_of(&request), most.as_str());
+    for command in ["timeline", "page"] {
+        let words = ["smp_view", command, "--help"];
+        let request = request_of(rt.alloc(), Some(words.as_slice()))?;
+        let most = format!(in rt.alloc(); " {MAX_PLACES} places")?;
+        expect_part(&rt, text_of(&request), most.as_str());
+    }
     Ok(())
 }
 
@@ -243,7 +258,14 @@ fn command_told(alloc: Global, command: &Command) -> Result<String, AllocError> 
         Command::Report(view) => report_told(alloc, *view),
         Command::Check(view) => check_told(alloc, view),
         Command::Advise(question) => advice_told(alloc, question),
+        Command::Page(view) => page_told(alloc, *view),
     }
+}
+
+fn page_told(alloc: Global, view: PageView) -> Result<String, AllocError> {
+    let settled = if view.settled { "settled " } else { "" };
+    let drawn = extent_told(alloc, view.extent)?;
+    format!(in alloc; "{settled}page {drawn}")
 }
 
 fn advice_told(alloc: Global, question: &Question) -> Result<String, AllocError> {
@@ -289,7 +311,18 @@ fn plain_told(alloc: Global, view: &View) -> Result<String, AllocError> {
         View::Trace(selection) => trace_told(alloc, selection),
         View::Session => String::from_str(alloc, "session"),
         View::Compare => String::from_str(alloc, "compare"),
-        View::Timeline(places) => { format!(in alloc; "picture {} {}", places.from, places.to) }
+        View::Timeline(extent) => {
+            let drawn = extent_told(alloc, *extent)?;
+            format!(in alloc; "picture {drawn}")
+        }
+    }
+}
+
+fn extent_told(alloc: Global, extent: Extent) -> Result<String, AllocError> {
+    let Places { from, to } = extent.places;
+    match extent.axis {
+        Axis::Places => format!(in alloc; "{from} {to}"),
+        Axis::Ticks => format!(in alloc; "by ticks {from} {to}"),
     }
 }
 
@@ -298,8 +331,9 @@ fn settled_told(alloc: Global, view: &SettledView) -> Result<String, AllocError>
         SettledView::Trace(selection) => settled_trace_told(alloc, selection),
         SettledView::Session => String::from_str(alloc, "settled"),
         SettledView::Compare => String::from_str(alloc, "settled compare"),
-        SettledView::Timeline(places) => {
-            format!(in alloc; "settled picture {} {}", places.from, places.to)
+        SettledView::Timeline(extent) => {
+            let drawn = extent_told(alloc, *extent)?;
+            format!(in alloc; "settled picture {drawn}")
         }
     }
 }

@@ -1,7 +1,8 @@
 //! Pictures.
 
 use crate::view::samples::{FIRST_RUN, HINDERED};
-use run_pictures::{Run, law_of_hindrances, timeline, timelines};
+use bench_types::Step;
+use run_pictures::{Axis, Extent, Run, law_of_hindrances, tick_columns, timeline, timelines};
 use run_views::Places;
 use session_text::read_session;
 use smp_kernel::Meter;
@@ -61,7 +62,7 @@ core 1: due, has not switched yet</title>",
 
 /// What stands beside the bars of C, and above them.
 const BESIDE: [&str; 2] = [
-    "<text class='s' x='8' y='181'>priority 2, mask 2 ..<title>C
+    "<text class='s' x='8' y='228'>priority 2, mask 2 ..<title>C
 places 0 to 9: priority 2, mask 2
 place 10: priority 2
 place 11: priority 6</title></text>",
@@ -70,14 +71,43 @@ place 11: priority 6</title></text>",
 
 /// What is told where the places of the upper run begin at other columns: step 0 is as wide as two,
 /// and step 2 of the upper run stands above step 3 of the lower.
-const IN_COLUMNS: &str = "<rect class='z' x='150' y='22' width='80' height='14'><title>step 0: delay
-<rect class='z' x='270' y='22' width='40' height='14'><title>step 2: tick
-<rect class='z' x='150' y='230' width='40' height='14'><title>step 0: delay
-<rect class='z' x='270' y='230' width='40' height='14'><title>step 3: yield";
+const IN_COLUMNS: &str =
+    "<rect class='z' x='150' y='22' width='160' height='14'><title>step 0: delay
+<rect class='z' x='390' y='22' width='80' height='14'><title>step 2: tick
+<rect class='z' x='150' y='278' width='80' height='14'><title>step 0: delay
+<rect class='z' x='390' y='278' width='80' height='14'><title>step 3: yield";
 
-const ALL: Places = Places {
-    from: 0,
-    to: u32::MAX,
+/// What a picture of the first run has: as wide as its page, and a legend of what the run has.
+const LAID_OUT: &str = "<svg xmlns='http://www.w3.org/2000/svg' width='100%' \
+style='min-width:645px;height:auto' viewBox='0 0 860 266'>
+<rect class='c0' x='150' y='50' width='160' height='24'>
+<rect class='d' x='230' y='50' width='80' height='4'>
+<g transform='translate(8,244)'><rect class='c0' width='20' height='14'/>\
+<text class='s' x='26' y='11'>running</text></g>
+<g transform='translate(644,244)'>";
+
+/// The rules of a picture of the first run twice, by ticks.
+const RULES: &str = "<path class='g' d='M150 22V250'/>
+<path class='g' d='M390 22V250'/>
+<path class='g' d='M150 278V506'/>
+<path class='g' d='M390 278V506'/>";
+
+/// Steps with their ticks at other places.
+const UPPER: [Step; 3] = [Step::Switch { core: 0 }, Step::Tick, Step::Tick];
+
+const LOWER: [Step; 4] = [
+    Step::Tick,
+    Step::Switch { core: 0 },
+    Step::Switch { core: 1 },
+    Step::Tick,
+];
+
+const ALL: Extent = Extent {
+    places: Places {
+        from: 0,
+        to: u32::MAX,
+    },
+    axis: Axis::Places,
 };
 
 #[test]
@@ -89,7 +119,9 @@ fn a_picture_of_a_run(rt: HostRuntime) -> Result<(), Fail> {
     match timeline(alloc, &mut meter, ALL, &header, steps.as_slice())? {
         Ok(picture) => {
             expect_told(&rt, picture.as_str(), TOLD);
+            expect_told(&rt, picture.as_str(), LAID_OUT);
             expect_each(&rt, picture.as_str(), &READY);
+            assert!(rt; !picture.contains("refused"));
         }
         Err(_) => panic!(rt; "too long"),
     }
@@ -139,6 +171,39 @@ fn expect_each(rt: &impl Abort, picture: &str, wanted: &[&str]) {
     for told in wanted {
         assert!(rt; picture.contains(*told), "{told}");
     }
+}
+
+/// The second tick of both begins behind the two places of the first in the upper run, and the
+/// third behind the three places of the second in the lower.
+#[test]
+fn ticks_of_two_runs_line_up(rt: HostRuntime) -> Result<(), Fail> {
+    let columns = tick_columns(rt.alloc(), &UPPER, &LOWER)?;
+    assert!(rt; columns.before.as_slice() == [0, 1, 2, 5, 6].as_slice());
+    assert!(rt; columns.after.as_slice() == [0, 2, 3, 4, 5, 6].as_slice());
+    Ok(())
+}
+
+#[test]
+fn a_picture_by_ticks(rt: HostRuntime) -> Result<(), Fail> {
+    let alloc = rt.alloc();
+    let (header, steps) = read_session(alloc, FIRST_RUN.as_bytes())?;
+    assert!(rt; steps.len() < 100);
+    let mut meter = Meter::new(&rt);
+    let columns = tick_columns(alloc, steps.as_slice(), steps.as_slice())?;
+    let run = Run {
+        header: &header,
+        steps: steps.as_slice(),
+        columns: columns.before.as_slice(),
+    };
+    let extent = Extent {
+        axis: Axis::Ticks,
+        ..ALL
+    };
+    match timelines(alloc, &mut meter, extent, &run, &run)? {
+        Ok(picture) => expect_told(&rt, picture.as_str(), RULES),
+        Err(_) => panic!(rt; "too long"),
+    }
+    Ok(())
 }
 
 fn expect_told(rt: &impl Abort, picture: &str, wanted: &str) {

@@ -1,4 +1,4 @@
-use Rattle.std.proofs.Common.{rules, string_bytes, false, ◌≡◌, ◌∙◌, List, Ok, refl, sym, ap, subst}
+use Rattle.std.proofs.Common.{rules, string_bytes, ◌≡◌, ◌∙◌, List, Ok, refl, sym, ap, subst}
 use Rattle.bench_types.specs.declared.step.Step.{Step}
 use Rattle.bench_types.specs.declared.edit.Edit.{Edit}
 use Rattle.bench_types.specs.Session.{Session}

@@ -1,27 +1,12 @@
-use Rattle.std.proofs.Common.{rules, ◌≡◌, ◌||◌, ◌∙◌, false, ap, ap₂, codes}
+use Rattle.std.proofs.Common.{rules, refl, codes}
 use Rattle.std.proofs.lemmas.Result.{IfOk-weaker}
-use Rattle.clap.specs.Words.{Rule, app_of, new_app, with_rule}
-use Rattle.clap.specs.declared.builder.command.Command.TheViews.{out-Command as fields_of}
-use Rattle.bench_commands.specs.Command.{span_rule}
-use Rattle.command_words.proofs.OptionsRead.{simple_is_local}
+use Rattle.clap.specs.Words.{new_app}
+use Rattle.command_words.specs.Told.{IsTold}
+use Rattle.command_words.proofs.Told.{more_told}
 use Rattle.bench_commands.proofs.command.replay_command.Goals as goal
 
-pub returns-clause-app : goal.returns-clause-app
-returns-clause-app c =
-    let is_simple = λ (r : Rule). r.is_simple in
-    let span_is = c.span_option.ensures in
-    let tally_is = c.tally_flag.ensures in
-    let span_is_local = simple_is_local c.span_option.result (ap is_simple span_is) in
-    let tally_is_local = simple_is_local c.tally_flag.result (ap is_simple tally_is) in
-    let bare : app_of c.about.result ≡ new_app (codes "replay") = search rules in
-    let spans : app_of c.in_ok-arg.field-0 ≡ with_rule (new_app (codes "replay")) span_rule = c.in_ok-arg.ensures.shape span_is_local ∙ ap₂ with_rule bare span_is in
-    IfOk-weaker c.arg-2.result _ _ (λ command added. added.shape tally_is_local ∙ ap₂ with_rule spans tally_is) c.arg-2.ensures
-
-pub returns-clause-local : goal.returns-clause-local
-returns-clause-local c =
-    let is_simple = λ (r : Rule). r.is_simple in
-    let span_is_local = simple_is_local c.span_option.result (ap is_simple c.span_option.ensures) in
-    let tally_is_local = simple_is_local c.tally_flag.result (ap is_simple c.tally_flag.ensures) in
-    let bare : (fields_of c.about.result).has_globals ≡ false = search rules in
-    let spans : (fields_of c.in_ok-arg.field-0).has_globals ≡ false = c.in_ok-arg.ensures.globals ∙ ap₂ ◌||◌ bare span_is_local in
-    IfOk-weaker c.arg-2.result _ _ (λ command added. added.globals ∙ ap₂ ◌||◌ spans tally_is_local) c.arg-2.ensures
+pub returns : goal.returns
+returns c =
+    let bare : IsTold c.after_help.result (new_app (codes "replay")) = (search rules, search rules) in
+    let spans = more_told c.after_help.result c.in_ok-arg.field-0 _ c.span_option.result _ bare c.span_option.ensures refl c.in_ok-arg.ensures in
+    IfOk-weaker c.arg-2.result _ _ (λ command added. more_told c.in_ok-arg.field-0 command _ c.tally_flag.result _ spans c.tally_flag.ensures refl added) c.arg-2.ensures

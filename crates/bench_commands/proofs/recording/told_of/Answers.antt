@@ -1,4 +1,4 @@
-use Rattle.std.proofs.Common.{ap, codes, lt-ltb, string_bytes, List, ℕ, ◌∙◌}
+use Rattle.std.proofs.Common.{ap, lt-ltb, string_bytes, List, ℕ, ◌∙◌}
 use Rattle.program_io.specs.Outputs.{refused_with}
 use Rattle.bench_commands.proofs.Recordings.{long_recording}
 use Rattle.bench_commands.proofs.recording.told_of.Goals as goal

@@ -6,9 +6,9 @@ use Rattle.program_io.proofs.input.read_all.Given as goal
 
 abbrev pub invariant-loop-input : goal.invariant-loop-input
 invariant-loop-input g l = record {
-  consumes : Consumes (g.R.Read.remaining l.fn.reader) (g.R.Read.remaining l.reader) l.input.items;
+  consumes : Consumes (g.R.CountedRead.seen l.fn.reader).bytes (g.R.CountedRead.seen l.reader).bytes l.input.items;
   within : length l.input.items ≤ max_input + 1;
-  none_failed : g.R.CountedRead.failures l.reader ≡ g.R.CountedRead.failures l.fn.reader;
+  none_failed : (g.R.CountedRead.seen l.reader).failures ≡ (g.R.CountedRead.seen l.fn.reader).failures;
   room : length l.chunk ≡ CHUNK;
 }
 

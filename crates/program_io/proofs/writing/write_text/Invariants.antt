@@ -4,9 +4,9 @@ use Rattle.program_io.proofs.writing.write_text.Given as goal
 
 abbrev pub invariant-loop-written : goal.invariant-loop-written
 invariant-loop-written g l = record {
-  wrote : Appends (g.W.Write.contents l.fn.writer) (g.W.Write.contents l.writer) (take l.written l.text);
+  wrote : Appends (g.W.CountedWrite.seen l.fn.writer).bytes (g.W.CountedWrite.seen l.writer).bytes (take l.written l.text);
   within : l.written ≤ length l.text;
-  none_failed : g.W.CountedWrite.failures l.writer ≡ g.W.CountedWrite.failures l.fn.writer;
+  none_failed : (g.W.CountedWrite.seen l.writer).failures ≡ (g.W.CountedWrite.seen l.fn.writer).failures;
 }
 
 abbrev pub decreases-loop-written : goal.decreases-loop-written

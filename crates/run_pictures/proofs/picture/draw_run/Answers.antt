@@ -4,12 +4,9 @@ use Rattle.run_pictures.specs.Film.{film}
 use Rattle.run_pictures.proofs.Filming.{looks_counted, looks_few}
 use Rattle.run_pictures.proofs.picture.draw_run.Goals as goal
 
-pub panel_height-height-requires : goal.panel_height-height-requires
-panel_height-height-requires c = let tasks = (header_facts c.args.header.now (passes_whole c.args.header.now c.requires.header.passes)).few_tasks in omega (arith, tasks)
-
-pub push_rows-requires : goal.push_rows-requires
+pub draw_panel-requires : goal.draw_panel-requires
 unfolding film
-push_rows-requires c =
+draw_panel-requires c =
     let places = c.args.places in
     let header = c.args.header.now in
     let steps = c.args.steps.now in
@@ -18,4 +15,4 @@ push_rows-requires c =
     let few = looks_few places header steps (omega arith) (omega arith) in
     let some = looks_counted places header steps (omega arith) in
     let limits = header_facts header (passes_whole header c.requires.header.passes) in
-    record { top = omega arith; few = rw (filmed, framed) few; some = rw filmed some; tasks = omega (arith, limits.few_cores, limits.few_tasks) }
+    record { numbered = record { places = rw (filmed, framed) few; looks = rw filmed some; cores = limits.few_cores; tasks = limits.few_tasks }; count = omega arith }

@@ -1,8 +1,8 @@
 use Rattle.std.proofs.Common.{rules, refl, codes}
 use Rattle.std.proofs.lemmas.Result.{IfOk-weaker}
 use Rattle.clap.specs.Words.{new_app}
-use Rattle.view_commands.specs.CommandLine.{IsTold}
-use Rattle.view_commands.proofs.CommandLine.{more_told}
+use Rattle.command_words.specs.Told.{IsTold}
+use Rattle.command_words.proofs.Told.{more_told}
 use Rattle.view_commands.proofs.command_line.compare_command.Goals as goal
 
 pub returns : goal.returns

@@ -1,15 +1,23 @@
 use Rattle.std.proofs.Common.{map, option_map, subst}
+use Rattle.program_io.specs.Endings.{EndsOver}
+use Rattle.program_io.proofs.Ended.{refused_over}
 use Rattle.view_commands.specs.CommandLine.{Asked, asked}
 use Rattle.view_commands.specs.ViewProgram.{EndsAsked}
 use Rattle.view_commands.proofs.MemoryRefused.{refused_first}
 use Rattle.view_commands.proofs.program.end_of_words.Goals as goal
 
-pub returns-in-Err-clause-bytes : goal.returns-in-Err-clause-bytes
-returns-in-Err-clause-bytes g c =
-    refused_first (asked (option_map (λ all. map g.S.AsStr.text all.now) c.args.words)) (g.R.Source.file c.args.reader.now) (g.R.Read.remaining c.args.reader.now) (g.W.Write.contents c.args.writer.now)
+pub returns-in-Err : goal.returns-in-Err
+returns-in-Err g c =
+    let what = asked (option_map (λ all. map g.S.AsStr.text all.now) c.args.words) in
+    let files = g.R.Source.file c.args.reader.now in
+    let read = g.R.CountedRead.seen c.args.reader.now in
+    let write = g.W.CountedWrite.seen c.args.writer.now in
+    refused_over (EndsAsked what files) read write (refused_first what files read.bytes write.bytes)
 
-pub returns-in-Ok-clause-bytes : goal.returns-in-Ok-clause-bytes
-returns-in-Ok-clause-bytes g c =
+pub returns-in-Ok : goal.returns-in-Ok
+returns-in-Ok g c =
+    let read = g.R.CountedRead.seen in
+    let write = g.W.CountedWrite.seen in
     subst
-    (λ (asked : Asked). EndsAsked asked c.carry_out.result (g.R.Source.file c.args.reader.now) (g.R.Read.remaining c.args.reader.now) (g.R.Read.remaining c.carry_out.new.reader) (g.W.Write.contents c.args.writer.now) (g.W.Write.contents c.carry_out.new.writer))
-    c.in-Ok.ensures c.carry_out.ensures.bytes
+    (λ (what : Asked). EndsOver (EndsAsked what (g.R.Source.file c.args.reader.now)) c.carry_out.result (read c.args.reader.now) (read c.carry_out.new.reader) (write c.args.writer.now) (write c.carry_out.new.writer))
+    c.in-Ok.ensures c.carry_out.ensures

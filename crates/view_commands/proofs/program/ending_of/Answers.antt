@@ -1,29 +1,18 @@
-use Rattle.std.proofs.Common.{List, Some, None, map, subst}
-use Rattle.std.specs.Prelude.{String, string_bytes}
-use Rattle.std.specs.declared.alloc.Global.{Global}
-use Rattle.program_io.proofs.Ended.{words_ended, words_refused}
+use Rattle.program_io.specs.Endings.{EndsWith}
+use Rattle.program_io.proofs.Ended.{refused_over, words_over, words_refused}
 use Rattle.view_commands.specs.CommandLine.{asked}
 use Rattle.view_commands.specs.ViewProgram.{Ends}
 use Rattle.view_commands.proofs.MemoryRefused.{refused_first}
 use Rattle.view_commands.proofs.program.ending_of.Goals as goal
 
-pub returns-in-Ok-Some-clause-bytes : goal.returns-in-Ok-Some-clause-bytes
-returns-in-Ok-Some-clause-bytes g c =
-    let ends = Ends (g.R.Source.file c.args.reader.now) in
-    let are = rw c.in-Ok-Some.field-0-is at c.in-Ok-Some.ensures in
-    words_ended ends c.args.words (g.R.Read.remaining c.args.reader.now) (g.R.Read.remaining c.end_of_words.new.reader) (g.W.Write.contents c.args.writer.now) (g.W.Write.contents c.end_of_words.new.writer) (Some (map string_bytes c.in-Ok-Some.given.items)) c.end_of_words.result are
-    (subst
-    (λ (words : List (String Global)). Ends (g.R.Source.file c.args.reader.now) (Some (map string_bytes words)) c.end_of_words.result (g.R.Read.remaining c.args.reader.now) (g.R.Read.remaining c.end_of_words.new.reader) (g.W.Write.contents c.args.writer.now) (g.W.Write.contents c.end_of_words.new.writer))
-    c.as_slice.ensures.value c.end_of_words.ensures.bytes)
+pub returns-in-Ok : goal.returns-in-Ok
+returns-in-Ok g c =
+    words_over (g.R.CountedRead.seen c.args.reader.now) (g.R.CountedRead.seen c.end_of_words.new.reader) (g.W.CountedWrite.seen c.args.writer.now) (g.W.CountedWrite.seen c.end_of_words.new.writer)
+    (Ends (g.R.Source.file c.args.reader.now)) c.args.words c.as_deref.result c.in-Ok.given c.end_of_words.result c.as_deref.ensures.value c.in-Ok.ensures c.end_of_words.ensures
 
-pub returns-in-Ok-None-clause-bytes : goal.returns-in-Ok-None-clause-bytes
-returns-in-Ok-None-clause-bytes g c =
-    let ends = Ends (g.R.Source.file c.args.reader.now) in
-    let are = rw c.in-Ok-None.field-0-is at c.in-Ok-None.ensures in
-    words_ended ends c.args.words (g.R.Read.remaining c.args.reader.now) (g.R.Read.remaining c.end_of_words-in-Ok-None.new.reader) (g.W.Write.contents c.args.writer.now) (g.W.Write.contents c.end_of_words-in-Ok-None.new.writer) None c.end_of_words-in-Ok-None.result are
-    c.end_of_words-in-Ok-None.ensures.bytes
-
-pub returns-in-Err-clause-bytes : goal.returns-in-Err-clause-bytes
-returns-in-Err-clause-bytes g c =
-    words_refused (Ends (g.R.Source.file c.args.reader.now)) c.args.words (g.R.Read.remaining c.args.reader.now) (g.W.Write.contents c.args.writer.now)
-    (λ given. refused_first (asked given) (g.R.Source.file c.args.reader.now) (g.R.Read.remaining c.args.reader.now) (g.W.Write.contents c.args.writer.now))
+pub returns-in-Err : goal.returns-in-Err
+returns-in-Err g c =
+    let files = g.R.Source.file c.args.reader.now in
+    let read = g.R.CountedRead.seen c.args.reader.now in
+    let write = g.W.CountedWrite.seen c.args.writer.now in
+    refused_over (EndsWith (Ends files) c.args.words) read write (words_refused (Ends files) c.args.words read.bytes write.bytes (λ given. refused_first (asked given) files read.bytes write.bytes))

@@ -12,5 +12,5 @@ picture_of_run-requires-clause-session c =
 
 pub returns-in-Err : goal.returns-in-Err
 returns-in-Err c =
-    long_run_told (picture_of_run c.args.places) (record { header = c.args.header.now; steps = c.args.steps.now }) c.in-Err.fault c.not_settled.result c.requires
+    long_run_told (picture_of_run c.args.extent) (record { header = c.args.header.now; steps = c.args.steps.now }) c.in-Err.fault c.not_settled.result c.requires
     (λ is. c.in-Err.ensures.long (ap (λ (fault : SettleFault). Err fault) is)) c.not_settled.ensures.why c.not_settled.ensures.line

@@ -1,0 +1,126 @@
+//! Pages, and the traces that stand in them place by place.
+
+use crate::view::samples::{FIRST_RUN, NO_NINTH, SHARED_MUTEX};
+use program_io::Counted;
+use run_advice::Silent;
+use run_pages::{Parts, page};
+use run_pictures::{Axis, Extent};
+use run_views::{Places, trace_by_places};
+use session_text::read_session;
+use smp_kernel::Meter;
+use std::process::Abort;
+use std::test::Fail;
+use std::thread::Threads;
+use view_commands::{Command, Job, PageView, run};
+
+/// What the trace tells of place 2 of the first run, where place 3 is shown too.
+const SECOND: &str = "place 2, tick 0; core 0 C; core 1 B
+step 2: tick
+  done: the step was made
+  tick 0 to 1
+";
+
+const THIRD: &str = "place 3, tick 1; core 0 C; core 1 B\n";
+
+/// Of the page of `SHARED_MUTEX`.
+const SHARED: &str = "<title>Run of 5 steps: cores 2, tasks 2</title>
+<a href='#comparison'>Comparison</a>
+<text class='k' x='8' y='16'>before the edits</text>
+<a href='#place-5'>5</a>
+<li id='place-5'><pre>place 5, tick 1; core 0 control; core 1 logger, due by pend
+blocked; control logger -&gt; true: the mutex was taken; control logger
+<pre>    before      after     change number";
+
+/// Of the page of the settled run of `FIRST_RUN`, from place 2 on.
+const SETTLED: &str = "<title>Settled run of 5 steps: cores 2, tasks 3</title>
+<a href='#place-2'>2</a>
+<li id='place-2'><pre>place 2, tick 0; core 0 C; core 1 B
+<pre>     value number";
+
+#[test]
+fn a_trace_by_places(rt: HostRuntime) -> Result<(), Fail> {
+    let alloc = rt.alloc();
+    let (header, steps) = read_session(alloc, FIRST_RUN.as_bytes())?;
+    assert!(rt; steps.len() < 100);
+    let mut meter = Meter::new(&rt);
+    let places = Places { from: 2, to: 3 };
+    let texts = trace_by_places(alloc, &mut meter, places, &header, steps.as_slice())?;
+    assert_eq!(rt; texts.len(), 2);
+    assert_eq!(rt; texts[0].as_str(), SECOND);
+    assert_eq!(rt; texts[1].as_str(), THIRD);
+    Ok(())
+}
+
+#[test]
+fn a_page_of_parts(rt: HostRuntime) -> Result<(), Fail> {
+    let alloc = rt.alloc();
+    let mut places = Vec::new(alloc);
+    places.push(String::from_str(alloc, "place 7 & 'more'\n")?)?;
+    let parts = Parts {
+        title: String::from_str(alloc, "A <run>")?,
+        picture: String::from_str(alloc, "<svg></svg>\n")?.into_bytes(),
+        first: 7,
+        places,
+        comparison: None,
+        report: String::from_str(alloc, "a \"report\"\n")?.into_bytes(),
+    };
+    let page = page(alloc, &parts)?;
+    for told in [
+        "<title>A &lt;run&gt;</title>",
+        "<div id='sheet'>\n<svg></svg>\n</div>",
+        "<a href='#place-7'>7</a>",
+        "<li id='place-7'><pre>place 7 &amp; &#39;more&#39;\n</pre></li>",
+        "<pre>a &quot;report&quot;\n</pre>",
+    ] {
+        expect_part(&rt, page.as_slice(), told);
+    }
+    Ok(())
+}
+
+#[test]
+fn pages_of_documents(rt: HostRuntime) -> Result<(), Fail> {
+    let all = from_on(0);
+    expect(&rt, &rt, false, all, SHARED_MUTEX, SHARED, NO_NINTH);
+    expect(&rt, &rt, true, from_on(2), FIRST_RUN, SETTLED, "");
+    Ok(())
+}
+
+// The places from this one on, by their numbers.
+fn from_on(from: u32) -> Extent {
+    let to = u32::MAX;
+    Extent {
+        places: Places { from, to },
+        axis: Axis::Places,
+    }
+}
+
+fn expect<R: Threads + Abort + Sync>(
+    rt: &R,
+    host: &HostRuntime,
+    settled: bool,
+    extent: Extent,
+    document: &str,
+    wanted: &str,
+    note: &str,
+) {
+    let job = Job {
+        command: Command::Page(PageView { settled, extent }),
+        strict: false,
+    };
+    let mut shown = Vec::new(host.alloc());
+    let mut reader = Counted::new(document.as_bytes());
+    let mut writer = Counted::new(&mut shown);
+    let progress = &mut Silent;
+    let alloc = host.alloc();
+    let ending = run(rt, host, progress, alloc, &mut reader, &mut writer, &job);
+    assert_eq!(rt; ending.code(), 0);
+    assert!(rt; ending.message() == note.as_bytes());
+    for told in wanted.lines() {
+        expect_part(rt, shown.as_slice(), told);
+    }
+}
+
+fn expect_part(rt: &impl Abort, page: &[u8], told: &str) {
+    let text = std::str::from_utf8(page).unwrap_or("");
+    assert!(rt; text.contains(told), "{told}");
+}

@@ -1,0 +1,28 @@
+-- A run as it is drawn.
+use Rattle.std.specs.Prelude.{◌+◌, ◌<◌, ◌≤◌, ◌^◌, length}
+use Rattle.bench_types.specs.declared.header.Header.{Header}
+use Rattle.bench_types.specs.Limits.{max_cores, max_tasks}
+use Rattle.run_pictures.specs.declared.film.Film.{Film}
+use Rattle.run_pictures.specs.declared.frame.Frame.{Frame}
+use Rattle.run_pictures.specs.declared.panel.Panel.{Panel}
+
+pub record Shown : Type 0 where
+  pub header : Header
+  -- where its places stand
+  pub frame : Frame
+  -- what is seen at them
+  pub film : Film
+
+abbrev pub shown : Panel → Shown
+shown panel = record {
+  header = panel.header.now;
+  frame = panel.frame;
+  film = panel.film;
+}
+
+-- its places have numbers of 32 bits, and it has no more cores and tasks than a session may have
+pub record IsNumbered (shown : Shown) : Type 0 where
+  pub places : shown.frame.first + length shown.film.looks ≤ 2 ^ 32
+  pub looks : length shown.film.looks < 2 ^ 32
+  pub cores : shown.header.config.cores ≤ max_cores
+  pub tasks : length shown.header.tasks ≤ max_tasks

@@ -1,0 +1,15 @@
+//! A run as it is drawn.
+
+use crate::film::Film;
+use crate::frame::Frame;
+use bench_types::Header;
+
+/// A run as it is drawn.
+#[derive(Drop)]
+pub(crate) struct Panel<'a> {
+    pub(crate) header: &'a Header,
+    /// Where its places stand.
+    pub(crate) frame: Frame,
+    /// What is seen at them.
+    pub(crate) film: Film,
+}

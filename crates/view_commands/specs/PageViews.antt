@@ -1,0 +1,148 @@
+-- The page of a run, made of what other commands tell.
+use Rattle.std.specs.Prelude.{◌≡◌, ℕ, List, [], ◌∷◌, ◌++◌, length, codes, decimal, Bool, true, false, nat_lt, Option, Some, None, if◌then◌else◌}
+use Rattle.bench_types.specs.declared.edit.Edit.{Edit}
+use Rattle.bench_types.specs.declared.header.Header.{Header}
+use Rattle.bench_types.specs.declared.step.Step.{Step}
+use Rattle.bench_types.specs.Limits.{max_steps}
+use Rattle.bench_types.specs.Session.{Session}
+use Rattle.bench_model.specs.Edits.{after_edits}
+use Rattle.settled_runs.specs.declared.waiting_call.WaitingCall.{WaitingCall}
+use Rattle.settled_runs.specs.Settled.{IsSettled}
+use Rattle.run_comparisons.specs.Comparison.{compare_text}
+use Rattle.run_comparisons.specs.Settled.{with_steps}
+use Rattle.run_pages.specs.Page.{page_text}
+use Rattle.run_pages.specs.Shown.{Shown}
+use Rattle.run_pictures.specs.declared.picture.Extent.{Extent}
+use Rattle.run_views.specs.PlaceTexts.{place_texts}
+use Rattle.session_reports.specs.declared.report.Form.TheVariants.{Table}
+use Rattle.program_io.specs.declared.output.OutputStatus.{OutputStatus}
+use Rattle.program_io.specs.declared.output.OutputStatus.TheVariants.{Fine, Failed, Unknown}
+use Rattle.program_io.specs.Outputs.{Told, fine, told_with}
+use Rattle.view_commands.specs.declared.pages.Drawn.{Drawn}
+use Rattle.view_commands.specs.declared.request.PageView.{PageView}
+use Rattle.view_commands.specs.declared.request.ReportView.{ReportView}
+use Rattle.view_commands.specs.ReportViews.{IsReported}
+use Rattle.view_commands.specs.SettledViews.{too_long, IsSettledPicture, IsToldOfBoth}
+use Rattle.view_commands.specs.Views.{picture_of}
+
+-- ---- the parts that other commands tell
+
+-- what `timeline` tells
+abbrev pub IsPictured : Bool → Extent → Session → List Edit → Told → Type 0
+IsPictured false extent session edits told = told ≡ picture_of extent session edits
+IsPictured true extent session edits told = IsSettledPicture extent session edits told
+
+-- what `compare` tells
+abbrev pub IsComparison : Bool → Session → List Edit → Told → Type 0
+IsComparison false session edits told = told ≡ fine (compare_text session edits)
+IsComparison true session edits told = IsToldOfBoth session edits told
+
+pub record IsSomeComparison (settled : Bool) (session : Session) (edits : List Edit)
+    (part : Option Told) : Type 0 where
+  pub told : Told
+  pub is_told : IsComparison settled session edits told
+  pub is : part ≡ Some told
+
+-- the same, where there are edits
+abbrev pub IsCompared : Bool → Session → List Edit → Option Told → Type 0
+IsCompared settled session [] part = part ≡ None
+IsCompared settled session (edit ∷ edits) part =
+    IsSomeComparison settled session (edit ∷ edits) part
+
+-- a report as a table
+abbrev pub as_table : Bool → ReportView
+as_table settled = record { settled = settled; form = Table }
+
+-- what `timeline`, `compare` and `report` tell
+pub record AreDrawn (view : PageView) (session : Session) (edits : List Edit) (drawn : Drawn) :
+    Type 0 where
+  pub picture : IsPictured view.settled view.extent session edits drawn.picture
+  pub comparison : IsCompared view.settled session edits drawn.comparison
+  pub report : IsReported (as_table view.settled) session edits drawn.report
+
+-- ---- the page of them
+
+-- which run is shown
+abbrev pub run_word : Bool → List ℕ
+run_word false = codes "Run"
+run_word true = codes "Settled run"
+
+-- of so many steps, cores and user tasks
+abbrev pub counts_text : ℕ → ℕ → ℕ → List ℕ
+counts_text steps cores tasks =
+    codes " of " ++ decimal steps ++ codes " steps: cores " ++ decimal cores ++ codes ", tasks "
+    ++ decimal tasks
+
+-- the first line of a page
+abbrev pub title_text : Bool → Session → List ℕ
+title_text settled run =
+    run_word settled
+    ++ counts_text (length run.steps) run.header.config.cores (length run.header.tasks)
+
+-- a page of these texts and of the trace of the run
+abbrev pub page_shown :
+    PageView → List ℕ → Option (List ℕ) → List ℕ → Session → Shown
+page_shown view picture comparison report run = record {
+  title = title_text view.settled run;
+  picture = picture;
+  first = view.extent.places.from;
+  places = place_texts view.extent.places run.header run.steps;
+  comparison = comparison;
+  report = report;
+}
+
+-- the page, with what is told beside the picture
+abbrev pub made_page : PageView → Told → Option (List ℕ) → List ℕ → Session → Told
+made_page view picture comparison report run =
+    told_with (page_text (page_shown view picture.text comparison report run)) picture.note
+
+-- a refusal of the part, and else the whole
+abbrev pub unless_refused_by : OutputStatus → Told → Told → Told
+unless_refused_by Fine part whole = whole
+unless_refused_by Failed part whole = part
+unless_refused_by Unknown part whole = part
+
+abbrev pub unless_refused : Told → Told → Told
+unless_refused part whole = unless_refused_by part.status part whole
+
+abbrev pub with_report : PageView → Told → Option (List ℕ) → Told → Session → Told
+with_report view picture comparison report run =
+    unless_refused report (made_page view picture comparison report.text run)
+
+abbrev pub with_comparison : PageView → Told → Option Told → Told → Session → Told
+with_comparison view picture None report run = with_report view picture None report run
+with_comparison view picture (Some told) report run =
+    unless_refused told (with_report view picture (Some told.text) report run)
+
+-- the page of these parts and of the trace of the run; the first of the parts that is refused is
+-- told in its place
+abbrev pub page_of : PageView → Drawn → Session → Told
+page_of view drawn run =
+    unless_refused drawn.picture
+    (with_comparison view drawn.picture drawn.comparison drawn.report run)
+
+-- the same; J2 where the run has more steps than a session may have
+abbrev pub page_told : PageView → Drawn → Session → Told
+page_told view drawn run =
+    if nat_lt max_steps (length run.steps) then too_long else page_of view drawn run
+
+-- the steps of the run that is shown of a session: its own, or those of its settled run
+abbrev pub IsRun : Bool → Session → List Step → Type 0
+IsRun false session run = run ≡ session.steps
+IsRun true session run =
+    (left : List WaitingCall) × IsSettled session.header session.steps run left
+
+-- told is a page of these parts and of the trace of a session's run
+pub record IsPageOf (view : PageView) (drawn : Drawn) (session : Session) (told : Told) :
+    Type 0 where
+  pub run : List Step
+  pub is_run : IsRun view.settled session run
+  pub is_told : told ≡ page_told view drawn (with_steps session run)
+
+-- told is a page: what the other commands tell of the session and its edits, and the trace of the
+-- run after the edits, place by place
+pub record IsPage (view : PageView) (session : Session) (edits : List Edit) (told : Told) :
+    Type 0 where
+  pub drawn : Drawn
+  pub are : AreDrawn view session edits drawn
+  pub page : IsPageOf view drawn (after_edits session edits) told

@@ -1,3 +1,4 @@
+//! A task's row in the table of the rules.
 use bench_types::MutexWait;
 
 /// Whether a task is ready or blocked.

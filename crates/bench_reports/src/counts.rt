@@ -1,3 +1,4 @@
+//! The numbers of all tasks.
 ghost use Rattle.std.specs.Prelude.{◌≡◌, ◌<◌, ◌≤◌, ◌+◌, ◌-◌, ◌*◌, ◌^◌, [], Some, drop, length, map, slice_set, take, All, IfOk};
 ghost use Rattle.list_orders.specs.Search.{numbers};
 ghost use Rattle.bench_model.specs.Control.{task_at};

@@ -1,3 +1,4 @@
+//! What a step is to a task that is counted.
 ghost use Rattle.std.specs.Prelude.{◌≡◌, ◌<◌};
 ghost use Rattle.std.specs.Option.{ForSome};
 ghost use Rattle.bench_model.specs.Control.{current};

@@ -1,3 +1,4 @@
+//! What a tick finds: priorities, and tasks that wait behind lower ones.
 ghost use Rattle.std.specs.Prelude.{◌≡◌, ◌<◌, length, true};
 ghost use Rattle.bench_model.specs.Lists.{is_ready};
 ghost use Rattle.bench_model.specs.Seek.{effective};

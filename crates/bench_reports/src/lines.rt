@@ -1,3 +1,4 @@
+//! The lines of tallies.
 ghost use Rattle.std.specs.Prelude.{◌≡◌, ◌<◌, ◌++◌, length, OnOk, string_bytes};
 ghost use Rattle.bench_model.specs.Tallied.{tally_at};
 ghost use Rattle.bench_reports.specs.Lines.{count_text, counts_text, run_text, tally_line, tally_lines, task_text};

@@ -1,3 +1,4 @@
+//! How the tasks of a session fare.
 ghost use Rattle.std.specs.Prelude.{◌≡◌, ℕ, suc, ◌+◌, ◌-◌, ◌<◌, ◌^◌, All, Ok, length, min, true, string_bytes, IfOk, IfSome};
 ghost use Rattle.bench_types.specs.Step.{step_check};
 ghost use Rattle.bench_types.specs.declared.step.Step.TheVariants.{Tick};

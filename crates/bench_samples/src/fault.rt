@@ -1,3 +1,4 @@
+//! Why a test got no header.
 use bench_types::Fault;
 use std::alloc::AllocError;
 use thiserror::Error;

@@ -1,3 +1,4 @@
+//! Settings and tasks that many tests use.
 ghost use Rattle.std.specs.Prelude.{◌≡◌, IfOk, Ok};
 ghost use Rattle.bench_types.specs.Header.{header_check};
 

@@ -1,3 +1,4 @@
+//! An entry of a recording.
 use crate::{Reply, Step};
 
 /// One event that a core recorded, with the reply that it was given.

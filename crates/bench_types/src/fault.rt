@@ -1,3 +1,4 @@
+//! Faults of headers and steps.
 use thiserror::Error;
 
 /// Why a header or a step is not accepted, with the code that the texts give it.

@@ -1,3 +1,4 @@
+//! A list in a public record.
 ghost use Rattle.std.specs.Prelude.{◌≡◌, length};
 
 use std::marker::Model;

@@ -1,3 +1,4 @@
+//! What can be seen of a kernel's parts.
 use crate::NoteState;
 
 /// What a kernel keeps of the settings that it started with.

@@ -1,3 +1,4 @@
+//! Core affinity masks.
 ghost use Rattle.std.specs.Prelude.{◌≡◌};
 ghost use Rattle.bench_types.specs.Header.{cores_of_mask as cores_in};
 

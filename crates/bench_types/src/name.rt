@@ -1,3 +1,4 @@
+//! Names of tasks.
 ghost use Rattle.std.specs.Prelude.{◌≡◌, IsTrue, Ok, Err, if◌then◌else◌, length};
 ghost use Rattle.std.specs.List.{list_all};
 ghost use Rattle.bench_types.specs.Name.{is_name, is_name_byte, is_within};

@@ -1,3 +1,5 @@
+//! Notifications of tasks.
+
 /// The state of a task's notification (`ucNotifyState`).
 #[derive(Clone, Copy, Debug, PartialEq, Eq, Hash)]
 pub enum NoteState {

@@ -1,3 +1,5 @@
+//! What a step answers.
+
 /// The current task of each core, core 0 first.
 pub type Row = Vec<u32>;
 

@@ -1,3 +1,5 @@
+//! How a task fared.
+
 /// How a task fared in a session, beside the ticks that it ran on each core.
 #[derive(Clone, Copy, Debug, PartialEq, Eq, Hash)]
 pub struct Tally {

@@ -1,3 +1,4 @@
+//! Why a rig or a core's call is refused.
 ghost use Rattle.std.specs.Prelude.{◌≡◌};
 ghost use Rattle.core_rig.specs.Acts.{refusal_of};
 

@@ -1,3 +1,4 @@
+//! What the cores of a rig did.
 ghost use Rattle.std.specs.Prelude.{◌≡◌, IfOk};
 ghost use Rattle.bench_model.specs.History.{steps_of};
 

@@ -1,3 +1,4 @@
+//! A kernel that core threads call side by side.
 ghost use Rattle.std.specs.Prelude.{◌≡◌, ◌<◌, ◌≤◌, ◌↔◌, ℕ, length, map, sum_by, true, [], vec_len, vec_capacity, All, Ok, Err, IfOk, IfErr, OnOk, IsErr, None};
 ghost use Rattle.list_orders.specs.Search.{numbers};
 ghost use Rattle.bench_types.specs.Header.{header_check};

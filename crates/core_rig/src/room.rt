@@ -1,3 +1,4 @@
+//! Room for the seats of a rig.
 ghost use Rattle.std.specs.Prelude.{◌≡◌, ◌≤◌, [], vec_capacity, IfOk};
 ghost use Rattle.bench_types.specs.Limits.{max_cores};
 

@@ -1,3 +1,4 @@
+//! A core's seat at a rig, and the calls that it makes.
 ghost use Rattle.std.specs.Prelude.{◌≡◌, ◌≢◌, ◌<◌, length, map, All, IfOk, false, true};
 ghost use Rattle.bench_types.specs.declared.act.Act.TheVariants as acts;
 ghost use Rattle.core_rig.specs.declared.fault.RigRefusal.TheVariants as refusals;

@@ -1,3 +1,5 @@
+//! What core threads pass before each action.
+
 /// What the threads of cores pass before each action of their scripts, as a test that holds them up
 /// until others have come.
 pub trait Gate: Sync {

@@ -1,3 +1,4 @@
+//! Mutexes, their holders and their waiters.
 ghost use Rattle.std.specs.Prelude.{◌≡◌, ◌↔◌, ℕ, ◌+◌, ◌<◌, ◌^◌, ◌==◌, ◌&&◌, not, if◌then◌else◌, length, replicate, slice_set, is_none, option_map, Some, None, IsTrue, IfOk, IfSome};
 ghost use Rattle.std.specs.Option.{IsSome, ForSome};
 ghost use Rattle.bench_types.specs.declared.kernel_data.MutexWait.{MutexWait};

@@ -1,3 +1,4 @@
+//! The notifications of all tasks.
 ghost use Rattle.std.specs.Prelude.{◌≡◌, ◌↔◌, ◌*◌, ◌<◌, ◌^◌, length, slice_set, IsTrue, IfOk};
 ghost use Rattle.bench_types.specs.declared.note.NoteState.TheVariants.{NotWaiting};
 ghost use Rattle.bench_model.specs.Notes.{is_received, is_waiting, notified, passes, slot_in, state_cleared, take_begun, take_ended, value_cleared, wait_begun, wait_ended, without_bits};

@@ -1,3 +1,5 @@
+//! Why a word is not taken, or a pair not closed.
+
 /// L2: the word is taken 255 times over already.
 #[derive(Clone, Copy, Debug, Drop, PartialEq, Eq, thiserror::Error)]
 #[error("L2")]

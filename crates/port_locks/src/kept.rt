@@ -1,3 +1,4 @@
+//! A value that a lock pair keeps.
 ghost use Rattle.std.specs.Prelude.{◌≡◌, length};
 ghost use Rattle.bench_model.specs.History.{IsLegal};
 ghost use Rattle.port_locks.specs.Holds.{holder_after};

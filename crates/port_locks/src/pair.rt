@@ -1,3 +1,4 @@
+//! The task lock and the interrupt lock, and the value that they keep.
 ghost use Rattle.std.specs.Prelude.{◌≡◌, ◌<◌, ◌+◌, ◌-◌, ◌↔◌, Ok, Err, IsErr, OnOk, OnErr, MatchBool};
 ghost use Rattle.port_locks.specs.Seats.{IsSeatOf, HasTaken, MayReturn, HasFreed, HasNoHold};
 ghost use Rattle.port_locks.specs.declared.fault.TryFault.{TryFault};

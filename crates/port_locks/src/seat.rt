@@ -1,3 +1,4 @@
+//! A core's seat at a lock pair.
 ghost use Rattle.std.specs.Prelude.{◌≡◌, ◌<◌, ◌+◌, ◌↔◌, length, Some, IsErr, OnOk, OnErr};
 ghost use Rattle.std.specs.Borrow.{sem};
 ghost use Rattle.port_locks.specs.Lent.{LendsValue};

@@ -1,3 +1,4 @@
+//! What a lock pair and its seats know of the recording.
 use bench_types::{Entry, Header};
 use std::collections::LinkedList;
 use std::snapshot::Snapshot;

@@ -1,3 +1,4 @@
+//! The cores, the control blocks of tasks, and the ready lists.
 ghost use Rattle.std.specs.Prelude.{◌≡◌, ℕ, ◌↔◌, ◌+◌, ◌-◌, ◌<◌, ◌≤◌, ◌==◌, ◌&&◌, nat_lt, if◌then◌else◌, length, true, false, not, find, map, unwrap_or, slice_get, IsTrue, IfOk, IfSome, Ok, Some};
 ghost use Rattle.std.specs.Option.{ForSome};
 ghost use Rattle.bench_types.specs.Header.{header_check};

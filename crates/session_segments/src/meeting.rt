@@ -1,3 +1,4 @@
+//! Where a replay after an edit meets the run before it.
 ghost use Rattle.std.specs.Prelude.{◌≡◌, ◌⊎◌, ◌<◌, ◌≤◌, false, not, IfSome, MatchOption, drop, length, slice_index};
 ghost use Rattle.bench_model.specs.Equal.{StandsFor};
 ghost use Rattle.bench_model.specs.Shifted.{is_met, some_delays_until};

@@ -1,3 +1,4 @@
+//! Steps made on a kernel.
 ghost use Rattle.std.specs.Prelude.{◌≡◌, ℕ, [], ◌<◌, ◌≤◌, ◌+◌, ◌-◌, ◌^◌, All, IfOk, Ok, length, map};
 ghost use Rattle.std.specs.Vec.{vec_capacity};
 ghost use Rattle.bench_types.specs.Limits.{max_steps};

@@ -1,3 +1,4 @@
+//! The steps from one checkpoint to the next.
 ghost use Rattle.std.specs.Prelude.{◌≡◌, ◌≢◌, ◌⊎◌, ℕ, suc, ◌<◌, ◌^◌, ◌≤◌, All, true, false, Ok, Some, None, IfOk, IfSome, OnOk, OnErr, MatchOption, length, take, option_and_then, slice_get};
 ghost use Rattle.std.specs.Vec.{vec_capacity};
 ghost use Rattle.bench_types.specs.Limits.{max_cores, max_steps};

@@ -1,3 +1,4 @@
+//! All segments of a session.
 ghost use Rattle.std.specs.Prelude.{◌≡◌, ◌⊎◌, false, ◌++◌, ◌<◌, ◌≤◌, ◌+◌, ◌-◌, ◌^◌, All, Ok, Some, IfOk, IfSome, OnOk, OnErr, length, take, drop, map, slice_get, slice_index_or};
 ghost use Rattle.std.specs.Vec.{vec_capacity};
 ghost use Rattle.bench_model.specs.Equal.{StandsFor};

@@ -1,3 +1,4 @@
+//! What a segment keeps of what its steps led to.
 ghost use Rattle.std.specs.Prelude.{◌≡◌, ◌≤◌, ℕ, false, All, IfOk, List, OnOk, OnErr, length, ⊤};
 ghost use Rattle.std.specs.Vec.{vec_capacity};
 ghost use Rattle.bench_types.specs.Limits.{max_cores, max_steps};

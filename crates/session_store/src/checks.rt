@@ -1,3 +1,4 @@
+//! Whether a session may be opened, and an edit made.
 ghost use Rattle.std.specs.Prelude.{◌≡◌, ◌≤◌, ◌^◌, ◌<◌, All, OnOk, List, length};
 ghost use Rattle.bench_types.specs.Edit.{IsEditOfWords};
 ghost use Rattle.bench_types.specs.Session.{IsSession};

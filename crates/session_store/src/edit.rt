@@ -1,3 +1,4 @@
+//! The replay of what an edit changes.
 ghost use Rattle.std.specs.Prelude.{◌≡◌, ◌<◌, ◌≤◌, ◌^◌, Ok, IfOk, OnOk, OnErr, length, drop, take};
 ghost use Rattle.bench_types.specs.Edit.{IsEditOfWords};
 ghost use Rattle.bench_model.specs.Edits.{accepted, edited};

@@ -1,3 +1,4 @@
+//! The header and the steps after an edit.
 ghost use Rattle.std.specs.Prelude.{◌≡◌, ◌+◌, ◌^◌, ◌<◌, ◌≤◌, length, List, Ok, IfOk};
 ghost use Rattle.bench_types.specs.Edit.{edit_check};
 ghost use Rattle.bench_types.specs.Step.{settings_of, task_check};

@@ -1,3 +1,4 @@
+//! Why a session is not opened, or an edit not made.
 use bench_types::{EditFault, Fault, Header, Items, Step};
 use std::alloc::AllocError;
 use std::error::Error as StdError;

@@ -1,3 +1,4 @@
+//! The first replay of a session.
 ghost use Rattle.std.specs.Prelude.{◌≡◌, ◌<◌, ◌≤◌, ◌+◌, ◌*◌, ◌^◌, [], true, All, IfOk, OnOk, OnErr, length, take};
 ghost use Rattle.bench_types.specs.Limits.{max_cores, max_steps, max_span};
 ghost use Rattle.bench_types.specs.Name.{is_within};

@@ -1,3 +1,5 @@
+//! What an edit led to.
+
 /// What an accepted edit led to. All three are numbers of steps.
 #[derive(Clone, Copy, Debug, PartialEq, Eq, Hash)]
 pub struct Outcome {

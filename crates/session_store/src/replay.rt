@@ -1,3 +1,4 @@
+//! Steps replayed into new segments.
 ghost use Rattle.std.specs.Prelude.{◌≡◌, ◌≤◌, ◌+◌, ◌++◌, ◌∷◌, [], All, Ok, IfOk, OnOk, OnErr, length, take, drop};
 ghost use Rattle.bench_types.specs.Header.{header_check};
 ghost use Rattle.bench_types.specs.Limits.{max_cores, max_steps, max_span};

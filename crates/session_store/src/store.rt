@@ -1,3 +1,4 @@
+//! A session that was replayed, and edits of it.
 ghost use Rattle.std.specs.Prelude.{◌≡◌, ◌≢◌, suc, ◌≤◌, ◌<◌, ◌↔◌, length, true, false, Ok, Err, Some, None, IfOk, IfErr, IfSome, IsSome, OnOk, OnErr, option_map, option_and_then, slice_get};
 ghost use Rattle.bench_types.specs.Edit.{IsEditOfWords};
 ghost use Rattle.bench_types.specs.Step.{settings_of, IsCheckedStep};

@@ -1,3 +1,4 @@
+//! How the tasks fared up to some checkpoints, for many trials.
 ghost use Rattle.std.specs.Prelude.{◌≡◌, ◌++◌, ◌<◌, ◌≤◌, List, IfOk, IfSome, length, take};
 ghost use Rattle.bench_types.specs.declared.header.Header.{Header as ItsHeader};
 ghost use Rattle.segment_laws.specs.Segments.{SegmentView};

@@ -1,3 +1,4 @@
+//! How the tasks fare after an edit.
 ghost use Rattle.std.specs.Prelude.{◌≡◌, ◌++◌, ◌≤◌, IfOk, IfSome, take, drop, length};
 ghost use Rattle.bench_model.specs.Tally.{tallies};
 ghost use Rattle.segment_laws.specs.Segments.{all_steps};

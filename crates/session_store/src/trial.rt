@@ -1,3 +1,4 @@
+//! An edit that is tried and not made.
 ghost use Rattle.std.specs.Prelude.{◌≡◌, ◌≤◌, ◌+◌, ◌-◌, ◌^◌, ◌++◌, [], All, Ok, IfOk, IfSome, OnOk, OnErr, length, take};
 ghost use Rattle.bench_types.specs.Edit.{IsEditOfWords};
 ghost use Rattle.bench_types.specs.Limits.{max_steps};

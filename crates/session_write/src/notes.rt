@@ -1,3 +1,4 @@
+//! The objects of notifications.
 ghost use Rattle.std.specs.Prelude.{◌≡◌, IfOk};
 ghost use Rattle.serde_json.specs.View.{view};
 ghost use Rattle.session_write.specs.Written.{action_word, interrupt_data, notify_data, state_clear_data, take_data, value_clear_data, wait_data};

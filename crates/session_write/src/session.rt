@@ -1,3 +1,4 @@
+//! A session as a JSON text.
 ghost use Rattle.std.specs.Prelude.{◌≡◌, IfOk, Ok};
 ghost use Rattle.serde_json.specs.View.{view};
 ghost use Rattle.bench_types.specs.Session.{IsSession};

@@ -1,3 +1,4 @@
+//! The objects of steps.
 ghost use Rattle.std.specs.Prelude.{◌≡◌, ◌+◌, ◌<◌, ◌≤◌, All, IfOk, Ok, length};
 ghost use Rattle.serde_json.specs.View.{view};
 ghost use Rattle.bench_types.specs.Step.{IsCheckedStep, call_check, settings_of, step_check};

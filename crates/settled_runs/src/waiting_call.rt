@@ -1,3 +1,4 @@
+//! A call that a settled run has not made.
 use bench_types::Call;
 
 /// A call that its task has not come to yet.

@@ -1,3 +1,4 @@
+//! The calls of each task, in a row.
 ghost use Rattle.std.specs.Prelude.{◌≡◌, ◌<◌, ◌≤◌, length, Some, None, true, IfOk, if◌then◌else◌, slice_index, slice_set};
 ghost use Rattle.settling.specs.Places.{begins, call_in, step_at, AreQueues, HasCallers};
 

@@ -1,3 +1,4 @@
+//! The flat table of the rules as a program, searched whole at each step.
 ghost use Rattle.std.specs.Prelude.{◌≡◌, ℕ, ◌<◌, ◌≤◌, ◌^◌, ◌+◌, ◌==◌, ◌&&◌, length, ◌++◌, map, replicate, option_map, slice_get, All, Some, None, IfOk, IfSome, nat_le, Ok};
 ghost use Rattle.bench_types.specs.Step.{call_check, step_check, settings_of, IsStepOfWords};
 ghost use Rattle.bench_types.specs.Header.{header_check};

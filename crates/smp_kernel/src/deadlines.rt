@@ -1,3 +1,4 @@
+//! How long tasks still wait for mutexes.
 ghost use Rattle.std.specs.Prelude.{◌≡◌, ◌↔◌, ◌<◌, ◌≤◌, ◌+◌, Bool, length, map, replicate, None, slice_index_or, slice_set, IsTrue, IfOk};
 ghost use Rattle.std.specs.Option.{ForSome};
 ghost use Rattle.smp_kernel.specs.Deadlines.{one_less, left_after, lefts, AreNear, AreNone};

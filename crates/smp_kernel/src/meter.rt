@@ -1,3 +1,4 @@
+//! A counter of the steps that kernels make.
 ghost use Rattle.std.specs.Prelude.{◌≡◌, ◌+◌, ◌-◌, ◌^◌, min};
 
 use std::marker::Model;

@@ -1,3 +1,4 @@
+//! The parts of a kernel, and the queue operations of its steps.
 ghost use Rattle.std.specs.Prelude.{◌≡◌, ℕ, ◌+◌, ◌<◌, ◌≤◌, nat_lt, map, slice_get, [], true, false, IfOk, IfSome, Ok, Some, None, replicate};
 ghost use Rattle.std.specs.Option.{option_map_or};
 ghost use Rattle.bench_types.specs.Header.{header_check};

@@ -1,3 +1,4 @@
+//! The tick count, and the tasks that wait for ticks.
 ghost use Rattle.std.specs.Prelude.{◌≡◌, ◌↔◌, ◌+◌, ◌^◌, ◌<◌, [], ◌∷◌, false, MatchOption, IfSome, IfOk, IsTrue};
 ghost use Rattle.bench_model.specs.Lists.{without_delay, due_tasks};
 ghost use Rattle.bench_model.specs.Looks.{left_in};

@@ -1,3 +1,5 @@
+//! A block of a file of worked sessions.
+
 /// What a block stands in its file for.
 #[derive(Drop)]
 pub(crate) enum Shown {

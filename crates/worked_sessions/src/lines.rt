@@ -1,3 +1,4 @@
+//! The lines of replies and tasks.
 use bench_types::{Header, Reply};
 use std::alloc::AllocError;
 

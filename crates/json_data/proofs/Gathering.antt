@@ -6,15 +6,15 @@ use Rattle.json.specs.Json as json
 use Rattle.json.specs.Find.{BeginsWith}
 use Rattle.json.specs.Tree.{depth, members_depth}
 use Rattle.json.proofs.Found.{one_reading, Some_inj}
-use Rattle.serde_json.specs.Data.{Data, Members, no_members, put}
-use Rattle.serde_json.specs.Find.{as_object, get, get_member}
+use Rattle.serde_json.specs.Data.{Data, Members, put}
+use Rattle.serde_json.specs.Find.{get_member}
 use Rattle.serde_json.specs.Read.{of_json, of_members, max_depth}
 use Rattle.serde_json.proofs.Views.{get_member-put, get_member-put_other}
 use Rattle.json_data.specs.declared.gathered.Named.{Named}
 use Rattle.json_data.specs.declared.item.Item.{Item}
 use Rattle.json_data.specs.Held.{later, last_named, least_held, Passed}
 use Rattle.json_data.specs.Opening.{AreRead}
-use Rattle.json_data.specs.Reading.{data_at, data_of, lesser_unknown}
+use Rattle.json_data.specs.Reading.{data_at, lesser_unknown}
 use Rattle.json_data.specs.View.{view}
 use Rattle.json_data.proofs.Members.{then_some, taken}
 use Rattle.json_data.proofs.Places.{begun, some_data, starts}

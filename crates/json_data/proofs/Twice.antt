@@ -1,5 +1,5 @@
 -- A walk over the nodes of a tape: what was passed, and what is left of the keys that stand again.
-use Rattle.std.proofs.Common.{◌≡◌, ℕ, ◌+◌, ◌≤◌, ◌<◌, List, Option, is_some, option_and_then, [], ◌∷◌, ◌++◌, length, map, drop, get_or, bytes_eq, Bool, true, false, cond, ◌||◌, Some, None, refl, sym, ap, ◌∙◌, subst, arith, append_assoc}
+use Rattle.std.proofs.Common.{◌≡◌, ℕ, ◌+◌, ◌≤◌, ◌<◌, List, Option, is_some, option_and_then, [], ◌∷◌, ◌++◌, length, map, drop, get_or, bytes_eq, true, false, cond, ◌||◌, Some, None, refl, sym, ap, ◌∙◌, subst, arith, append_assoc}
 use Rattle.std.specs.Prelude.{slice_get, Result, IfOk}
 use Rattle.std.specs.Borrow.{Bor}
 use Rattle.std.specs.List.{list_any}

@@ -1,5 +1,5 @@
 -- Members of an object, as they stand in a tape. Private clauses alone cite it.
-use Rattle.std.specs.Prelude.{◌≡◌, ℕ, ◌≤◌, List, true, is_some, Option, None, MatchOption, ⊤}
+use Rattle.std.specs.Prelude.{◌≡◌, ◌≤◌, List, true, is_some, Option, None, MatchOption, ⊤}
 use Rattle.json.specs.Token.{Token}
 use Rattle.json.specs.Json as json
 use Rattle.json.specs.Find.{BeginsWith, InMembers}

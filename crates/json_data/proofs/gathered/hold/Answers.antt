@@ -1,6 +1,5 @@
-use Rattle.std.proofs.Common.{refl, sym, ap, ◌∙◌, subst, ◌≡◌, Some}
+use Rattle.std.proofs.Common.{refl, sym, subst}
 use Rattle.json.specs.Json as json
-use Rattle.json.specs.Find.{InMembers}
 use Rattle.json_data.specs.Held.{Passed}
 use Rattle.json_data.specs.Opening.{AreRead}
 use Rattle.json_data.proofs.Gathering.{begins_read, passed_push, rest_read}

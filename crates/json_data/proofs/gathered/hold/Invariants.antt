@@ -1,4 +1,4 @@
-use Rattle.std.proofs.Common.{◌≡◌, length}
+use Rattle.std.proofs.Common.{length}
 use Rattle.json.specs.Json as json
 use Rattle.json.specs.Find.{InMembers}
 use Rattle.json_data.specs.Held.{Passed}

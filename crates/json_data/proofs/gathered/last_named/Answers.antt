@@ -1,4 +1,4 @@
-use Rattle.std.proofs.Common.{◌≡◌, ◌-◌, ◌<◌, suc, drop, length, sym, ◌∙◌, subst, arith, Option, None}
+use Rattle.std.proofs.Common.{◌≡◌, ◌-◌, ◌<◌, suc, drop, length, sym, ◌∙◌, subst, arith, None}
 use Rattle.json_data.specs.Held.{last_named}
 use Rattle.json_data.proofs.Gathering.{found_last}
 use Rattle.json_data.proofs.gathered.last_named.Goals as goal

@@ -1,4 +1,4 @@
-use Rattle.std.proofs.Common.{◌≡◌, ◌∙◌, ap, sym, option_map, Result, Err}
+use Rattle.std.proofs.Common.{◌∙◌, ap, sym, option_map, Result, Err}
 use Rattle.std.specs.Prelude.{⊤}
 use Rattle.bench_types.specs.declared.header.Header.{Header}
 use Rattle.json_data.specs.View.{view}

@@ -1212,5 +1212,20 @@ little 'a trace with little memory' trace
 "$program" timeline <"$folder/in" >"$folder/whole" 2>"$folder/err"
 little 'a picture with little memory' timeline
 
+# ---- what is installed
+
+bash scripts/install.sh "$folder/usr" >/dev/null 2>"$folder/err"
+status=$?
+(cd "$folder/usr" && find . -type f | sort) >"$folder/out"
+compare 'both programs, with man pages and completions, are installed' 0 './bin/smp_bench
+./bin/smp_view
+./share/bash-completion/completions/smp_bench
+./share/bash-completion/completions/smp_view
+./share/man/man1/smp_bench.1
+./share/man/man1/smp_view.1
+./share/zsh/site-functions/_smp_bench
+./share/zsh/site-functions/_smp_view
+' ''
+
 printf '%d passed, %d failed\n' "$good" "$bad"
 [ "$bad" = 0 ]
